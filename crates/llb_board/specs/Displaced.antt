@@ -1,4 +1,4 @@
--- What is kept of the workers before an event so that the event can be taken back, and the workers after that.
+-- What is kept of the workers before an event so that the event can be taken back, and the workers once it is taken back.
 use Rattle.std.specs.Prelude.{◌≡◌, ℕ, ◌+◌, ◌-◌, ◌^◌, ◌<◌, Bool, true, false, List, length, map, Option, Some, None, Result, slice_get, slice_set}
 use Rattle.llb_cache.specs.declared.growth.Growth.{Growth}
 use Rattle.llb_cache.specs.Caches.{Row, trees_of}

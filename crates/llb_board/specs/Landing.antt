@@ -77,7 +77,7 @@ pub record Lands (b : BoardValue) (w : ℕ) (o : OutcomeValue) (new : BoardValue
   pub rows : kept_along b.build b.state b.rows (landing w o.count) ≡ Some (new.state, new.rows)
   pub recorded : new ≡ record b { state = new.state; rows = new.rows; events = b.events ++ landing w o.count }
 
--- after these steps what the worker runs is finished
+-- after `count` steps of worker w, what it runs is finished
 pub record IsThrough (b : BoardValue) (w : ℕ) (count : ℕ) (new : BoardValue) : Type 0 where
   pub steps : Steps b w count new
   pub finished : is_ok (settle_grant new.build new.state w) ≡ true

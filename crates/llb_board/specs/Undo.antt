@@ -79,7 +79,7 @@ event_before (Unclaim w v growths) = event.Claim w v
 event_before (Unstep w mark trees) = event.Step w
 event_before (Resume e w left lent) = end_of e w
 
--- the event that is taken back is the last one of the record
+-- the event that is taken back is the last one of the record, and leads from the board before it to board b
 pub record IsLast (u : Displaced) (b : BoardValue) : Type 0 where
   pub reply : table.Reply
   pub gives : table.table b.build (undone u b).state (event_before u.back) ≡ Some (b.state, reply)

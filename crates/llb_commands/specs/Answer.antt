@@ -118,7 +118,7 @@ abbrev pub failed_line : ℕ → Option Status → List ℕ
 failed_line v (Some (look.Failed f)) = codes "failed " ++ (decimal v ++ (codes " " ++ (failure_text f ++ codes "\n")))
 failed_line v _ = []
 
--- a line for each vertex that has failed, of those with lower numbers than this
+-- a line for each vertex that has failed, of the vertices with lower numbers than this
 unfoldable pub failed_lines : Build → State → ℕ → List ℕ
 failed_lines b s zero = []
 failed_lines b s (suc v) = failed_lines b s v ++ failed_line v (look_at b s v)

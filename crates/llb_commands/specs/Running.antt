@@ -34,7 +34,7 @@ unread_as (reading.Failed kind) = Read
 unread_as (reading.Unending interrupted) = Read
 unread_as reading.Memory = Memory
 
--- a fault is a refusal of the input
+-- the fault is a refusal of the input, or of what is asked for
 abbrev pub IsRefusal : ProgramFault → Type 0
 IsRefusal (Refused e) = ⊤
 IsRefusal (MissingLocal name) = ⊤
@@ -91,7 +91,7 @@ Answers workers locals input output (Ok (Failed b)) = IsKept output × IfSome in
 Answers workers locals input output (Err e) =
     (IsKept output × TellsRefusal (IsNotRun workers locals) input e) ⊎ ((¬ IsRefusal e) × IfSome input (YieldsPart workers locals output))
 
--- the exit status and the lines on standard error: 0 if the text is written, 1 if there is no tree, 2 for a refusal; 3 for any other fault, a later one too
+-- the exit status and the lines on standard error: 0 if the text is written, 1 if there is no tree, 2 for a refusal; 3 for any other fault, also after the text
 abbrev pub Ends : Stream → Stream → Result Ended ProgramFault → ℕ → Type 0
 Ends output errors (Ok Printed) status = IsKept output × (((status ≡ 0) × IsKept errors) ⊎ (status ≡ 3))
 Ends output errors (Ok (Failed b)) status =

@@ -32,7 +32,7 @@ conversation locals graph workers end commands output = record {
   replies = output;
 }
 
--- a session over the graph that the bytes are loaded as ended with this result; the replies to the commands are written
+-- a session over the graph of these bytes, which ended with this result; the replies to its commands are written
 pub record IsSession (workers : ℕ) (locals : List Local) (commands output : Stream) (result : Result (Unit {0}) SessionFault) (bytes : List ℕ) : Type 0 where
   pub graph : Numbered
   pub loaded : IsGraphIn bytes graph

@@ -56,20 +56,20 @@ AreLike R (File m a) (Dir n) = ⊥
 abbrev pub AreAlike : (List ℕ → List ℕ → Type 0) → TreeMap → TreeMap → Type 0
 AreAlike R t u = (p : List (List ℕ)) → BothOptions (AreLike R) (finite.get t p) (finite.get u p)
 
--- mounts that are equal but for alike trees
+-- two mounts that are equal, except that their trees need only be alike
 pub record AreAlikeMounts (R : List ℕ → List ℕ → Type 0) (m n : Shown) : Type 0 where
   pub dest : m.dest ≡ n.dest
   pub selector : m.selector ≡ n.selector
   pub readonly : m.readonly ≡ n.readonly
   pub tree : AreAlike R m.tree n.tree
 
--- views that are equal but for alike trees
+-- two views that are equal, except that their trees need only be alike
 abbrev pub AreAlikeViews : (List ℕ → List ℕ → Type 0) → List Shown → List Shown → Type 0
 AreAlikeViews R = BothLists (AreAlikeMounts R)
 
 -- ---- commands
 
--- a file with the same mode and owner, and related contents
+-- two files with the same mode and owner, and with related contents
 abbrev pub AreLikeFiles : (List ℕ → List ℕ → Type 0) → MetaValue × List ℕ → MetaValue × List ℕ → Type 0
 AreLikeFiles R f g = (f.0 ≡ g.0) × R f.1 g.1
 
@@ -99,7 +99,7 @@ RelatesBody R None = Unit {0}
 
 -- ---- runs of a program
 
--- workspaces of the same kind that are equal but for alike trees
+-- two workspaces of the same kind that are equal, except that their trees need only be alike
 abbrev pub AreAlikeWorkspaces : (List ℕ → List ℕ → Type 0) → Workspace → Workspace → Type 0
 AreAlikeWorkspaces R (LocalTree t) (LocalTree u) = AreAlike R t u
 AreAlikeWorkspaces R (Files inputs results) (Files others more) = BothLists (AreAlike R) inputs others × BothLists (AreAlike R) results more
@@ -107,12 +107,12 @@ AreAlikeWorkspaces R (Layers inputs t) (Layers others u) = BothLists (AreAlike R
 AreAlikeWorkspaces R (Mounted mounts caches last) (Mounted others numbers status) = AreAlikeViews R mounts others × (caches ≡ numbers) × (last ≡ status)
 AreAlikeWorkspaces R _ _ = ⊥
 
--- works that are equal but for alike trees
+-- two works that are equal, except that their trees need only be alike
 pub record AreAlikeWorks (R : List ℕ → List ℕ → Type 0) (x y : Work) : Type 0 where
   pub own : AreAlikeWorkspaces R x.own y.own
   pub trees : BothLists (AreAlike R) x.trees y.trees
 
--- results with alike works, and with the same fault or both with none
+-- results with alike works, and either with the same fault or both without a fault
 pub record AreAlikeLefts (R : List ℕ → List ℕ → Type 0) (x y : Left) : Type 0 where
   pub work : AreAlikeWorks R x.work y.work
   pub fault : x.fault ≡ y.fault

@@ -60,7 +60,7 @@ claim_memory claim.NoVertex = false
 claim_memory claim.NotReady = false
 claim_memory (claim.Held key) = false
 
--- a claim returns what the table does, or it fails for want of memory
+-- a claim returns what the table returns, or it fails for want of memory
 abbrev pub GivesClaim : {X Y : Type 0} → (X → Y) → Result X ClaimFault → Result Y ClaimFault → Type 0
 GivesClaim = answer.Gives claim_memory
 
@@ -73,7 +73,7 @@ step_memory step.NoWorker = false
 step_memory step.NotRunning = false
 step_memory step.NothingLeft = false
 
--- a step returns what the table does, or it fails for want of memory
+-- a step returns what the table returns, or it fails for want of memory
 abbrev pub GivesStep : {X Y : Type 0} → (X → Y) → Result X StepFault → Result Y StepFault → Type 0
 GivesStep = answer.Gives step_memory
 

@@ -21,7 +21,7 @@ pub record OutcomeValue : Type 0 where
   pub count : ℕ
   pub left : Left
 
--- the work of a job before its remaining micro-steps, without a fault
+-- the result so far of a job of which no remaining micro-step is done: its work, and no fault
 abbrev pub begun_on : Job → Left
 begun_on j = record { work = j.work; fault = None }
 

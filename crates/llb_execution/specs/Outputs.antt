@@ -21,7 +21,7 @@ tree_by i [] trees = empty_tree
 tree_by i (n ∷ ns) [] = empty_tree
 tree_by i (n ∷ ns) (t ∷ trees) = if is_output i n then t else tree_by i ns trees
 
--- the trees after the first one is replaced, if there is one
+-- the trees after the first tree is replaced, if there is one
 abbrev pub first_placed : TreeMap → List TreeMap → List TreeMap
 first_placed t [] = []
 first_placed t (old ∷ trees) = t ∷ trees

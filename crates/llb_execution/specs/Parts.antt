@@ -12,14 +12,14 @@ use Rattle.llb_execution.specs.declared.workspace.WorkState.TheVariants as own
 
 -- ---- programs
 
--- a micro-step that is borrowed from its program
+-- the micro-step that a value of the code represents, which borrows it from its program
 abbrev pub step_in : MicroStep → model.MicroStep
 step_in step.ReadLocal = model.ReadLocal
 step_in (step.Act action) = model.Act action.now
 step_in (step.LayInput number) = model.LayInput number
 step_in (step.Run setting command later) = model.Run setting.now command.now (model.all_and later.now)
 
--- micro-steps that own their data
+-- the micro-steps that a value of the code represents, which owns their data
 abbrev pub steps_in : ByKind → List model.MicroStep
 steps_in steps.Nothing = []
 steps_in steps.Read = model.ReadLocal ∷ []

@@ -56,7 +56,7 @@ rows_after rows s w = written s.store rows (places_at (slice_get s.workers w))
 
 -- ---- what a lease needs, and which instances it takes
 
--- the needs of a lease: for each need of a vertex its key, and the tree of the input that a new instance begins with
+-- the needs of a lease: for each need of a vertex its key, and the tree that a new instance begins with (that of an input, or the empty tree)
 abbrev pub asked : List TreeMap → List Need → List cache_need.Need
 asked inputs needs = map (λ (n : Need). record { key = n.key; tree = base_in n.input inputs }) needs
 

@@ -73,7 +73,7 @@ with_content p t s = record s { store = put s.store p t }
 abbrev pub with_content_after : Instance → TreeMap → State × Reply → State × Reply
 with_content_after p t a = (with_content p t a.0, a.1)
 
--- nor does another worker's event read such an instance: whatever tree the instance has, the event has the same reply and the same effect elsewhere
+-- another worker's event does not read an instance that a running worker holds exclusively: its reply and effect elsewhere are the same for any tree of it
 abbrev pub OthersIgnore : Build → Type 0
 OthersIgnore b = (s : State) (e : Event) (t : TreeMap) → IsReached b s → (w : ℕ) (x : Execution) (p : Instance) → slice_get s.workers w ≡ Some (Runs x)
     → Has x.places p → IsExclusive p.key.mode → worker_of e ≢ w → table b (with_content p t s) e ≡ option_map (with_content_after p t) (table b s e)
@@ -140,7 +140,7 @@ abbrev pub later_ran : ℕ → Option Joined → ℕ → ℕ → ℕ
 later_ran k None last before = before
 later_ran k (Some c) last before = if is_run c.join last then k else before
 
--- the number of the last command that ran among the first k; 0 if there are none
+-- the number of the last command that ran among the first k; 0 if none of them ran
 abbrev pub last_ran : Setting → List Joined → Work → ℕ → ℕ
 last_ran setting cs work zero = 0
 last_ran setting cs work (suc k) =
@@ -163,7 +163,7 @@ abbrev pub FailsByLastStatus : Type 0
 FailsByLastStatus = (setting : Setting) (cs : List Joined) (mounts : List Shown) (caches : List ℕ) (trees : List TreeMap) (k : ℕ)
     → EndsByLastStatus setting cs (at_start mounts caches trees) k
 
--- what a worker runs, an exec: it is finished exactly if all its micro-steps are done, or if the last status is not 0 and every later command is joined by And;
+-- an exec that a worker runs: it is finished exactly if all its micro-steps are done, or if the last status is not 0 and every later command is joined by And;
 -- once it is finished, it has a fault exactly if the last status is not 0, and the fault names the command that was done last
 pub record StandsByLastStatus (cs : List Joined) (steps : List MicroStep) (x : Execution) : Type 0 where
   pub finished : is_finished steps x ≡ (nat_le (length cs) x.done || (not (last_of x.own == 0) && all_and (drop x.done cs)))

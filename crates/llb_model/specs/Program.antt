@@ -108,7 +108,7 @@ mount_of n = n.mount
 abbrev pub mode_of : ℤ → Mode
 mode_of n = if int_eq n (pos 1) then Private else if int_eq n (pos 2) then Locked else Shared
 
--- an integer as the index of an output; in a loaded graph it is not negative
+-- an integer as the index of an output; 0 for a negative one, which a loaded graph does not have
 abbrev pub index_of : ℤ → ℕ
 index_of (pos n) = n
 index_of (negsuc n) = 0
@@ -265,7 +265,7 @@ lay_on i (LocalTree t) = LocalTree t
 lay_on i (Files inputs results) = Files inputs results
 lay_on i (Mounted mounts caches last) = Mounted mounts caches last
 
--- the mounts after the mounts with these numbers get these trees
+-- the mounts, where the mount of each of these numbers has the tree at the same position of the list
 abbrev pub filled : List Shown → List ℕ → List TreeMap → List Shown
 filled mounts [] trees = mounts
 filled mounts (m ∷ ms) [] = mounts
@@ -277,7 +277,7 @@ taken mounts ms [] = []
 taken mounts [] (t ∷ trees) = t ∷ trees
 taken mounts (m ∷ ms) (t ∷ trees) = (mount_at mounts m).tree ∷ taken mounts ms trees
 
--- the mounts after the mounts with these numbers, as many as `trees` has, get the empty tree
+-- the mounts, where the mount of each of these numbers, as many as `trees` has, has the empty tree
 abbrev pub blanked : List Shown → List ℕ → List TreeMap → List Shown
 blanked mounts ms trees = filled mounts ms (map (λ t. empty_tree) trees)
 
@@ -346,7 +346,7 @@ abbrev pub unless_faulted : Option VertexFault → Left → Left → Left
 unless_faulted None left next = next
 unless_faulted (Some f) left next = left
 
--- the result after micro-step k too; after a fault no micro-step is done
+-- the result after micro-step k as well, given the result before it; after a fault no micro-step is done
 abbrev pub go_on : List MicroStep → ℕ → Left → Left
 go_on steps k left = unless_faulted left.fault left (step_on k (slice_get steps k) left.work)
 

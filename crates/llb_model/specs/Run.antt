@@ -37,7 +37,7 @@ least test v (suc n) = if test v then Some v else least test (v + 1) n
 abbrev pub next_claim : Build → State → Option Event
 next_claim b s = option_map (λ v. Claim 0 v) (least (is_ready b s.statuses) 0 (length b.graph.vertices))
 
--- an event if there is one, or else the other
+-- the event before `other` if there is one, else `other`
 abbrev pub or_else : Option Event → Option Event → Option Event
 or_else (Some e) other = Some e
 or_else None other = other

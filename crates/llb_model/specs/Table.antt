@@ -89,7 +89,7 @@ claim_with s w v vertex work ps = (after_claim s w v work ps, Claimed (job_on w 
 abbrev pub claim_at : Build → State → ℕ → ℕ → Start → List Instance → State × Reply
 claim_at b s w v start ps = claim_with s w v start.vertex (begin_at b s.store start ps) ps
 
--- the result of a claim, given the first locked key among its needs that a worker holds; the claim is refused if there is one
+-- the result of a claim, given the first locked key among its needs that a worker holds; the claim is refused if there is such a key
 abbrev pub claim_unless : Build → State → ℕ → ℕ → Start → Option Key → Result (State × Reply) ClaimFault
 claim_unless b s w v start (Some k) = Err (claim.Held k)
 claim_unless b s w v start None = Ok (claim_at b s w v start (places_for (held s.workers) (needs_of start.vertex)))

@@ -1,4 +1,4 @@
--- Conservation: each number was put as often as it was taken and is still in the queue, in sum.
+-- Conservation: how often each number was put is the sum of how often it was taken and how often it is still in the queue.
 use Rattle.std.specs.Prelude.{◌≡◌, ℕ, ◌+◌, ◌<◌, ◌≤◌, ◌==◌, List, length, count_by}
 use Rattle.llb_ready.specs.declared.hand.Hand.{Hand}
 use Rattle.llb_ready.specs.Hands.{HasAll, with_put, with_taken}

@@ -22,11 +22,11 @@ use Rattle.llb_session.specs.Texts.{status_lines, record_line, record_lines, tre
 
 -- ---- a request that is granted: what it prints, and the stepper after it
 
--- an event: the line of the record that it adds
+-- the event is done, and the line that it adds to the record is printed
 abbrev pub GrantsEvent : Event → Stepping → List ℕ → Stepping → Type 0
 GrantsEvent e s text t = (done_of s e ≡ Ok t) × (text ≡ record_line t (length t.board.events))
 
--- the chosen event, if there is one; else `end`
+-- the chosen event is done, if there is one; else `end` is printed
 abbrev pub GrantsNext : Option Event → Stepping → List ℕ → Stepping → Type 0
 GrantsNext None s text t = (t ≡ s) × (text ≡ codes "end\n")
 GrantsNext (Some e) s text t = GrantsEvent e s text t

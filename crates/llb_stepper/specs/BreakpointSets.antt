@@ -12,19 +12,19 @@ use Rattle.llb_stepper.specs.declared.breakpoints.Kinds.{Kinds}
 use Rattle.llb_stepper.specs.declared.stop.Break.{Break}
 use Rattle.llb_stepper.specs.declared.stop.Break.TheVariants as stop
 
--- whether a breakpoint is a breakpoint at claims of vertex v
+-- whether this is a breakpoint at claims of vertex v
 abbrev pub is_at_claims : ℕ → Break → Bool
 is_at_claims v (stop.Claims u) = v == u
 is_at_claims v (stop.Settles u) = false
 is_at_claims v stop.Fails = false
 
--- whether a breakpoint is a breakpoint at settles of vertex v
+-- whether this is a breakpoint at settles of vertex v
 abbrev pub is_at_settles : ℕ → Break → Bool
 is_at_settles v (stop.Claims u) = false
 is_at_settles v (stop.Settles u) = v == u
 is_at_settles v stop.Fails = false
 
--- whether a breakpoint is the breakpoint at failures
+-- whether this is the breakpoint at failures
 abbrev pub is_at_failures : Break → Bool
 is_at_failures (stop.Claims u) = false
 is_at_failures (stop.Settles u) = false

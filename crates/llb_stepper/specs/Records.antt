@@ -105,6 +105,6 @@ pub record HasRun (b : BoardValue) (t : Stepping) : Type 0 where
   pub leads : t.board ≡ b
   pub lines : (i : ℕ) (e : Event) (r : Reply) → slice_get b.events i ≡ Some e → slice_get (replies_in b) i ≡ Some r → record_at t (i + 1) ≡ Some (e, r)
 
--- However the events of board b were done, a stepper without breakpoints over b as it was opened that replays b's record has done the whole record.
+-- However the events of board b were done: a stepper without breakpoints that starts on b as it was opened, and replays b's record, does the whole record.
 abbrev pub ReplaysOnAStepper : BoardValue → Type 0
 ReplaysOnAStepper b = (s t : Stepping) (p : Stop) → s.board ≡ at_first b → s.breaks ≡ [] → IsStop s b.events t p → HasRun b t
