@@ -86,9 +86,9 @@ HandsExpansionsOn g = (expand : List ℕ → Option (List ℕ)) → IsKept (Expa
 abbrev pub ExpandsToOne : TreeMap → Type 0
 ExpandsToOne t = (expand : List ℕ → Option (List ℕ)) (u w : TreeMap) → AreAlike (ExpandsTo expand) t u → AreAlike (ExpandsTo expand) t w → u ≡ w
 
--- what the rest of a content expands to, while `left` bytes of a token are still to be read and n is its number so far. The byte 255, which no text in UTF-8
--- has, begins a token;
--- the four bytes after it are its number, the most significant first; each other byte expands to itself
+-- what the rest of a content expands to, while `left` bytes of a token are still to be read, and n is the token's number by its bytes so far.
+-- The byte 255, which no text in UTF-8 has, begins a token; the four bytes after it are its number, the most significant first.
+-- Each byte outside a token expands to itself.
 abbrev pub spelled_from : (ℕ → List ℕ) → List ℕ → ℕ → ℕ → Option (List ℕ)
 spelled_from table [] zero n = Some []
 spelled_from table [] (suc left) n = None

@@ -7,7 +7,7 @@ use Rattle.llb_work.specs.declared.hand_out.GivenBack.{GivenBack}
 use Rattle.llb_work.specs.Passes.{IsUncut}
 
 module _ {L : Type 0} where
-  -- for each worker, at most 64 of them: a share of the ledger, a list, and room for a thread; and the whole pass of the queue
+  -- for each worker, at most 64 of them: a share of the ledger (which counts events), a list, and room for a thread; and the whole pass of the queue
   pub record IsHandedOut (q : ReadyQueue) (out : HandOut L) : Type 0 where
     pub parts : out.share.parts ≡ out.workers
     pub amount : out.share.amount ≡ 0
