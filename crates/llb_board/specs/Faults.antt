@@ -8,7 +8,7 @@ use Rattle.llb_events.specs.Faults.{claim_text, step_text, settle_text, cancel_t
 use Rattle.llb_board.specs.declared.fault.WalkFault.{WalkFault}
 use Rattle.llb_board.specs.declared.fault.WalkFault.TheVariants as walk
 
--- the text of the refusal of any event
+-- the text of a refusal of `walk`, for any event
 abbrev pub walk_text : WalkFault → List ℕ
 walk_text (walk.Claim e) = claim_text e
 walk_text (walk.Step e) = step_text e

@@ -59,7 +59,7 @@ statuses_before (Unclaim w v growths) statuses = slice_set statuses v Waiting
 statuses_before (Unstep w mark trees) statuses = statuses
 statuses_before (Resume e w left lent) statuses = slice_set statuses left.execution.vertex (Running w)
 
--- the board after an event is taken back
+-- the board after the event that u is for is taken back
 abbrev pub undone : Displaced → BoardValue → BoardValue
 undone u b = record b {
   state = record {

@@ -59,7 +59,7 @@ role_in (part.ResultOf a) = ResultOf a
 role_in part.Laid = Laid
 role_in (part.MountAt dest) = MountAt dest.now
 
--- the role of a tree of an input
+-- the role of an input's tree
 abbrev pub input_role : TreeMap → Role
 input_role t = Input
 

@@ -42,7 +42,7 @@ told_text vertices e (reply.Stepped s) = step_text s
 told_text vertices e (reply.Settled s) = settle_text s
 told_text vertices e (reply.Cancelled c) = pair_text c.vertex c.done
 
--- the line of an event, without its end
+-- the line of an event without its line end
 abbrev pub line_text : List Vertex → ℕ → Event → Reply → List ℕ
 line_text vertices number e r = decimal number ++ (codes " " ++ (event_text e ++ (codes " -> " ++ told_text vertices e r)))
 

@@ -8,7 +8,7 @@ use Rattle.llb_work.specs.declared.end.RunFault.TheVariants.{Memory, Stopped, Th
 use Rattle.llb_work.specs.declared.noted.Noted.{Noted}
 use Rattle.llb_work.specs.declared.noted.Noted.TheVariants as noted
 
--- whether the fault is 154 `Foreign`: the board kept under the lock was another one
+-- whether the fault is 154 `Foreign`: the opening board that the lock kept is not the given one
 abbrev pub is_foreign : Option RunFault → Bool
 is_foreign None = false
 is_foreign (Some Memory) = false
@@ -20,7 +20,7 @@ is_foreign (Some (Foreign b)) = true
 abbrev pub Leads : BoardValue → List ℕ → BoardValue → Type 0
 Leads given made found = GoesOn given found × Counts made given found
 
--- no worker runs anything; or memory was refused before a thread was started, and the board is the given one
+-- no worker runs anything on the board that is found; or memory was refused before a thread was started, and that board is the given one
 abbrev pub EndsIdle : BoardValue → Option RunFault → BoardValue → Type 0
 EndsIdle given fault found = AreIdle found.state ⊎ ((fault ≡ Some Memory) × (found ≡ given))
 

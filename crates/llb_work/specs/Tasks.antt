@@ -10,7 +10,7 @@ use Rattle.llb_work.specs.declared.shared_board.Task.TheVariants.{Work, Pass, Ag
 use Rattle.llb_work.specs.declared.shared_board.Report.{Report}
 use Rattle.llb_work.specs.declared.shared_board.Report.TheVariants.{Nothing, Number, Outcome, Fault}
 
--- the job is that of worker w for vertex v, which both exist on the board; if no cache mount is at or before the vertex, it is the plain job
+-- worker w and vertex v exist on the board, and the job is that worker's for that vertex; it is the plain job if no cache mount is at or before the vertex
 pub record IsClaimed (b : BoardValue) (w v : ℕ) (job : Job) : Type 0 where
   pub worker : job.worker ≡ w
   pub vertex : job.vertex ≡ v
@@ -25,7 +25,7 @@ IsHere b w Again = Unit {0}
 IsHere b w Next = Unit {0}
 IsHere b w End = Unit {0}
 
--- an outcome that a worker brings is of a job that it has claimed, and a stop that it brings is one that the gate may cause
+-- an outcome that a worker reports is of a job as `IsClaimed` says, and a stop that it reports is one that the gate may cause
 abbrev pub IsReport : (ℕ → ℕ → Bool) → BoardValue → ℕ → Report → Type 0
 IsReport may_stop b w Nothing = Unit {0}
 IsReport may_stop b w (Number v) = Unit {0}
