@@ -10,7 +10,7 @@ use Rattle.llb_board.specs.Seen.{BoardValue}
 use Rattle.llb_board.specs.Jobs.{job_now}
 use Rattle.llb_board.specs.Landing.{CanLand}
 
--- what the claim of a vertex starts with: the vertex and the trees of its inputs' plain outcomes, if none of them is missing
+-- what the work on a vertex starts with: the vertex and the trees of its inputs' plain outcomes, if none of them is missing
 abbrev pub plain_start : Build → Option Vertex → Option Start
 plain_start b None = None
 plain_start b (Some vertex) = option_map (start_with vertex) (inputs_from (λ k. ending_in (outcome b k)) vertex.inputs)
@@ -38,7 +38,7 @@ abbrev pub ClaimsArePlain : BoardValue → Type 0
 ClaimsArePlain b = (w v : ℕ) (t : State) (job : Job) → is_plain b.build v ≡ true → table b.build b.state (Claim w v) ≡ Some (t, Claimed job)
     → plain_job b.build w v ≡ Some job
 
--- a worker has done no micro-step yet of a vertex with no cache mount at or before it, and the job is the plain job
+-- worker w runs a vertex with no cache mount at or before it, and has done no micro-step of it yet; the job is the plain job
 pub record IsKnown (b : BoardValue) (w : ℕ) (job : Job) : Type 0 where
   pub x : Execution
   pub plain : is_plain b.build x.vertex ≡ true

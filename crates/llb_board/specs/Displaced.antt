@@ -1,4 +1,4 @@
--- What is kept of the workers before an event so that it can be taken back, and the workers after it is taken back.
+-- What is kept of the workers before an event so that the event can be taken back, and the workers once it is taken back.
 use Rattle.std.specs.Prelude.{◌≡◌, ℕ, ◌+◌, ◌-◌, ◌^◌, ◌<◌, Bool, true, false, List, length, map, Option, Some, None, Result, slice_get, slice_set}
 use Rattle.llb_cache.specs.declared.growth.Growth.{Growth}
 use Rattle.llb_cache.specs.Caches.{Row, trees_of}
@@ -31,14 +31,14 @@ use Rattle.llb_board.specs.declared.workers.undoing.End.TheVariants as end
 
 -- ---- the result of an event
 
--- the table's result of an event on this state, with its refusals as those of a walk
+-- the table's result of an event on this state, with its refusals turned into those of `walk`
 abbrev pub walk_in : VerticesValue → WorkersValue → own_event.Event → Result (State × table.Reply) WalkFault
 walk_in vs ws (event.Claim w v) = faulted walk.Claim (claim_in vs ws w v)
 walk_in vs ws (event.Step w) = faulted walk.Step (step_in vs ws w)
 walk_in vs ws (event.Settle w) = faulted walk.Settle (table.settle_grant vs.build (state_in vs ws) w)
 walk_in vs ws (event.Cancel w) = faulted walk.Cancel (table.cancel_grant (state_in vs ws) w)
 
--- whether a refusal of a walk is that of memory
+-- whether a refusal of `walk` is `Memory`
 abbrev pub walk_memory : WalkFault → Bool
 walk_memory walk.Memory = true
 walk_memory (walk.Claim e) = false
@@ -63,8 +63,8 @@ not_running end.Cancel = walk.Cancel no_cancel.NotRunning
 
 -- ---- what an event displaces (changes, and has to be kept to take the event back)
 
--- For a claim: the worker, the vertex, and what its lease added to the caches. For a step: the parts of the view that it can change, and the trees of the
--- worker's instances. For a settle or a cancel: what the worker ran, and a lease of its instances.
+-- For a claim: the worker, the vertex, and what its lease added to the caches. For a step: the worker, what the step can change in its workspace, and the trees
+-- of its instances. For a settle or a cancel: which of the two, the worker, what it ran, and a prepared lease of its instances, if it had any.
 pub data Back : Type 0 where
   Unclaim : ℕ → ℕ → List Growth → Back
   Unstep : ℕ → Mark → List TreeMap → Back
@@ -82,11 +82,11 @@ back_in (back.Resume e w x lent) = Resume e w (left_in x) lent
 
 -- ---- the event taken back
 
--- an execution after its last micro-step is taken back: one fewer is done, there is no fault, and the view is as it was
+-- an execution after its last micro-step is taken back: one micro-step fewer is done, there is no fault, and the mark is put back
 abbrev pub with_view_back : Mark → Execution → Execution
 with_view_back mark x = record x { done = x.done - 1; fault = None; own = put_back mark x.own }
 
--- what a worker did before its last micro-step
+-- what a worker did before its last micro-step; idle if it runs nothing
 abbrev pub step_before : Mark → Option WorkerStatus → WorkerStatus
 step_before mark (Some (Runs x)) = Runs (with_view_back mark x)
 step_before mark (Some Idle) = Idle
@@ -104,7 +104,7 @@ supplies_before (Unclaim w v growths) supplies = slice_set supplies w (supplies_
 supplies_before (Unstep w mark trees) supplies = supplies
 supplies_before (Resume e w left lent) supplies = slice_set supplies w left.supplies
 
--- the rows of the caches before the event, given what the workers do now: only the worker's own instances change
+-- the rows of the caches before the event, given what the workers do after it: only the instances that the event's worker holds change
 abbrev pub rows_before : Back → List WorkerStatus → List Row → List Row
 rows_before (Unclaim w v growths) workers rows = unmade rows (places_at (slice_get workers w)) growths
 rows_before (Unstep w mark trees) workers rows = put_each rows (places_at (slice_get workers w)) trees
@@ -116,13 +116,13 @@ change_in (Unclaim w v growths) = Some (v, Waiting)
 change_in (Unstep w mark trees) = None
 change_in (Resume e w left lent) = Some (left.execution.vertex, Running w)
 
--- a change of a vertex's status, as a pair
+-- a change of a vertex's status, as the pair of the vertex and its new status
 abbrev pub change_of : change.Change → ℕ × Status
 change_of c = (c.vertex, status_of c.stage)
 
 -- ---- when an event can be taken back
 
--- worker w runs, the view to be put back has as many mounts as its own, and there is a tree for each instance of the worker
+-- worker w runs something, its workspace has as many mounts after the mark is put back as it has now, and there is a tree for each of its instances
 pub record IsStepped (workers : List WorkerStatus) (w : ℕ) (mark : Mark) (trees : List TreeMap) : Type 0 where
   pub x : Execution
   pub runs : slice_get workers w ≡ Some (Runs x)
@@ -130,13 +130,13 @@ pub record IsStepped (workers : List WorkerStatus) (w : ℕ) (mark : Mark) (tree
   pub count : length trees ≡ length x.places
   pub few : length trees < 2 ^ 32
 
--- the worker is idle, the instances that it left have distinct keys, and a lease of them is prepared
+-- the worker is idle, the instances that it left have distinct keys, and a lease of them is prepared, if there are any
 pub record IsLeft (workers : List WorkerStatus) (w : ℕ) (left : Left) (lent : Option LentValue) : Type 0 where
   pub idle : slice_get workers w ≡ Some Idle
   pub keys : Distinct (map (λ (p : Instance). p.key) left.execution.places)
   pub ready : lent ≡ lent_of left.execution.places (length workers + 1)
 
--- the worker is in the condition in which the event left it
+-- the event's worker is in the condition in which the event left it
 abbrev pub IsBehind : Back → List WorkerStatus → Type 0
 IsBehind (Unclaim w v growths) workers = w < length workers
 IsBehind (Unstep w mark trees) workers = IsStepped workers w mark trees
@@ -152,7 +152,7 @@ abbrev pub AreHeldOnce : List WorkerStatus → Type 0
 AreHeldOnce workers = (w u : ℕ) (x y : Execution) (p : Instance) → slice_get workers w ≡ Some (Runs x) → slice_get workers u ≡ Some (Runs y)
     → Has x.places p → Has y.places p → IsExclusive p.key.mode → w ≡ u
 
--- the worker is in the condition in which the event left it, and the workers before the event hold instances that exist, exclusively if their keys ask for it
+-- `IsBehind` holds; before the event, each instance that a worker held existed, and no two workers held one instance of a locked or a private key
 pub record CanPutBack (u : Displaced) (ws : WorkersValue) : Type 0 where
   pub behind : IsBehind u.back ws.workers
   pub there : AreHeldThere (workers_before u.back ws.workers) (rows_before u.back ws.workers ws.rows)

@@ -1,4 +1,4 @@
--- The refusal of an event of a walk: its text, and which refusal it is for each refusal of the event itself.
+-- The refusals of `walk`: the text of each, and which of them there is for each refusal of a claim or a step.
 use Rattle.std.specs.Prelude.{List, ℕ, Result, Ok, Err, codes}
 use Rattle.llb_events.specs.declared.refusal.ClaimFault.{ClaimFault}
 use Rattle.llb_events.specs.declared.refusal.ClaimFault.TheVariants as claim
@@ -8,7 +8,7 @@ use Rattle.llb_events.specs.Faults.{claim_text, step_text, settle_text, cancel_t
 use Rattle.llb_board.specs.declared.fault.WalkFault.{WalkFault}
 use Rattle.llb_board.specs.declared.fault.WalkFault.TheVariants as walk
 
--- the text of the refusal of any event
+-- the text of a refusal of `walk`, for any event
 abbrev pub walk_text : WalkFault → List ℕ
 walk_text (walk.Claim e) = claim_text e
 walk_text (walk.Step e) = step_text e
@@ -16,7 +16,7 @@ walk_text (walk.Settle e) = settle_text e
 walk_text (walk.Cancel e) = cancel_text e
 walk_text walk.Memory = codes "141"
 
--- the refusal of a claim as that of a walk; for refused memory there is one fault, whichever event met it
+-- the refusal of a claim as a refusal of `walk`, which has one fault for refused memory, whatever the event was
 abbrev pub claim_refused : ClaimFault → WalkFault
 claim_refused claim.Memory = walk.Memory
 claim_refused claim.NoWorker = walk.Claim claim.NoWorker
@@ -25,14 +25,14 @@ claim_refused claim.NoVertex = walk.Claim claim.NoVertex
 claim_refused claim.NotReady = walk.Claim claim.NotReady
 claim_refused (claim.Held k) = walk.Claim (claim.Held k)
 
--- the refusal of a step as that of a walk
+-- the refusal of a step as a refusal of `walk`
 abbrev pub step_refused : StepFault → WalkFault
 step_refused step.Memory = walk.Memory
 step_refused step.NoWorker = walk.Step step.NoWorker
 step_refused step.NotRunning = walk.Step step.NotRunning
 step_refused step.NothingLeft = walk.Step step.NothingLeft
 
--- a result whose cause is turned into a fault
+-- a result in which the cause of a refusal, if there is one, is turned into a fault
 abbrev pub faulted : {A C F : Type 0} → (C → F) → Result A C → Result A F
 faulted fault (Ok x) = Ok x
 faulted fault (Err cause) = Err (fault cause)

@@ -21,7 +21,7 @@ pub record HoldsInstance (b : BoardValue) (w : ℕ) (p : Instance) : Type 0 wher
 abbrev pub LockedOnce : BoardValue → Type 0
 LockedOnce b = (w u : ℕ) (p q : Instance) → HoldsInstance b w p → HoldsInstance b u q → p.key ≡ q.key → p.key.mode ≡ Locked → w ≡ u
 
--- two running workers with the same instance of a locked or a private key are the same worker
+-- two running workers that hold the same instance of a locked or a private key are the same worker
 abbrev pub HeldOnce : BoardValue → Type 0
 HeldOnce b = (w u : ℕ) (p : Instance) → HoldsInstance b w p → HoldsInstance b u p → IsExclusive p.key.mode → w ≡ u
 
@@ -31,12 +31,12 @@ OthersLeave b = (w : ℕ) (p : Instance) → HoldsInstance b w p → IsExclusive
     → table b.build b.state e ≡ Some (t, r)
     → content t.store p ≡ content b.state.store p
 
--- an event of another worker would have the same reply, and the same effect elsewhere, whatever tree an instance had that a running worker holds exclusively
+-- whatever tree an instance has that a running worker holds exclusively, an event of another worker has the same reply, and the same effect elsewhere
 abbrev pub OthersIgnore : BoardValue → Type 0
 OthersIgnore b = (w : ℕ) (p : Instance) → HoldsInstance b w p → IsExclusive p.key.mode → (e : Event) (tree : TreeMap) → worker_of e ≢ w
     → table b.build (with_content p tree b.state) e ≡ option_map (with_content_after p tree) (table b.build b.state e)
 
--- each settled vertex and each instance that nobody holds is as it would be if the record's claims were done one after another, each with its whole work
+-- each settled vertex and each instance that nobody holds is as if the record's claims were done one after another, each whole or up to its cancel
 abbrev pub StandsInClaimOrder : BoardValue → Type 0
 StandsInClaimOrder b = StandsIn b.state (order b.build (at_first b.build b.opening.store) (claims_in (replies_in b)))
 

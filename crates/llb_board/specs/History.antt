@@ -3,12 +3,12 @@ use Rattle.std.specs.Prelude.{ℕ, zero, suc, ◌+◌, ◌-◌, List, length, ta
 use Rattle.llb_events.specs.declared.event.Event.{Event}
 use Rattle.llb_events.specs.declared.event.Event.TheVariants.{Claim, Step, Settle, Cancel}
 
--- the events so far, and for how many events in all memory is reserved
+-- the events so far, and the number of events, these included, for which memory is reserved
 pub record Recorded : Type 0 where
   pub list : List Event
   pub room : ℕ
 
--- the room for events, and for each vertex how often it was cancelled
+-- the number of events for which memory is reserved, and for each vertex how often it was cancelled
 pub record Space : Type 0 where
   pub room : ℕ
   pub cancels : List ℕ
@@ -18,12 +18,12 @@ pub record HistoryValue : Type 0 where
   pub list : List Event
   pub space : Space
 
--- the room that a claim reserves for a vertex with this number of events that was cancelled n times: none at its first claim
+-- the room that a claim reserves for a vertex that takes at most `events` events and was cancelled n times: none at its first claim
 abbrev pub taken : ℕ → ℕ → ℕ
 taken events zero = 0
 taken events (suc n) = events
 
--- the room that a claim of vertex v reserves, for this number of events
+-- the room that a claim of vertex v reserves, if the vertex takes at most `events` events
 abbrev pub taken_by : ℕ → ℕ → Space → ℕ
 taken_by v events s = taken events (get_or s.cancels v 0)
 
@@ -53,7 +53,7 @@ front xs = take (length xs - 1) xs
 abbrev pub last_of : {A : Type 0} → List A → Option A
 last_of xs = slice_get xs (length xs - 1)
 
--- the room and the counts before an event of vertex v, which has this number of events: less room before a claim, one cancel fewer before a cancel
+-- the room and the counts before an event of vertex v: before a claim the room that it reserved is not there, before a cancel the count is one lower
 abbrev pub space_back : Option Event → ℕ → ℕ → Space → Space
 space_back (Some (Claim w u)) v events s = unclaimed v events s
 space_back (Some (Step w)) v events s = s

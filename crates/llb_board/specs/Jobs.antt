@@ -12,7 +12,7 @@ use Rattle.llb_execution.specs.Parts.{work_with}
 use Rattle.llb_board.specs.declared.workers.seat.Seat.{Seat}
 use Rattle.llb_board.specs.declared.workers.seat.Seat.TheVariants as seat
 
--- whether several leases can have one instance at once
+-- whether this mode lets several leases have one instance at once
 abbrev pub is_shared : Mode → Bool
 is_shared Shared = true
 is_shared Private = false
@@ -22,7 +22,7 @@ is_shared Locked = false
 abbrev pub has_shared : Execution → Bool
 has_shared x = list_any (λ (p : Instance). is_shared p.key.mode) x.places
 
--- the job that remains for a worker: what a claim of its present work would hand out
+-- the job that remains for a worker: its present work, in the form in which a claim hands out a job
 abbrev pub job_now : Build → Store → ℕ → Execution → Job
 job_now b store w x = record {
   worker = w;
@@ -33,14 +33,14 @@ job_now b store w x = record {
   instances = map (λ (p : Instance). p.number) x.places;
 }
 
--- the job is of this worker and the vertex that it runs, and counts the same micro-steps as done
+-- the job has the numbers of this worker and of the vertex that it runs, as many micro-steps are done in the job as by the worker, and none has faulted
 pub record IsBegun (w : ℕ) (x : Execution) (job : Job) : Type 0 where
   pub worker : job.worker ≡ w
   pub vertex : job.vertex ≡ x.vertex
   pub done : job.done ≡ x.done
   pub clean : x.fault ≡ None
 
--- the job equals what remains for the worker, and no micro-step has faulted
+-- the job is the one that remains for the worker, and no micro-step has faulted
 pub record IsRunOf (b : Build) (store : Store) (w : ℕ) (x : Execution) (job : Job) : Type 0 where
   pub clean : x.fault ≡ None
   pub same : job ≡ job_now b store w x

@@ -5,8 +5,8 @@ use Rattle.llb_board.specs.Workers.{WorkersValue, Fits}
 use Rattle.llb_board.specs.Seen.{BoardValue, Replays}
 use Rattle.llb_board.specs.History.{Space}
 
--- The record replays to the state. Its room is enough for all events of the run but those of vertices that wait after a cancel, whose next claim reserves it;
--- the counts of cancels are those of the replies; and each worker has the supplies that its vertex needs.
+-- The record replays to the state. Its room is enough for all events of the run, except those of vertices that wait after a cancel: for these the next claim
+-- reserves room. The counts of cancels are those of the replies. Each worker has the supplies that its vertex needs.
 pub record IsBoard (b : BoardValue) (ws : WorkersValue) (space : Space) : Type 0 where
   pub replays : Replays b
   pub room : space.room + owed b.build b.state.statuses replays.replies ≡ most_events b.build replays.replies

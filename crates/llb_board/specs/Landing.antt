@@ -62,14 +62,14 @@ pub record IsRefused (b : BoardValue) (w : ℕ) (o : OutcomeValue) (e : LandFaul
 
 -- ---- what a landing does
 
--- as many steps of worker w as `count` says are done and recorded
+-- `new` is board b after `count` steps of worker w, which are done and recorded
 pub record Steps (b : BoardValue) (w : ℕ) (count : ℕ) (new : BoardValue) : Type 0 where
   pub replies : List Reply
   pub runs : run b.build b.state (steps_by w count) ≡ Some (new.state, replies)
   pub rows : kept_along b.build b.state b.rows (steps_by w count) ≡ Some (new.state, new.rows)
   pub recorded : new ≡ record b { state = new.state; rows = new.rows; events = b.events ++ steps_by w count }
 
--- all remaining steps of worker w and its settle are done and recorded; the settle's reply is the last
+-- `new` is board b after all remaining steps of worker w and its settle, which are done and recorded; `reply` is the reply to the settle, the last one
 pub record Lands (b : BoardValue) (w : ℕ) (o : OutcomeValue) (new : BoardValue) (reply : Reply) : Type 0 where
   pub can : CanLand b w o.job
   pub replies : List Reply
@@ -77,7 +77,7 @@ pub record Lands (b : BoardValue) (w : ℕ) (o : OutcomeValue) (new : BoardValue
   pub rows : kept_along b.build b.state b.rows (landing w o.count) ≡ Some (new.state, new.rows)
   pub recorded : new ≡ record b { state = new.state; rows = new.rows; events = b.events ++ landing w o.count }
 
--- after these steps what the worker runs is finished
+-- after `count` steps of worker w, what it runs is finished
 pub record IsThrough (b : BoardValue) (w : ℕ) (count : ℕ) (new : BoardValue) : Type 0 where
   pub steps : Steps b w count new
   pub finished : is_ok (settle_grant new.build new.state w) ≡ true

@@ -18,17 +18,17 @@ SettledArePlain b = (v : ℕ) (e : Ending) → is_plain b.build v ≡ true → s
 abbrev pub ChosenIsGranted : BoardValue → Type 0
 ChosenIsGranted b = (e : Event) → chosen b.build b.state ≡ Some e → is_some (table b.build b.state e) ≡ true
 
--- a granted event leaves what all other workers do as it is
+-- a granted event does not change what the workers other than its own do
 abbrev pub OthersKeep : BoardValue → Type 0
 OthersKeep b = (e : Event) (a : State × Reply) → table b.build b.state e ≡ Some a → (u : ℕ) → u ≢ worker_of e
     → slice_get a.0.workers u ≡ slice_get b.state.workers u
 
--- no two workers run one vertex
+-- no two workers run the same vertex
 abbrev pub OneWorkerEach : BoardValue → Type 0
 OneWorkerEach b = (u w : ℕ) (x y : Execution) → slice_get b.state.workers u ≡ Some (Runs x) → slice_get b.state.workers w ≡ Some (Runs y)
     → x.vertex ≡ y.vertex → u ≡ w
 
--- a vertex is Ready exactly if it waits, and all its inputs are done
+-- a vertex is Ready exactly if it waits, and the vertices of all its inputs are done
 abbrev pub ReadyBehindDone : BoardValue → Type 0
 ReadyBehindDone b = (v : ℕ) (x : Vertex) → slice_get b.build.graph.vertices v ≡ Some x
     → is_ready b.build b.state.statuses v
@@ -38,7 +38,7 @@ ReadyBehindDone b = (v : ℕ) (x : Vertex) → slice_get b.build.graph.vertices 
 abbrev pub is_failed_or_blocked : BoardValue → ℕ → Bool
 is_failed_or_blocked b v = is_failed (ending_at b.state.statuses v) || is_blocked b.build b.state.statuses v
 
--- a vertex is blocked exactly if it waits, and an input of it has failed or is blocked
+-- a vertex is blocked exactly if it waits, and the vertex of one of its inputs has failed or is blocked
 abbrev pub BlockedBehindAFailure : BoardValue → Type 0
 BlockedBehindAFailure b = (v : ℕ) (x : Vertex) → slice_get b.build.graph.vertices v ≡ Some x
     → is_blocked b.build b.state.statuses v

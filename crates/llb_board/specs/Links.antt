@@ -31,7 +31,7 @@ count_below p (suc n) = (if p n then 1 else 0) + count_below p n
 abbrev pub waits_for : (ℕ → Bool) → Vertex → ℕ → Bool
 waits_for done x u = leads x.inputs u && not (done u)
 
--- how many vertices that are not done a vertex has edges to
+-- to how many vertices that are not done vertex x has an edge
 abbrev pub open_inputs : List Vertex → (ℕ → Bool) → Vertex → ℕ
 open_inputs vs done x = count_below (waits_for done x) (length vs)
 
@@ -45,7 +45,7 @@ pub record IsEntered (edges : List Edge) (v : ℕ) (old new : List (List ℕ)) (
   pub lists : (u : ℕ) → u < length old → get_or new u [] ≡ (if leads edges u then get_or old u [] ++ v ∷ [] else get_or old u [])
   pub counted : count ≡ count_below (leads edges) (length old)
 
--- the links: for each vertex those that have an edge to it, and how many inputs of it are not done
+-- the links: for each vertex its users, and to how many vertices that are not done it has an edge
 pub record Linked : Type 0 where
   pub users : List (List ℕ)
   pub counts : List ℕ
@@ -55,7 +55,7 @@ pub record HasRoom (count : ℕ) (reached : List ℕ) (room : ℕ) : Type 0 wher
   pub none : reached ≡ []
   pub fits : count ≤ room
 
--- the links are those of these vertices, of which some are done
+-- the links are right for these vertices, of which those are done for which `done` is true
 pub record IsLinked (vs : List Vertex) (done : ℕ → Bool) (l : Linked) : Type 0 where
   pub same_users : length l.users ≡ length vs
   pub same_counts : length l.counts ≡ length vs
@@ -89,7 +89,7 @@ AreRaised users old new = (length new ≡ length old) × ((x : ℕ) → x < leng
 abbrev pub is_marked : List Bool → ℕ → Bool
 is_marked marks x = get_or marks x false
 
--- a set of vertices that contains with each vertex all its users
+-- the set of vertices contains with each vertex all its users
 abbrev pub IsClosed : List (List ℕ) → (ℕ → Bool) → Type 0
 IsClosed users p = (y x : ℕ) → p y ≡ true → Contains (get_or users y []) x → p x ≡ true
 
@@ -98,7 +98,7 @@ abbrev pub unmarked : List Bool → ℕ
 unmarked [] = 0
 unmarked (b ∷ bs) = (if b then 0 else 1) + unmarked bs
 
--- some of the users are marked, and those that were not marked before are appended to the reached vertices
+-- all of these users are marked now, those that were not marked before are appended to the reached vertices, and no other vertex is newly marked
 pub record Visits (users : List ℕ) (old new : List Bool) (reached reached_new : List ℕ) : Type 0 where
   pub same : length new ≡ length old
   pub more : List ℕ
@@ -109,7 +109,7 @@ pub record Visits (users : List ℕ) (old new : List Bool) (reached reached_new 
   pub only : (x : ℕ) → is_marked new x ≡ true → (is_marked old x ≡ true) ⊎ Contains more x
   pub count : unmarked new + length more ≡ unmarked old
 
--- the marked vertices are the least such set that contains vertex v and all that were marked before
+-- if the vertices marked before are closed, those marked now are the least closed set (`IsClosed`) with vertex v and all that were marked before
 pub record Spreads (users : List (List ℕ)) (v : ℕ) (old new : List Bool) : Type 0 where
   pub same : length new ≡ length old
   pub kept : (x : ℕ) → is_marked old x ≡ true → is_marked new x ≡ true

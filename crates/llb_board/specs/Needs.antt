@@ -23,12 +23,12 @@ use Rattle.llb_board.specs.declared.workers.needs.Wanted.{Wanted}
 abbrev pub is_locked_and_held : Leases → Key → Bool
 is_locked_and_held out k = is_locked k.mode && is_held out (place k 0)
 
--- the first key among the needs that is locked and that a lease has
+-- the first key among the needs that is locked and whose instance a lease has
 abbrev pub first_held_key : Leases → List Need → Option Key
 first_held_key out [] = None
 first_held_key out (n ∷ needs) = if is_locked_and_held out n.key then Some n.key else first_held_key out needs
 
--- the needs, or the refusal that a locked key of theirs is held
+-- the needs if no key is given, else the refusal that this key is held
 abbrev pub unless_held : List Need → Option Key → Result (List Need) ClaimFault
 unless_held needs None = Ok needs
 unless_held needs (Some k) = Err (claim.Held k)
@@ -59,7 +59,7 @@ pub record IsFound (c : cache.CachesValue) (w : Wanted) : Type 0 where
 abbrev pub place_found : Wanted → Instance
 place_found w = place w.key w.found.number
 
--- the tree that the instance begins with: its own if it exists, else that of the input that the mount names, or the empty tree if it names none
+-- the tree that an instance begins with: its own tree if it exists, else the tree of the input that the mount names; the empty tree if the mount names none
 abbrev pub first_tree : List TreeMap → Wanted → TreeMap
 first_tree inputs w = unwrap_or (option_map (λ t. t.now) w.found.tree) (base_in w.input inputs)
 

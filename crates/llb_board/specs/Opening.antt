@@ -16,7 +16,7 @@ may_work workers = nat_le 1 workers && nat_le workers 64
 abbrev pub open_with : Build → CachesValue → ℕ → Result BoardValue OpenFault
 open_with b c workers = if may_work workers then Ok (opened b workers c.rows) else Err (opening.Workers b.graph b.locals c)
 
--- the refusal if a local tree is missing, which is the first cause; else the board or the next refusal
+-- the refusal if a local tree is missing, which is the first cause; else the result of `open_with`
 abbrev pub open_unless : Option (List ℕ) → Build → CachesValue → ℕ → Result BoardValue OpenFault
 open_unless (Some name) b c workers = Err (opening.MissingLocal name b.graph b.locals c)
 open_unless None b c workers = open_with b c workers
@@ -25,7 +25,7 @@ open_unless None b c workers = open_with b c workers
 abbrev pub open_of : Build → CachesValue → ℕ → Result BoardValue OpenFault
 open_of b c workers = open_unless (missing_local b.locals b.graph.vertices) b c workers
 
--- whether memory may be needed: for the board, or for the name of a missing local tree
+-- whether opening may need memory, given the result of its rule: for the board, or for the name of a missing local tree
 abbrev pub may_want_memory : Result BoardValue OpenFault → Bool
 may_want_memory (Ok b) = true
 may_want_memory (Err (opening.MissingLocal name g ts c)) = true
@@ -38,12 +38,12 @@ returned (opening.Memory g ts c) = (record { graph = g; locals = ts }, c)
 returned (opening.Workers g ts c) = (record { graph = g; locals = ts }, c)
 returned (opening.MissingLocal name g ts c) = (record { graph = g; locals = ts }, c)
 
--- whether a refusal of opening is that of memory
+-- whether a refusal of opening is `Memory`
 abbrev pub open_memory : OpenFault → Bool
 open_memory (opening.Memory g ts c) = true
 open_memory (opening.Workers g ts c) = false
 open_memory (opening.MissingLocal name g ts c) = false
 
--- opening returns what the rule does, or it fails for want of memory
+-- opening returns what its rule returns, or it fails for want of memory
 abbrev pub GivesOpen : {X Y : Type 0} → (X → Y) → Result X OpenFault → Result Y OpenFault → Type 0
 GivesOpen = answer.Gives open_memory

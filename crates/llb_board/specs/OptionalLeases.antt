@@ -18,16 +18,16 @@ abbrev pub IsOutIf : Leases → Option ℕ → Type 0
 IsOutIf out (Some l) = cache.IsOut out l
 IsOutIf out None = Unit {0}
 
--- the leases after this one, if there is one, is given back
+-- the leases without lease l, which is given back; unchanged if there is no l
 abbrev pub out_without : Leases → Option ℕ → Leases
 out_without out (Some l) = cache.trimmed (slice_set out l None)
 out_without out None = out
 
--- the caches after this lease, if there is one, is given back
+-- the caches after lease l is given back; unchanged if there is no l
 abbrev pub given_back : cache.CachesValue → Option ℕ → cache.CachesValue
 given_back c l = record c { out = out_without c.out l }
 
--- the caches after a lease, if there is one, is given back and the instances that it added are removed
+-- the caches after lease l is given back, if there is an l, and the instances that it added are removed
 abbrev pub taken_back : cache.CachesValue → Option ℕ → List Growth → cache.CachesValue
 taken_back c l gs = record (given_back c l) { rows = unmade c.rows (leased_places c.out l) gs }
 
@@ -36,7 +36,7 @@ abbrev pub lent_of : List Instance → ℕ → Option LentValue
 lent_of [] room = None
 lent_of (p ∷ ps) room = Some (record { places = p ∷ ps; room = room })
 
--- the caches after a prepared lease, if there is one, is made, and its number
+-- the number of a prepared lease and the caches, after it is made; if there is no prepared lease, no number and the caches unchanged
 abbrev pub lent_if : cache.CachesValue → Option LentValue → Option ℕ × cache.CachesValue
 lent_if c None = (None, c)
 lent_if c (Some l) = (Some (cache.free_lease c.out), lent_again c l.places)

@@ -49,8 +49,8 @@ kept_next b (Some (s, rows)) e = option_map (λ (a : State × Reply). (a.0, rows
 abbrev pub kept_along : Build → State → List Row → List Event → Option (State × List Row)
 kept_along b s rows es = fold (kept_next b) (Some (s, rows)) es
 
--- The record is a run of the table from the opening state to the board's state, and it changes the rows that were handed in to the board's
--- rows.
+-- The record is a run of the table from the opening state to the board's state, and its events change the rows that were handed in into the
+-- rows of the board.
 pub record Replays (b : BoardValue) : Type 0 where
   pub replies : List Reply
   pub leads : run b.build (opening b.build b.opening) b.events ≡ Some (b.state, replies)

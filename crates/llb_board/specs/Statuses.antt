@@ -11,7 +11,7 @@ use Rattle.llb_board.specs.declared.status.WorkerStatus.TheVariants as worker
 
 -- ---- what callers see
 
--- what callers see of a vertex of this status; a waiting one is Ready, Blocked or Waiting
+-- what callers see of a vertex of this status; a waiting vertex is seen as Ready, Blocked or Waiting
 abbrev pub look : Bool → Bool → model.Status → Status
 look ready blocked model.Waiting = if ready then seen.Ready else if blocked then seen.Blocked else seen.Waiting
 look ready blocked (model.Running w) = seen.Running w
@@ -26,7 +26,7 @@ look_in b statuses v = option_map (look (model.is_ready b statuses v) (model.is_
 abbrev pub look_at : Build → model.State → ℕ → Option Status
 look_at b s v = look_in b s.statuses v
 
--- what callers see of a worker that does this
+-- what callers see of a worker with this status: that it is idle, or its vertex, how many micro-steps are done, and whether it is finished
 abbrev pub look_of : Build → model.WorkerStatus → WorkerStatus
 look_of b model.Idle = worker.Idle
 look_of b (model.Runs x) = worker.Runs x.vertex x.done (model.is_finished (model.program_in b x).steps x)

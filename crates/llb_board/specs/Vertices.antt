@@ -66,7 +66,7 @@ AreCounted false false users old new = new ≡ old
 AreCounted true true users old new = new ≡ old
 
 -- Everything kept besides follows from the build and the statuses: a vertex is marked if it has failed or is downstream of one that has; the links count the
--- inputs that are not done; no vertex below `first_open` can be claimed. There is a status for each vertex, and what is done has all its outputs.
+-- inputs that are not done; no vertex below `first_open` can be claimed. There is a status for each vertex, and each vertex that is done has all its outputs.
 pub record IsInStep (b : Build) (statuses : List Status) (stop_marks : List Bool) (links : Linked) (first_open : ℕ) : Type 0 where
   pub graph : IsGraph b.graph
   pub count : length statuses ≡ length b.graph.vertices

@@ -9,7 +9,7 @@ use Rattle.llb_board.specs.declared.workers.seat.Execution.{Execution}
 abbrev pub execution_of : Execution → model.Execution
 execution_of x = record { vertex = x.vertex; done = x.done; fault = x.fault; own = x.view; places = x.places.items }
 
--- what a worker with this seat does
+-- what a worker with this seat does, as a status of the model
 abbrev pub at_of : Seat → model.WorkerStatus
 at_of seat.Idle = model.Idle
 at_of (seat.Runs l x) = model.Runs (execution_of x)

@@ -1,4 +1,4 @@
--- The results for the workers of a claim, a step, a settle and a cancel; or the first cause of a refusal as a fault.
+-- What a claim, a step, a settle and a cancel return for the workers: the result, or the first cause of a refusal as a fault.
 use Rattle.std.specs.Prelude.{ℕ, List, Option, Some, None, Result, Ok, Err, if◌then◌else◌}
 use Rattle.llb_loader.specs.declared.graph.Vertex.{Vertex}
 use Rattle.llb_tree.specs.Tree.{TreeMap}
@@ -49,7 +49,7 @@ pub record Worked : Type 0 where
   pub trees : List TreeMap
   pub reply : Reply
 
--- the result of micro-step m, by what it left
+-- the result of micro-step m, given the work and the fault after it (`left`)
 abbrev pub worked_to : Execution → MicroStep → Left → Worked
 worked_to x m left = record { execution = with_step x left; trees = left.work.trees; reply = step_reply x.done m x.own left }
 
@@ -77,7 +77,7 @@ worked_in b rows x = written_by rows x.places (worked (program_in b x).steps x (
 
 -- ---- the result of a settle
 
--- the vertex of the worker that settles, and the status of the vertex after it
+-- the vertex of the worker that settles, and the status of the vertex after the settle; or why the settle is refused
 abbrev pub left_at : Build → Option WorkerStatus → Result (ℕ × Status) SettleFault
 left_at b None = Err settle.NoWorker
 left_at b (Some Idle) = Err settle.NotRunning
@@ -85,7 +85,7 @@ left_at b (Some (Runs x)) = if is_finished (program_in b x).steps x then Ok (x.v
 
 -- ---- the result of a cancel
 
--- the vertex of the worker that cancels, and how many of its micro-steps were done
+-- the vertex of the worker that cancels, and how many of its micro-steps were done; or why the cancel is refused
 abbrev pub given_up_at : Option WorkerStatus → Result (ℕ × ℕ) CancelFault
 given_up_at None = Err cancel.NoWorker
 given_up_at (Some Idle) = Err cancel.NotRunning

@@ -23,7 +23,7 @@ pub record WorkersValue : Type 0 where
   pub rows : List Row
   pub supplies : List Supplies
 
--- there are 1 to 64 workers, and each one that runs with instances has a lease of exactly these
+-- there are 1 to 64 workers, and each worker that holds instances has a lease of exactly these
 pub record IsCrew (workers : List WorkerStatus) (out : Leases) (leases : List (Option ℕ)) : Type 0 where
   pub some : 0 < length workers
   pub few : length workers ≤ 64
@@ -33,7 +33,7 @@ pub record IsCrew (workers : List WorkerStatus) (out : Leases) (leases : List (O
 abbrev pub Fits : Build → WorkersValue → Type 0
 Fits b ws = ws.supplies ≡ map (needed b) ws.workers
 
--- the machine's state, by the values of the vertices and the workers
+-- the machine's state that the values of the vertices and of the workers make up
 abbrev pub state_in : VerticesValue → WorkersValue → State
 state_in vs ws = record { statuses = vs.statuses; workers = ws.workers; store = store_of ws.rows }
 
@@ -92,6 +92,6 @@ pub record IsBegunAt (vs : VerticesValue) (ws : WorkersValue) (w v : ℕ) (b : B
 abbrev pub IsBegunOn : VerticesValue → WorkersValue → BegunValue → Type 0
 IsBegunOn vs ws b = IsBegunAt vs ws b.job.worker b.job.vertex b
 
--- what is prepared, as the result of the rule
+-- what is prepared for a claim, as the result of the claim's rule
 abbrev pub rule_of : BegunValue → Begun
 rule_of b = record { execution = b.execution; reply = Claimed b.job; needs = b.needs }

@@ -50,8 +50,8 @@ pub record Aim (text definition : List ℕ) (entries : List (List ℕ)) (graph :
   pub plain : AfterAll graph SettledArePlain
   -- assembled text and loaded bytes are read as one graph
   pub one_graph : LoadsAsOne text definition entries graph
-  -- and the stepper is on the same graph: its state is the table's on its record, each board that `back` can reach is that of the record without last events,
-  -- its lines are the events and replies of that run, and so are those that a session's `go` prints
+  -- and the stepper is on the same graph: its state is the table's on its record, each board that `back` can reach is the board after the record without its
+  -- last events, its lines are the events and replies of the record's run, and so are the lines that a session's `go` prints
   pub stepper_state : Replays stepper.board
   pub stepper_past : PastIsTheRecords stepper
   pub stepper_lines : RecordIsTheRun stepper

@@ -37,13 +37,13 @@ build_of locals g = record { graph = g; locals = locals }
 abbrev pub run_opening : ℕ → Opening
 run_opening workers = record { workers = workers; store = no_instances }
 
--- One worker does the chosen events, which end as the order of their claims says; and no run that does so ends in another state.
+-- The events are those of a run of chosen events by one worker, which ends in state s as the order of its claims says; and every such run ends in state s.
 pub record IsAlone (b : Build) (s : State) (events : List Event) : Type 0 where
   pub ends : EndsInClaimOrder b (run_opening 1) events s
   pub only : (es : List Event) (t : State) → EndsInClaimOrder b (run_opening 1) es t → t ≡ s
 
--- A state in which a run of a build by this number of workers ends: granted events lead to it, and the run is complete. Without caches each vertex
--- has its plain outcome there, for any number of workers.
+-- A state in which a run of a build by this number of workers ends: granted events lead to it, and the run is complete. Without caches each vertex has its
+-- plain outcome there, for any number of workers; with one worker it is as `IsAlone` says.
 pub record IsEnd (workers : ℕ) (b : Build) (s : State) : Type 0 where
   pub events : List Event
   pub replies : List Reply
@@ -60,8 +60,8 @@ result_in s g = output_in (ending_at s.statuses g.result.vertex) g.result.index
 abbrev pub plain_result : Build → Option TreeMap
 plain_result b = output_in (ending_in (outcome b b.graph.result.vertex)) b.graph.result.index
 
--- bytes that are the definition of a graph; a run of it on these local trees by these workers has ended, and the result is a tree with this text; so no
--- vertex has failed, and without caches it is the result's tree by the plain outcomes
+-- bytes that are the definition of a graph; a run of it on these local trees by these workers has ended, and the result is a tree with this text. No vertex has
+-- failed then, and without caches the tree is the result's tree by the plain outcomes
 pub record Yields (workers : ℕ) (locals : List Local) (bytes text : List ℕ) : Type 0 where
   pub graph : Numbered
   pub loaded : IsGraphIn bytes graph
@@ -73,7 +73,7 @@ pub record Yields (workers : ℕ) (locals : List Local) (bytes text : List ℕ) 
   pub none_failed : (v : ℕ) (f : VertexFault) → ending_at state.statuses v ≡ Some (Failed f) → ⊥
   pub printed : text ≡ tree_text tree
 
--- a vertex at or before v has failed
+-- a vertex whose number is at most v has failed
 pub record FailsBy (s : State) (v : ℕ) : Type 0 where
   pub vertex : ℕ
   pub before : vertex ≤ v
@@ -99,7 +99,7 @@ IsUnopened locals g workers (fault.MissingLocal name) = missing_local locals g.v
 IsUnopened locals g workers fault.Workers = (missing_local locals g.vertices ≡ None) × (may_work workers ≡ false)
 IsUnopened locals g workers _ = ⊥
 
--- bytes that are refused as a definition, or that are the definition of a graph on which no board can be opened; so no run begins; and the fault
+-- the fault of bytes on which no run begins: they are refused as a definition, or no board can be opened on the graph whose definition they are
 abbrev pub IsNotRun : ℕ → List Local → ProgramFault → List ℕ → Type 0
 IsNotRun workers locals p bytes = IsRefused p bytes ⊎ ((g : Numbered) × IsGraphIn bytes g × IsUnopened locals g workers p)
 
@@ -118,7 +118,7 @@ abbrev pub failed_line : ℕ → Option Status → List ℕ
 failed_line v (Some (look.Failed f)) = codes "failed " ++ (decimal v ++ (codes " " ++ (failure_text f ++ codes "\n")))
 failed_line v _ = []
 
--- a line for each vertex below a number that has failed
+-- a line for each vertex that has failed, of the vertices with lower numbers than this
 unfoldable pub failed_lines : Build → State → ℕ → List ℕ
 failed_lines b s zero = []
 failed_lines b s (suc v) = failed_lines b s v ++ failed_line v (look_at b s v)
@@ -129,7 +129,7 @@ FailsAll workers locals errors bytes = (y : YieldsNone workers locals bytes)
     × IsWritten errors (failed_lines (build_of locals y.graph) y.state (length y.graph.vertices))
 
 -- How a run by a number of workers ends. Status 0: the text of the result is written, and nothing else. 1: a vertex failed, so that the result is no tree, and
--- nothing is written but the lines of the failures. 2: the bytes are refused, a local tree is missing, or there are no workers or too many, and nothing is
+-- nothing is written but the lines of the failures. 2: the bytes are refused, a local tree is missing, or the number of workers is not 1 to 64, and nothing is
 -- written but the line that says which. 3: a device, a thread or memory failed; nothing is written, or a prefix of the text.
 abbrev pub Runs : ℕ → List Local → Io → ℕ → Type 0
 Runs workers locals io status =

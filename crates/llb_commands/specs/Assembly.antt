@@ -31,7 +31,7 @@ refuses_a_line (UnknownLabel n) = true
 refuses_a_line Memory = false
 refuses_a_line Write = false
 
--- the fault is that of the first faulty line of the text, the first that the line has
+-- the fault is the first fault of the first faulty line of the text
 abbrev pub HasFaultyLine : ProgramFault → List ℕ → Type 0
 HasFaultyLine p text = (e : AsmFault) × (refuses_a_line e ≡ true) × asm.Assembles text (Err e) × (p ≡ fault.Assembling e)
 
@@ -76,7 +76,7 @@ Assembles = Ends IsAssembled IsNoText
 abbrev pub Disassembles : Io → ℕ → Type 0
 Disassembles = Ends IsDisassembled IsUnread
 
--- the definition that a text is assembled to, and any bytes whose entries are those of the text, run to the same text of the result
+-- runs by one worker yield the same text of the result for the definition that a text is assembled to, and for any bytes whose entries are those of the text
 abbrev pub RunsAlike : List ℕ → List (List ℕ) → List ℕ → Type 0
 RunsAlike text entries bytes =
     SpellsEntries (kept text) entries → definition_of bytes ≡ Ok entries → (locals : List Local) (definition one other : List ℕ)

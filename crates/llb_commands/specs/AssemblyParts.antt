@@ -41,7 +41,7 @@ abbrev pub IsDefinitionOf : List ℕ → Result (List ℕ) ProgramFault → Type
 IsDefinitionOf text (Ok definition) = IsAssembled text definition
 IsDefinitionOf text (Err e) = IsRefusal e → IsNoText e text
 
--- the definition that the bytes of an input are assembled to, or why they can't be; nothing is known of it if the bytes are not known
+-- the definition that the bytes of an input are assembled to, or why they can't be assembled; nothing is said if the bytes are not known
 abbrev pub IsDefinitionIn : Option (List ℕ) → Result (List ℕ) ProgramFault → Type 0
 IsDefinitionIn input (Ok definition) = IfSome input (λ text. IsAssembled text definition)
 IsDefinitionIn input (Err e) = TellsRefusal IsNoText input e

@@ -11,7 +11,7 @@ pub record Took (limit : ℕ) (left left' : Option (List ℕ)) : Type 0 where
   pub few : length bytes ≤ limit
   pub rest : Consumes left left' bytes
 
--- at most `limit` bytes were read, and each read returned one of them or was interrupted
+-- at most `limit` bytes were read, and each of the reads returned at least one byte or was interrupted
 pub record TookIn (reads limit interrupted : ℕ) (left left' : Option (List ℕ)) : Type 0 where
   pub took : Took limit left left'
   pub each : reads ≤ length took.bytes + interrupted

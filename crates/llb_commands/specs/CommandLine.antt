@@ -50,7 +50,7 @@ run_app = with_rule (with_rule (new_app (codes "run")) workers_rule) local_rule
 abbrev pub step_app : App
 step_app = with_rule (with_rule (with_rule (new_app (codes "step")) workers_rule) file_rule) local_rule
 
--- a command that takes no words
+-- the app with one more command, which takes no words
 abbrev pub with_plain : App → Text → App
 with_plain app name = with_subcommand app (new_app name).top
 
@@ -98,7 +98,7 @@ is_unsplit word = not (is_some (split_word word))
 abbrev pub IsUnsplit : List Text → Text → Type 0
 IsUnsplit words word = find is_unsplit words ≡ Some word
 
--- the name of the command in the matches of `clap`; `run` if there are no words
+-- the name of the command in the matches of `clap`; `run` if no command is named
 abbrev pub named : Option (Text × List Row) → Text
 named None = codes "run"
 named (Some p) = p.0
@@ -112,18 +112,18 @@ abbrev pub named_local_words : Option (Text × List Row) → List Text
 named_local_words None = []
 named_local_words (Some p) = local_words p.1
 
--- the number that a text is read as, if it has 32 bits: digits, which may follow a plus
+-- the number that a text spells, if it is below 2^32: digits, with or without a plus before them
 abbrev pub number_of : Text → Option ℕ
 number_of text = if is_unsigned_in 0 4294967295 text then Some (digits_value 10 (without_leading_plus text)) else None
 
--- The number of workers is the one given; if none is given, 1 for `run` and 2 for `step`. No other command takes a number.
--- After a hyphen `clap` accepts the number 0 alone (`--workers=-0`), and hands it on without the hyphen.
+-- The number of workers is the one that the words give; if they give none, 1 for `run` and 2 for `step`. No other command takes a number. After a hyphen `clap`
+-- accepts the number 0 alone (`--workers=-0`), and hands it on without the hyphen.
 abbrev pub IsWorkers : Command → List Row → ℕ → Type 0
 IsWorkers Run rows n = n ≡ unwrap_or (option_and_then number_of (one_of (codes "workers") rows)) 1
 IsWorkers Step rows n = n ≡ unwrap_or (option_and_then number_of (one_of (codes "workers") rows)) 2
 IsWorkers _ rows n = n ≡ 1
 
--- the file is the one given; only `step` takes one
+-- the file is the one that the words name; only `step` takes a file
 abbrev pub IsFile : Command → List Row → Option (Bor Text) → Type 0
 IsFile Step rows file = option_map (λ w. w.now) file ≡ first_of (codes "file") rows
 IsFile _ rows file = file ≡ None
@@ -161,7 +161,7 @@ RefusesWord words (Words None) = ⊥
 RefusesWord words (Words (Some w)) = IsUnsplit words w.now
 RefusesWord words Memory = Unit {0}
 
--- the program's fault for a refusal by `clap`
+-- the program's fault for a refusal by `clap` of this kind
 abbrev pub IsFaultOfKind : ErrorKind → WordsFault → Type 0
 IsFaultOfKind kind (Words None) = kind ≢ OutOfMemory
 IsFaultOfKind kind (Words (Some w)) = ⊥

@@ -17,7 +17,7 @@ use Rattle.llb_commands.specs.declared.words.Line.{Line}
 use Rattle.llb_commands.specs.declared.words.WordsFault.{WordsFault}
 use Rattle.llb_commands.specs.declared.words.WordsFault.TheVariants.{Words}
 
--- what each file has, if that is known
+-- the bytes of each file, by the file's name, if they are known
 abbrev pub Shelf : Type 0
 Shelf = List ℕ → Option (List ℕ)
 

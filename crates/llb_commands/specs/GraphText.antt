@@ -45,12 +45,12 @@ result_line e = codes "result " ++ (edge_text e ++ codes "\n")
 abbrev pub graph_text : Numbered → List ℕ
 graph_text g = vertex_lines g.vertices ++ result_line g.result
 
--- whether a fault of the output is that of memory
+-- whether a fault of the output is `Memory`
 abbrev pub is_memory : OutputFault → Bool
 is_memory Memory = true
 is_memory Write = false
 
--- the call returns what the rule does, or it fails for want of memory
+-- a call returns what its rule returns, or it fails for want of memory
 abbrev pub Gives : {X Y : Type 0} → (X → Y) → Result X OutputFault → Result Y OutputFault → Type 0
 Gives = answer.Gives is_memory
 

@@ -29,7 +29,7 @@ abbrev pub named_first : List Text → Option Command
 named_first [] = None
 named_first (w ∷ ws) = command_named w
 
--- the page of a command, or of the program
+-- the help page of a command, or of the program if there is no command
 abbrev pub help_page : Option Command → Text
 help_page None = PROGRAM_PAGE.now
 help_page (Some Run) = RUN_PAGE.now
@@ -44,7 +44,7 @@ page_for DisplayHelp command = help_page command
 page_for DisplayVersion command = VERSION_PAGE.now
 page_for _ command = []
 
--- what follows the line of a fault: if `clap` refuses the words, the page for one of the kinds that its refusal can have
+-- what follows the line of a fault: if `clap` refuses the words, the page for one of the kinds that its refusal can have; else nothing
 abbrev pub HasPage : Kinds → List Text → WordsFault → Text → Type 0
 HasPage kinds words (Words None) page = (k : ErrorKind) × IsAmong k kinds × (page ≡ page_for k (named_first words))
 HasPage kinds words _ page = page ≡ []

@@ -34,7 +34,7 @@ unread_as (reading.Failed kind) = Read
 unread_as (reading.Unending interrupted) = Read
 unread_as reading.Memory = Memory
 
--- a fault is a refusal of the input
+-- the fault is a refusal of the input, or of what is asked for
 abbrev pub IsRefusal : ProgramFault → Type 0
 IsRefusal (Refused e) = ⊤
 IsRefusal (MissingLocal name) = ⊤
@@ -44,7 +44,7 @@ IsRefusal (Assembling e) = ⊤
 IsRefusal TooLong = ⊤
 IsRefusal _ = ⊥
 
--- if the fault is a refusal, the input has this cause for it
+-- if the fault is a refusal of the input, the input has the cause that `IsSo` says for this fault
 abbrev pub TellsRefusal : (ProgramFault → List ℕ → Type 0) → Option (List ℕ) → ProgramFault → Type 0
 TellsRefusal IsSo input e = IsRefusal e → IfSome input (IsSo e)
 
@@ -69,12 +69,12 @@ abbrev pub Finishes : ℕ → List Local → Option (List ℕ) → Result BoardV
 Finishes workers locals input (Ok b) = (g : Numbered) × IfSome input (λ bytes. IsGraphIn bytes g) × IsFinished workers locals g b
 Finishes workers locals input (Err e) = TellsRefusal (IsNotRun workers locals) input e
 
--- a run was not cut short by a fault; if it was, that fault is no refusal of the input
+-- the result is the board, if no fault cut the run short; else it is a fault that is no refusal of the input
 abbrev pub IsWhole : BoardValue → Option RunFault → Result BoardValue ProgramFault → Type 0
 IsWhole board fault (Ok b) = (b ≡ board) × (fault ≡ None)
 IsWhole board fault (Err e) = ¬ IsRefusal e
 
--- the text of the tree is written if there is a tree; if there is none, the board is returned
+-- if there is a tree, its text is written, or a prefix of it if there is a fault; if there is none, the board is returned
 abbrev pub Shows : BoardValue → Stream → Option TreeMap → Result Ended ProgramFault → Type 0
 Shows board output tree (Ok Printed) = (t : TreeMap) × (tree ≡ Some t) × IsWritten output (tree_text t)
 Shows board output tree (Ok (Failed b)) = (b ≡ board) × (tree ≡ None) × IsKept output
@@ -91,7 +91,7 @@ Answers workers locals input output (Ok (Failed b)) = IsKept output × IfSome in
 Answers workers locals input output (Err e) =
     (IsKept output × TellsRefusal (IsNotRun workers locals) input e) ⊎ ((¬ IsRefusal e) × IfSome input (YieldsPart workers locals output))
 
--- the exit status for a result, with its lines: 0 if the text is written, 1 if there is no tree, 2 for a refusal, and 3 if a device fails after all
+-- the exit status and the lines on standard error: 0 if the text is written, 1 if there is no tree, 2 for a refusal; 3 for any other fault, also after the text
 abbrev pub Ends : Stream → Stream → Result Ended ProgramFault → ℕ → Type 0
 Ends output errors (Ok Printed) status = IsKept output × (((status ≡ 0) × IsKept errors) ⊎ (status ≡ 3))
 Ends output errors (Ok (Failed b)) status =

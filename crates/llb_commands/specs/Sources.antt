@@ -19,8 +19,8 @@ limit = 67108864
 abbrev pub most_reads : ℕ
 most_reads = 134217728
 
--- The result of reading bytes: the tree whose text they are, or why there is none. A device, or memory for the bytes, may fail at any bytes; memory for the
--- tree is refused only if the bytes are a tree's.
+-- The result of reading bytes: the tree whose text they are, or why there is none. `Read` (a device failed) and `Reading` (no memory for the bytes) may come
+-- for any bytes; `Adding` (no memory to add the tree) only if the bytes are the text of a tree.
 abbrev pub ReadsTree : List ℕ → Result TreeMap SourceFault → Type 0
 ReadsTree bytes (Ok t) = (length bytes ≤ limit) × Answers bytes (Ok t)
 ReadsTree bytes (Err TooLong) = limit < length bytes
@@ -29,7 +29,7 @@ ReadsTree bytes (Err Read) = Unit {0}
 ReadsTree bytes (Err Reading) = Unit {0}
 ReadsTree bytes (Err Adding) = (length bytes ≤ limit) × ((t : TreeMap) × Answers bytes (Ok t))
 
--- the result of reading a text, as that of a local source
+-- the result of reading a tree's text, as the result of reading a local source
 abbrev pub told : Result TreeMap TextFault → Result TreeMap SourceFault
 told (Ok t) = Ok t
 told (Err e) = Err (Text e)
@@ -38,7 +38,7 @@ told (Err e) = Err (Text e)
 abbrev pub Reads : Option (List ℕ) → Result TreeMap SourceFault → Type 0
 Reads known r = IfSome known (λ bytes. ReadsTree bytes r)
 
--- the text is read as a tree, which is added under the name; or it is no tree, and nothing is added
+-- the bytes are read as a tree, which is added under the name; or they are not, and nothing is added
 abbrev pub Adds : List ℕ → Option (List ℕ) → List given.Local → List given.Local → Result (Unit {0}) SourceFault → Type 0
 Adds name known old new (Ok u) = (t : TreeMap) × Reads known (Ok t) × (new ≡ with_local old name t)
 Adds name known old new (Err e) = Reads known (Err e) × (new ≡ old)
@@ -49,7 +49,7 @@ Gathers files [] trees r = r ≡ Ok trees
 Gathers files (l ∷ ls) trees r = ((e : SourceFault) × Reads (files l.file.now) (Err e) × (r ≡ Err e))
     ⊎ ((t : TreeMap) × Reads (files l.file.now) (Ok t) × Gathers files ls (with_local trees l.name.now t) r)
 
--- the status for a fault: 2 if a text is refused, and else 3
+-- the status for a fault: 2 if the text is refused, else 3
 abbrev pub source_status : SourceFault → ℕ
 source_status Read = 3
 source_status TooLong = 2

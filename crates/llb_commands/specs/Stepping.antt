@@ -32,7 +32,7 @@ conversation locals graph workers end commands output = record {
   replies = output;
 }
 
--- a session over the graph of the bytes: the replies to the commands are written
+-- a session over the graph of these bytes, which ended with this result; the replies to its commands are written
 pub record IsSession (workers : ℕ) (locals : List Local) (commands output : Stream) (result : Result (Unit {0}) SessionFault) (bytes : List ℕ) : Type 0 where
   pub graph : Numbered
   pub loaded : IsGraphIn bytes graph
@@ -60,7 +60,7 @@ IsBroken workers locals commands output bytes = (f : SessionFault) × IsSession 
 
 -- How the command ends, by the definition in a file, with the commands as its input. Status 0: the session went on to its end. 2: the bytes are refused, a
 -- local tree is missing, or the number of workers is not 1 to 64, and nothing is written but the line that says which; or there were too many bytes of
--- commands, which a line says. 3: a device or memory failed; nothing is written, or the replies up to there.
+-- commands, which a line says. 3: a device or memory failed; nothing is written, or the replies up to the failure.
 abbrev pub Steps : ℕ → List Local → Option (List ℕ) → Io → ℕ → Type 0
 Steps workers locals file io status =
     ((status ≡ 0) × IsKept io.errors × IfSome file (IsSession workers locals io.input io.output (Ok tt)))

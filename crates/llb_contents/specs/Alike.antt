@@ -1,4 +1,4 @@
--- Trees, views and results that differ only in the contents of files; a relation R says how.
+-- Trees, views and results that differ only in the contents of files; a relation R between contents says in which way.
 use Rattle.std.specs.Prelude.{◌≡◌, ℕ, List, [], ◌∷◌, ◌++◌, Option, Some, None, Result, Ok, Err}
 use Rattle.std.specs.List.{flat_map}
 use Rattle.std.specs.FinMap as finite
@@ -22,21 +22,21 @@ pub record IsKept (R : List ℕ → List ℕ → Type 0) : Type 0 where
 
 -- ---- two options, or two results
 
--- both exist and P holds of them, or neither exists
+-- both values exist and P relates them, or neither exists
 abbrev pub BothOptions : {A : Type 0} → (A → A → Type 0) → Option A → Option A → Type 0
 BothOptions P None None = Unit {0}
 BothOptions P (Some x) (Some y) = P x y
 BothOptions P None (Some y) = ⊥
 BothOptions P (Some x) None = ⊥
 
--- both have a value and P holds of them, or both have the same fault
+-- both results are values and P relates them, or both are the same fault
 abbrev pub BothResults : {A F : Type 0} → (A → A → Type 0) → Result A F → Result A F → Type 0
 BothResults P (Ok x) (Ok y) = P x y
 BothResults P (Err e) (Err f) = e ≡ f
 BothResults P (Ok x) (Err f) = ⊥
 BothResults P (Err e) (Ok y) = ⊥
 
--- the lists have the same length, and P holds of the two items at each position
+-- the lists have the same length, and P relates the two items at each position
 abbrev pub BothLists : {A : Type 0} → (A → A → Type 0) → List A → List A → Type 0
 BothLists P [] [] = Unit {0}
 BothLists P (x ∷ xs) (y ∷ ys) = P x y × BothLists P xs ys
@@ -45,35 +45,35 @@ BothLists P (x ∷ xs) [] = ⊥
 
 -- ---- trees and views
 
--- both are directories with the same mode and owner, or files with the same mode and owner and related contents
+-- both entries are directories with the same mode and owner, or both are files with the same mode and owner and related contents
 abbrev pub AreLike : (List ℕ → List ℕ → Type 0) → Entry → Entry → Type 0
 AreLike R (Dir m) (Dir n) = m ≡ n
 AreLike R (File m a) (File n b) = (m ≡ n) × R a b
 AreLike R (Dir m) (File n b) = ⊥
 AreLike R (File m a) (Dir n) = ⊥
 
--- trees that have such entries at each path, or none in both
+-- at each path both trees have entries that `AreLike` relates, or neither has an entry
 abbrev pub AreAlike : (List ℕ → List ℕ → Type 0) → TreeMap → TreeMap → Type 0
 AreAlike R t u = (p : List (List ℕ)) → BothOptions (AreLike R) (finite.get t p) (finite.get u p)
 
--- mounts that are equal but for alike trees
+-- two mounts that are equal, except that their trees need only be alike
 pub record AreAlikeMounts (R : List ℕ → List ℕ → Type 0) (m n : Shown) : Type 0 where
   pub dest : m.dest ≡ n.dest
   pub selector : m.selector ≡ n.selector
   pub readonly : m.readonly ≡ n.readonly
   pub tree : AreAlike R m.tree n.tree
 
--- views that are equal but for alike trees
+-- two views that are equal, except that their trees need only be alike
 abbrev pub AreAlikeViews : (List ℕ → List ℕ → Type 0) → List Shown → List Shown → Type 0
 AreAlikeViews R = BothLists (AreAlikeMounts R)
 
 -- ---- commands
 
--- a file with the same mode and owner, and related contents
+-- two files with the same mode and owner, and with related contents
 abbrev pub AreLikeFiles : (List ℕ → List ℕ → Type 0) → MetaValue × List ℕ → MetaValue × List ℕ → Type 0
 AreLikeFiles R f g = (f.0 ≡ g.0) × R f.1 g.1
 
--- each text that a command itself writes is related to itself, and digests of related contents are related
+-- each text that a command writes, other than the contents of files, is related to itself; if the command writes digests, those of related contents are related
 abbrev pub RelatesTexts : (List ℕ → List ℕ → Type 0) → Setting → Command → Type 0
 RelatesTexts R setting (command.Write path word) = R (line word) (line word)
 RelatesTexts R setting (command.Append path word) = R (line word) (line word)
@@ -89,7 +89,7 @@ RelatesTexts R setting (command.Concat out parts) = Unit {0}
 RelatesTexts R setting (command.Chmod mode path) = Unit {0}
 RelatesTexts R setting (command.Test kind path) = Unit {0}
 
--- the content that an action itself writes is related to itself
+-- the content that a mkfile action writes is related to itself; no other action has a content to write
 abbrev pub RelatesBody : (List ℕ → List ℕ → Type 0) → Option ActionKind → Type 0
 RelatesBody R (Some (kind.MkFile m)) = R m.body m.body
 RelatesBody R (Some (kind.MkDir m)) = Unit {0}
@@ -99,7 +99,7 @@ RelatesBody R None = Unit {0}
 
 -- ---- runs of a program
 
--- workspaces of the same kind that are equal but for alike trees
+-- two workspaces of the same kind that are equal, except that their trees need only be alike
 abbrev pub AreAlikeWorkspaces : (List ℕ → List ℕ → Type 0) → Workspace → Workspace → Type 0
 AreAlikeWorkspaces R (LocalTree t) (LocalTree u) = AreAlike R t u
 AreAlikeWorkspaces R (Files inputs results) (Files others more) = BothLists (AreAlike R) inputs others × BothLists (AreAlike R) results more
@@ -107,24 +107,24 @@ AreAlikeWorkspaces R (Layers inputs t) (Layers others u) = BothLists (AreAlike R
 AreAlikeWorkspaces R (Mounted mounts caches last) (Mounted others numbers status) = AreAlikeViews R mounts others × (caches ≡ numbers) × (last ≡ status)
 AreAlikeWorkspaces R _ _ = ⊥
 
--- works that are equal but for alike trees
+-- two works that are equal, except that their trees need only be alike
 pub record AreAlikeWorks (R : List ℕ → List ℕ → Type 0) (x y : Work) : Type 0 where
   pub own : AreAlikeWorkspaces R x.own y.own
   pub trees : BothLists (AreAlike R) x.trees y.trees
 
--- results with alike works and the same fault, or none in both
+-- results with alike works, and either with the same fault or both without a fault
 pub record AreAlikeLefts (R : List ℕ → List ℕ → Type 0) (x y : Left) : Type 0 where
   pub work : AreAlikeWorks R x.work y.work
   pub fault : x.fault ≡ y.fault
 
--- the contents that a micro-step itself writes are related to themselves, and digests of related contents are related
+-- each content that a micro-step writes, and does not take from a file, is related to itself; if it writes digests, those of related contents are related
 abbrev pub RelatesStep : (List ℕ → List ℕ → Type 0) → MicroStep → Type 0
 RelatesStep R (Act action) = RelatesBody R action.kind
 RelatesStep R (Run setting command ends) = RelatesTexts R setting command.command
 RelatesStep R ReadLocal = Unit {0}
 RelatesStep R (LayInput i) = Unit {0}
 
--- both done with equally many outputs, which are alike; or both failed with the same fault
+-- both endings are done, with equally many outputs, which are alike; or both are failed, with the same fault
 abbrev pub AreAlikeEndings : (List ℕ → List ℕ → Type 0) → Ending → Ending → Type 0
 AreAlikeEndings R (Done trees) (Done others) = BothLists (AreAlike R) trees others
 AreAlikeEndings R (Failed f) (Failed g) = f ≡ g

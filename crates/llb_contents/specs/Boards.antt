@@ -6,19 +6,19 @@ use Rattle.llb_board.specs.Seen.{BoardValue}
 use Rattle.llb_contents.specs.Alike.{IsKept, AreAlikeEndings}
 use Rattle.llb_contents.specs.Laws.{By, RelatesWritten, HaveAlikeSources, MakesNoDigest, AreExchanged}
 
--- both boards have settled vertex v, and no cache mount is at or before it
+-- two boards over one graph have settled vertex v, with the endings d and e, and no cache mount is at or before it
 pub record AreSettled (b c : BoardValue) (v : ℕ) (d e : Ending) : Type 0 where
   pub graph : b.build.graph ≡ c.build.graph
   pub plain : is_plain b.build v ≡ true
   pub first : slice_get b.state.statuses v ≡ Some (Settled d)
   pub second : slice_get c.state.statuses v ≡ Some (Settled e)
 
--- a vertex that both boards have settled ended alike: failed with the same fault, or done with equally many outputs, which are alike
+-- both boards settled a vertex alike, by each relation that appending keeps, if its sources are alike and what is written is related to itself
 abbrev pub SettleAlike : BoardValue → BoardValue → Type 0
 SettleAlike b c = (test : List ℕ → List ℕ → Bool) → IsKept (By test) → (v : ℕ) (d e : Ending) → AreSettled b c v d e
     → RelatesWritten (By test) b.build.graph v → HaveAlikeSources (By test) b.build.graph v b.build.locals c.build.locals → AreAlikeEndings (By test) d e
 
--- two boards settle a vertex alike if their local trees differ only in pieces of contents that are replaced, and no digest is made
+-- both boards settled a vertex alike if the trees of its sources differ only in pieces of contents that are replaced, and no digest is made at or before it
 abbrev pub SettleExchanged : BoardValue → BoardValue → Type 0
 SettleExchanged b c = (pairs : List (List ℕ × List ℕ)) (v : ℕ) (d e : Ending) → AreSettled b c v d e
     → MakesNoDigest b.build.graph v → HaveAlikeSources (AreExchanged pairs) b.build.graph v b.build.locals c.build.locals

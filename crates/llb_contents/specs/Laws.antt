@@ -30,12 +30,12 @@ By test a b = test a b ≡ true
 abbrev pub LaysAlike : TreeMap → TreeMap → Type 0
 LaysAlike t v = (test : List ℕ → List ℕ → Bool) (u w : TreeMap) → AreAlike (By test) t u → AreAlike (By test) v w → AreAlike (By test) (lay t v) (lay u w)
 
--- an action on a base, with a second tree: on alike trees it fails with the same fault, or results in alike trees
+-- an action fails with the same fault on trees that are alike to `t` and `v`, or results in an alike tree; if what it writes is related to itself
 abbrev pub ActsAlike : Option ActionKind → TreeMap → TreeMap → Type 0
 ActsAlike a t v = (test : List ℕ → List ℕ → Bool) (u w : TreeMap) → RelatesBody (By test) a → AreAlike (By test) t u → AreAlike (By test) v w
     → BothResults (AreAlike (By test)) (act a t v) (act a u w)
 
--- a command in this setting on this view: on an alike view it fails too, or both results are alike
+-- a command fails on an alike view too, or both results are alike; if the relation is kept by appending and relates what the command writes
 abbrev pub RunsAlike : Setting → List Shown → Command → Type 0
 RunsAlike s v c = (test : List ℕ → List ℕ → Bool) (w : List Shown) → IsKept (By test) → RelatesTexts (By test) s c → AreAlikeViews (By test) v w
     → BothOptions (AreAlikeViews (By test)) (run s v c) (run s w c)
@@ -59,12 +59,12 @@ pub record IsSourceOf (g : Numbered) (v : ℕ) (name : List ℕ) : Type 0 where
 abbrev pub HaveAlikeSources : (List ℕ → List ℕ → Type 0) → Numbered → ℕ → List Local → List Local → Type 0
 HaveAlikeSources R g v ls ms = (name : List ℕ) → IsSourceOf g v name → BothOptions (AreAlike R) (tree_of_local ls name) (tree_of_local ms name)
 
--- a vertex has alike plain outcomes with both lists of local trees: it is blocked in both, failed in both with the same fault, or done in both with as
+-- a vertex has alike plain outcomes with both lists of local trees: it is blocked in both, failed in both with the same fault, or done in both with equally
 -- many outputs, which are alike
 abbrev pub HasAlikeOutcomes : (List ℕ → List ℕ → Type 0) → Numbered → List Local → List Local → ℕ → Type 0
 HasAlikeOutcomes R g ls ms v = BothOptions (AreAlikeOutcomes R) (outcome (record { graph = g; locals = ls }) v) (outcome (record { graph = g; locals = ms }) v)
 
--- if local trees differ only in contents, by the relation R, so do the outcomes
+-- if local trees differ only in contents, by the relation R, so do the outcomes, as long as R relates what is written (`RelatesWritten`)
 abbrev pub HandsOn : (List ℕ → List ℕ → Type 0) → Numbered → Type 0
 HandsOn R g = (ls ms : List Local) (v : ℕ) → RelatesWritten R g v → HaveAlikeSources R g v ls ms → HasAlikeOutcomes R g ls ms v
 
@@ -74,11 +74,11 @@ HandsRelationsOn g = (test : List ℕ → List ℕ → Bool) → IsKept (By test
 
 -- ---- a law for contents that expand to others
 
--- the second content is what the first one expands to
+-- the second content, `b`, is what the first, `a`, expands to
 abbrev pub ExpandsTo : (List ℕ → Option (List ℕ)) → List ℕ → List ℕ → Type 0
 ExpandsTo expand a b = expand a ≡ Some b
 
--- if contents of local trees expand to others, the contents of the outcomes expand to those of the others' outcomes, for each expansion that appending keeps
+-- `HandsOn` for each expansion that appending keeps: if contents of sources expand to other contents, so do the contents of the outcomes
 abbrev pub HandsExpansionsOn : Numbered → Type 0
 HandsExpansionsOn g = (expand : List ℕ → Option (List ℕ)) → IsKept (ExpandsTo expand) → HandsOn (ExpandsTo expand) g
 
@@ -86,9 +86,9 @@ HandsExpansionsOn g = (expand : List ℕ → Option (List ℕ)) → IsKept (Expa
 abbrev pub ExpandsToOne : TreeMap → Type 0
 ExpandsToOne t = (expand : List ℕ → Option (List ℕ)) (u w : TreeMap) → AreAlike (ExpandsTo expand) t u → AreAlike (ExpandsTo expand) t w → u ≡ w
 
--- what the rest of a content expands to, while `left` bytes of a token are still to be read and n is its number so far. The byte 255, which no text in UTF-8
--- has, begins a token;
--- the four bytes after it are its number, the most significant first; each other byte expands to itself
+-- what the rest of a content expands to, while `left` bytes of a token are still to be read, and n is the token's number by its bytes so far.
+-- The byte 255, which no text in UTF-8 has, begins a token; the four bytes after it are its number, the most significant first.
+-- Each byte outside a token expands to itself.
 abbrev pub spelled_from : (ℕ → List ℕ) → List ℕ → ℕ → ℕ → Option (List ℕ)
 spelled_from table [] zero n = Some []
 spelled_from table [] (suc left) n = None
@@ -164,18 +164,18 @@ abbrev pub WritesNoMark : Numbered → ℕ → Type 0
 WritesNoMark g v = (k : ℕ) (x : Vertex) → Reached (links g.vertices) v k → slice_get g.vertices k ≡ Some x
     → list_any step_writes_mark (program_of x).steps ≡ false
 
--- a content given by value: the same in both, and without the byte that begins tokens
+-- two equal contents without the byte that begins tokens: such a content is given by value, not by a token
 pub record IsLiteral (a b : List ℕ) : Type 0 where
   pub same : a ≡ b
   pub plain : has_mark a ≡ false
 
--- each vertex at or before vertex v that makes a digest has its sources by value: those at or before it have the same contents in both, and none has the
--- byte that begins tokens
+-- for each vertex at or before vertex v that makes a digest: the local sources at or before that vertex have the same contents in both lists of local trees,
+-- and none of these contents has the byte that begins tokens
 abbrev pub DigestsLiterals : Numbered → List Local → List Local → ℕ → Type 0
 DigestsLiterals g ls ms v = (k : ℕ) (x : Vertex) → Reached (links g.vertices) v k → slice_get g.vertices k ≡ Some x
     → (list_any step_digests (program_of x).steps ≡ false) ⊎ HaveAlikeSources IsLiteral g k ls ms
 
--- with tokens in place of contents in local trees, the outcome is the one with the contents, but with tokens in their place
+-- the outcome on local trees with tokens expands to the outcome on the expanded trees, if no vertex writes tokens, and digests are only of sources by value
 abbrev pub HandsTokensOn : Numbered → Type 0
 HandsTokensOn g = (table : ℕ → List ℕ) (ls ms : List Local) (v : ℕ) → WritesNoMark g v → DigestsLiterals g ls ms v
     → HaveAlikeSources (ExpandsTo (spelled table)) g v ls ms → HasAlikeOutcomes (ExpandsTo (spelled table)) g ls ms v
@@ -186,7 +186,7 @@ HandsTokensOn g = (table : ℕ → List ℕ) (ls ms : List Local) (v : ℕ) → 
 abbrev pub MakesNoDigest : Numbered → ℕ → Type 0
 MakesNoDigest g v = (k : ℕ) (x : Vertex) → Reached (links g.vertices) v k → slice_get g.vertices k ≡ Some x → list_any step_digests (program_of x).steps ≡ false
 
--- the same as `HandsOn`, without a premise on what is written; for relations that relate each content to itself
+-- `HandsOn` with the premise that no digest is made, in place of the one on what is written; for relations that relate each content to itself
 abbrev pub HandsOnUndigested : (List ℕ → List ℕ → Type 0) → Numbered → Type 0
 HandsOnUndigested R g = (ls ms : List Local) (v : ℕ) → MakesNoDigest g v → HaveAlikeSources R g v ls ms → HasAlikeOutcomes R g ls ms v
 
@@ -201,6 +201,6 @@ pub record AreExchanged (pairs : List (List ℕ × List ℕ)) (a b : List ℕ) :
   pub first : a ≡ flat_map (λ p. p.0) pieces
   pub second : b ≡ flat_map (λ p. p.1) pieces
 
--- if pieces of local trees' contents are replaced, the outcome is the same but for such replacements in its contents, if no digest is made
+-- if no digest is made, replacing pieces of the contents of local trees changes the outcome only by such replacements in its contents
 abbrev pub HandsContentsOn : Numbered → Type 0
 HandsContentsOn g = (pairs : List (List ℕ × List ℕ)) → HandsOnUndigested (AreExchanged pairs) g

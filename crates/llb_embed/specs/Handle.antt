@@ -8,7 +8,7 @@ use Rattle.llb_embed.specs.Kept.{IsKept}
 abbrev pub held_in : Llb → Option Held
 held_in h = if h.is_set then h.kept.value else None
 
--- if the handle says that a value is set, it has one
+-- if the handle says that a value is set, it has a value
 abbrev pub IsSound : Llb → Type 0
 IsSound h = h.is_set ≡ true → IsKept h.kept.value
 

@@ -59,7 +59,7 @@ Disassembled = EndsBy Disassembles
 
 -- ---- local trees
 
--- why no tree is added, with its line and status: the name is not UTF-8, or the text is no tree's
+-- why no tree is added, with its line and status: the name is not UTF-8, or the text could not be read as a tree
 abbrev pub TellsWhyNot : List ℕ → List ℕ → Held → ℕ → Type 0
 TellsWhyNot name text new status =
     ((¬ (IsUtf8 name)) × TellsWords (Some []) (Some new.messages.items) (Words None) status)
@@ -77,7 +77,7 @@ Added name text old new status = (new.session ≡ old.session) × (new.lines ≡
 abbrev pub IsBegun : List ℕ → ℕ → Held → Held → Type 0
 IsBegun definition workers old new = (g : Numbered) × IsGraphIn definition g × (new.session ≡ Some (begun old.locals g workers)) × (new.lines ≡ 0)
 
--- Status 0: a session is begun. Else the session is the one from before, if any, and the status is 2, with a line in the messages that says why, or 3.
+-- Status 0: a session is begun. Else the session from before, if any, is unchanged; with status 2 the messages have a line that says why, or the status is 3.
 abbrev pub Opened : List ℕ → ℕ → Held → Held → ℕ → Type 0
 Opened definition workers old new status = (new.locals ≡ old.locals) × (new.output.items ≡ []) × (
     ((status ≡ 0) × (new.messages.items ≡ []) × IsBegun definition workers old new)
@@ -88,8 +88,8 @@ Opened definition workers old new status = (new.locals ≡ old.locals) × (new.o
 abbrev pub GoesOn : List ℕ → Stepping → ℕ → Held → Type 0
 GoesOn line s n new = (t : Stepping) × (new.session ≡ Some t) × (new.lines ≡ n) × (¬ Quits line) × RespondsAs (request_in line) s n new.output.items t
 
--- A line is sent to session s. Status 0: its reply is the output. 1: it ends the session, and none is open. Else nothing is changed, and the messages have a
--- line that says why: memory was refused for the line of a refusal; or the line would be one more than the 2^64 - 1 lines that a session has.
+-- A line is sent to session s. Status 0: its reply is the output. 1: the line ends the session, and no session is open then. Else nothing is changed, and the
+-- messages have a line that says why: memory was refused for the line of a refusal; or the line would be one more than the 2^64 - 1 lines that a session has.
 abbrev pub RepliesOn : List ℕ → Stepping → Held → Held → ℕ → Type 0
 RepliesOn line s old new status =
     ((status ≡ 0) × (new.messages.items ≡ []) × GoesOn line s (old.lines + 1) new)

@@ -1,5 +1,5 @@
--- The text after the word `fault` when a board refuses an event: the number, and the key of a cache that is held. And how the results of events are
--- specified: they are what the table returns, or the call fails for want of memory.
+-- The text after the word `fault` when a board refuses an event: the number of the fault, and for 135 the ID of the key that is held. And how the results of
+-- events are specified: they are what the table returns, or the call fails for want of memory.
 use Rattle.std.specs.Prelude.{ℕ, Bool, true, false, List, ◌++◌, Result, Ok, Err, codes}
 use Rattle.llb_wire.specs.Answer as answer
 use Rattle.llb_cache.specs.Key.{has_text}
@@ -41,7 +41,7 @@ cancel_text cancel.NotRunning = codes "136"
 
 -- ---- memory that a claim may need
 
--- whether memory may be needed: if there is no other cause, or for the text of the key that is held
+-- whether a claim with this result in the table may need memory: the table grants it, or a key is held whose text the refusal copies
 abbrev pub claim_may_want : {A : Type 0} → Result A ClaimFault → Bool
 claim_may_want (Ok a) = true
 claim_may_want (Err (claim.Held k)) = has_text k
@@ -51,7 +51,7 @@ claim_may_want (Err claim.NoVertex) = false
 claim_may_want (Err claim.NotReady) = false
 claim_may_want (Err claim.Memory) = false
 
--- whether the refusal of a claim is that of memory
+-- whether the refusal of a claim is `Memory`
 abbrev pub claim_memory : ClaimFault → Bool
 claim_memory claim.Memory = true
 claim_memory claim.NoWorker = false
@@ -60,20 +60,20 @@ claim_memory claim.NoVertex = false
 claim_memory claim.NotReady = false
 claim_memory (claim.Held key) = false
 
--- a claim returns what the rule does, or it fails for want of memory
+-- a claim returns what the table returns, or it fails for want of memory
 abbrev pub GivesClaim : {X Y : Type 0} → (X → Y) → Result X ClaimFault → Result Y ClaimFault → Type 0
 GivesClaim = answer.Gives claim_memory
 
 -- ---- steps
 
--- whether memory was refused to a step
+-- whether the refusal of a step is `Memory`
 abbrev pub step_memory : StepFault → Bool
 step_memory step.Memory = true
 step_memory step.NoWorker = false
 step_memory step.NotRunning = false
 step_memory step.NothingLeft = false
 
--- a step returns what the table does, or it fails for want of memory
+-- a step returns what the table returns, or it fails for want of memory
 abbrev pub GivesStep : {X Y : Type 0} → (X → Y) → Result X StepFault → Result Y StepFault → Type 0
 GivesStep = answer.Gives step_memory
 

@@ -7,8 +7,8 @@ use Rattle.llb_model.specs.Table.{Job}
 use Rattle.llb_model.specs.Landing.{AreLeft, further}
 use Rattle.llb_execution.specs.Parts.{mounts_in, shown_in}
 
--- a program's micro-steps can be done on this work: its caches are shown by distinct mounts, there is a tree for each, and the number of micro-steps
--- has 32 bits
+-- a program's micro-steps can be done on this work: its caches are shown by distinct mounts that exist, there is a tree for each of them, and the number of
+-- micro-steps has 32 bits
 pub record IsWorkable (p : Program) (work : Work) : Type 0 where
   pub apart : Distinct (shown_in work.own)
   pub within : All (λ n. n < mounts_in work.own) (shown_in work.own)
@@ -21,7 +21,7 @@ pub record OutcomeValue : Type 0 where
   pub count : ℕ
   pub left : Left
 
--- the work of a job before its remaining micro-steps, without a fault
+-- the result so far of a job of which no remaining micro-step is done: its work, and no fault
 abbrev pub begun_on : Job → Left
 begun_on j = record { work = j.work; fault = None }
 

@@ -13,30 +13,30 @@ abbrev pub shown_tree : Shown → TreeMap
 shown_tree m = m.tree
 
 -- the trees that a workspace works on, if the cache instances that it holds have these trees, in the order of the needs: for a source its local tree; for a
--- file op its inputs, then the results so far; for a merge its inputs, then what is laid so far; for an exec the tree of each mount, which of a mount that
--- shows a cache is that of its instance
+-- file op its inputs, then the results so far; for a merge its inputs, then what is laid so far; for an exec the tree of each mount; a mount that shows a cache
+-- has the tree of its instance
 abbrev pub trees_with : Workspace → List TreeMap → List TreeMap
 trees_with (LocalTree t) trees = t ∷ []
 trees_with (Files inputs results) trees = inputs ++ results
 trees_with (Layers inputs t) trees = inputs ++ t ∷ []
 trees_with (Mounted mounts caches last) trees = map shown_tree (filled mounts caches trees)
 
--- the tree that a look finds, if the cache instances have these trees
+-- the tree that a `Look` of the code names, if the cache instances have these trees
 abbrev pub looked : List TreeMap → Option Look → Option TreeMap
 looked trees None = None
 looked trees (Some (look.Here t)) = Some t.now
 looked trees (Some (look.Cached k)) = slice_get trees k
 
--- the tree of an instance if its number is given, else another tree
+-- the tree at position k of the list if k is given, else the tree `own`
 abbrev pub tree_or : Option TreeMap → List TreeMap → Option ℕ → Option TreeMap
 tree_or own trees None = own
 tree_or own trees (Some k) = slice_get trees k
 
--- the last position so far at which number i is, given that number m is at position k
+-- the last position so far at which a list of numbers has i: k if the number m at position k is i, else `place`
 abbrev pub next_place : ℕ → ℕ → ℕ → Option ℕ → Option ℕ
 next_place i m k place = if m == i then Some k else place
 
--- the tree at the last position of number i, else the given one
+-- the tree at the last position at which the list of numbers has i; `own` if it has no i
 abbrev pub last_tree : ℕ → List ℕ → List TreeMap → Option TreeMap → Option TreeMap
 last_tree i [] trees own = own
 last_tree i (m ∷ ms) [] own = own
@@ -59,7 +59,7 @@ role_in (part.ResultOf a) = ResultOf a
 role_in part.Laid = Laid
 role_in (part.MountAt dest) = MountAt dest.now
 
--- the role of a tree of an input
+-- the role of an input's tree
 abbrev pub input_role : TreeMap → Role
 input_role t = Input
 
@@ -67,7 +67,7 @@ input_role t = Input
 abbrev pub mount_role : Shown → Role
 mount_role m = MountAt m.dest
 
--- the roles of the results of the actions from number a up
+-- the roles of the results of the actions from number `a` up
 abbrev pub results_from : ℕ → List TreeMap → List Role
 results_from a [] = []
 results_from a (t ∷ trees) = ResultOf a ∷ results_from (a + 1) trees

@@ -1,4 +1,4 @@
--- What a micro-step can change of a workspace, kept before it and put back after it.
+-- A mark is what a micro-step can change in a workspace. It is kept before the micro-step, and put back to undo the micro-step.
 use Rattle.std.specs.Prelude.{◌≡◌, ℕ, List, length, take, Option}
 use Rattle.llb_mount.specs.declared.shown.Shown.{Shown}
 use Rattle.llb_tree.specs.Tree.{TreeMap}
@@ -7,7 +7,7 @@ use Rattle.llb_execution.specs.Parts.{work_with}
 use Rattle.llb_execution.specs.declared.mark.StateBefore.{StateBefore}
 use Rattle.llb_execution.specs.declared.mark.StateBefore.TheVariants as was
 
--- what can change: for a source nothing, for a file op how many results there are, for a merge what is laid, for an exec its mounts and the last status
+-- a mark: for a source nothing, for a file op how many results there are, for a merge what is laid, for an exec its mounts and the last status
 pub data Mark : Type 0 where
   Nothing : Mark
   Results : ℕ → Mark
@@ -21,15 +21,15 @@ mark_in (was.Results count) = Results count
 mark_in (was.Laid t) = Laid t
 mark_in (was.Mounts mounts last) = Mounts mounts last
 
--- what a micro-step can change of a workspace
+-- the mark of a workspace: what a micro-step can change in it
 abbrev pub mark_of : Workspace → Mark
 mark_of (LocalTree t) = Nothing
 mark_of (Files inputs results) = Results (length results)
 mark_of (Layers inputs t) = Laid t
 mark_of (Mounted mounts caches last) = Mounts mounts last
 
--- a workspace after a mark is put back: only the first `count` results, or what was laid, or these mounts and this last status; a mark of another kind changes
--- nothing
+-- a workspace after a mark is put back: it has only the first `count` results, or what was laid then, or the mounts and the last status of then; a mark of
+-- another kind of workspace changes nothing
 abbrev pub put_back : Mark → Workspace → Workspace
 put_back Nothing workspace = workspace
 put_back (Results count) (Files inputs results) = Files inputs (take count results)

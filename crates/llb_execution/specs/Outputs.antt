@@ -15,23 +15,23 @@ actions_in _ = []
 abbrev pub numbers_of : List Action → List ℤ
 numbers_of actions = map (λ (a : Action). a.output) actions
 
--- the tree at the first position of number i; the empty tree if i is not there
+-- the tree at the first position at which the list of numbers has i; the empty tree if there is none
 abbrev pub tree_by : ℕ → List ℤ → List TreeMap → TreeMap
 tree_by i [] trees = empty_tree
 tree_by i (n ∷ ns) [] = empty_tree
 tree_by i (n ∷ ns) (t ∷ trees) = if is_output i n then t else tree_by i ns trees
 
--- the trees after the first one is replaced, if there is one
+-- the trees after the first tree is replaced, if there is one
 abbrev pub first_placed : TreeMap → List TreeMap → List TreeMap
 first_placed t [] = []
 first_placed t (old ∷ trees) = t ∷ trees
 
--- the trees after the one with an output number is replaced, if there is one
+-- the trees after the tree with this output number is replaced, if there is such a tree
 abbrev pub placed : ℤ → TreeMap → List TreeMap → List TreeMap
 placed (pos i) t trees = slice_set trees i t
 placed (negsuc i) t trees = trees
 
--- the trees after the one with an output number is replaced, if there are such a number and such a tree
+-- the trees after the tree with this output number is replaced, if a number is given and there is such a tree
 abbrev pub placed_by : Option ℤ → TreeMap → List TreeMap → List TreeMap
 placed_by (Some n) t trees = placed n t trees
 placed_by None t trees = trees

@@ -1,4 +1,4 @@
--- What the parts of an execution represent, in the words of the machine's definitions.
+-- What the types of this crate represent, in the words of the machine's definitions (llb_model).
 use Rattle.std.specs.Prelude.{ℕ, Bool, false, not, Option, List, [], ◌∷◌, length, map}
 use Rattle.llb_tree.specs.Tree.{TreeMap}
 use Rattle.llb_model.specs.Program as model
@@ -12,14 +12,14 @@ use Rattle.llb_execution.specs.declared.workspace.WorkState.TheVariants as own
 
 -- ---- programs
 
--- a micro-step that is borrowed from its program
+-- the micro-step that a value of the code represents, which borrows it from its program
 abbrev pub step_in : MicroStep → model.MicroStep
 step_in step.ReadLocal = model.ReadLocal
 step_in (step.Act action) = model.Act action.now
 step_in (step.LayInput number) = model.LayInput number
 step_in (step.Run setting command later) = model.Run setting.now command.now (model.all_and later.now)
 
--- micro-steps that own their data
+-- the micro-steps that a value of the code represents, which owns their data
 abbrev pub steps_in : ByKind → List model.MicroStep
 steps_in steps.Nothing = []
 steps_in steps.Read = model.ReadLocal ∷ []
@@ -36,7 +36,7 @@ own_of (own.Files inputs results) = model.Files inputs.items results.items
 own_of (own.Layers inputs t) = model.Layers inputs.items t
 own_of (own.Mounted mounts numbers last) = model.Mounted mounts numbers.items last
 
--- how many mounts the commands of a workspace see
+-- how many mounts the commands of a workspace see; 0 if it is not the workspace of an exec
 abbrev pub mounts_in : model.Workspace → ℕ
 mounts_in (model.Mounted mounts caches last) = length mounts
 mounts_in (model.LocalTree t) = 0
@@ -56,11 +56,11 @@ shown_in (model.Layers inputs t) = []
 abbrev pub work_with : model.Workspace → List TreeMap → model.Work
 work_with workspace trees = record { own = workspace; trees = trees }
 
--- the result of a micro-step: a workspace, these trees, and its fault
+-- the result of a micro-step, with this workspace, these trees and this fault, if there is one
 abbrev pub left_with : model.Workspace → List TreeMap → Option VertexFault → model.Left
 left_with workspace trees fault = record { work = work_with workspace trees; fault = fault }
 
--- whether a micro-step is a command that is skipped after the workspace's last status
+-- whether a micro-step is a command that is skipped, given the last status in the workspace
 abbrev pub is_skipped : model.MicroStep → model.Workspace → Bool
 is_skipped (model.Run setting command ends) workspace = not (model.is_run command.join (model.last_of workspace))
 is_skipped model.ReadLocal workspace = false

@@ -1,7 +1,7 @@
--- How the two models of caches are related. llb_cache has rows, each a key with the list of its trees, in the order in which keys were first leased, and it has
--- leases with numbers: its callers list keys in that order, and give a lease back by its number. The machine has a store, a map from instances to trees, and
--- what its workers run: events of different workers change a map to the same store in either order; rows would differ, since a new key is put last. This file
--- says which store rows represent, which rows there are after an event, and which leases running workers have.
+-- How the two models of caches are related. The model of llb_cache has rows, each a key with the list of its trees, in the order in which keys were first
+-- leased, and leases with numbers, since its callers list keys in that order and give a lease back by its number. The model of the machine has a store, a map
+-- from instances to trees: events of different workers change it to the same store in either order, but not rows, since a new key is put last. This file says
+-- which store rows represent, which rows there are after an event, and which leases running workers have.
 use Rattle.std.specs.Prelude.{◌≡◌, ◌⊎◌, ℕ, ◌+◌, true, List, [], ◌∷◌, ◌++◌, length, map, Option, Some, None, slice_get, slice_set, nat_lt}
 use Rattle.std.specs.Prelude.{if◌then◌else◌}
 use Rattle.std.specs.FinMap as finite
@@ -23,7 +23,7 @@ abbrev pub put_from : Store → Key → ℕ → List TreeMap → Store
 put_from s k n [] = s
 put_from s k n (t ∷ ts) = put (put_from s k (n + 1) ts) (place k n) t
 
--- a store that has, for each key of the rows in the second list, the trees that this key has in the first
+-- the store that has, for each key of the second list of rows, the trees that the first list of rows has for this key
 abbrev pub store_from : List Row → List Row → Store
 store_from all [] = finite.empty
 store_from all (r ∷ rows) = put_from (store_from all rows) r.0 0 (trees_of all r.0)
@@ -34,18 +34,18 @@ store_of rows = store_from rows rows
 
 -- ---- rows after an event
 
--- the rows with these trees in place of those of these instances, which all exist
+-- the rows after each of these instances, which all exist, gets the tree at the same position of the list
 abbrev pub put_each : List Row → List Instance → List TreeMap → List Row
 put_each rows [] ts = rows
 put_each rows (p ∷ ps) [] = rows
 put_each rows (p ∷ ps) (t ∷ ts) = put_each (cache.put rows p t) ps ts
 
--- the rows after a tree is written to one instance: it replaces the tree of an instance that exists, and is appended as the next instance if there is none
+-- the rows after a tree is written to one instance: if the instance exists, its tree is replaced; else the tree is appended to the trees of the key
 abbrev pub showing : List Row → Instance → TreeMap → List Row
 showing rows p t =
     with_trees rows p.key (if nat_lt p.number (length (trees_of rows p.key)) then slice_set (trees_of rows p.key) p.number t else trees_of rows p.key ++ t ∷ [])
 
--- the rows after the tree that a store has for each of these instances is written to it
+-- the rows after each of these instances gets the tree that the store has for it
 abbrev pub written : Store → List Row → List Instance → List Row
 written s rows [] = rows
 written s rows (p ∷ ps) = written s (showing rows p (tree_of s p)) ps
@@ -56,11 +56,11 @@ rows_after rows s w = written s.store rows (places_at (slice_get s.workers w))
 
 -- ---- what a lease needs, and which instances it takes
 
--- the needs of a lease: for each need of a vertex its key, and the tree of the input that a new instance begins with
+-- the needs of a lease: for each need of a vertex its key, and the tree that a new instance begins with (that of an input, or the empty tree)
 abbrev pub asked : List TreeMap → List Need → List cache_need.Need
 asked inputs needs = map (λ (n : Need). record { key = n.key; tree = base_in n.input inputs }) needs
 
--- the instances that a lease takes
+-- the instances that a lease of these needs takes, given the current leases
 abbrev pub places_taken : Leases → List Need → List Instance
 places_taken out needs = map (λ (n : Need). cache.place_for out n.key) needs
 
@@ -75,11 +75,11 @@ pub record HoldsAs (out : Leases) (workers : List WorkerStatus) : Type 0 where
   pub leased : (p : Instance) → Has (held workers) p → is_held out p ≡ true
   pub running : (p : Instance) → is_held out p ≡ true → Has (held workers) p
 
--- a running worker has a lease of these instances, or none if there are no instances
+-- l, a worker's item in a list of leases, is the number of a lease of these instances, or it is empty and there are no instances
 abbrev pub HasLease : Leases → Option (Option ℕ) → List Instance → Type 0
 HasLease out l ps = ((k : ℕ) × (l ≡ Some (Some k)) × cache.Has out k ps) ⊎ ((l ≡ Some None) × (ps ≡ []))
 
--- each running worker that holds instances has a lease of exactly these, and there is no other lease
+-- each running worker that holds instances has a lease of exactly these instances, which no other worker has, and there is no other lease
 pub record AreLeased (out : Leases) (workers : List WorkerStatus) (ls : List (Option ℕ)) : Type 0 where
   pub count : length ls ≡ length workers
   pub has : (w : ℕ) (x : Execution) → slice_get workers w ≡ Some (Runs x) → HasLease out (slice_get ls w) x.places

@@ -34,7 +34,7 @@ no_instances = finite.empty
 unfoldable pub content : Store → Instance → Option TreeMap
 content s p = finite.get s p
 
--- the contents with this tree in one instance
+-- the contents after this tree is put in one instance, which exists from then on
 unfoldable pub put : Store → Instance → TreeMap → Store
 put s p t = finite.insert s p t
 

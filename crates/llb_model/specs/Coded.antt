@@ -9,7 +9,7 @@ use Rattle.llb_cache.specs.KeyOrder.{mode_place}
 use Rattle.llb_tree.specs.Coded.{coded_tree}
 use Rattle.llb_model.specs.Caches.{Instance, Store}
 
--- the mode that has this number in the list of modes
+-- the mode of this number: 0 Shared, 1 Private, any other Locked
 abbrev pub mode_at : ℕ → Mode
 mode_at zero = Shared
 mode_at (suc zero) = Private
@@ -24,7 +24,7 @@ abbrev pub packed_seed : Option Seed → Option (List ℕ × ℕ)
 packed_seed None = None
 packed_seed (Some s) = Some (s.digest, s.index)
 
--- the seed of a pair
+-- the seed that this pair was made from
 abbrev pub unpacked_seed : Option (List ℕ × ℕ) → Option Seed
 unpacked_seed None = None
 unpacked_seed (Some p) = Some (record { digest = p.0; index = p.1 })

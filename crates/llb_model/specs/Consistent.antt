@@ -10,12 +10,12 @@ use Rattle.llb_model.specs.State.{Running, Settled, Execution, Runs, State, endi
 pub record IsConsistent (b : Build) (s : State) : Type 0 where
   -- each vertex has a status
   pub count : length s.statuses ≡ length b.graph.vertices
-  -- a vertex runs exactly if a worker runs it
+  -- the status of a vertex is Running, with a worker, exactly if that worker runs the vertex
   pub running : (v w : ℕ) → slice_get s.statuses v ≡ Some (Running w) → (x : Execution) × (slice_get s.workers w ≡ Some (Runs x)) × (x.vertex ≡ v)
   pub working : (w : ℕ) (x : Execution) → slice_get s.workers w ≡ Some (Runs x) → slice_get s.statuses x.vertex ≡ Some (Running w)
   -- a vertex that is Done has as many trees as it has outputs
   pub outputs : (v : ℕ) (x : Vertex) (trees : List TreeMap) → slice_get b.graph.vertices v ≡ Some x
       → slice_get s.statuses v ≡ Some (Settled (Done trees)) → length trees ≡ x.outputs
-  -- all inputs are there for a vertex that does not wait
+  -- for a vertex that does not wait, the trees of all its inputs are there
   pub inputs : (v : ℕ) (x : Vertex) → slice_get b.graph.vertices v ≡ Some x → is_waiting (slice_get s.statuses v) ≡ false
       → is_some (inputs_from (ending_at s.statuses) x.inputs) ≡ true

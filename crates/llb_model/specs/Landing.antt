@@ -17,27 +17,27 @@ use Rattle.llb_model.specs.Run.{run}
 abbrev pub steps_by : ℕ → ℕ → List Event
 steps_by w n = replicate n (Step w)
 
--- n steps of worker w and its settle
+-- n steps of worker w, and then its settle
 abbrev pub landing : ℕ → ℕ → List Event
 landing w n = steps_by w n ++ Settle w ∷ []
 
 -- ---- which micro-steps remain
 
--- the result of n further micro-steps, the first of them number k
+-- the result of n further micro-steps, from number k up, after the result `left`
 abbrev pub further : List MicroStep → ℕ → Left → ℕ → Left
 further steps k left zero = left
 further steps k left (suc n) = further steps (k + 1) (go_on steps k left) n
 
--- there are no further micro-steps: there was a fault, or no micro-step has number k
+-- no further micro-step can be done: there was a fault, or no micro-step has number k
 abbrev pub is_over : List MicroStep → ℕ → Left → Bool
 is_over steps k left = is_some left.fault || nat_le (length steps) k
 
--- n further micro-steps can be done
+-- n further micro-steps can be done, from number k up
 abbrev pub AreThere : List MicroStep → ℕ → Left → ℕ → Type 0
 AreThere steps k left zero = Unit {0}
 AreThere steps k left (suc n) = (is_over steps k left ≡ false) × AreThere steps (k + 1) (go_on steps k left) n
 
--- exactly n further micro-steps can be done
+-- exactly n further micro-steps can be done, from number k up
 pub record AreLeft (steps : List MicroStep) (k : ℕ) (left : Left) (n : ℕ) : Type 0 where
   pub there : AreThere steps k left n
   pub over : is_over steps (k + n) (further steps k left n) ≡ true
@@ -71,7 +71,7 @@ StepsAsBlock b = (s : State) (w : ℕ) (x : Execution) (trees : List TreeMap) (n
     → AreThere (program_in b x).steps x.done (left_so_far x trees) n
     → (rs : List Reply) × (run b s (steps_by w n) ≡ Some (after_steps s w x n (further (program_in b x).steps x.done (left_so_far x trees) n), rs))
 
--- work done away from the board, on a copy of a worker's workspace and trees as they are now, has the effect of the events of a landing
+-- the events of a landing have the same effect as doing the micro-steps on a copy of the worker's workspace and trees, and settling with their result
 abbrev pub LandsAsBlock : Build → Type 0
 LandsAsBlock b = (s : State) (w : ℕ) (x : Execution) (trees : List TreeMap) (n : ℕ) → slice_get s.workers w ≡ Some (Runs x)
     → Distinct x.places → Hold s.store x.places trees

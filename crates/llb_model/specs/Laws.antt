@@ -69,18 +69,18 @@ OthersKeep b = (s t : State) (e : Event) (r : Reply) → IsReached b s → table
 abbrev pub with_content : Instance → TreeMap → State → State
 with_content p t s = record s { store = put s.store p t }
 
--- a state and a reply, in which one instance has another tree
+-- the state with another tree in one instance, and the reply unchanged
 abbrev pub with_content_after : Instance → TreeMap → State × Reply → State × Reply
 with_content_after p t a = (with_content p t a.0, a.1)
 
--- nor does such an event read that instance: it has the same reply and the same effect elsewhere, whatever tree the instance has
+-- another worker's event does not read an instance that a running worker holds exclusively: for any tree in it, reply and effect elsewhere are the same
 abbrev pub OthersIgnore : Build → Type 0
 OthersIgnore b = (s : State) (e : Event) (t : TreeMap) → IsReached b s → (w : ℕ) (x : Execution) (p : Instance) → slice_get s.workers w ≡ Some (Runs x)
     → Has x.places p → IsExclusive p.key.mode → worker_of e ≢ w → table b (with_content p t s) e ≡ option_map (with_content_after p t) (table b s e)
 
 -- ---- the claim order
 
--- a run ends in the state that its claim order gives: each vertex is run at its claim, whole, or up to its cancel
+-- after a run, each settled vertex and each instance that nobody holds is as if the claims were done one after another, each whole or up to its cancel
 abbrev pub RunsInClaimOrder : Build → Type 0
 RunsInClaimOrder b = (o : Opening) (es : List Event) (rs : List Reply) (s : State) → run b (opening b o) es ≡ Some (s, rs)
     → StandsIn s (order b (at_first b o.store) (claims_in rs))
@@ -102,7 +102,7 @@ AreChosen b s es = EachIn (IsChosen b) b s es
 abbrev pub IsAtRest : State → Type 0
 IsAtRest s = (v w : ℕ) → slice_get s.statuses v ≡ Some (Running w) → ⊥
 
--- a run of chosen events ends in the state that its claim order gives, shared caches included
+-- a run of chosen events, at whose end no vertex runs, ends in the state to which its claims lead, done one after another; shared caches included
 abbrev pub AloneInClaimOrder : Build → Type 0
 AloneInClaimOrder b = (o : Opening) (es : List Event) (rs : List Reply) (s : State) → run b (opening b o) es ≡ Some (s, rs)
     → AreChosen b (opening b o) es → IsAtRest s
@@ -135,12 +135,12 @@ HeldAreThere b = (s : State) → IsReached b s → (w : ℕ) (x : Execution) →
 abbrev pub at_start : List Shown → List ℕ → List TreeMap → Work
 at_start mounts caches trees = record { own = Mounted mounts caches 0; trees = trees }
 
--- the number of the last command that ran, after command k: k if it runs, else the number from before it (`last` is the last status then)
+-- the number of the last command that ran, up to number k: k if command k runs, given the status `last` before it; else `before`, the last one before k
 abbrev pub later_ran : ℕ → Option Joined → ℕ → ℕ → ℕ
 later_ran k None last before = before
 later_ran k (Some c) last before = if is_run c.join last then k else before
 
--- the number of the last command that ran among the first k; 0 if there are none
+-- the number of the last command that ran among the first k; 0 if none of them ran
 abbrev pub last_ran : Setting → List Joined → Work → ℕ → ℕ
 last_ran setting cs work zero = 0
 last_ran setting cs work (suc k) =
@@ -150,21 +150,21 @@ last_ran setting cs work (suc k) =
 abbrev pub fault_of : ℕ → ℕ → Option VertexFault
 fault_of c last = if last == 0 then None else Some (fault.Exit c last)
 
--- an exec after k micro-steps: it is finished if all its commands are done, or if the last status is not 0 and every later command is
--- joined by And; and when it is finished it has failed exactly if the last status is not 0, with the command that ran last
+-- an exec after k micro-steps: it is finished exactly if all its commands are done, or if the last status is not 0 and every later command is joined by And;
+-- once it is finished, it has a fault exactly if the last status is not 0, and the fault names the command that ran last
 pub record EndsByLastStatus (setting : Setting) (cs : List Joined) (work : Work) (k : ℕ) : Type 0 where
   pub finished : is_over (runs_of setting cs) k (part (runs_of setting cs) work k)
       ≡ (nat_le (length cs) k || (not (last_of (part (runs_of setting cs) work k).work.own == 0) && all_and (drop k cs)))
   pub fails : is_over (runs_of setting cs) k (part (runs_of setting cs) work k) ≡ true
       → (part (runs_of setting cs) work k).fault ≡ fault_of (last_ran setting cs work k) (last_of (part (runs_of setting cs) work k).work.own)
 
--- a script fails if the last command that ran had a status that is not 0
+-- `EndsByLastStatus` holds for every script after any number of micro-steps: once it is finished, it has failed exactly if the last status is not 0
 abbrev pub FailsByLastStatus : Type 0
 FailsByLastStatus = (setting : Setting) (cs : List Joined) (mounts : List Shown) (caches : List ℕ) (trees : List TreeMap) (k : ℕ)
     → EndsByLastStatus setting cs (at_start mounts caches trees) k
 
--- a worker that runs an exec: it is finished if all its micro-steps are done, or if the last status is not 0 and every later
--- command is joined by And; and when it is finished it has failed exactly if the last status is not 0, with the command that it ran last
+-- an exec that a worker runs: it is finished exactly if all its micro-steps are done, or if the last status is not 0 and every later command is joined by And;
+-- once it is finished, it has a fault exactly if the last status is not 0, and the fault names the command that was done last
 pub record StandsByLastStatus (cs : List Joined) (steps : List MicroStep) (x : Execution) : Type 0 where
   pub finished : is_finished steps x ≡ (nat_le (length cs) x.done || (not (last_of x.own == 0) && all_and (drop x.done cs)))
   pub fails : is_finished steps x ≡ true → x.fault ≡ fault_of (x.done - 1) (last_of x.own)
@@ -175,7 +175,7 @@ ExecsEndByLastStatus b = (s : State) → IsReached b s → (w : ℕ) (x : Execut
     → slice_get b.graph.vertices x.vertex ≡ Some v → v.op.kind ≡ Some (kind.Exec e)
     → StandsByLastStatus (unwrap_or v.script []) (program_in b x).steps x
 
--- all commands of a script but the first are joined by And, and the first one runs
+-- whether the first command of a script runs, at a last status of 0, and all others are joined by And
 abbrev pub are_ands : List Joined → Bool
 are_ands [] = true
 are_ands (c ∷ cs) = is_run c.join 0 && all_and cs
@@ -184,7 +184,7 @@ are_ands (c ∷ cs) = is_run c.join 0 && all_and cs
 abbrev pub in_turn : Setting → Joined → MicroStep
 in_turn setting c = Run setting (record { join = Then; command = c.command }) true
 
--- the commands of a script joined by And run one after another, none is skipped, and the first with a status other than 0 is the exec's fault
+-- the first k commands run as if each ran whatever the last status is, and the first status other than 0 were a fault; without a fault the next one runs
 pub record RunsInTurn (setting : Setting) (cs : List Joined) (work : Work) (k : ℕ) : Type 0 where
   pub leaves : part (runs_of setting cs) work k ≡ part (map (in_turn setting) cs) work k
   pub runs : (c : Joined) → (part (runs_of setting cs) work k).fault ≡ None → slice_get cs k ≡ Some c

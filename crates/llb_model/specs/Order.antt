@@ -28,7 +28,7 @@ cut_in v (HasSettled (ended.Done u) ∷ rs) = if u == v then None else cut_in v 
 cut_in v (HasSettled (ended.Failed u) ∷ rs) = if u == v then None else cut_in v rs
 cut_in v (HasCancelled r ∷ rs) = if r.vertex == v then Some r.done else cut_in v rs
 
--- a claim: the vertex, the numbers of the instances that it takes, and, if it is cancelled, how many micro-steps are done before
+-- a claim: the vertex, the numbers of the instances that it takes, and, if it is cancelled, how many micro-steps are done before the cancel
 pub record Named : Type 0 where
   pub vertex : ℕ
   pub instances : List ℕ
@@ -38,7 +38,7 @@ pub record Named : Type 0 where
 abbrev pub named : ℕ → List ℕ → Option ℕ → Named
 named v numbers cut = record { vertex = v; instances = numbers; cut = cut }
 
--- what is made of the work at a claim: by all micro-steps, or by the first k if the claim is cancelled
+-- the result of a claim's micro-steps on its work: of all micro-steps, or of the first k if the claim is cancelled
 abbrev pub done_of : Option ℕ → List MicroStep → Work → Left
 done_of None steps work = whole steps work
 done_of (Some k) steps work = part steps work k
@@ -50,7 +50,7 @@ stands_after (Some k) p left = Waiting
 
 -- ---- the order
 
--- the state after the vertex gets this status and these trees are written back to its instances
+-- the state after vertex v gets its new status, and the trees of this result are written to its instances
 abbrev pub left_by : Order → ℕ → List Instance → Program → Option ℕ → Left → Order
 left_by o v ps p cut left = record { statuses = slice_set o.statuses v (stands_after cut p left); store = put_all o.store ps left.work.trees }
 
@@ -81,7 +81,7 @@ claims_in (HasStepped r ∷ rs) = claims_in rs
 claims_in (HasSettled r ∷ rs) = claims_in rs
 claims_in (HasCancelled r ∷ rs) = claims_in rs
 
--- each settled vertex and each instance that nobody holds is in the state as it is in the state of the claim order
+-- a vertex that is settled in s has the same status in o, the state of a claim order; an instance that no worker holds in s has the same contents in o
 pub record StandsIn (s : State) (o : Order) : Type 0 where
   pub endings : (v : ℕ) (e : Ending) → slice_get s.statuses v ≡ Some (Settled e) → slice_get o.statuses v ≡ Some (Settled e)
   pub contents : (p : Instance) → IsFree s.workers p → content s.store p ≡ content o.store p

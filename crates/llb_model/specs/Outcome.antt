@@ -23,7 +23,7 @@ abbrev pub ended : Program → Workspace → Option VertexFault → Ending
 ended p workspace None = Done (outputs_of p workspace)
 ended p workspace (Some f) = Failed f
 
--- how a vertex ends after these results of its micro-steps
+-- how a vertex ends, given the result of its micro-steps
 abbrev pub ending : Program → Left → Ending
 ending p left = ended p left.work.own left.fault
 
@@ -33,7 +33,7 @@ output_in (Some (Done trees)) i = slice_get trees i
 output_in (Some (Failed f)) i = None
 output_in None i = None
 
--- one item put before a list of items, if both exist
+-- the list with the item put before it, if the item exists and the list exists
 abbrev pub both : {A : Type 0} → Option A → Option (List A) → Option (List A)
 both (Some x) (Some xs) = Some (x ∷ xs)
 both (Some x) None = None
@@ -59,7 +59,7 @@ ending_in (Some (Ended e)) = Some e
 ending_in (Some Blocked) = None
 ending_in None = None
 
--- the outcome of a vertex, given the outcomes of all vertices with lower numbers; all its inputs are among those
+-- the outcome of a vertex, given the outcomes of all vertices with lower numbers; all inputs of the vertex are among those
 abbrev pub next_outcome : Build → List Outcome → Vertex → Outcome
 next_outcome b before v = outcome_on b v (inputs_from (λ k. ending_in (slice_get before k)) v.inputs)
 

@@ -1,4 +1,4 @@
--- What is true of every state that events lead to, if no cache mount is at or before a vertex.
+-- What is true, in every state that granted events lead to, of a vertex with no cache mount at or before it (a plain vertex).
 use Rattle.std.specs.Prelude.{◌≡◌, ℕ, true, List, [], Some, slice_get}
 use Rattle.llb_loader.specs.declared.graph.Vertex.{Vertex}
 use Rattle.llb_tree.specs.Tree.{TreeMap}

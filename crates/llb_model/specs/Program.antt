@@ -1,4 +1,4 @@
--- What a vertex does: its program, a list of micro-steps; the work that they change, and what is left after the first k; and the caches that the vertex needs.
+-- What a vertex does: its program, a list of micro-steps; the work that they change, and the result of the first k; and the caches that the vertex needs.
 use Rattle.std.specs.Prelude.{ℕ, zero, suc, ◌+◌, ◌==◌, ℤ, pos, negsuc, Bool, true, false, not, List, [], ◌∷◌, ◌++◌, length, map, Option, Some, None}
 use Rattle.std.specs.Prelude.{option_map, unwrap_or, slice_get, Result, Ok, Err, if◌then◌else◌}
 use Rattle.std.specs.List.{list_any, list_all, range_with_len}
@@ -42,8 +42,8 @@ pub record Build : Type 0 where
   pub graph : Numbered
   pub locals : List Local
 
--- one micro-step: the read of a source; an action of a file op; the laying of a merge's input over those before it; a command of an exec in its setting, with
--- whether every later command is joined by And
+-- one micro-step: the read of a source; an action of a file op; the laying of a merge's input over the inputs before it; a command of an exec with its setting,
+-- and whether every later command is joined by And
 pub data MicroStep : Type 0 where
   ReadLocal : MicroStep
   Act : Action → MicroStep
@@ -56,9 +56,9 @@ pub record Program : Type 0 where
   pub outputs : ℕ
   pub output_numbers : List ℤ
 
--- what a program works on, but for caches. Source: its local tree. File op: the trees of its inputs and the results so far. Merge: the trees of its inputs
--- and what is laid so far. Exec: its mounts, the numbers of those that show caches (their trees are empty here), and the status of the last command that
--- ran, which is 0 before any has run
+-- what a program works on, without the trees of caches. Source: its local tree. File op: the trees of its inputs and the results so far. Merge: the trees of
+-- its inputs and what is laid so far. Exec: its mounts, the numbers of those that show caches (their trees are empty here), and the status of the last command
+-- that ran, which is 0 before any has run
 pub data Workspace : Type 0 where
   LocalTree : TreeMap → Workspace
   Files : List TreeMap → List TreeMap → Workspace
@@ -84,13 +84,13 @@ pub record Start : Type 0 where
 abbrev pub start_with : Vertex → List TreeMap → Start
 start_with v trees = record { vertex = v; inputs = trees }
 
--- the path that a text reads as, the root if it reads as none; in a loaded graph each text that has to be a path reads as one
+-- the path that a text spells, or the root if it spells none; in a loaded graph each text that has to be a path spells one
 abbrev pub path_in : List ℕ → List (List ℕ)
 path_in text = unwrap_or (read_as text) []
 
 -- ---- the caches that a vertex needs
 
--- a cache that an exec shows: the number of the mount, the key, and the number of the input that a new instance begins with, -1 for none
+-- a cache mount of an exec: the number of the mount, the key, and the number of the input whose tree a new instance begins with (-1: the empty tree)
 pub record Need : Type 0 where
   pub mount : ℕ
   pub key : Key
@@ -108,7 +108,7 @@ mount_of n = n.mount
 abbrev pub mode_of : ℤ → Mode
 mode_of n = if int_eq n (pos 1) then Private else if int_eq n (pos 2) then Locked else Shared
 
--- an integer as the index of an output; in a loaded graph it is not negative
+-- an integer as the index of an output; 0 for a negative one, which a loaded graph does not have
 abbrev pub index_of : ℤ → ℕ
 index_of (pos n) = n
 index_of (negsuc n) = 0
@@ -184,12 +184,12 @@ program_at None = record { steps = []; outputs = 0; output_numbers = [] }
 abbrev pub local_tree : List Local → Vertex → TreeMap
 local_tree locals v = unwrap_or (tree_of_local locals (unwrap_or (local_name v.op) [])) empty_tree
 
--- the tree of this number among the trees of an op's inputs and the results of its earlier actions; -1 is the empty tree
+-- the tree of this number among the trees of an op's inputs and the results of its earlier actions; the empty tree for -1, or if there is no such tree
 abbrev pub base_in : ℤ → List TreeMap → TreeMap
 base_in (pos n) trees = unwrap_or (slice_get trees n) empty_tree
 base_in (negsuc n) trees = empty_tree
 
--- the tree that a mount shows at first: for a bind mount that of its input, for any other mount the empty tree
+-- the tree that a mount shows at first: for a bind mount the tree of its input, for any other mount the empty tree
 abbrev pub tree_shown : List TreeMap → Mount → TreeMap
 tree_shown inputs m = if has_type bind m then base_in m.input inputs else empty_tree
 
@@ -231,57 +231,57 @@ fault_number (act_fault.File f) = tree_fault_number f
 fault_number act_fault.BadPattern = 52
 fault_number act_fault.Memory = 53
 
--- the trees that an action can begin with, by number: those of the inputs, then the results so far
+-- the trees that an action can begin with, by number: the trees of the inputs, then the results so far
 abbrev pub trees_in : Workspace → List TreeMap
 trees_in (Files inputs results) = inputs ++ results
 trees_in (LocalTree t) = []
 trees_in (Layers inputs t) = inputs
 trees_in (Mounted mounts caches last) = []
 
--- the workspace of a file op after one more result is appended
+-- the workspace of a file op after one more result is appended; any other workspace is unchanged
 abbrev pub with_tree : Workspace → TreeMap → Workspace
 with_tree (Files inputs results) t = Files inputs (results ++ t ∷ [])
 with_tree (LocalTree own) t = LocalTree own
 with_tree (Layers inputs laid) t = Layers inputs laid
 with_tree (Mounted mounts caches last) t = Mounted mounts caches last
 
--- the workspace of a file op after the result of action a, or the action's fault as that of the vertex
+-- the workspace of a file op after the result of its action `a` is appended, or the action's fault as the fault of the vertex
 abbrev pub with_result : ℕ → Workspace → Result TreeMap ActFault → Result Workspace VertexFault
 with_result a workspace (Ok t) = Ok (with_tree workspace t)
 with_result a workspace (Err f) = Err (fault.Action a (fault_number f))
 
--- the tree that an action makes of the tree it begins with; a copy reads a second tree
+-- the tree that an action makes of the tree of its input, or its fault; a copy reads the tree of its secondary input too
 abbrev pub act_among : Action → List TreeMap → Result TreeMap ActFault
 act_among action trees = act action.kind (base_in action.input trees) (base_in action.secondary_input trees)
 
--- the workspace after action a, or the action's fault
+-- the workspace after the action of number `a`, or the action's fault
 abbrev pub act_on : ℕ → Action → Workspace → Result Workspace VertexFault
 act_on a action workspace = with_result a workspace (act_among action (trees_in workspace))
 
--- the workspace after an input is laid over those before it
+-- the workspace of a merge after input i is laid over what is laid so far; any other workspace is unchanged
 abbrev pub lay_on : ℤ → Workspace → Workspace
 lay_on i (Layers inputs t) = Layers inputs (lay t (base_in i inputs))
 lay_on i (LocalTree t) = LocalTree t
 lay_on i (Files inputs results) = Files inputs results
 lay_on i (Mounted mounts caches last) = Mounted mounts caches last
 
--- the mounts after those with these numbers get these trees
+-- the mounts, where the mount of each of these numbers has the tree at the same position of the list
 abbrev pub filled : List Shown → List ℕ → List TreeMap → List Shown
 filled mounts [] trees = mounts
 filled mounts (m ∷ ms) [] = mounts
 filled mounts (m ∷ ms) (t ∷ trees) = filled (with_tree_of mounts m t) ms trees
 
--- the trees that the mounts with these numbers show, as many as `trees` has
+-- the trees that the mounts with these numbers show; for each item of `trees` past the last number, that item
 abbrev pub taken : List Shown → List ℕ → List TreeMap → List TreeMap
 taken mounts ms [] = []
 taken mounts [] (t ∷ trees) = t ∷ trees
 taken mounts (m ∷ ms) (t ∷ trees) = (mount_at mounts m).tree ∷ taken mounts ms trees
 
--- the mounts after those with these numbers get the empty tree
+-- the mounts, where the mount of each of these numbers, as many as `trees` has, has the empty tree
 abbrev pub blanked : List Shown → List ℕ → List TreeMap → List Shown
 blanked mounts ms trees = filled mounts ms (map (λ t. empty_tree) trees)
 
--- the view after a command with status 0, split into the mounts (which show the empty tree where they show a cache) and the trees of the caches
+-- the view after a command with status 0, split into the mounts (with the empty tree in place of the tree of a cache) and the trees of the caches
 abbrev pub parted : List ℕ → List TreeMap → List Shown → Work
 parted caches trees mounts = record { own = Mounted (blanked mounts caches trees) caches 0; trees = taken mounts caches trees }
 
@@ -292,22 +292,22 @@ last_of (LocalTree t) = 0
 last_of (Files inputs results) = 0
 last_of (Layers inputs t) = 0
 
--- whether a command with this join runs after a last status; else it is skipped
+-- whether a command with this join runs, given the status of the last command that ran; else it is skipped
 abbrev pub is_run : Join → ℕ → Bool
 is_run Then last = true
 is_run And last = last == 0
 is_run Or last = not (last == 0)
 
--- what a micro-step without a fault leaves: this work
+-- the result of a micro-step that has no fault: this work after it
 abbrev pub no_fault : Work → Left
 no_fault work = record { work = work; fault = None }
 
--- the work after a command ran: its view if it left one, else the mounts and the caches from before it; its status is the last status now
+-- the work after a command ran: the view that it left, or, if it failed, the mounts and trees from before; its status is the last status now
 abbrev pub after_run : List Shown → List ℕ → List TreeMap → Option (List Shown) → Work
 after_run mounts caches trees (Some after) = parted caches trees after
 after_run mounts caches trees None = record { own = Mounted mounts caches (status_of None); trees = trees }
 
--- the exec's fault after command c ended with a status: one if the status is not 0 and every later command is joined by And (`ends`)
+-- the exec's fault after command c ended with a status: there is a fault if the status is not 0 and every later command is joined by And (`ends`)
 abbrev pub exit_of : ℕ → Bool → ℕ → Option VertexFault
 exit_of c ends status = if status == 0 then None else (if ends then Some (fault.Exit c status) else None)
 
@@ -315,7 +315,7 @@ exit_of c ends status = if status == 0 then None else (if ends then Some (fault.
 abbrev pub ran : ℕ → Bool → List Shown → List ℕ → List TreeMap → Option (List Shown) → Left
 ran c ends mounts caches trees after = record { work = after_run mounts caches trees after; fault = exit_of c ends (status_of after) }
 
--- the result of command c; it sees the caches as they are now, and if it is skipped it changes nothing
+-- the result of command c on the workspace of an exec, with the trees of its caches as they are now; a command that is skipped changes nothing
 abbrev pub run_on : ℕ → Setting → Joined → Bool → Workspace → List TreeMap → Left
 run_on c setting command ends (Mounted mounts caches last) trees =
     if is_run command.join last then ran c ends mounts caches trees (run setting (filled mounts caches trees) command.command)
@@ -341,21 +341,21 @@ abbrev pub step_on : ℕ → Option MicroStep → Work → Left
 step_on k None work = no_fault work
 step_on k (Some m) work = micro_step k m work
 
--- the earlier result if it has a fault, else the next one
+-- the earlier result if there is a fault, else the next result
 abbrev pub unless_faulted : Option VertexFault → Left → Left → Left
 unless_faulted None left next = next
 unless_faulted (Some f) left next = left
 
--- the result after one more micro-step; none is done after a fault
+-- the result after micro-step k as well, given the result before it; after a fault no micro-step is done
 abbrev pub go_on : List MicroStep → ℕ → Left → Left
 go_on steps k left = unless_faulted left.fault left (step_on k (slice_get steps k) left.work)
 
--- the result of the first k micro-steps of a work: the work after them, and their first fault
+-- the result of the first k micro-steps on a work: the work after them, and the first fault if there is one
 unfoldable pub part : List MicroStep → Work → ℕ → Left
 part steps work zero = record { work = work; fault = None }
 part steps work (suc k) = go_on steps k (part steps work k)
 
--- the result of all micro-steps of a work
+-- the result of all micro-steps on a work
 abbrev pub whole : List MicroStep → Work → Left
 whole steps work = part steps work (length steps)
 
@@ -364,7 +364,7 @@ abbrev pub is_output : ℕ → ℤ → Bool
 is_output i (pos n) = n == i
 is_output i (negsuc n) = false
 
--- the result of the action whose output has number i
+-- the result of the first action whose output number is i; the empty tree if there is none
 abbrev pub result_for : ℕ → List MicroStep → List TreeMap → TreeMap
 result_for i [] results = empty_tree
 result_for i (m ∷ steps) [] = empty_tree
@@ -373,7 +373,7 @@ result_for i (ReadLocal ∷ steps) (t ∷ results) = result_for i steps results
 result_for i (LayInput n ∷ steps) (t ∷ results) = result_for i steps results
 result_for i (Run setting command ends ∷ steps) (t ∷ results) = result_for i steps results
 
--- the whole tree of the mount whose output has number i
+-- the whole tree of the first mount whose output number is i; the empty tree if there is none
 abbrev pub tree_for : ℕ → List ℤ → List Shown → TreeMap
 tree_for i [] mounts = empty_tree
 tree_for i (n ∷ numbers) [] = empty_tree

@@ -12,7 +12,7 @@ use Rattle.llb_model.specs.Table.{Reply, Claimed}
 abbrev pub events_of : Vertex → ℕ
 events_of v = length (program_of v).steps + 2
 
--- whether a reply is that of a cancel of vertex v
+-- whether a reply is the reply to a cancel of vertex v
 abbrev pub is_cancel_of : ℕ → Reply → Bool
 is_cancel_of v (Claimed job) = false
 is_cancel_of v (HasStepped r) = false
@@ -32,7 +32,7 @@ counts_from k (v ∷ vs) rs = cancels_in k rs ∷ counts_from (k + 1) vs rs
 abbrev pub cancel_counts : Build → List Reply → List ℕ
 cancel_counts b rs = counts_from 0 b.graph.vertices rs
 
--- the most events of a run for the vertices from number k up: those of each vertex once, and once more for each of its cancels
+-- the most events of a run for the vertices from number k up: the events of each vertex once, and once more for each of its cancels
 abbrev pub most_from : ℕ → List Vertex → List Reply → ℕ
 most_from k [] rs = 0
 most_from k (v ∷ vs) rs = events_of v * (1 + cancels_in k rs) + most_from (k + 1) vs rs
@@ -63,20 +63,20 @@ abbrev pub all_left : Build → List WorkerStatus → ℕ
 all_left b [] = 0
 all_left b (a ∷ workers) = left_by b a + all_left b workers
 
--- the most events still to come without a cancel
+-- the most events still to come, if none of them is a cancel
 abbrev pub still_to_come : Build → State → ℕ
 still_to_come b s = all_to_come b.graph.vertices s.statuses + all_left b s.workers
 
 -- ---- room in the record
 
--- the room in the record that the next claim of a vertex reserves: only a vertex that waits after a cancel needs more
+-- the room in the record that the next claim of a vertex reserves: 0, unless the vertex waits after a cancel
 abbrev pub owed_by : Vertex → Status → ℕ → ℕ
 owed_by v Waiting zero = 0
 owed_by v Waiting (suc n) = events_of v
 owed_by v (Running w) n = 0
 owed_by v (Settled e) n = 0
 
--- that room, summed up over the vertices from number k up
+-- the sum of the room that the next claims of the vertices from number k up reserve
 abbrev pub owed_from : ℕ → List Vertex → List Status → List Reply → ℕ
 owed_from k [] statuses rs = 0
 owed_from k (v ∷ vs) [] rs = 0

@@ -8,7 +8,7 @@ use Rattle.llb_events.specs.declared.event.Event.{Event}
 use Rattle.llb_events.specs.declared.event.Event.TheVariants.{Claim, Step, Settle, Cancel}
 use Rattle.llb_model.specs.Table.{Reply, worker_of, table}
 
--- how a run goes on: from the state after an event, with the event's reply before the others; not at all if the event was refused
+-- the result of a run, given the result of its first event, and how it goes on (`go`): the first reply is put before the others; none if a refusal comes
 abbrev pub after : Option (State × Reply) → (State → Option (State × List Reply)) → Option (State × List Reply)
 after None go = None
 after (Some (s, r)) go = option_map (λ (t : State × List Reply). (t.0, r ∷ t.1)) (go s)
@@ -18,11 +18,11 @@ unfoldable pub run : Build → State → List Event → Option (State × List Re
 run b s [] = Some (s, [])
 run b s (e ∷ es) = after (table b s e) (λ t. run b t es)
 
--- how many of the events are a worker's
+-- how many of the events are events of worker w
 abbrev pub events_by : ℕ → List Event → ℕ
 events_by w es = count_by (λ e. worker_of e == w) es
 
--- the next event of the lowest running worker; the workers of the list are numbered from w
+-- the next event of the running worker with the lowest number: its settle if it is finished, else a step; the workers of the list are numbered from w
 abbrev pub next_of : Build → ℕ → List WorkerStatus → Option Event
 next_of b w [] = None
 next_of b w (Idle ∷ workers) = next_of b (w + 1) workers
@@ -33,20 +33,20 @@ abbrev pub least : (ℕ → Bool) → ℕ → ℕ → Option ℕ
 least test v zero = None
 least test v (suc n) = if test v then Some v else least test (v + 1) n
 
--- worker 0's claim of the least Ready vertex, if one is Ready
+-- worker 0's claim of the Ready vertex with the least number, if any vertex is Ready
 abbrev pub next_claim : Build → State → Option Event
 next_claim b s = option_map (λ v. Claim 0 v) (least (is_ready b s.statuses) 0 (length b.graph.vertices))
 
--- an event if there is one, or else the other
+-- the event before `other` if there is one, else `other`
 abbrev pub or_else : Option Event → Option Event → Option Event
 or_else (Some e) other = Some e
 or_else None other = other
 
--- the event that the driver chooses: the next one of the lowest running worker, or else a claim by worker 0
+-- the event that the driver chooses: the next event of the running worker with the lowest number, or, if no worker runs, a claim by worker 0
 abbrev pub chosen : Build → State → Option Event
 chosen b s = or_else (next_of b 0 s.workers) (next_claim b s)
 
--- whether a status is that of an end
+-- whether a status is Settled; false if there is no vertex
 abbrev pub is_settled : Option Status → Bool
 is_settled (Some (Settled e)) = true
 is_settled (Some (Running w)) = false
@@ -58,7 +58,7 @@ abbrev pub each : (ℕ → Bool) → ℕ → ℕ → Bool
 each test v zero = true
 each test v (suc n) = test v && each test (v + 1) n
 
--- nothing runs any more: every vertex is done, failed or blocked
+-- whether a run is complete: every vertex is done, failed or blocked
 abbrev pub is_complete : Build → State → Bool
 is_complete b s = each (λ v. is_settled (slice_get s.statuses v) || is_blocked b s.statuses v) 0 (length b.graph.vertices)
 
@@ -80,7 +80,7 @@ abbrev pub AreAscending : List ℕ → Type 0
 AreAscending [] = Unit {0}
 AreAscending (n ∷ ns) = AllAbove n ns × AreAscending ns
 
--- the status of a vertex in a complete run: it has ended with its plain outcome, or it waits and that outcome is Blocked
+-- the status of a vertex in a complete run: the vertex has ended with its plain outcome, or it waits and its plain outcome is Blocked
 abbrev pub StandsPlainly : Option Status → Option Outcome → Type 0
 StandsPlainly (Some (Settled e)) o = o ≡ Some (Ended e)
 StandsPlainly (Some Waiting) o = o ≡ Some Blocked

@@ -20,8 +20,8 @@ pub data Status : Type 0 where
   Running : ℕ → Status
   Settled : Ending → Status
 
--- the work of a running worker: its vertex, how many micro-steps are done (one that faults is counted), the vertex's fault if there is one, the workspace,
--- and the instances of caches that the worker holds, in the order of the needs
+-- the work of a running worker: its vertex, how many micro-steps are done (a micro-step that faults is counted too), the vertex's fault if there is one, the
+-- workspace, and the instances of caches that the worker holds, in the order of the needs
 pub record Execution : Type 0 where
   pub vertex : ℕ
   pub done : ℕ
@@ -40,12 +40,12 @@ pub record State : Type 0 where
   pub workers : List WorkerStatus
   pub store : Store
 
--- what a machine is opened with besides the build: how many workers there are, and what the caches have
+-- what a machine is opened with besides the build: how many workers there are, and the contents of the caches
 pub record Opening : Type 0 where
   pub workers : ℕ
   pub store : Store
 
--- the state at the opening: every vertex waits, every worker is idle, and the caches have what was handed in
+-- the state at the opening: every vertex waits, every worker is idle, and the caches have the contents of the opening
 abbrev pub opening : Build → Opening → State
 opening b o = record { statuses = replicate (length b.graph.vertices) Waiting; workers = replicate o.workers Idle; store = o.store }
 
@@ -89,19 +89,19 @@ is_waiting (Some (Running w)) = false
 is_waiting (Some (Settled e)) = false
 is_waiting None = false
 
--- whether an ending is done, with trees
+-- whether a vertex ended done, with its outputs; false if it has no ending
 abbrev pub is_done : Option Ending → Bool
 is_done (Some (Done trees)) = true
 is_done (Some (Failed f)) = false
 is_done None = false
 
--- whether a vertex ended failed
+-- whether a vertex ended failed; false if it has no ending
 abbrev pub is_failed : Option Ending → Bool
 is_failed (Some (Failed f)) = true
 is_failed (Some (Done trees)) = false
 is_failed None = false
 
--- whether a vertex is stopped: it has failed, or is downstream of one that has (`before` says it for the vertices with lower numbers)
+-- whether the next vertex, v, is stopped: it has failed, or is downstream of a failed vertex (`before` says which vertices with lower numbers are stopped)
 abbrev pub next_stopped : List Status → List Bool → Vertex → Bool
 next_stopped statuses before v =
     is_failed (ending_at statuses (length before)) || list_any (λ (e : Edge). unwrap_or (slice_get before e.vertex) false) v.inputs
@@ -156,17 +156,17 @@ held (Runs x ∷ workers) = x.places ++ held workers
 abbrev pub IsFree : List WorkerStatus → Instance → Type 0
 IsFree workers p = (w : ℕ) (x : Execution) → slice_get workers w ≡ Some (Runs x) → Has x.places p → ⊥
 
--- a number above those of all these instances
+-- a number that is above the number of each of these instances
 abbrev pub above : List Instance → ℕ
 above [] = 0
 above (p ∷ ps) = p.number + 1 + above ps
 
--- the least number at or after n that is no instance of the key in the list; the search gives up after this number of tries
+-- the least number at or after n whose instance of the key is not in the list; if all of the given number of tries find one in the list, the number after them
 abbrev pub first_free : List Instance → Key → ℕ → ℕ → ℕ
 first_free ps k n zero = n
 first_free ps k n (suc tries) = if is_in ps (place k n) then first_free ps k (n + 1) tries else n
 
--- the number of the instance that a claim takes of a key: of a private cache the least that is not held; any other cache has the one instance 0
+-- the number of the instance of a key that a claim takes: for a private cache the least number whose instance is not held; for any other cache 0
 abbrev pub number_for : List Instance → Key → Mode → ℕ
 number_for ps k Shared = 0
 number_for ps k Locked = 0
@@ -180,18 +180,18 @@ place_for ps n = place n.key (number_for ps n.key n.key.mode)
 abbrev pub places_for : List Instance → List Need → List Instance
 places_for ps needs = map (place_for ps) needs
 
--- whether a key can't be claimed: it is locked, and its instance is held
+-- whether a claim of the key is refused: its mode is Locked, and its one instance is held
 abbrev pub is_locked_and_held : List Instance → Key → Mode → Bool
 is_locked_and_held ps k Locked = is_in ps (place k 0)
 is_locked_and_held ps k Private = false
 is_locked_and_held ps k Shared = false
 
--- the first locked key among the needs that is held
+-- the key of the first need whose mode is Locked and whose instance is held; none if there is no such need
 abbrev pub held_key : List Instance → List Need → Option Key
 held_key ps [] = None
 held_key ps (n ∷ needs) = if is_locked_and_held ps n.key n.key.mode then Some n.key else held_key ps needs
 
--- the trees that a claim begins with in these instances: the instance's own tree if it exists, else the tree of the need's input
+-- the trees that a claim begins with, one for each of these instances: the instance's own tree if the instance exists, else the tree of the need's input
 abbrev pub first_trees : Store → List TreeMap → List Instance → List Need → List TreeMap
 first_trees s inputs [] needs = []
 first_trees s inputs (p ∷ ps) [] = []
@@ -201,7 +201,7 @@ first_trees s inputs (p ∷ ps) (n ∷ needs) = unwrap_or (content s p) (base_in
 abbrev pub begin_at : Build → Store → Start → List Instance → Work
 begin_at b s start ps = begin b start (first_trees s start.inputs ps (needs_of start.vertex))
 
--- the instances with these numbers, each of the key of its need
+-- the instances with these numbers, each with the key of the need at the same position
 abbrev pub places_by : List Need → List ℕ → List Instance
 places_by [] numbers = []
 places_by (n ∷ needs) [] = []

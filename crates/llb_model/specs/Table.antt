@@ -33,8 +33,8 @@ worker_of (Step w) = w
 worker_of (Settle w) = w
 worker_of (Cancel w) = w
 
--- what a claim hands to the worker: the vertex and its program, how many micro-steps are done, the work, which has the trees of the instances as they are
--- at the claim, and the numbers of these instances in the order of the needs
+-- what a claim hands out: the worker, the vertex and its program, how many micro-steps are done, the work, with the trees of the instances as they are at the
+-- claim, and the numbers of these instances in the order of the needs
 pub record Job : Type 0 where
   pub worker : ℕ
   pub vertex : ℕ
@@ -52,7 +52,7 @@ pub data Reply : Type 0 where
 
 -- ---- a claim
 
--- a value, or the refusal that the vertex is not Ready
+-- the value if there is one, else the refusal that the vertex is not Ready
 abbrev pub or_not_ready : {A : Type 0} → Option A → Result A ClaimFault
 or_not_ready (Some x) = Ok x
 or_not_ready None = Err claim.NotReady
@@ -89,12 +89,12 @@ claim_with s w v vertex work ps = (after_claim s w v work ps, Claimed (job_on w 
 abbrev pub claim_at : Build → State → ℕ → ℕ → Start → List Instance → State × Reply
 claim_at b s w v start ps = claim_with s w v start.vertex (begin_at b s.store start ps) ps
 
--- the result of a claim, given the first locked key among its needs that a worker holds; the claim is refused if there is one
+-- the result of a claim, given the first locked key among its needs that a worker holds; the claim is refused if there is such a key
 abbrev pub claim_unless : Build → State → ℕ → ℕ → Start → Option Key → Result (State × Reply) ClaimFault
 claim_unless b s w v start (Some k) = Err (claim.Held k)
 claim_unless b s w v start None = Ok (claim_at b s w v start (places_for (held s.workers) (needs_of start.vertex)))
 
--- the result of a claim, given the start of its vertex or why it is refused
+-- the result of a claim, given the start of its vertex or the cause why the claim is refused
 abbrev pub claimed : Build → State → ℕ → ℕ → Result Start ClaimFault → Result (State × Reply) ClaimFault
 claimed b s w v (Ok start) = claim_unless b s w v start (held_key (held s.workers) (needs_of start.vertex))
 claimed b s w v (Err cause) = Err cause
@@ -114,7 +114,7 @@ abbrev pub unless_failed : Option VertexFault → of_step.Stepped → of_step.St
 unless_failed None done = done
 unless_failed (Some f) done = did.Fault f
 
--- what the reply to micro-step k says, by the workspace before it and its result; for a command that ran the command's status, even if it makes the exec fail
+-- what the reply to micro-step k says, given the workspace before it and its result; for a command that ran, its status, even if that makes the exec fail
 abbrev pub step_done : ℕ → MicroStep → Workspace → Left → of_step.Stepped
 step_done k ReadLocal before left = unless_failed left.fault did.Read
 step_done k (Act action) before left = unless_failed left.fault (did.Acted k)
@@ -139,7 +139,7 @@ abbrev pub step_with : State → ℕ → Execution → Option MicroStep → Resu
 step_with s w x None = Err step.NothingLeft
 step_with s w x (Some m) = Ok (step_by s w x m (step_on x.done (Some m) (work_of s x)))
 
--- the result of a step, given what the worker does: the worker has to run something
+-- the result of a step, given what the worker does; the step is refused if the worker runs nothing
 abbrev pub stepped : Build → State → ℕ → Option WorkerStatus → Result (State × Reply) StepFault
 stepped b s w None = Err step.NoWorker
 stepped b s w (Some Idle) = Err step.NotRunning
@@ -151,13 +151,13 @@ step_grant b s w = stepped b s w (slice_get s.workers w)
 
 -- ---- the end of a worker's run, by a settle or a cancel
 
--- the state after a worker ends its run of a vertex: the vertex has this status, and the worker is idle, so its instances are free
+-- the state after a worker ends its run of a vertex: the vertex has this status, and the worker is idle, so it holds no instances
 abbrev pub after_end : State → ℕ → ℕ → Status → State
 after_end s w v status = record s { statuses = slice_set s.statuses v status; workers = slice_set s.workers w Idle }
 
 -- ---- a settle
 
--- how vertex v was settled
+-- what the reply to a settle of vertex v says: the vertex is done, or it failed
 abbrev pub settle_done : ℕ → Ending → of_settle.Settled
 settle_done v (Done trees) = ended.Done v
 settle_done v (Failed f) = ended.Failed v
@@ -170,11 +170,11 @@ settle_reply v e = HasSettled (settle_done v e)
 abbrev pub after_settle : State → ℕ → ℕ → Ending → State
 after_settle s w v e = after_end s w v (Settled e)
 
--- the state and the reply after vertex v ends like this
+-- the state and the reply after a settle of vertex v with this ending
 abbrev pub settle_with : State → ℕ → ℕ → Ending → State × Reply
 settle_with s w v e = (after_settle s w v e, settle_reply v e)
 
--- the result of a settle, given what the worker does: it has to run something that is finished
+-- the result of a settle, given what the worker does; the settle is refused unless the worker runs something that is finished
 abbrev pub settled : Build → State → ℕ → Option WorkerStatus → Result (State × Reply) SettleFault
 settled b s w None = Err settle.NoWorker
 settled b s w (Some Idle) = Err settle.NotRunning
@@ -195,7 +195,7 @@ cancel_reply v k = HasCancelled (record { vertex = v; done = k })
 abbrev pub cancel_with : State → ℕ → ℕ → ℕ → State × Reply
 cancel_with s w v k = (after_end s w v Waiting, cancel_reply v k)
 
--- the result of a cancel, given what the worker does: it has to run something, which may be finished or not
+-- the result of a cancel, given what the worker does; the cancel is refused if the worker runs nothing
 abbrev pub cancelled : State → ℕ → Option WorkerStatus → Result (State × Reply) CancelFault
 cancelled s w None = Err cancel.NoWorker
 cancelled s w (Some Idle) = Err cancel.NotRunning

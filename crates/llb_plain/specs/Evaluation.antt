@@ -7,17 +7,17 @@ use Rattle.llb_loader.specs.Missing.{missing_local}
 use Rattle.llb_plain.specs.declared.fault.PlainFault.{PlainFault}
 use Rattle.llb_plain.specs.declared.fault.PlainFault.TheVariants.{MissingLocal, HasCache}
 
--- the least vertex that mounts a cache; the first vertex of the list has number k
+-- the number of the first vertex that mounts a cache; the first vertex of the list has number k
 abbrev pub cache_from : ℕ → List Vertex → Option ℕ
 cache_from k [] = None
 cache_from k (v ∷ vs) = if has_cache v then Some k else cache_from (k + 1) vs
 
--- a refusal if there is a missing name or a cache, else the outcomes
+-- the refusal for a missing local tree, else the one for a vertex that mounts a cache, else the outcomes
 abbrev pub unless_refused : Option (List ℕ) → Option ℕ → List Outcome → Result (List Outcome) PlainFault
 unless_refused (Some name) cache all = Err (MissingLocal name)
 unless_refused None (Some v) all = Err (HasCache v)
 unless_refused None None all = Ok all
 
--- the plain outcomes of all vertices, or why there are none
+-- the plain outcomes of all vertices, or why an evaluation is refused
 abbrev pub evaluate_of : Build → Result (List Outcome) PlainFault
 evaluate_of b = unless_refused (missing_local b.locals b.graph.vertices) (cache_from 0 b.graph.vertices) (outcomes b)

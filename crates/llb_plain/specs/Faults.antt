@@ -1,4 +1,4 @@
--- The results of this crate's calls: the result of the call's rule, or the fault `Memory`. A rule never returns `Memory`.
+-- What a call of this crate returns: the result of its rule, or the fault `Memory`. A rule never returns `Memory`.
 use Rattle.std.specs.Prelude.{◌≡◌, Bool, true, false, Result, Ok, Err}
 use Rattle.llb_wire.specs.Answer as answer
 use Rattle.llb_plain.specs.declared.fault.PlainFault.{PlainFault}
@@ -10,18 +10,18 @@ is_memory Memory = true
 is_memory (MissingLocal name) = false
 is_memory (HasCache v) = false
 
--- the result of a call is that of its rule, or the call fails for want of memory
+-- a call returns what its rule returns, or it fails for want of memory
 abbrev pub Gives : {X Y : Type 0} → (X → Y) → Result X PlainFault → Result Y PlainFault → Type 0
 Gives = answer.Gives is_memory
 
--- whether memory may be needed: if there is no other cause, or for the name of a missing local tree
+-- whether a call may need memory, given the result of its rule: the rule refuses nothing, or it refuses a missing local tree, whose name is copied
 abbrev pub may_want_memory : {Y : Type 0} → Result Y PlainFault → Bool
 may_want_memory (Ok y) = true
 may_want_memory (Err (MissingLocal name)) = true
 may_want_memory (Err (HasCache v)) = false
 may_want_memory (Err Memory) = false
 
--- `Memory` is reported last, except for the name of a missing local tree
+-- a call fails with `Memory` only if its rule refuses nothing, or refuses a missing local tree
 abbrev pub MemoryLast : {X Y : Type 0} → Result X PlainFault → Result Y PlainFault → Type 0
 MemoryLast (Ok x) rule = Unit {0}
 MemoryLast (Err e) rule = is_memory e ≡ true → may_want_memory rule ≡ true

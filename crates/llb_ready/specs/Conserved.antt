@@ -1,4 +1,4 @@
--- Conservation: each number was put as often as it was taken or is still in the queue.
+-- Conservation: how often each number was put is the sum of how often it was taken and how often it is still in the queue.
 use Rattle.std.specs.Prelude.{◌≡◌, ℕ, ◌+◌, ◌<◌, ◌≤◌, ◌==◌, List, length, count_by}
 use Rattle.llb_ready.specs.declared.hand.Hand.{Hand}
 use Rattle.llb_ready.specs.Hands.{HasAll, with_put, with_taken}
@@ -7,7 +7,7 @@ use Rattle.llb_ready.specs.Hands.{HasAll, with_put, with_taken}
 abbrev pub times : ℕ → List ℕ → ℕ
 times x xs = count_by (λ y. y == x) xs
 
--- Each number was put as often as it was taken and is in the queue, and so it is with all numbers together.
+-- For each number, how often it was put is the sum of how often it was taken and how often it is in the queue; and so it is with all numbers together.
 pub record IsConserved (v : Hand) (present : List ℕ) : Type 0 where
   pub each : (x : ℕ) → times x v.put ≡ times x v.taken + times x present
   pub all : length v.put ≡ length v.taken + length present
@@ -16,11 +16,11 @@ pub record IsConserved (v : Hand) (present : List ℕ) : Type 0 where
 abbrev pub Knows : Hand → List ℕ → Type 0
 Knows v present = HasAll v → IsConserved v present × (length present ≤ v.room)
 
--- The queue has room, as the whole pass knows: it has put fewer numbers than it took and there is room for.
+-- The queue has room, as the whole pass knows: fewer numbers were put than the sum of those that were taken and the room.
 abbrev pub HasRoom : Hand → Type 0
 HasRoom v = length v.put < length v.taken + v.room
 
--- The queue is full, as the whole pass knows: it has put as many numbers as it took and there is room for.
+-- The queue is full, as the whole pass knows: as many numbers were put as the sum of those that were taken and the room.
 abbrev pub HasNoRoom : Hand → Type 0
 HasNoRoom v = length v.put ≡ length v.taken + v.room
 

@@ -14,7 +14,7 @@ hand_of p = view p.pass
 abbrev pub capacity_of : ReadyQueue → ℕ
 capacity_of q = ruled_capacity q.queue
 
--- the pass is of this queue, and knows its room
+-- the pass is of this queue, and its `room` is how many numbers the queue has room for
 abbrev pub IsReadyPassOf : ReadyQueue → ReadyPass → Type 0
 IsReadyPassOf q p = IsPassOf q.queue p.pass × ((hand_of p).room ≡ capacity_of q)
 

@@ -22,11 +22,11 @@ use Rattle.llb_session.specs.Texts.{status_lines, record_line, record_lines, tre
 
 -- ---- a request that is granted: what it prints, and the stepper after it
 
--- an event: the line of the record that it adds
+-- the event is done, and the line that it adds to the record is printed
 abbrev pub GrantsEvent : Event → Stepping → List ℕ → Stepping → Type 0
 GrantsEvent e s text t = (done_of s e ≡ Ok t) × (text ≡ record_line t (length t.board.events))
 
--- the chosen event, if there is one; else `end`
+-- the chosen event is done, if there is one; else `end` is printed
 abbrev pub GrantsNext : Option Event → Stepping → List ℕ → Stepping → Type 0
 GrantsNext None s text t = (t ≡ s) × (text ≡ codes "end\n")
 GrantsNext (Some e) s text t = GrantsEvent e s text t
@@ -60,7 +60,7 @@ Grants ask.Quit s text t = (t ≡ s) × (text ≡ [])
 
 -- ---- a request that is refused for another cause than memory
 
--- the request is refused with this fault, which is not that of memory
+-- the request is refused with this fault, for another cause than refused memory
 abbrev pub Refuses : Request → Stepping → StepperFault → Type 0
 Refuses (ask.Event e) s fault = done_of s e ≡ Err fault
 Refuses ask.Back s fault = (s.past ≡ []) × (fault ≡ NothingBefore)
@@ -76,8 +76,8 @@ Refuses ask.Caches s fault = ⊥
 Refuses (ask.Cache k i) s fault = ⊥
 Refuses ask.Quit s fault = ⊥
 
--- this fault may come if the request is refused memory: `clear` and `quit` need none; an event, `next` and `go` need the board's and the stepper's;
--- the others need the stepper's alone
+-- the request may fail with this fault if it is refused memory: `clear` and `quit` with none; an event, `next` and `go` with the board's `Memory` or the
+-- stepper's; the others with the stepper's alone
 abbrev pub Wants : Request → StepperFault → Type 0
 Wants ask.Clear fault = ⊥
 Wants ask.Quit fault = ⊥
@@ -93,7 +93,7 @@ Wants (ask.WorkTree w i) fault = fault ≡ Memory
 Wants ask.Caches fault = fault ≡ Memory
 Wants (ask.Cache k i) fault = fault ≡ Memory
 
--- a request fails with this fault: memory was refused to it, or there is another cause
+-- a request fails with this fault: memory was refused to the request, or there is another cause
 abbrev pub FailsWith : Request → Stepping → StepperFault → Type 0
 FailsWith r s fault = (stepper_memory fault ≡ true → Wants r fault) × (stepper_memory fault ≡ false → Refuses r s fault)
 
@@ -116,7 +116,7 @@ pub record PrintsNumber (s : Stepping) (n : ℕ) (text : List ℕ) (t : Stepping
   pub printed : (text ≡ fault_line (BadCommand n)) ⊎ (text ≡ fault_line Memory)
   pub same : t ≡ s
 
--- the reply to line n, by its request if it is one; if memory was refused for the line of a refusal, the reply is that
+-- the reply to line n: for a request what it grants, or the line of its refusal; for a line that is no request its number, or that memory was refused for that
 abbrev pub AnswersAs : Option Request → Stepping → ℕ → List ℕ → Stepping → Type 0
 AnswersAs None s n text t = PrintsNumber s n text t
 AnswersAs (Some r) s n text t = Grants r s text t ⊎ PrintsRefusal r s text t

@@ -32,7 +32,7 @@ last_line (b ∷ rest) = (b ∷ rest) ∷ []
 
 -- ---- the replies to lines
 
--- the replies to some lines, counted from n, are this text; s is the stepper before them and t the one after them
+-- the replies to some lines, counted from n, are this text; s is the stepper before them, and t the stepper after them
 abbrev pub Talks : Stepping → ℕ → List (List ℕ) → List ℕ → Stepping → Type 0
 Talks s n [] text t = (text ≡ []) × (t ≡ s)
 Talks s n (line ∷ lines) text t =

@@ -12,7 +12,7 @@ use Rattle.llb_session.specs.Conversation.{Talks, Talked, Standing, Answered, Qu
 abbrev pub standing : Stepping → Pending → Standing
 standing s p = record { session = s; number = p.answered + 1; line = p.line.items }
 
--- what is written for the line that is being read once its line end has come
+-- what is written, once its line end has come, for the line that was being read; and how that ends
 abbrev pub IsSaid : Standing → Stepping → Stream → Result Bool SessionFault → Type 0
 IsSaid p t out (Ok true) = (text : List ℕ) × Answers p.session p.number p.line text t × IsWritten out text
 IsSaid p t out (Ok false) = Quits p.line × (t ≡ p.session) × IsKept out
@@ -39,7 +39,7 @@ pub record Went (p : Standing) (bytes : List ℕ) (q : Standing) (out : Stream) 
   pub talked : Talked p bytes text q
   pub printed : IsWritten out text
 
--- the result of using some bytes, if others after them were not used
+-- how the use of bytes ends: `heard` were used, and `unheard`, which follow them, were not
 abbrev pub IsHeard : Standing → List ℕ → List ℕ → Standing → Stream → Result Bool SessionFault → Type 0
 IsHeard p heard unheard q out (Ok true) = (unheard ≡ []) × Went p heard q out
 IsHeard p heard unheard q out (Ok false) = AtLineEnd heard (λ bytes. Quit p bytes q.session out)
@@ -49,7 +49,7 @@ IsHeard p heard unheard q out (Err (Failed kind)) = ⊥
 IsHeard p heard unheard q out (Err (Unending interrupted)) = ⊥
 IsHeard p heard unheard q out (Err TooLong) = ⊥
 
--- the bytes are used from the start, and some of them may remain unused
+-- the bytes are used from the start, as `IsHeard` says; some at their end may remain unused
 pub record Hears (p : Standing) (bytes : List ℕ) (q : Standing) (out : Stream) (result : Result Bool SessionFault) : Type 0 where
   pub heard : List ℕ
   pub unheard : List ℕ

@@ -48,7 +48,7 @@ break_at word rest =
 abbrev pub break_in : List ℕ → Option Request
 break_in rest = if is_text rest (codes "fail") then Some (ask.Break Fails) else then_in (parted rest) (λ p. break_at p.0 p.1)
 
--- the request by the text after `work`: a worker if it is one number, else a worker and a tree
+-- the request by the text after `work`: for a worker if the text is one number, for a worker and a tree if it is two
 abbrev pub work_by : List ℕ → Option ℕ → Option Request
 work_by rest (Some w) = Some (ask.Work w)
 work_by rest None = option_map (λ (p : ℕ × ℕ). ask.WorkTree p.0 p.1) (pair_in rest)

@@ -3,7 +3,7 @@ use Rattle.std.specs.Prelude.{ℕ, List, Option}
 use Rattle.std.specs.Io.KnownBytes.{Appends, Keeps}
 use Rattle.llb_wire.specs.Sink.{PartOut}
 
--- what a stream holds: for one that is read the bytes still to be read, for one that is written the bytes written so far
+-- what a stream holds before and after a call, if that is known: an input the bytes still to be read, an output the bytes written so far
 pub record Stream : Type 0 where
   pub before : Option (List ℕ)
   pub after : Option (List ℕ)
@@ -16,6 +16,6 @@ IsKept s = Keeps s.before s.after
 abbrev pub IsWritten : Stream → List ℕ → Type 0
 IsWritten s text = Appends s.before s.after text
 
--- exactly a prefix of this text is written to the stream
+-- a prefix of this text is written to the stream, and nothing else
 abbrev pub IsPartWritten : Stream → List ℕ → Type 0
 IsPartWritten s text = PartOut s.before s.after text

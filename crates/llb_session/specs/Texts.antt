@@ -21,7 +21,7 @@ use Rattle.llb_stepper.specs.Faults.{stepper_text}
 use Rattle.llb_stepper.specs.Records.{record_text, record_at}
 use Rattle.llb_stepper.specs.Stepping.{Stepping}
 
--- the word for the status of a vertex
+-- the text for the status of a vertex
 abbrev pub look_text : Status → List ℕ
 look_text Waiting = codes "waiting"
 look_text Ready = codes "ready"

@@ -50,16 +50,16 @@ pub record IsSourceOf (g : Numbered) (v : ℕ) (name : List ℕ) : Type 0 where
   pub there : slice_get g.vertices number ≡ Some source
   pub named : local_name source.op ≡ Some name
 
--- each local source at or before vertex v has the same tree, or none, among both lists of local trees
+-- each local source at or before vertex v has the same tree in both lists of local trees, or has none in both
 abbrev pub HaveSameSources : Numbered → ℕ → List Local → List Local → Type 0
 HaveSameSources g v ls ms = (name : List ℕ) → IsSourceOf g v name → tree_of_local ls name ≡ tree_of_local ms name
 
--- two vertices have the same plain outcome, and a cache mount is at or before both or neither
+-- two vertices have the same plain outcome, and either both or neither have a cache mount at or before them
 pub record HaveOneOutcome (b : Build) (v : ℕ) (c : Build) (w : ℕ) : Type 0 where
   pub same : outcome b v ≡ outcome c w
   pub plain : is_plain b v ≡ is_plain c w
 
--- vertices with the same digest have the same outcome, whatever the local trees, if those of the sources at or before the vertex are the same
+-- vertices with the same digest have the same outcome if the local trees of the sources at or before them are the same; other local trees may differ
 abbrev pub ShareOutcomes : Numbered → Numbered → Type 0
 ShareOutcomes g h = (ls ms : List Local) (v w : ℕ) → HaveOneDigest g v h w → HaveSameSources g v ls ms
     → HaveOneOutcome (record { graph = g; locals = ls }) v (record { graph = h; locals = ms }) w

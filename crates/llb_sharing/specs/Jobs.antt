@@ -19,13 +19,13 @@ given_to w v job = record job { worker = w; vertex = v }
 abbrev pub credited_to : ℕ → ℕ → OutcomeValue → OutcomeValue
 credited_to w v o = record o { job = given_to w v o.job }
 
--- the plain jobs of two vertices with the same digest are the same but for the numbers of worker and vertex, if the sources at or before them have the same
+-- the plain jobs of two vertices with the same digest differ only in the numbers of worker and vertex, if the sources at or before them have the same trees
 abbrev pub ShareJobs : Numbered → Numbered → Type 0
 ShareJobs g h = (ls ms : List Local) (v u a w : ℕ) → HaveOneDigest g v h u → HaveSameSources g v ls ms
     → plain_job (record { graph = h; locals = ms }) w u ≡ option_map (given_to w u) (plain_job (record { graph = g; locals = ls }) a v)
 
--- o is the outcome of the plain job of vertex v over graph g and these local trees. On board b worker w has done no micro-step yet of a vertex with
--- the same digest, with no cache mount at or before it and with the same trees of the sources
+-- o is the outcome of the plain job of vertex v over graph g and these local trees. On board b worker w runs a vertex with the same digest and has done no
+-- micro-step of it; no cache mount is at or before that vertex, and the sources have the same trees
 pub record IsWorkedElsewhere (g : Numbered) (ls : List Local) (v : ℕ) (b : BoardValue) (w : ℕ) (x : Execution) (o : OutcomeValue) : Type 0 where
   pub worker : ℕ
   pub job : plain_job (record { graph = g; locals = ls }) worker v ≡ Some o.job
@@ -43,6 +43,6 @@ pub record LandsHere (b : BoardValue) (w : ℕ) (x : Execution) (o : OutcomeValu
   pub whole : IsOutcome (given_to w x.vertex o.job) o.count o.left
   pub only : (p : OutcomeValue) → p.job ≡ given_to w x.vertex o.job → IsOutcome p.job p.count p.left → p ≡ credited_to w x.vertex o
 
--- an outcome that was computed over graph g can be landed on the board
+-- an outcome that was computed over graph g can be landed on the board, for a vertex as `IsWorkedElsewhere` says
 abbrev pub WorkedElsewhereLands : Numbered → BoardValue → Type 0
 WorkedElsewhereLands g b = (ls : List Local) (v w : ℕ) (x : Execution) (o : OutcomeValue) → IsWorkedElsewhere g ls v b w x o → LandsHere b w x o

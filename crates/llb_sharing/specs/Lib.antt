@@ -1,4 +1,4 @@
--- Read Digests first (what vertices with the same digest have in common), then Boards (what two boards settled of them) and Jobs (their work on two boards).
+-- Read Digests first (what vertices with the same digest have in common), then Boards (how they end on two boards) and Jobs (the jobs of such vertices).
 pub mod Digests
 pub mod Boards
 pub mod Jobs

@@ -1,4 +1,4 @@
--- The sets in which the breakpoints of an event are looked up, so that they are not tried one by one.
+-- The sets in which the breakpoints that an event meets are looked up, so that breakpoints are not tried one by one.
 use Rattle.std.specs.Prelude.{◌≡◌, ℕ, ◌==◌, ◌||◌, Bool, true, false, List}
 use Rattle.std.specs.List.{list_any}
 use Rattle.std.specs.Ordering.{nat_cmp}
@@ -12,37 +12,37 @@ use Rattle.llb_stepper.specs.declared.breakpoints.Kinds.{Kinds}
 use Rattle.llb_stepper.specs.declared.stop.Break.{Break}
 use Rattle.llb_stepper.specs.declared.stop.Break.TheVariants as stop
 
--- whether a breakpoint is one at the claims of vertex v
+-- whether this is a breakpoint at claims of vertex v
 abbrev pub is_at_claims : ℕ → Break → Bool
 is_at_claims v (stop.Claims u) = v == u
 is_at_claims v (stop.Settles u) = false
 is_at_claims v stop.Fails = false
 
--- whether a breakpoint is one at the settles of vertex v
+-- whether this is a breakpoint at settles of vertex v
 abbrev pub is_at_settles : ℕ → Break → Bool
 is_at_settles v (stop.Claims u) = false
 is_at_settles v (stop.Settles u) = v == u
 is_at_settles v stop.Fails = false
 
--- whether a breakpoint is one at failures
+-- whether this is the breakpoint at failures
 abbrev pub is_at_failures : Break → Bool
 is_at_failures (stop.Claims u) = false
 is_at_failures (stop.Settles u) = false
 is_at_failures stop.Fails = true
 
--- the sets are those of a list of breakpoints
+-- the sets have exactly the breakpoints of a list
 pub record AreKinds (breaks : List Break) (kinds : Kinds) : Type 0 where
   pub claims : (v : ℕ) → contains nat_cmp kinds.claims v ≡ list_any (is_at_claims v) breaks
   pub settles : (v : ℕ) → contains nat_cmp kinds.settles v ≡ list_any (is_at_settles v) breaks
   pub failures : kinds.failures ≡ list_any is_at_failures breaks
 
--- the new sets are the old ones with one more breakpoint
+-- the new sets have the breakpoints of the old ones, and breakpoint b besides
 pub record AreKindsOfOneMore (old : Kinds) (b : Break) (new : Kinds) : Type 0 where
   pub claims : (v : ℕ) → contains nat_cmp new.claims v ≡ (contains nat_cmp old.claims v || is_at_claims v b)
   pub settles : (v : ℕ) → contains nat_cmp new.settles v ≡ (contains nat_cmp old.settles v || is_at_settles v b)
   pub failures : new.failures ≡ (old.failures || is_at_failures b)
 
--- the new sets are equal to the old ones
+-- the new sets have the same breakpoints as the old ones
 pub record AreUnchanged (old new : Kinds) : Type 0 where
   pub claims : (v : ℕ) → contains nat_cmp new.claims v ≡ contains nat_cmp old.claims v
   pub settles : (v : ℕ) → contains nat_cmp new.settles v ≡ contains nat_cmp old.settles v

@@ -1,4 +1,4 @@
--- The text after the word `fault` for each refusal of a stepper: the number, then the board's own fault or the line that is no command.
+-- The text after the word `fault` for each refusal of a stepper: the number of the fault, then the board's own fault, or the number of the refused line.
 use Rattle.std.specs.Prelude.{ℕ, List, ◌++◌, codes}
 use Rattle.std.specs.Fmt.{decimal}
 use Rattle.llb_board.specs.Faults.{walk_text}

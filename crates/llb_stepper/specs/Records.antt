@@ -68,7 +68,7 @@ abbrev pub settle_text : Settled → List ℕ
 settle_text (ended.Done v) = done_text v
 settle_text (ended.Failed v) = failed_text v
 
--- the reply to an event as it is printed; for a claim, what was claimed
+-- the reply to an event as it is printed; for a claim, the kind and the count of micro-steps of the claimed vertex
 abbrev pub reply_text : List Vertex → Event → Reply → List ℕ
 reply_text vertices e (Claimed job) = claimed_text (slice_get vertices (vertex_of e))
 reply_text vertices e (HasStepped s) = step_text s
@@ -90,8 +90,8 @@ abbrev pub record_at : Stepping → ℕ → Option (Event × Reply)
 record_at s i =
     if nat_le 1 i && nat_le i (length s.board.events) then replied (slice_get s.past (length s.board.events - i)) (slice_get s.board.events (i - 1)) else None
 
--- Each event and reply that `record_at` returns is that of the run of the whole record from the board's opening, and `record_at` returns one for each event
--- that the stepper did.
+-- Each event and reply that `record_at` returns are those that the run of the whole record from the board's opening has there, and `record_at` returns an event
+-- and a reply for each event that the stepper did.
 pub record RecordIsTheRun (s : Stepping) : Type 0 where
   pub sound : (i : ℕ) (e : Event) (r : Reply) (t : State) (replies : List Reply)
       → run s.board.build (opening s.board.build s.board.opening) s.board.events ≡ Some (t, replies) → record_at s i ≡ Some (e, r)
@@ -105,6 +105,6 @@ pub record HasRun (b : BoardValue) (t : Stepping) : Type 0 where
   pub leads : t.board ≡ b
   pub lines : (i : ℕ) (e : Event) (r : Reply) → slice_get b.events i ≡ Some e → slice_get (replies_in b) i ≡ Some r → record_at t (i + 1) ≡ Some (e, r)
 
--- However the events of board b were done, a stepper without breakpoints over b as it was opened that replays b's record has done the whole record.
+-- However the events of board b were done: a stepper without breakpoints that starts on b as it was opened, and replays b's record, does the whole record.
 abbrev pub ReplaysOnAStepper : BoardValue → Type 0
 ReplaysOnAStepper b = (s t : Stepping) (p : Stop) → s.board ≡ at_first b → s.breaks ≡ [] → IsStop s b.events t p → HasRun b t

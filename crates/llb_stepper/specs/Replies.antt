@@ -1,4 +1,4 @@
--- The replies that calls on a board hand out, and those of its record.
+-- The replies that calls on a board return, and the replies of the board's record.
 use Rattle.std.specs.Prelude.{◌≡◌, ℕ, List, [], ◌∷◌, ◌++◌, Some, Ok}
 use Rattle.llb_model.specs.Table.{Reply}
 use Rattle.llb_model.specs.Landing.{landing}
@@ -7,7 +7,7 @@ use Rattle.llb_board.specs.Seen.{BoardValue, replies_in}
 use Rattle.llb_board.specs.Rules.{claim_of, step_of, settle_of, cancel_of}
 
 -- For each call that does an event on board b: the reply that the call returns is the last of the replies of the record of the board after it. A call that
--- lands records n steps of worker w and its settle, which lead to board t: their replies are the last ones of the record.
+-- lands records n steps of worker w and its settle, which lead to board t: the replies to these events are the last ones of the record of t.
 pub record RepliesAreRecorded (b : BoardValue) : Type 0 where
   pub claim : (w v : ℕ) (t : BoardValue) (r : Reply) → claim_of b w v ≡ Ok (t, r) → replies_in t ≡ replies_in b ++ r ∷ []
   pub step : (w : ℕ) (t : BoardValue) (r : Reply) → step_of b w ≡ Ok (t, r) → replies_in t ≡ replies_in b ++ r ∷ []

@@ -14,14 +14,14 @@ use Rattle.llb_stepper.specs.declared.fault.StepperFault.{StepperFault}
 use Rattle.llb_stepper.specs.declared.fault.StepperFault.TheVariants as fault
 use Rattle.llb_stepper.specs.Stepping.{Stepping, GoesBack, answered, onward, meets, meets_at, run_on}
 
--- memory was refused to the board or to the stepper itself
+-- whether a fault says that memory was refused, to the board or to the stepper itself
 abbrev pub stepper_memory : StepperFault → Bool
 stepper_memory (fault.Board e) = walk_memory e
 stepper_memory fault.NothingBefore = false
 stepper_memory (fault.BadCommand n) = false
 stepper_memory fault.Memory = true
 
--- a call returns what the rule says, or it fails for want of memory
+-- a call returns what its rule returns, or it fails for want of memory
 abbrev pub GivesEvent : {X Y : Type 0} → (X → Y) → Result X StepperFault → Result Y StepperFault → Type 0
 GivesEvent = answer.Gives stepper_memory
 
@@ -46,7 +46,7 @@ ThereAndBack s = (e : Event) (t u : Stepping) → done_of s e ≡ Ok t → GoesB
 abbrev pub MeetsOn : Stepping → Event → Stepping → Bool → Type 0
 MeetsOn s e t met = (b : BoardValue) × (r : Reply) × (answered s.board e ≡ Some (b, r)) × (t ≡ onward s b) × (met ≡ list_any (meets e r) s.breaks)
 
--- An event of a list is refused with this fault, on the board after the events before it; none of those meets a breakpoint.
+-- The fault of an event of a list on the board after the events before it, of which none meets a breakpoint; unless it is `Memory`, the rule has it too.
 pub record IsRefusedAt (s : Stepping) (es : List Event) (e : StepperFault) : Type 0 where
   pub count : ℕ
   pub board : BoardValue

@@ -13,7 +13,7 @@ use Rattle.llb_stepper.specs.declared.stop.Break.{Break}
 use Rattle.llb_stepper.specs.declared.stop.Break.TheVariants as stop
 use Rattle.llb_stepper.specs.declared.stop.Stop.{Stop}
 
--- a stepper: its board, the boards before each event that it did, the latest first, and its breakpoints
+-- a stepper: its board, the board before each event that it did, the latest first, and its breakpoints
 pub record Stepping : Type 0 where
   pub board : BoardValue
   pub past : List BoardValue
@@ -25,7 +25,7 @@ pub record Stepping : Type 0 where
 abbrev pub answered : BoardValue → Event → Option (BoardValue × Reply)
 answered b e = option_map (λ (a : State × Reply). (after_event b e a.0, a.1)) (table b.build b.state e)
 
--- the stepper after an event: it is on the new board, and remembers the one before
+-- the stepper after an event: it is on the new board, and remembers the board before the event
 abbrev pub onward : Stepping → BoardValue → Stepping
 onward s b = record s { board = b; past = s.board ∷ s.past }
 
@@ -48,7 +48,7 @@ claims v (Step w) = false
 claims v (Settle w) = false
 claims v (Cancel w) = false
 
--- whether a reply is that to a settle of vertex v
+-- whether a reply is the reply to a settle of vertex v
 abbrev pub settles : ℕ → Reply → Bool
 settles v (HasSettled (ended.Done u)) = u == v
 settles v (HasSettled (ended.Failed u)) = u == v
@@ -56,7 +56,7 @@ settles v (Claimed job) = false
 settles v (HasStepped s) = false
 settles v (HasCancelled c) = false
 
--- whether a reply is that to a settle of a vertex that failed
+-- whether a reply is the reply to a settle of a vertex that failed
 abbrev pub has_failed : Reply → Bool
 has_failed (HasSettled (ended.Failed u)) = true
 has_failed (HasSettled (ended.Done u)) = false
@@ -81,7 +81,7 @@ meets_any breaks b e = meets_by breaks e (answered b e)
 
 -- ---- lists of events
 
--- what comes after an event in a run of boards: `go` on the board after it; nothing if the event was refused
+-- what `go` returns for the board after an event; none if the event was refused
 abbrev pub then_on : Option (BoardValue × Reply) → (BoardValue → Option BoardValue) → Option BoardValue
 then_on None go = None
 then_on (Some p) go = go p.0
@@ -96,7 +96,7 @@ abbrev pub meets_from : Option (BoardValue × Reply) → (BoardValue → Bool) �
 meets_from None go = false
 meets_from (Some p) go = go p.0
 
--- whether event k of a list meets a breakpoint, when the events before it have been done
+-- whether event k of a list, counted from 0, meets a breakpoint when the events before it have been done; false if there is none or one of them is refused
 unfoldable pub meets_at : List Break → BoardValue → List Event → ℕ → Bool
 meets_at breaks b [] k = false
 meets_at breaks b (e ∷ es) zero = meets_any breaks b e
@@ -145,7 +145,7 @@ unfoldable pub AreChosen : BoardValue → List Event → Type 0
 AreChosen b [] = Unit {0}
 AreChosen b (e ∷ es) = (chosen b.build b.state ≡ Some e) × ChosenThen (answered b e) (λ c. AreChosen c es)
 
--- Stepper t is s after a `go`: chosen events were done, up to a stop; if none of them meets a breakpoint, the board is complete after them.
+-- Stepper t is s after a `go`: chosen events were done, up to a stop; if none of them meets a breakpoint, no event is chosen any more on the board after them.
 pub record IsGo (s t : Stepping) (p : Stop) : Type 0 where
   pub events : List Event
   pub are : AreChosen s.board events

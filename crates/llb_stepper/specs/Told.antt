@@ -13,7 +13,7 @@ use Rattle.llb_stepper.specs.declared.stop.Break.TheVariants as stop
 use Rattle.llb_stepper.specs.Stepping.{claims}
 use Rattle.llb_stepper.specs.Records.{event_text, claimed_text, vertex_of, pair_text, step_text, settle_text}
 
--- whether a reply is that to a settle of vertex v
+-- whether a reply is the reply to a settle of vertex v
 abbrev pub settles_told : ℕ → Reply → Bool
 settles_told v (reply.Settled (settled.Done u)) = u == v
 settles_told v (reply.Settled (settled.Failed u)) = u == v
@@ -21,7 +21,7 @@ settles_told v reply.Claimed = false
 settles_told v (reply.Stepped s) = false
 settles_told v (reply.Cancelled c) = false
 
--- whether a reply is that to a settle of a vertex that failed
+-- whether a reply is the reply to a settle of a vertex that failed
 abbrev pub failed_told : Reply → Bool
 failed_told (reply.Settled (settled.Failed u)) = true
 failed_told (reply.Settled (settled.Done u)) = false
@@ -35,17 +35,17 @@ meets_told e r (stop.Claims v) = claims v e
 meets_told e r (stop.Settles v) = settles_told v r
 meets_told e r stop.Fails = failed_told r
 
--- the reply to an event as it is printed; for a claim, what was claimed
+-- the reply to an event as it is printed; for a claim, the kind and the count of micro-steps of the claimed vertex
 abbrev pub told_text : List Vertex → Event → Reply → List ℕ
 told_text vertices e reply.Claimed = claimed_text (slice_get vertices (vertex_of e))
 told_text vertices e (reply.Stepped s) = step_text s
 told_text vertices e (reply.Settled s) = settle_text s
 told_text vertices e (reply.Cancelled c) = pair_text c.vertex c.done
 
--- the line of an event, without its end
+-- the line of an event without its line end
 abbrev pub line_text : List Vertex → ℕ → Event → Reply → List ℕ
 line_text vertices number e r = decimal number ++ (codes " " ++ (event_text e ++ (codes " -> " ++ told_text vertices e r)))
 
--- an event with the table's reply, in the board's own type of replies
+-- an event with the table's reply turned into a reply of `walk`
 abbrev pub told_pair : Event × table.Reply → Event × Reply
 told_pair p = (p.0, told p.1)

@@ -10,7 +10,7 @@ use Rattle.llb_model.specs.Order.{at_first, order, claims_in}
 use Rattle.llb_model.specs.Laws.{AreChosen}
 use Rattle.llb_board.specs.Seen.{BoardValue}
 
--- one granted event is appended to the record
+-- `new` is the board `old` after event e, which the table grants, and which is appended to the record
 pub record Takes (old : BoardValue) (e : Event) (new : BoardValue) : Type 0 where
   pub build : new.build ≡ old.build
   pub opening : new.opening ≡ old.opening
@@ -19,7 +19,7 @@ pub record Takes (old : BoardValue) (e : Event) (new : BoardValue) : Type 0 wher
   pub given : table old.build old.state e ≡ Some (new.state, reply)
   pub events : new.events ≡ old.events ++ e ∷ []
 
--- chosen and granted events are appended to the record, one after another
+-- `new` is the board `old` after events that are chosen and granted one after another, and are appended to its record
 pub record Goes (old new : BoardValue) : Type 0 where
   pub build : new.build ≡ old.build
   pub opening : new.opening ≡ old.opening
@@ -40,7 +40,7 @@ pub record EndsInClaimOrder (b : Build) (o : Opening) (es : List Event) (s : Sta
   pub statuses : s.statuses ≡ (order b (at_first b o.store) (claims_in replies)).statuses
   pub store : s.store ≡ (order b (at_first b o.store) (claims_in replies)).store
 
--- for each worker, how many of the appended events are its own
+-- `made` has, for each worker number below 64, how many of the appended events are events of that worker
 abbrev pub MadeBy : BoardValue → BoardValue → List ℕ → Type 0
 MadeBy old new made = (w : ℕ) → w < 64 → slice_index made w ≡ events_by w (drop (length old.events) new.events)
 

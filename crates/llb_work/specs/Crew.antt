@@ -8,7 +8,7 @@ use Rattle.llb_model.specs.Table.{Reply}
 use Rattle.llb_model.specs.Run.{run}
 use Rattle.llb_board.specs.Seen.{BoardValue, opened}
 
--- granted events are appended to the record, one after another
+-- `new` is the board `old` after events that are granted one after another, and are appended to its record
 pub record GoesOn (old new : BoardValue) : Type 0 where
   pub build : new.build ≡ old.build
   pub opening : new.opening ≡ old.opening
@@ -22,7 +22,7 @@ pub record GoesOn (old new : BoardValue) : Type 0 where
 abbrev pub state_in : State × List Reply → State
 state_in a = a.0
 
--- a board goes on from an older one, by equations only: the older record is a prefix of the newer one, and the events after it lead to the newer state
+-- the board `found` goes on from `start`, stated by equations only: the older record is a prefix of the newer one, and the events after it lead to its state
 pub record IsAfter (start found : BoardValue) : Type 0 where
   pub build : found.build ≡ start.build
   pub opening : found.opening ≡ start.opening

@@ -8,7 +8,7 @@ use Rattle.llb_work.specs.declared.end.RunFault.TheVariants.{Memory, Stopped, Th
 use Rattle.llb_work.specs.declared.noted.Noted.{Noted}
 use Rattle.llb_work.specs.declared.noted.Noted.TheVariants as noted
 
--- whether the fault is 154 `Foreign`: the board kept under the lock was another one
+-- whether the fault is 154 `Foreign`: the opening board that the lock kept is not the given one
 abbrev pub is_foreign : Option RunFault → Bool
 is_foreign None = false
 is_foreign (Some Memory) = false
@@ -16,11 +16,11 @@ is_foreign (Some Stopped) = false
 is_foreign (Some Thread) = false
 is_foreign (Some (Foreign b)) = true
 
--- the returned board goes on from the given one by granted events, and the workers' counts add up to the number of these
+-- the returned board goes on from the given board by granted events, and the workers' counts add up to the number of these events
 abbrev pub Leads : BoardValue → List ℕ → BoardValue → Type 0
 Leads given made found = GoesOn given found × Counts made given found
 
--- no worker runs anything; or memory was refused before a thread was started, and the board is the given one
+-- no worker runs anything on the board that is found; or memory was refused before a thread was started, and that board is the given one
 abbrev pub EndsIdle : BoardValue → Option RunFault → BoardValue → Type 0
 EndsIdle given fault found = AreIdle found.state ⊎ ((fault ≡ Some Memory) × (found ≡ given))
 
@@ -48,8 +48,8 @@ StopsAsNoted noted fault = (may_stop : ℕ → ℕ → Bool) (given : BoardValue
 abbrev pub AllowsStops : (ℕ → ℕ → Bool) → (ℕ → ℕ → Bool) → Type 0
 AllowsStops by_gate by_note = (w v : ℕ) → IsTrue (by_gate w v) → by_note w v ≡ true
 
--- What the threads leave: the board that the run began from, as it was kept under the lock; a board that goes on from it, with a count of the appended
--- events; and the fault that was noted first. If nothing is noted, nothing was cancelled.
+-- What the threads leave: `start`, the board that the run began from, as it was kept under the lock; a board that goes on from it, with counts of the appended
+-- events; and the fault that was noted first, if any. If nothing is noted, no cancel was appended.
 pub record AreLeft (may_stop : ℕ → ℕ → Bool) (given : BoardValue) (left : CrewEnd) : Type 0 where
   pub start : left.start ≡ given
   pub after : IsAfter given left.board

@@ -5,12 +5,12 @@ use Rattle.llb_model.specs.Outcome.{is_plain}
 use Rattle.llb_work.specs.declared.supply.Supply.{Supply}
 use Rattle.llb_work.specs.Passes.{IsUncut}
 
--- the marks are on exactly the vertices with no cache mount at or before them
+-- `marks` is true for exactly the vertices with no cache mount at or before them
 abbrev pub ArePlain : Build → List Bool → Type 0
 ArePlain b marks = (v : ℕ) → unwrap_or (slice_get marks v) false ≡ is_plain b v
 
 module _ {L : Type 0} where
-  -- what n workers need: the whole pass of the queue, a list and room for a thread for each, and the marks of the plain vertices
+  -- what n workers need: the whole pass of the queue, a list and room for a thread for each, and for each vertex whether it is plain
   pub record IsSupplyFor (b : Build) (n : ℕ) (s : Supply L) : Type 0 where
     pub pass : IsUncut s.queue s.pass
     pub lists : vec_len s.lists ≡ n

@@ -10,14 +10,14 @@ use Rattle.llb_work.specs.declared.shared_board.Task.TheVariants.{Work, Pass, Ag
 use Rattle.llb_work.specs.declared.shared_board.Report.{Report}
 use Rattle.llb_work.specs.declared.shared_board.Report.TheVariants.{Nothing, Number, Outcome, Fault}
 
--- the job is of worker w and vertex v, both on the board; it is the plain job if no cache mount is at or before the vertex
+-- worker w and vertex v exist on the board, and the job is that worker's for that vertex; it is the plain job if no cache mount is at or before the vertex
 pub record IsClaimed (b : BoardValue) (w v : ℕ) (job : Job) : Type 0 where
   pub worker : job.worker ≡ w
   pub vertex : job.vertex ≡ v
   pub has : is_of b w v ≡ true
   pub plain : is_plain b.build v ≡ true → plain_job b.build w v ≡ Some job
 
--- what a worker is to work on, or to pass the gate for, exists on the board, and so does the worker
+-- the vertex that a worker is to work on, or to pass the gate for, exists on the board, and so does the worker; a job is as `IsClaimed` says
 abbrev pub IsHere : BoardValue → ℕ → Task → Type 0
 IsHere b w (Work job) = IsClaimed b w job.vertex job
 IsHere b w (Pass v) = is_of b w v ≡ true
@@ -25,7 +25,7 @@ IsHere b w Again = Unit {0}
 IsHere b w Next = Unit {0}
 IsHere b w End = Unit {0}
 
--- an outcome that a worker brings is of a job that it has claimed, and a stop that it brings is one that the gate may cause
+-- an outcome that a worker reports is of a job as `IsClaimed` says, and a stop that it reports is one that the gate may cause
 abbrev pub IsReport : (ℕ → ℕ → Bool) → BoardValue → ℕ → Report → Type 0
 IsReport may_stop b w Nothing = Unit {0}
 IsReport may_stop b w (Number v) = Unit {0}
