@@ -193,7 +193,6 @@ fn first_bad(op: &Op, named: &[usize], counts: &[usize], asked: usize) -> Option
 }
 
 // Returns whether the input has the index of one of `count` outputs.
-
 fn is_output_of(count: usize, input: &Input) -> bool
     ensures { IsTrue result ↔ IsBelow count input.now.index }
 {

@@ -32,7 +32,6 @@ pub(crate) fn first_feature(op: &Op) -> Option<Feature>
 }
 
 // Returns the first feature of a source that is not supported.
-
 fn source_feature(source: &SourceOp) -> Option<Feature>
     ensures { result ≡ find (has (Some (kind.Source source.now))) features }
 {
@@ -43,7 +42,6 @@ fn source_feature(source: &SourceOp) -> Option<Feature>
 }
 
 // Returns the first feature of an exec that is not supported.
-
 fn exec_feature(exec: &ExecOp) -> Option<Feature>
     ensures { result ≡ find (has (Some (kind.Exec exec.now))) features }
 {
@@ -61,7 +59,6 @@ fn exec_feature(exec: &ExecOp) -> Option<Feature>
 }
 
 // Returns whether a mount has the type.
-
 fn any_of_type(mounts: &[Mount], mount_type: MountType) -> bool
     ensures { result ≡ list_any (has_type (number_of mount_type)) mounts.now }
 {
@@ -74,7 +71,6 @@ fn any_of_type(mounts: &[Mount], mount_type: MountType) -> bool
 }
 
 // Returns the first feature of a file op that is not supported.
-
 fn file_feature(file: &FileOp) -> Option<Feature>
     ensures { result ≡ find (has (Some (kind.File file.now))) features }
 {
@@ -98,7 +94,6 @@ fn file_feature(file: &FileOp) -> Option<Feature>
 }
 
 // Returns whether an action has no named member.
-
 fn any_nameless(actions: &[Action]) -> bool
     ensures { result ≡ list_any (λ a. is_nameless a.kind) actions.now }
 {
@@ -111,7 +106,6 @@ fn any_nameless(actions: &[Action]) -> bool
 }
 
 // Returns whether a copy unpacks archives.
-
 fn any_unpacks(actions: &[Action]) -> bool
     ensures { result ≡ list_any (λ a. copies_with unpacks a.kind) actions.now }
 {
@@ -126,7 +120,6 @@ fn any_unpacks(actions: &[Action]) -> bool
 }
 
 // Returns whether a copy has patterns.
-
 fn any_has_pattern(actions: &[Action]) -> bool
     ensures { result ≡ list_any (λ a. copies_with has_pattern a.kind) actions.now }
 {
@@ -141,7 +134,6 @@ fn any_has_pattern(actions: &[Action]) -> bool
 }
 
 // Returns whether the copy has patterns of what to leave in or out.
-
 fn has_pattern(copy: &CopyFile) -> bool
     ensures { result ≡ has_pattern copy.now }
 {
@@ -149,7 +141,6 @@ fn has_pattern(copy: &CopyFile) -> bool
 }
 
 // Returns whether a copy has a field that its message does not name.
-
 fn any_has_field(actions: &[Action]) -> bool
     ensures { result ≡ list_any (λ a. copies_with has_field a.kind) actions.now }
 {
@@ -164,7 +155,6 @@ fn any_has_field(actions: &[Action]) -> bool
 }
 
 // Returns whether an action gives an owner by name.
-
 fn any_owner_by_name(actions: &[Action]) -> bool
     ensures { result ≡ list_any (λ a. owner_by_name (owner_of a.kind)) actions.now }
 {
@@ -177,7 +167,6 @@ fn any_owner_by_name(actions: &[Action]) -> bool
 }
 
 // Returns whether the action gives an owner by name.
-
 fn action_by_name(action: &Action) -> bool
     ensures { result ≡ owner_by_name (owner_of action.now.kind) }
 {
@@ -190,7 +179,6 @@ fn action_by_name(action: &Action) -> bool
 }
 
 // Returns whether the owner is given by name.
-
 fn by_name(owner: &Option<Boxed<ChownOpt>>) -> bool
     ensures { result ≡ owner_by_name owner.now }
 {
@@ -201,7 +189,6 @@ fn by_name(owner: &Option<Boxed<ChownOpt>>) -> bool
 }
 
 // Returns whether the user is given by name.
-
 fn is_name(user: &Option<UserOpt>) -> bool
     ensures { result ≡ user_by_name user.now }
 {

@@ -31,7 +31,6 @@ pub(crate) fn ops_of(alloc: Global, mut entries: Vec<Bytes>) -> Result<Vec<Op>, 
 }
 
 // Returns the fault of a row that spells no op.
-
 fn at_row(k: u32, fault: OpFault) -> LoadFault
     ensures { result ≡ row_fault k fault }
 {
