@@ -92,7 +92,8 @@ impl History {
         }
     }
 
-    /// Removes the last event, which is of vertex v. The room that a claim reserved for `events` events is released; the count of a cancel is decremented.
+    /// Removes the last event, which is of vertex `v`. If it is a claim, the room that it reserved for `events` events is released; if a cancel, it is not
+    /// counted any more.
     pub(crate) fn take_back(&mut self, v: u32, events: usize)
         ensures list { self.new.list ≡ front self.old.list }
         ensures space { self.new.space ≡ space_back (last_of self.old.list) v events self.old.space }

@@ -34,8 +34,8 @@ use std::alloc::Global;
 use std::marker::Model;
 pub use undoing::Undo;
 
-/// The workers of a board, and the caches whose instances they hold. Contracts see what each worker does, the lists of instances, and what
-/// each worker is supplied with.
+/// The workers of a board, and the caches whose instances they hold. Contracts see what each worker does, the lists of instances, and what each worker was
+/// given at its claim.
 pub(crate) struct Workers {
     seats: Vec<Seat>,
     caches: Caches,
@@ -69,8 +69,7 @@ impl Model for Workers {
 }
 
 impl Workers {
-    /// Makes idle workers, of a number from 1 to 64, on caches without current leases. If memory is refused, returns
-    /// the caches.
+    /// Makes `count` idle workers, 1 to 64, on caches without current leases. If memory is refused, returns the caches.
     pub(crate) fn open(alloc: Global, caches: Caches, count: u32) -> Result<Workers, Caches>
         requires count { (0 < count) × (count ≤ 64) }
         requires free { leases caches.out ≡ 0 }

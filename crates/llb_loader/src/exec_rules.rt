@@ -41,7 +41,7 @@ pub(crate) fn broken_in_exec(
     broken_script(alloc, exec)
 }
 
-// Returns the first broken rule on the words of an exec and what they need.
+// Returns the first broken rule on what an exec runs: its meta, its words and its mounts have to be there.
 fn broken_word(exec: &ExecOp) -> Option<Rule>
     ensures { (inputs : List Input) → IsFirstBroken inputs (Some (kind.Exec exec.now)) word_rules result }
 {
@@ -236,7 +236,7 @@ fn is_known(options: &Option<CacheOpt>) -> bool
     }
 }
 
-// Reads the words of an exec as a script; if they are none, returns the rule that they break.
+// Reads the words of an exec as a script; if they are not a script, returns the rule that they break.
 fn broken_script(alloc: Global, exec: &ExecOp) -> Result<Option<Rule>, Memory>
     requires there { IsSome exec.now.meta }
     requires words { HasWord exec.now.meta }

@@ -1,5 +1,4 @@
-//! The features of an op that are not supported. Each test looks at ops of one kind; the order of the features is that
-//! of `features`.
+//! The features of an op that are not supported. Each test looks at ops of one kind; the order of the features is that of the definition `features`.
 
 ghost use Rattle.std.specs.Prelude.{◌≡◌};
 ghost use Rattle.std.specs.List.{list_any, find};
@@ -58,7 +57,7 @@ fn exec_feature(exec: &ExecOp) -> Option<Feature>
     None
 }
 
-// Returns whether a mount has the type.
+// Returns whether one of the mounts has the type.
 fn any_of_type(mounts: &[Mount], mount_type: MountType) -> bool
     ensures { result ≡ list_any (has_type (number_of mount_type)) mounts.now }
 {
@@ -93,7 +92,7 @@ fn file_feature(file: &FileOp) -> Option<Feature>
     None
 }
 
-// Returns whether an action has no named member.
+// Returns whether one of the actions has no named member.
 fn any_nameless(actions: &[Action]) -> bool
     ensures { result ≡ list_any (λ a. is_nameless a.kind) actions.now }
 {
@@ -105,7 +104,7 @@ fn any_nameless(actions: &[Action]) -> bool
     false
 }
 
-// Returns whether a copy unpacks archives.
+// Returns whether one of the actions is a copy that unpacks archives.
 fn any_unpacks(actions: &[Action]) -> bool
     ensures { result ≡ list_any (λ a. copies_with unpacks a.kind) actions.now }
 {
@@ -119,7 +118,7 @@ fn any_unpacks(actions: &[Action]) -> bool
     false
 }
 
-// Returns whether a copy has patterns.
+// Returns whether one of the actions is a copy with patterns.
 fn any_has_pattern(actions: &[Action]) -> bool
     ensures { result ≡ list_any (λ a. copies_with has_pattern a.kind) actions.now }
 {
@@ -140,7 +139,7 @@ fn has_pattern(copy: &CopyFile) -> bool
     !copy.include_patterns.is_empty() || !copy.exclude_patterns.is_empty()
 }
 
-// Returns whether a copy has a field that its message does not name.
+// Returns whether one of the actions is a copy with a field that its message does not name.
 fn any_has_field(actions: &[Action]) -> bool
     ensures { result ≡ list_any (λ a. copies_with has_field a.kind) actions.now }
 {
@@ -154,7 +153,7 @@ fn any_has_field(actions: &[Action]) -> bool
     false
 }
 
-// Returns whether an action gives an owner by name.
+// Returns whether one of the actions gives an owner by name.
 fn any_owner_by_name(actions: &[Action]) -> bool
     ensures { result ≡ list_any (λ a. owner_by_name (owner_of a.kind)) actions.now }
 {

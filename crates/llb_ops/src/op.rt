@@ -210,8 +210,7 @@ pub fn write_op(alloc: Global, op: &Op) -> Result<Bytes, OpFault>
     Ok(Bytes::new(bytes))
 }
 
-/// Returns the name of an op's kind; `none` if the op has no kind. No graph has an op of the kinds `build` and `diff`,
-/// or of none.
+/// Returns the name of an op's kind; `none` if the op has no kind. No graph has an op of the kinds `build` and `diff`, or an op without a kind.
 pub fn kind_name(op: &Op) -> &'static str
     ensures { result.now ≡ kind_text op.now.kind }
 {
@@ -228,8 +227,8 @@ pub fn kind_name(op: &Op) -> &'static str
     }
 }
 
-/// Proves that the records of a message are those that its bytes spell by the grammar of the wire, whatever the message
-/// names; and that an op is read from the records that its entry spells, and from nothing else.
+/// Proves that the records of a message are those that its bytes spell by the grammar of the wire, whichever fields the message names; and that an op is read
+/// from the records that its entry spells, and from nothing else.
 pub fn op_is_read_of_records(bytes: &[u8])
     ensures { IsReadOfRecords bytes.now }
 {

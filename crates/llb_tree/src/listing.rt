@@ -61,8 +61,8 @@ fn names_of(alloc: Global, kids: Children<'_>) -> Result<Vec<Name>, TreeFault>
 }
 
 impl Tree {
-    /// Returns the names directly below a path, in order. Fails with 21 `NotFound` if nothing is there, also below a
-    /// file, with 22 `NotDir` if a file is, else with 27 `Memory`.
+    /// Returns the names directly below a path, in order. Fails with 21 `NotFound` if nothing is there (nothing is ever below a file), with 22 `NotDir` if a
+    /// file is there, else with 27 `Memory`.
     pub fn list(&self, path: &Path) -> Result<Names, TreeFault>
         ensures gives { Gives (λ n. n) result (list self.now path.now) }
         ensures last { MemoryLast result (list self.now path.now) }

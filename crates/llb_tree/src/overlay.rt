@@ -1,8 +1,7 @@
-//! Lays one tree over another. It goes down both at once and visits only what both have; what only one of them has is
-//! shared. At each level the upper children are put among the lower ones, each into the piece that its name belongs to.
-//! If they have every name of the lower ones, their pieces are taken as they are, but for the directories that both
-//! have, which are laid one level deeper. A refusal leaves the lower tree as it was: the new children are put into copies
-//! of the lower pieces.
+//! Lays one tree over another. It goes down both trees at once and visits only what both have; what only one of them has is shared. At each level the upper
+//! children are put among the lower ones, each into the piece that its name belongs to. If the upper children have every name of the lower ones, the upper
+//! pieces are taken as they are, except that the directories that both have are laid one level deeper. A refusal leaves the lower tree as it was: the new
+//! children are put into copies of the lower pieces.
 
 ghost use Rattle.std.specs.Prelude.{◌≡◌, ℕ, List, option_map, IfOk, IfErr, OnOk, OnErr, map, true, unwrap_or};
 ghost use Rattle.std.specs.Arc.{arc_value};
@@ -240,8 +239,7 @@ fn laid_children(
     Ok(ready)
 }
 
-// Lays a child over a copy of the one of the same name; if there is none, returns it with the mode and the owner of the
-// `Way`.
+// Lays an upper child over a copy of the lower child of the same name; if there is none, returns the upper child with the mode and the owner of the `Way`.
 #[cycle(lay)]
 fn laid_child(kids: &[Piece], alloc: Global, way: &Way, upper: &Child) -> Result<Child, AllocError>
     requires { ArePieced kids.now }
@@ -262,11 +260,10 @@ fn laid_child(kids: &[Piece], alloc: Global, way: &Way, upper: &Child) -> Result
 }
 
 impl Tree {
-    /// Lays another tree over this one, and returns the result: at a path it has what the other has there, with the mode
-    /// and the owner of `way`, and else what this tree has there, unless a file of the other is above. A directory that
-    /// both have is the other's, or stays as it is if `way` keeps it. Fails with 27 `Memory` alone. It goes down both
-    /// trees at once and visits only what both have; what only one has is shared, not copied. Only if `way` has a mode
-    /// or an owner are there new nodes for all that is laid, and even then contents are shared.
+    /// Lays another tree over this one, and returns the result: at a path it has what the other tree has there, with the mode and the owner of `way`; if that
+    /// is nothing, what this tree has there, unless a file of the other is above the path. A directory that both have is as in the other tree, or as in this
+    /// one if `way` keeps it. Fails with 27 `Memory` alone. It goes down both trees at once and visits only what both have; what only one has is shared, not
+    /// copied. Only if `way` has a mode or an owner are there new nodes for all that is laid, and even then contents are shared.
     pub fn overlaid(self, way: &Way, upper: &Tree) -> Result<Tree, TreeFault>
         ensures paths { IfOk result (λ t. (q : List (List ℕ)) → finite.get t q ≡ over_at way.now (finite.get self) (finite.get upper.now) q) }
         ensures memory { IfErr result (λ e. is_memory e ≡ true) }

@@ -122,7 +122,7 @@ pub(crate) fn second_owners(alloc: Global, pieces: &[Piece]) -> Result<Vec<Piece
     Ok(copied)
 }
 
-// Makes a list of pieces that is shared this owner's own, by a copy; the pieces themselves may still be shared.
+// If a list of pieces is shared, replaces it by a copy that this owner has alone; the pieces themselves may still be shared.
 pub(crate) fn own_list(alloc: Global, pieces: &mut Arc<Vec<Piece>>) -> Result<(), AllocError>
     ensures { map row_pairs (arc_value pieces.new).items ≡ map row_pairs (arc_value pieces.old).items }
 {

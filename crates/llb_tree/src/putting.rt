@@ -32,7 +32,7 @@ fn put_child(list: &mut Vec<Child>, child: Child) -> Result<(), AllocError>
     }
 }
 
-// Does what `put_child` does in a piece, whose children may be shared: first makes them this owner's own.
+// Does what `put_child` does in a piece. If its children are shared, they are copied first.
 fn put_in(rows: &mut Arc<Vec<Child>>, alloc: Global, child: Child) -> Result<(), AllocError>
     requires { AreSorted (arc_value rows.old).items }
     ensures ok { OnOk result (map pair_of (arc_value rows.new).items

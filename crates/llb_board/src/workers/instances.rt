@@ -75,7 +75,7 @@ pub(crate) fn give_back(caches: &mut Caches, lease: Option<Lease>)
     }
 }
 
-/// Takes back a lease, if there is one, and what it added for each of its instances.
+/// Takes back a lease, if there is one, and removes from the caches what the lease added for each of its instances.
 pub(crate) fn take_back(caches: &mut Caches, lease: Option<Lease>, growths: &[Growth])
     requires out { IsOutIf caches.old.out lease }
     requires there { AreThere (taken_back caches.old lease growths.now).rows (taken_back caches.old lease growths.now).out }
