@@ -138,8 +138,7 @@ fn cp(
     put_shared(alloc, view, &target, meta, content)
 }
 
-// Returns the spot to which a file is copied: that of the path, or, if a directory is there, that of the source's last name
-// in the directory.
+// Returns the spot to which a file is copied: the spot of the path, or, if a directory is there, the spot of the source's last name in that directory.
 fn target_of(view: &View, source: &Path, path: Path) -> Result<Option<Spot>, Memory>
     ensures means { IfOk result (λ s. s ≡ target_of view.now source.now path) }
     ensures spot { IfOk result (λ s. IfSome s (λ spot. IsSpot view.now spot)) }

@@ -1,5 +1,4 @@
-//! The trees that a workspace works on, in an order, and the role of each. Nothing here
-//! allocates.
+//! The trees that a workspace works on, in their order, and the role of each. Nothing here allocates.
 
 ghost use Rattle.std.specs.Prelude.{◌≡◌, ◌++◌, ◌∷◌, [], ℕ, List, Option, length, map, option_map, slice_get};
 ghost use Rattle.llb_tree.specs.Tree.{TreeMap};
@@ -192,7 +191,7 @@ fn last_place(numbers: &[u32], i: u32, held: usize) -> Option<usize>
     place
 }
 
-// Returns the last index known after number k.
+// Returns the index to keep after the number at index `k` is looked at: `k` if the number is `i`, else the index that was kept before.
 fn next_place(i: u32, number: u32, k: usize, place: Option<usize>) -> Option<usize>
     ensures { result ≡ next_place i number k place }
 {

@@ -1,4 +1,4 @@
-//! One micro-step, which borrows from the micro-steps that it is one of. Nothing here does one.
+//! One micro-step, which borrows from the list of micro-steps that it is in. Nothing here does a micro-step.
 
 ghost use Rattle.std.specs.Prelude.{◌≡◌, ◌∷◌, [], map, option_map, slice_get};
 ghost use Rattle.llb_model.specs.Program.{ReadLocal, Act, LayInput, runs_of};
@@ -40,7 +40,7 @@ pub(crate) fn act_at<'a>(actions: &'a [Action], k: u32) -> Option<MicroStep<'a>>
     }
 }
 
-// Returns the laying of the number at index k.
+// Returns the laying of the input whose number is at index `k`.
 pub(crate) fn lay_at<'a>(numbers: &[i64], k: u32) -> Option<MicroStep<'a>>
     ensures { option_map step_in result ≡ slice_get (map LayInput numbers.now) k }
 {

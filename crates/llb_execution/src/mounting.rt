@@ -15,7 +15,7 @@ use llb_tree::{Path, Tree, TreeFault};
 use llb_wire::{Many, Text};
 use std::alloc::Global;
 
-/// Returns where commands run that have this meta.
+/// Returns the setting of the commands that have this meta: the directory that they run in, and their variables.
 pub(crate) fn setting_with(alloc: Global, meta: &Option<Meta>) -> Result<Setting, NoMemory>
     ensures { IfOk result (λ s. s ≡ setting_of meta.now) }
 {

@@ -1,5 +1,5 @@
-//! Puts copied entries into a tree: a file at its path; a directory, with what is below it, merged with what is
-//! there: the copied directory is laid over a copy of what is there, and the result replaces it.
+//! Puts copied entries into a tree: a file at its path; a directory, with what is below it, merged with what is there. To merge them, the copied directory is
+//! laid over a copy of what is there, and the result replaces it.
 
 ghost use Rattle.std.specs.Prelude.{◌≡◌, ◌≤◌, [], length, false, Ok, None, Some, IsSome, map, IfErr};
 ghost use Rattle.std.specs.FinMap as finite;
@@ -120,8 +120,8 @@ fn may_land(here: &Tree, source: &Tree, goal: &Path) -> Result<(), TreeFault>
     first_fault(here, source, goal)
 }
 
-// Checks whether each entry of a tree can be put over what another tree has at its path. Below a path where the other tree has nothing, it has
-// nothing, so the entries below that path are passed over.
+// Checks whether each entry of a tree can be put over what another tree has at the same path. If the other tree has nothing at a path, it has nothing below it
+// either, so the entries below that path are passed over.
 fn may_meet(here: &Tree, source: &Tree) -> Result<(), TreeFault>
     ensures { Gives (λ u. u) result (all_meet here.now (finite.entries source.now)) }
 {

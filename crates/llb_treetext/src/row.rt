@@ -1,4 +1,4 @@
-//! The path and the entry of a line; for these memory is needed.
+//! The path and the entry of a line. Unlike the checks of a line, making them needs memory.
 
 ghost use Rattle.std.specs.Prelude.{◌≡◌, IfOk};
 ghost use Rattle.std.specs.Option.{option_map};

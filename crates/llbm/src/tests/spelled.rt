@@ -1,5 +1,5 @@
-//! Entries given as bytes: some that are no ops, and some that are spelled otherwise than the assembler spells them. Beside each record of
-//! these, or the first bytes of one that contains the next ones, is a note of what it is.
+//! Entries given as bytes: some that are no ops, and some that are spelled otherwise than the assembler spells them. The latter have a note of what it is
+//! beside each record, or beside the first bytes of a record that contains the next ones.
 
 pub(crate) const SPELLED: &str = concat!(
     // The first field has the number 0.
