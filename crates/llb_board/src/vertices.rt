@@ -43,7 +43,7 @@ pub(crate) struct Vertices {
     /// Which vertices have failed, or are downstream of one that has.
     stop_marks: Vec<bool>,
     links: Links,
-    /// No vertex with a lower number is Ready or runs, or can become Ready before its own state or that of a lower one is changed.
+    /// No vertex with a lower number is Ready or runs, or can become Ready before its own state or the state of a lower vertex is changed.
     first_open: u32,
 }
 

@@ -150,7 +150,7 @@ impl Workers {
         })
     }
 
-    /// Returns whether all workers do the same in both, by value, and the caches have the same trees. Does not allocate.
+    /// Returns whether each worker does the same here and in `other`, by value, and the caches have the same trees. Does not allocate.
     pub(crate) fn same(&self, other: &Workers) -> bool
         ensures { IsTrue result ↔ ((self.now.workers ≡ other.now.workers) × (self.now.rows ≡ other.now.rows)) }
     {

@@ -70,7 +70,7 @@ fn local_from<R: Read>(alloc: Global, input: &mut R) -> Result<Tree, SourceFault
     }
 }
 
-// Returns the result of reading a text as that of a local source.
+// Returns the result of reading a text as the result for a local source.
 fn told(read: Result<Tree, TextFault>) -> Result<Tree, SourceFault>
     ensures { result ≡ told read }
 {

@@ -27,7 +27,7 @@ pub fn acts_alike(action: &Action, base: &Tree, second: &Tree)
     let _ = second;
 }
 
-/// Proves that a command on alike views fails on both, or results in alike views.
+/// Proves that a command that runs on two alike views fails on both, or results in alike views.
 pub fn runs_alike(setting: &Setting, view: &View, command: &Command)
     ensures { RunsAlike setting.now view.now command.now }
 {

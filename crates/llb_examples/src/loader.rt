@@ -44,7 +44,7 @@ fn refusal(rt: &impl Abort, alloc: Global, given: &str) -> LoadFault {
 
 // Rows, and the refusal of each.
 const REFUSED: &[(&str, &str)] = &[
-    // Inputs lead from row to row in a cycle; then there is none.
+    // Inputs lead from row to row in a cycle; in the two rows after that they do not.
     ("A = ON_B; B = ON_A; T = NAMES_A", "87"),
     ("A = ON_B; B = ON_C; T = NAMES_A", "86 1 0"),
     ("A = D_ON_T; T = NAMES_A", "86 0 0"),

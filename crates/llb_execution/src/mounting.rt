@@ -35,7 +35,7 @@ pub(crate) fn setting_with(alloc: Global, meta: &Option<Meta>) -> Result<Setting
     }
 }
 
-// Reads a text as a path; returns the root if it reads as none.
+// Reads a text as a path; returns the root if the text is no path.
 fn path_in(alloc: Global, text: &Text) -> Result<Path, NoMemory>
     ensures { IfOk result (λ p. p ≡ path_in text.now) }
 {

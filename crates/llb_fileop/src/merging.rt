@@ -36,9 +36,8 @@ pub fn land_file(
     copy_from(action, second, source, goal, tree)
 }
 
-/// Puts a copy of a directory, with what is below it, at its target. The directory is given as a tree of its own, of
-/// which it is the root. Fails with 24 `Conflict` if a file meets a directory, else as `Tree::put_dir` and
-/// `Tree::graft` do.
+/// Puts a copy of a directory, with what is below it, at its target. The directory is given as the root of a tree. Fails with 24 `Conflict` if a file meets a
+/// directory, else as `Tree::put_dir` and `Tree::graft` do.
 pub fn land_dir(
     alloc: Global,
     action: &CopyFile,

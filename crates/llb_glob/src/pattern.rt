@@ -117,7 +117,7 @@ fn is_pattern(text: &str) -> bool
     walk.sound == walk.depth
 }
 
-// What a text has led to so far: `depth`, how many names there are, and `sound`, how many of them, from the first on, are parts of a pattern, each and all.
+// What a text has led to so far: `depth`, how many names there are; and `sound`, how many names there are before the first one that is no part of a pattern.
 #[derive(Drop)]
 struct Walk {
     depth: usize,

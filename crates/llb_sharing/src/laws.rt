@@ -62,8 +62,9 @@ pub fn one_digest_one_job(first: &[u8], graph: &Graph, second: &[u8], other: &Gr
     other.is_graph();
 }
 
-/// Proves that an outcome that was computed over another graph can be landed on the board, if its vertex has the same digest as the one that the worker runs
-/// and the same trees of its sources: with the numbers of this worker and vertex put into its job, it meets the condition of `land_known`.
+/// Proves that the outcome of a vertex that was computed over another graph can be landed on the board, for a worker that has done no micro-step of its vertex,
+/// if this has the same digest, no cache mount at or before it, and the same trees of its sources. With the numbers of this worker and its vertex put into its
+/// job, the outcome meets the condition of `land_known`.
 pub fn worked_elsewhere_lands(first: &[u8], graph: &Graph, second: &[u8], board: &Board)
     ensures { LoadWithoutCollision first.now graph.now second.now board.now.build.graph → WorkedElsewhereLands graph.now board.now }
 {

@@ -19,7 +19,7 @@ pub(crate) struct Row {
     pub content: Option<Bytes>,
 }
 
-// Reads a text as a path; `None` if it reads as none.
+// Reads a text as a path; `None` if the text is no path.
 fn path_of(alloc: Global, text: &str) -> Result<Option<Path>, Memory>
     ensures { IfOk result (λ o. option_map (λ p. p) o ≡ result_ok (path_of text.now)) }
 {

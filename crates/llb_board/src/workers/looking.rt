@@ -1,4 +1,4 @@
-//! Returns the trees that a worker works on, those of its cache instances as they are now.
+//! Returns the trees that a worker works on; the trees of its cache instances are returned as they are now.
 
 ghost use Rattle.std.specs.Prelude.{◌≡◌, ◌<◌, length, option_map, slice_get, Some};
 ghost use Rattle.llb_cache.specs.Caches.{trees_of};
