@@ -1,5 +1,5 @@
-//! Runs a command on a view. A command that is done changes one mount's tree in place, or nothing;
-//! one that fails, or for which memory is refused, leaves the view as it was.
+//! Runs a command on a view. A command that is done changes one mount's tree in place, or nothing; a command that fails, or for which memory is refused, leaves
+//! the view as it was.
 
 ghost use Rattle.std.specs.Prelude.{◌≡◌, ◌≢◌, IfOk, IfSome, OnOk, OnErr, option_and_then};
 ghost use Rattle.llb_applet.specs.declared.command.Command.TheVariants as command;

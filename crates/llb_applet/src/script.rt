@@ -86,8 +86,7 @@ pub struct Reading {
 impl Reading {
     ghost use Rattle.llb_applet.specs.Reading.{some_word, ahead, with_call, Reads};
 
-    // Takes the text between two spaces: a separator ends the current call, any other word is added to it, and an empty
-    // text is no word.
+    // Takes the text between two spaces: a separator ends the current call, any other word is added to the call, and an empty text is no word.
     fn take(&mut self, alloc: Global, part: &str) -> Result<(), ScriptFault>
         ensures { (rest : List (List ℕ)) → Reads result (ahead self.old (some_word part.now ++ rest)) (ahead self.new rest) }
     {

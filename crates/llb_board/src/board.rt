@@ -380,7 +380,7 @@ fn may_work(workers: u32) -> bool
     1 <= workers && workers <= 64
 }
 
-// Returns a copy of the first local source's name, by vertex, that has no tree.
+// Returns a copy of the name of the first local source, by vertex, that has no tree.
 fn missing(alloc: Global, graph: &Graph, locals: &Locals) -> Result<Option<Text>, Memory>
     ensures first { IfOk result (λ o. o ≡ missing_local locals.now graph.now.vertices) }
     ensures some { IfErr result (λ _. is_some (missing_local locals.now graph.now.vertices) ≡ true) }

@@ -67,7 +67,7 @@ impl History {
         self.events.push_reserved(event);
     }
 
-    /// Appends a cancel, for which there is room, and counts it for vertex v. So far v was cancelled at most as often as there are events.
+    /// Appends a cancel, for which there is room, and counts it for vertex `v`, which so far was cancelled at most as often as there are events.
     pub(crate) fn record_cancel(&mut self, w: u32, v: u32)
         requires room { length self.old.list < self.old.space.room }
         requires low { v < length self.old.space.cancels }

@@ -49,7 +49,7 @@ pub fn complete_is_plain(board: &Board)
     board.replays();
 }
 
-/// Proves that an event is chosen exactly until the board is complete.
+/// Proves that there is a chosen event exactly if the board is not complete.
 pub fn chosen_until_complete(board: &Board)
     ensures { (chosen board.now.build board.now.state ≡ None) ↔ (is_complete board.now.build board.now.state ≡ true) }
 {
@@ -117,7 +117,8 @@ pub fn runs_in_claim_order(board: &Board)
     board.replays();
 }
 
-/// Proves that chosen events, from an opening on, leave vertices and cache instances as their claim order says (`runs_in_claim_order`), shared caches included.
+/// Proves that chosen events, done one after another on a board that was just opened, leave vertices and cache instances as the order of their claims says (see
+/// `runs_in_claim_order`), shared caches included.
 pub fn alone_in_claim_order(board: &Board)
     ensures { machine.AloneInClaimOrder board.now.build }
 {

@@ -1,5 +1,5 @@
-//! What the workers of a board do, on which cache instances, and the caches themselves. By the invariant of `Workers` there are 1 to 64
-//! workers, and each that runs with instances has a lease of exactly these.
+//! What the workers of a board do, on which cache instances, and the caches themselves. By the invariant of `Workers` there are 1 to 64 workers, and each
+//! worker that runs a vertex with cache instances has a lease of exactly these instances.
 
 ghost use Rattle.std.specs.Prelude.{◌≡◌, ◌↔◌, ◌<◌, ◌≤◌, [], IsTrue, length, option_map, replicate, slice_get, IfOk, IfErr};
 ghost use Rattle.llb_cache.specs.Caches.{leases};
@@ -105,7 +105,7 @@ impl Workers {
         caches
     }
 
-    /// Returns the status of a worker; `None` past the last of the 1 to 64 workers. Does not allocate.
+    /// Returns the status of a worker; `None` past the last worker, of which there are 1 to 64. Does not allocate.
     pub(crate) fn look(&self, vertices: &Vertices, w: u32) -> Option<WorkerStatus>
         ensures looks { result ≡ option_map (look_of vertices.now.build) (slice_get self.now.workers w) }
         ensures some { 0 < length self.now.workers }

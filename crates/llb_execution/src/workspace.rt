@@ -165,7 +165,7 @@ impl Workspace {
         outputs_of(own, outputs, vertex)
     }
 
-    // Adds the tree that action k returned to the results, or else returns its fault.
+    // Adds the tree that action `k` returned to the results; if the action failed, returns its fault.
     fn put_result(
         &mut self,
         k: u32,

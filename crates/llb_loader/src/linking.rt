@@ -37,7 +37,7 @@ struct Linked {
     seen: Vec<bool>,
 }
 
-// Written out, so that what owns one drops it by this one function.
+// Written by hand, so that it is proved once; a derived one is proved again in every function that drops such a value.
 impl Drop for Linked {
     fn drop(self) {
         let Linked {

@@ -122,7 +122,7 @@ pub(crate) fn start_of(
     }
 }
 
-// Returns the row that a digest text names, if it names one. A guess saves the look-up if the row there has the digest.
+// Returns the row that a digest text names, if it names one. No look-up is made if the guessed row has the digest.
 fn row_near(
     rows: &[Row],
     index: &BTreeMap<&str, usize>,
@@ -145,8 +145,8 @@ fn row_near(
     if row == terminal { None } else { Some(row) }
 }
 
-// Returns the rows that the op's inputs name. The guess for the first of them is given; after an input that names a row,
-// it is the row after that one.
+// Returns the rows that the op's inputs name. The guess for the first input is given; after an input that names a row, the next guess is the row after that
+// row.
 fn rows_named_by(
     alloc: Global,
     rows: &[Row],

@@ -1,5 +1,4 @@
-//! Whether upper children have all names of lower ones, so that laying them over the lower ones gives children with the upper ones'
-//! names alone.
+//! Whether upper children have all names of lower ones. If they do, laying them over the lower ones results in children with the upper names alone.
 
 ghost use Rattle.std.specs.Prelude.{◌≡◌, IsTrue, IfSome, map};
 ghost use Rattle.llb_tree.specs.Nodes.{kids_in, left_in, name_of};

@@ -80,8 +80,8 @@ fn lay_node(lower: &mut Node, alloc: Global, way: &Way, upper: &Node) -> Result<
     }
 }
 
-// Lays children over others. If the upper ones have every name of the lower ones, none of the lower ones is copied.
-// If it returns true, the result is the upper ones, unchanged.
+// Lays upper children over lower ones. If the upper ones have every name of the lower ones, none of the lower ones is copied. If it returns true, the result is
+// the upper children, unchanged.
 #[cycle(lay)]
 fn lay_children(
     kids: &mut Arc<Vec<Piece>>,
@@ -104,7 +104,7 @@ fn lay_children(
     Ok(false)
 }
 
-// Lays children over others that have no other names. Returns whether the result is the upper ones, unchanged.
+// Lays upper children over lower ones, if the upper ones have every name of the lower ones. Returns whether the result is the upper children, unchanged.
 #[cycle(lay)]
 fn lay_all(
     kids: &mut Arc<Vec<Piece>>,
@@ -133,7 +133,7 @@ fn lay_all(
     }
 }
 
-// Lays upper pieces over lower ones, and returns the upper ones, with copies of those that change; `None` if none changes.
+// Lays upper pieces over lower ones, and returns the upper pieces, with changed copies in place of those that change; `None` if none changes.
 #[cycle(lay)]
 fn laid_all(
     kids: &[Piece],
@@ -154,8 +154,8 @@ fn laid_all(
     Ok(made)
 }
 
-// Lays the upper children of one piece over the lower ones of their names; returns `None` if none changes. Looks for each name first at
-// the same index of the lower piece `at`.
+// Lays the upper children of one piece over the lower children that have the same names; returns `None` if none changes. Looks for each name first at the same
+// index of the lower piece `at`.
 #[cycle(lay)]
 fn laid_rows(
     kids: &[Piece],
@@ -202,7 +202,7 @@ fn laid_over(
     Ok(Some(node))
 }
 
-// Lays children over others one by one. Makes all results before it puts the first child in.
+// Lays upper children over lower ones, one by one. All results are made before the first of them is put in.
 #[cycle(lay)]
 fn lay_each(
     kids: &mut Arc<Vec<Piece>>,

@@ -137,8 +137,8 @@ impl Tree {
         }
     }
 
-    /// Proves that the root is a directory, and so is each proper prefix of a path that is there; and that each entry
-    /// is allowed at its path, which is a valid path, with a mode and owners and, for a file, with bytes.
+    /// Proves that the root is a directory, and so is each proper prefix of a path that is there; and that each entry is at a valid path where it is allowed,
+    /// has a valid mode and owners, and, if it is a file, a content of bytes.
     pub fn is_tree(&self)
         ensures { IsTree self.now }
     {

@@ -77,7 +77,7 @@ impl Board {
         self.workers.workspace(w)
     }
 
-    // Checks that the outcome of a job lands; otherwise returns the first cause why it does not.
+    // Checks that the outcome of a job can land; otherwise returns the first cause why it can't.
     fn can_land(&self, w: u32, job: &Job) -> Result<(), LandCause>
         ensures ok { OnOk result (CanLand self.now w job.now) }
         ensures err { IfErr result (λ cause. StandsInWay self.now w job.now cause) }

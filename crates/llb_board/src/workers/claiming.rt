@@ -91,9 +91,8 @@ impl Begun {
 }
 
 impl Workers {
-    /// Prepares a worker's claim of a vertex; nothing changes. Fails with the first of 131 `NoWorker`,
-    /// 132 `Busy`, 133 `NoVertex`, 134 `NotReady` and 135 `Held` that applies, or with 141 `Memory`: for the text of
-    /// the key that is held, or if nothing else refuses it.
+    /// Prepares a worker's claim of a vertex; nothing changes. Fails with the first of 131 `NoWorker`, 132 `Busy`, 133 `NoVertex`, 134 `NotReady` and 135
+    /// `Held` that applies, or with 141 `Memory`: if nothing else refuses the claim, or in place of 135 if memory for the text of the held key is refused.
     pub(crate) fn begin(
         &self,
         alloc: Global,

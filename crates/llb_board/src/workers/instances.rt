@@ -20,7 +20,7 @@ use llb_tree::Tree;
 use llb_wire::Many;
 use std::alloc::Global;
 
-/// Returns copies of the trees of instances, the empty tree for one that does not exist. Fails with 141 `Memory` alone.
+/// Returns copies of the trees of instances; for an instance that does not exist, the empty tree. Fails with 141 `Memory` alone.
 pub(crate) fn contents(
     alloc: Global,
     caches: &Caches,

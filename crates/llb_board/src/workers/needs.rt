@@ -189,7 +189,7 @@ pub(crate) fn mount_numbers(alloc: Global, wanted: &[Wanted<'_>]) -> Result<Vec<
     Ok(numbers)
 }
 
-// Returns what a claim of these caches takes, with the trees of the inputs. Fails with 141 `Memory` alone.
+// Returns what a claim of these caches takes, given the trees of the inputs. Fails with 141 `Memory` alone.
 pub(crate) fn taking_for(
     alloc: Global,
     inputs: &[Tree],
