@@ -254,7 +254,7 @@ impl Board {
         self.workers.worked_on(w, i)
     }
 
-    /// Returns output i of a vertex that is done; `None` if there is no such vertex or output. Does not allocate.
+    /// Returns output `i` of a vertex that is done; `None` if there is no such vertex or output. Does not allocate.
     pub fn output(&self, v: u32, i: u32) -> Option<&Tree>
         ensures { option_map (λ t. t.now) result ≡ output_in (ending_at self.now.state.statuses v) i }
     {
@@ -309,7 +309,7 @@ impl Board {
         self.workers.caches()
     }
 
-    /// Returns the tree of instance i of key k as it is now; keys are numbered in the order of the rows of `caches`. Returns `None` if there is no
+    /// Returns the tree of instance `i` of key `k` as it is now; keys are numbered in the order of the rows of `caches`. Returns `None` if there is no
     /// such key or instance. Does not allocate.
     pub fn cached(&self, k: u32, i: u32) -> Option<&Tree>
         ensures { option_map (λ t. t.now) result ≡ cached_at self.now.rows self.now.state.store k i }
@@ -366,7 +366,7 @@ impl Board {
     }
 }
 
-// Returns the tree of instance i of a key.
+// Returns the tree of instance `i` of a key.
 fn cached_in<'a>(caches: &'a Caches, key: &Key, i: u32) -> Option<&'a Tree>
     ensures { option_map (λ t. t.now) result ≡ content (store_of caches.now.rows) (place key.now i) }
 {

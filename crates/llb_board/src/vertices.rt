@@ -137,7 +137,7 @@ impl Vertices {
         Some(look(stage, ready, is_marked(&self.stop_marks, v)))
     }
 
-    /// Returns output i of a vertex that is done; `None` if there is no such vertex or output. Does not allocate.
+    /// Returns output `i` of a vertex that is done; `None` if there is no such vertex or output. Does not allocate.
     pub(crate) fn output(&self, v: u32, i: u32) -> Option<&Tree>
         ensures { option_map (λ t. t.now) result ≡ output_in (ending_at self.now.statuses v) i }
     {

@@ -119,7 +119,7 @@ impl Caches {
         self.lease_near(needs, &[])
     }
 
-    /// Leases as `lease` does, and fails as it does. For the key of need i, row `rows[i]`, if it is given,
+    /// Leases as `lease` does, and fails as it does. For the key of need `i`, row `rows[i]`, if it is given,
     /// is tried first.
     pub fn lease_near(
         &mut self,
@@ -232,7 +232,7 @@ impl Caches {
         self.rows.entries.len()
     }
 
-    /// Returns key k in the order in which the keys were first leased; `None` past the last one. Does not allocate.
+    /// Returns key `k` in the order in which the keys were first leased; `None` past the last one. Does not allocate.
     pub fn key(&self, k: usize) -> Option<&Key>
         ensures { option_map (λ x. x.now) result ≡ slice_get (keys_of self.now.rows) k }
     {

@@ -146,7 +146,7 @@ pub(crate) fn alone_told(rt: &impl Abort, alloc: Global, board: Board) -> String
     end_told(rt, alloc, &alone(board))
 }
 
-// Returns whether growth k of a run in threads was refused. Such a run ends because of that or does without; its record is right, and one driver finishes it.
+// Returns whether growth `k` of a run in threads was refused. Such a run ends because of that or does without; its record is right, and one driver finishes it.
 fn is_growth<R: Abort + Threads + Wait + Sync>(rt: &R, alloc: Global, row: &Row, k: usize) -> bool {
     let (_, on, lacks, wanted) = *row;
     let board = board_on(rt, alloc, &board_in(rt, on));
@@ -225,7 +225,7 @@ fn is_done(board: &Board, v: Option<u32>) -> bool {
     }
 }
 
-// Returns the vertex that the worker of thread k runs; the first thread is number 1.
+// Returns the vertex that the worker of thread `k` runs; the first thread is number 1.
 fn run_by(board: &Board, k: usize) -> Option<u32> {
     let worker = u32::try_from(k.checked_sub(1)?).ok()?;
     match board.worker(worker) {
@@ -234,7 +234,7 @@ fn run_by(board: &Board, k: usize) -> Option<u32> {
     }
 }
 
-// Returns whether thread k of a run could not be started. Such a run ends because of that; the vertex of the thread's worker is done, the record is right,
+// Returns whether thread `k` of a run could not be started. Such a run ends because of that; the vertex of the thread's worker is done, the record is right,
 // and one driver finishes the run.
 fn is_thread<R: Abort + Threads + Wait + Sync>(rt: &R, alloc: Global, row: &Row, k: usize) -> bool {
     let (_, on, fault, wanted) = *row;

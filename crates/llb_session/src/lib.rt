@@ -1,4 +1,4 @@
-//! A stepping session: each line of commands gets its reply from a stepper before the next one is waited for. It is built on `llb_stepper` and
+//! A stepping session: each line of commands gets its reply from a stepper before the next line is waited for. It is built on `llb_stepper` and
 //! `llb_treetext`.
 //!
 //! Types: `Request` (what a line asks for), `SessionFault` (181, 182, 184, 185).

@@ -128,7 +128,7 @@ impl Stepper {
         }
     }
 
-    /// Returns the line of event i of the board's record, counted from 1, with its reply: `None` past the end, at 0, and for events that the board
+    /// Returns the line of event `i` of the board's record, counted from 1, with its reply: `None` past the end, at 0, and for events that the board
     /// had when the stepper was made. Fails with 174 alone.
     pub fn record_line(&self, i: u64) -> Result<Option<Text>, StepperFault>
         ensures line { IfOk result (λ o. option_map (λ t. t) o ≡ option_map (record_text self.now.board.build.graph.vertices i) (record_at self.now i)) }
@@ -141,7 +141,7 @@ impl Stepper {
         Ok(Some(Text::new(line)))
     }
 
-    // Returns event i with its reply.
+    // Returns event `i` with its reply.
     fn recorded(&self, i: u64) -> Option<(Event, Reply)>
         ensures { result ≡ option_map told_pair (record_at self.now i) }
     {

@@ -48,7 +48,7 @@ const SECOND_COMMAND_FAILS: &str =
 
 const APPENDS: &str = "locked: append /c/l a && append /c/l b; RESULT_0";
 
-// Returns the outcome of what worker w does at vertex 0, or the number of the fault.
+// Returns the outcome of what worker `w` does at vertex 0, or the number of the fault.
 fn outcome_from<G: Gate>(
     rt: &impl Abort,
     alloc: Global,
