@@ -23,8 +23,8 @@ fn replayed(stepper: &mut Stepper, board: &Board) -> bool {
     stepper.replay(board.events().as_slice()).is_ok()
 }
 
-// Returns whether the record of a run leads from a board that was opened in the same way to the board at its end, and its length is that of the record before
-// the run with the workers' counts.
+// Returns whether the record of a run leads from a board that was opened in the same way to the board at its end, and its length is the length of the record
+// before the run plus the workers' counts.
 fn is_replayed(alloc: Global, end: &RunEnd, opened: Board, before: usize) -> bool {
     let mut stepper = Stepper::new(alloc, opened);
     let mut made = before as u64;
@@ -146,7 +146,8 @@ pub(crate) fn alone_told(rt: &impl Abort, alloc: Global, board: Board) -> String
     end_told(rt, alloc, &alone(board))
 }
 
-// Returns whether growth `k` of a run in threads was refused. Such a run ends because of that or does without; its record is right, and one driver finishes it.
+// Returns whether growth `k` of a run in threads was refused. Such a run ends because of that, or can do without the memory; its record is right, and one
+// driver finishes it.
 fn is_growth<R: Abort + Threads + Wait + Sync>(rt: &R, alloc: Global, row: &Row, k: usize) -> bool {
     let (_, on, lacks, wanted) = *row;
     let board = board_on(rt, alloc, &board_in(rt, on));

@@ -169,7 +169,7 @@ fn all_end<R: Abort + Threads + Wait + Sync>(
     true
 }
 
-// Returns a row number for a shape and a number of workers below 100, another one for each pair of them.
+// Returns a row number for a shape and a number of workers, which is below 100; each such pair has another row number.
 fn row(at: usize, workers: u32) -> usize {
     at.wrapping_mul(100).wrapping_add(workers as usize)
 }
