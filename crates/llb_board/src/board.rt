@@ -1,6 +1,6 @@
 //! The board: the vertices, the workers, and the record of events since it was opened. By its invariant the record is a run of the table to the board's state.
-//! The record has room for all events to come, except those of a vertex that is claimed again after a cancel. What each worker holds is what its vertex needs.
-//! The invariants of vertices and workers are in their own modules.
+//! The record has room for all events to come, except those of a vertex that is claimed again after a cancel. Each running worker has what its vertex needs
+//! until its settle: the micro-steps, an empty tree for each output, and its cache instances. The invariants of vertices and workers are in their own modules.
 
 ghost use Rattle.std.specs.Prelude.{◌≡◌, ◌<◌, ◌≤◌, ◌+◌, [], length, replicate, true, is_some, option_map, Some, OnErr, IfErr, IfOk, if◌then◌else◌};
 ghost use Rattle.llb_events.specs.declared.event.Settled.TheVariants as ended;

@@ -107,7 +107,8 @@ impl ReadyQueue {
         self.queue.pop_as::<Takes, R>(rt, pass)
     }
 
-    /// Takes the whole pass, and drops the queue with what it still has. A number was put as often as it was taken, plus as often as it is still in the queue.
+    /// Takes the whole pass, and drops the queue with what it still has. How often a number was put is how often it was taken plus how often it is still in the
+    /// queue.
     pub fn close(self, pass: ReadyPass)
         requires pass { IsReadyPassOf self pass }
         requires whole { IsWhole pass }

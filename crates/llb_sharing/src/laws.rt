@@ -63,8 +63,8 @@ pub fn one_digest_one_job(first: &[u8], graph: &Graph, second: &[u8], other: &Gr
 }
 
 /// Proves that the outcome of a vertex that was computed over another graph can be landed on the board, for a worker that has done no micro-step of its vertex,
-/// if this has the same digest, no cache mount at or before it, and the same trees of its sources. With the numbers of this worker and its vertex put into its
-/// job, the outcome meets the condition of `land_known`.
+/// if that vertex has the same digest, the same trees of its sources, and no cache mount at or before it. With the numbers of this worker and its vertex put
+/// into its job, the outcome meets the condition of `land_known`.
 pub fn worked_elsewhere_lands(first: &[u8], graph: &Graph, second: &[u8], board: &Board)
     ensures { LoadWithoutCollision first.now graph.now second.now board.now.build.graph → WorkedElsewhereLands graph.now board.now }
 {

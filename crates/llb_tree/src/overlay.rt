@@ -104,7 +104,7 @@ fn lay_children(
     Ok(false)
 }
 
-// Lays upper children over lower ones, if the upper ones have every name of the lower ones. Returns whether the result is the upper children, unchanged.
+// Lays upper children over lower ones; the upper ones have every name of the lower ones. Returns whether the result is the upper children, unchanged.
 #[cycle(lay)]
 fn lay_all(
     kids: &mut Arc<Vec<Piece>>,
