@@ -2,8 +2,8 @@
 //! passes are fractions of one whole. It is built on the array queue of `crossbeam_queue`, whose steps keep the rule in `rule.rt`.
 //!
 //! Types: `ReadyQueue`, `ReadyPass` (a fraction of the whole), `Full` and `ReadyFault`.
-//! Promise: `ReadyQueue::close` (`conserved`): how often a number was put is how often it was taken plus how often it is still in the queue. With the whole pass,
-//! `ReadyQueue::put` (`full`, `whole`) returns `Full` only if the queue is full. The order of the numbers is only tested.
+//! Promise: `ReadyQueue::close` (`conserved`): how often a number was put is how often it was taken plus how often it is still in the queue. With the
+//! whole pass, `ReadyQueue::put` (`full`, `whole`) returns `Full` only if the queue is full. The order of the numbers is only tested.
 //!
 //! A caller:
 //!
