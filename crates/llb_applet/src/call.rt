@@ -42,8 +42,7 @@ impl<'a> Begun<'a> {
         }
     }
 
-    // Reads what is between two spaces: a separator ends the call, another word is added to it, and an empty part is no
-    // word.
+    // Reads what is between two spaces: a separator ends the call, any other word is added to the call, and an empty part is no word.
     fn take(&mut self, alloc: Global, part: &'a str) -> Result<(), ScriptFault>
         requires { self.old.number + self.old.count < 2 ^ 63 }
         ensures judges { (call : List (List ℕ)) → IsBegun call self.old → Judges result part.now call self.old self.new }

@@ -1,5 +1,5 @@
-//! The changes of a view at a spot. A change takes the mount's tree out, changes it and puts it back; one that is refused,
-//! or lacks memory, leaves the view as it was.
+//! The changes of a view at a spot. A change takes the mount's tree out, changes it and puts it back; a change that is refused, or for which memory is refused,
+//! leaves the view as it was.
 
 ghost use Rattle.std.specs.Prelude.{◌≡◌, ◌+◌, ◌<◌, ◌≤◌, [], false, length, Ok, IfOk, OnErr};
 ghost use Rattle.std.specs.FinMap as finite;
@@ -198,8 +198,7 @@ pub fn make_dirs(alloc: Global, view: &mut View, spot: &Spot) -> Result<bool, Me
     }
 }
 
-// Makes a directory for each of the names, each in the one before, if it is not there. After a refusal the tree is
-// unchanged.
+// Makes a directory for each of the names, each in the directory of the name before it, if it is not there. After a refusal the tree is unchanged.
 fn dirs_below(alloc: Global, tree: &mut Tree, at: &Path, names: &[Name]) -> Result<(), TreeFault>
     requires { length at.now + length names.now ≤ 128 }
     ensures gives { Gives (λ _. tree.new) result (dirs_below tree.old at.now names.now) }
@@ -233,7 +232,7 @@ fn put_dirs(alloc: Global, tree: &mut Tree, path: &Path, names: &[Name]) -> Resu
     tree.graft(path, &made)
 }
 
-// Makes a tree of directories alone, one for each of the names, each in the one before.
+// Makes a tree of directories alone, one for each of the names, each in the directory of the name before it.
 fn chain(alloc: Global, names: &[Name]) -> Result<Tree, AllocError>
     requires { length names.now ≤ 128 }
     ensures { IfOk result (λ t. dirs_below empty_tree [] names.now ≡ Ok t) }

@@ -281,7 +281,7 @@ fn test_of(words: Vec<Text>) -> Option<Command>
     Some(Command::Test { kind, path })
 }
 
-// Returns the command of an applet with the words after its name; `None` if they are no form of it.
+// Returns the command of an applet with the words after its name; `None` if the words fit none of its forms.
 fn form(applet: Applet, words: Vec<Text>) -> Option<Command>
     ensures { result ≡ form applet words.items }
 {
@@ -323,8 +323,8 @@ fn form(applet: Applet, words: Vec<Text>) -> Option<Command>
     }
 }
 
-/// Makes the command of the call of this number. Fails with 71 `NoApplet` if its first word is no applet's name, with
-/// 72 `Usage` if the others are none of its forms, with 74 `Memory`.
+/// Makes the command of the call of this number. Fails with 71 `NoApplet` if its first word is no applet's name, with 72 `Usage` if the other words fit none of
+/// the applet's forms, or with 74 `Memory`.
 pub fn command_of(alloc: Global, number: usize, words: Vec<Text>) -> Result<Command, ScriptFault>
     ensures { Gives (λ c. c) result (command_of number words.items) }
 {

@@ -35,7 +35,7 @@ pub fn line(alloc: Global, word: &str) -> Result<Bytes, Memory>
     Ok(Bytes::new(content))
 }
 
-/// Returns the content of the file at a spot with one more line, the line alone if there is no file. Fails with 75 `Memory` alone.
+/// Returns the content of the file at a spot with one more line; if there is no file, returns that line alone. Fails with 75 `Memory` alone.
 pub fn more(alloc: Global, view: &View, spot: &Spot, word: &Text) -> Result<Bytes, Memory>
     requires { IsSpot view.now spot.now }
     ensures { IfOk result (λ b. b ≡ unwrap_or (option_map (λ f. f.1) (file_in (entry_at view.now spot.now))) [] ++ line word.now) }

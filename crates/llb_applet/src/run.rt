@@ -1,5 +1,5 @@
-//! Runs a command on a view. A command that is done changes one mount's tree in place, or nothing;
-//! one that fails, or for which memory is refused, leaves the view as it was.
+//! Runs a command on a view. A command that is done changes one mount's tree in place, or nothing; a command that fails, or for which memory is refused, leaves
+//! the view as it was.
 
 ghost use Rattle.std.specs.Prelude.{◌≡◌, ◌≢◌, IfOk, IfSome, OnOk, OnErr, option_and_then};
 ghost use Rattle.llb_applet.specs.declared.command.Command.TheVariants as command;
@@ -138,8 +138,7 @@ fn cp(
     put_shared(alloc, view, &target, meta, content)
 }
 
-// Returns the spot to which a file is copied: that of the path, or, if a directory is there, that of the source's last name
-// in the directory.
+// Returns the spot to which a file is copied: the spot of the path, or, if a directory is there, the spot of the source's last name in that directory.
 fn target_of(view: &View, source: &Path, path: Path) -> Result<Option<Spot>, Memory>
     ensures means { IfOk result (λ s. s ≡ target_of view.now source.now path) }
     ensures spot { IfOk result (λ s. IfSome s (λ spot. IsSpot view.now spot)) }

@@ -86,8 +86,7 @@ pub struct Reading {
 impl Reading {
     ghost use Rattle.llb_applet.specs.Reading.{some_word, ahead, with_call, Reads};
 
-    // Takes the text between two spaces: a separator ends the current call, any other word is added to it, and an empty
-    // text is no word.
+    // Takes the text between two spaces: a separator ends the current call, any other word is added to the call, and an empty text is no word.
     fn take(&mut self, alloc: Global, part: &str) -> Result<(), ScriptFault>
         ensures { (rest : List (List ℕ)) → Reads result (ahead self.old (some_word part.now ++ rest)) (ahead self.new rest) }
     {
@@ -204,14 +203,12 @@ fn read_commands(alloc: Global, args: &[Text]) -> Result<Vec<Joined>, ScriptFaul
     }
 }
 
-/// Reads arguments as a script: `/bin/sh`, `-c` and one text, or else one call, an applet's name and its words. In a
-/// text words are between spaces, and a separator, which is a word `;`, `&&` or `||`,
-/// is between two calls; any other word has only ASCII letters and digits, `_ - . / , : + @ % =` and characters past
-/// ASCII. Fails with 73 `ShellSyntax` at the first bad position of the text, in bytes from 0: a byte that no word may
-/// have, a separator with no call before it, or the text's end if the last call is missing. Otherwise fails, for the
-/// first such call, with 71 `NoApplet` if its first word is no applet's name, or with 72 `Usage` if the others are none
-/// of the applet's forms. Fails with 74 `Memory` if there is no other fault, or in place of 71 if there is no memory
-/// for its text.
+/// Reads arguments as a script: `/bin/sh`, `-c` and one text, or else one call, an applet's name and its words. In a text words are between spaces, and a
+/// separator, which is a word `;`, `&&` or `||`, is between two calls; any other word has only ASCII letters and digits, `_ - . / , : + @ % =` and characters
+/// past ASCII. Fails with 73 `ShellSyntax` at the first bad position of the text, in bytes from 0: a byte that no word may have, a separator with no call
+/// before it, or the text's end if the last call is missing. Otherwise fails, for the first such call, with 71 `NoApplet` if its first word is no applet's
+/// name, or with 72 `Usage` if the other words fit none of the applet's forms. Fails with 74 `Memory` if there is no other fault, or in place of 71 if there is
+/// no memory for its text.
 pub fn read_script(alloc: Global, args: &[Text]) -> Result<Script, ScriptFault>
     requires { 0 < length args.now }
     ensures gives { Gives (λ s. s) result (script_of args.now) }

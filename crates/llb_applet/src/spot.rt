@@ -32,7 +32,7 @@ impl Drop for Spot {
     }
 }
 
-/// Reads a word as a path, from the cwd; `None` if it is none. Fails with 75 `Memory` alone.
+/// Reads a word as a path, from the cwd; `None` if the word is no path. Fails with 75 `Memory` alone.
 pub fn path_by(alloc: Global, setting: &Setting, word: &Text) -> Result<Option<Path>, Memory>
     ensures { IfOk result (λ p. p ≡ path_by setting.now word.now) }
 {
@@ -88,7 +88,7 @@ fn new_meta() -> Meta
     Meta::new(0o644, 0, 0).unwrap()
 }
 
-/// Returns the spot that a word names; `None` if it names none. Fails with 75 `Memory` alone.
+/// Returns the spot that a word names; `None` if it names no spot. Fails with 75 `Memory` alone.
 pub fn spot_by(
     alloc: Global,
     setting: &Setting,
@@ -153,7 +153,7 @@ impl Spot {
         }
     }
 
-    /// Returns the mode and owner of the entry at the spot, or those of a new file, 0644 0:0.
+    /// Returns the mode and owner of the entry at the spot; if there is no entry, those of a new file, 0644 0:0.
     pub fn meta(&self, view: &View) -> Meta
         requires { self.now.mount < length view.now }
         ensures { result ≡ meta_there (entry_at view.now self.now) }

@@ -51,7 +51,7 @@ fn bad_in(called: bool, word: &str) -> Option<usize>
     word.as_bytes().iter().position(|byte| !is_word_byte(*byte))
 }
 
-// Returns whether a call is begun at the end of this part: the part ends in a word of it, or is empty and a call was begun before.
+// Returns whether a call is begun at the end of this part: the part ends in a word of a call, or the part is empty and a call was begun before it.
 fn called_after(called: bool, part: &str) -> bool
     ensures { result ≡ called_after called part.now }
 {

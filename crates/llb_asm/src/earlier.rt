@@ -1,4 +1,4 @@
-//! The whole entries so far, with their digest texts and the size of a definition of them.
+//! The whole entries so far, with their digest texts and the size of the definition that they make.
 
 ghost use Rattle.std.specs.Prelude.{◌≡◌, ◌+◌, ◌++◌, ◌∷◌, ◌≤◌, [], OnOk, length, true, not, nat_lt};
 ghost use Rattle.llb_wire.specs.Spelling.{shortest, varint_text};

@@ -145,7 +145,7 @@ pub(crate) fn parted(line: &[u8]) -> Option<(&[u8], &[u8])>
     Some((name, value))
 }
 
-/// Returns whether the field is written also with the value 0 or an empty one, to say that it is set.
+/// Returns whether the field is written even if its value is 0 or empty, to say that it is set.
 fn may_be_empty(field: NamedField) -> bool
     ensures { result ≡ may_be_empty field }
 {

@@ -91,7 +91,7 @@ fn escape_of(high: u8, low: u8) -> Option<u8>
     }
 }
 
-/// Reads the byte, up to 7f, that two digits at the start of a text spell, and returns it with the text after them.
+/// Reads the byte, up to 7f, that the two digits at the start of a text spell, and returns it with the text after the digits.
 fn two_digits(text: &[u8]) -> Option<(u8, &[u8])>
     ensures { Continues first text.now result }
 {
@@ -101,7 +101,7 @@ fn two_digits(text: &[u8]) -> Option<(u8, &[u8])>
     }
 }
 
-/// Reads the byte that is spelled by a backslash and the start of a text, and returns it with the text after that.
+/// Reads the byte that a backslash and the start of this text, which comes after the backslash, spell together; returns it with the text that remains.
 fn behind_backslash(text: &[u8]) -> Option<(u8, &[u8])>
     ensures { Continues backslash text.now result }
 {

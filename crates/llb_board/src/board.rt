@@ -1,6 +1,6 @@
-//! The board: the vertices, the workers, and the record of events since it was opened. Its invariant: the record is
-//! a run of the table to the board's state, it has room for every event to come but those of a vertex that is claimed again after a cancel,
-//! and each worker has the supplies that its vertex needs. The invariants of vertices and workers are in their own modules.
+//! The board: the vertices, the workers, and the record of events since it was opened. By its invariant the record is a run of the table to the board's state.
+//! The record has room for all events to come, except those of a vertex that is claimed again after a cancel. Each running worker has what its vertex needs
+//! until its settle: the micro-steps, an empty tree for each output, and its cache instances. The invariants of vertices and workers are in their own modules.
 
 ghost use Rattle.std.specs.Prelude.{◌≡◌, ◌<◌, ◌≤◌, ◌+◌, [], length, replicate, true, is_some, option_map, Some, OnErr, IfErr, IfOk, if◌then◌else◌};
 ghost use Rattle.llb_events.specs.declared.event.Settled.TheVariants as ended;
@@ -57,7 +57,7 @@ pub struct Board {
     alloc: Global,
     vertices: Vertices,
     workers: Workers,
-    /// The caches as they were handed in.
+    /// The caches as they were handed to `open`.
     start: Caches,
     history: History,
 }
@@ -165,10 +165,10 @@ impl Board {
         }
     }
 
-    /// Makes an idle worker claim a vertex that waits and has all its inputs, with an instance of each cache that the vertex mounts. Fails with
-    /// 131 `NoWorker`, 132 `Busy`, 133 `NoVertex`, 134 `NotReady`, 135 `Held` and the first locked key whose instance a running worker has, or 141 `Memory`.
-    /// If memory for that key's own text is refused, it fails with 141 in place of 135; want of any other memory is reported after 135. The
-    /// claim of a vertex that was cancelled before reserves room for its events once more.
+    /// Makes an idle worker claim a vertex that waits and has all its inputs, with an instance of each cache that the vertex mounts. Fails with 131 `NoWorker`,
+    /// 132 `Busy`, 133 `NoVertex`, 134 `NotReady`, 135 `Held` and the first locked key whose instance a running worker has, or 141 `Memory`. If memory for the
+    /// text of that key is refused, it fails with 141 in place of 135; 141 for other memory is reported only if 135 does not apply. The claim of a vertex that
+    /// was cancelled before reserves room for its events once more.
     pub fn claim(&mut self, w: u32, v: u32) -> Result<Job, ClaimFault>
         ensures gives { GivesClaim (λ job. (self.new, Claimed job)) result (claim_of self.old w v) }
         ensures last { IfErr result (λ e. claim_memory e ≡ true → claim_may_want (claim_of self.old w v) ≡ true) }
@@ -245,16 +245,16 @@ impl Board {
         self.workers.look(&self.vertices, w)
     }
 
-    /// Returns tree i of those that a worker works on now: the local tree of a source; the inputs of a file op, then its results so far; the
-    /// inputs of a merge, then what is laid so far; the tree of each mount of an exec, that of a cache's instance as it is now. `None` if
-    /// the worker is idle, or there is no such worker or tree. Does not allocate.
+    /// Returns tree `i` of those that a worker works on now: the local tree of a source; the inputs of a file op, then its results so far; the inputs of a
+    /// merge, then what is laid so far; the trees of the mounts of an exec, where a cache mount has the tree of its instance as it is now. `None` if the worker
+    /// is idle, or there is no such worker or tree. Does not allocate.
     pub fn worked_on(&self, w: u32, i: u32) -> Option<&Tree>
         ensures { option_map (λ t. t.now) result ≡ worked_on self.now.state w i }
     {
         self.workers.worked_on(w, i)
     }
 
-    /// Returns output i of a vertex that is done; `None` if there is no such vertex or output. Does not allocate.
+    /// Returns output `i` of a vertex that is done; `None` if there is no such vertex or output. Does not allocate.
     pub fn output(&self, v: u32, i: u32) -> Option<&Tree>
         ensures { option_map (λ t. t.now) result ≡ output_in (ending_at self.now.state.statuses v) i }
     {
@@ -309,7 +309,7 @@ impl Board {
         self.workers.caches()
     }
 
-    /// Returns the tree of instance i of key k as it is now; keys are numbered in the order of the rows of `caches`. Returns `None` if there is no
+    /// Returns the tree of instance `i` of key `k` as it is now; keys are numbered in the order of the rows of `caches`. Returns `None` if there is no
     /// such key or instance. Does not allocate.
     pub fn cached(&self, k: u32, i: u32) -> Option<&Tree>
         ensures { option_map (λ t. t.now) result ≡ cached_at self.now.rows self.now.state.store k i }
@@ -340,14 +340,14 @@ impl Board {
         (graph, locals, workers.into_caches())
     }
 
-    /// Recalls the invariant of the board's graph: what is true of every graph is true of it.
+    /// Proves that the board's graph meets the invariant of graphs.
     pub fn is_graph(&self)
         ensures { IsGraph self.now.build.graph }
     {
         let _ = self.vertices.graph().vertices();
     }
 
-    /// Recalls that the board has 1 to 64 workers.
+    /// Proves that the board has 1 to 64 workers.
     pub fn has_workers(&self)
         ensures some { 0 < length self.now.state.workers }
         ensures few { length self.now.state.workers ≤ 64 }
@@ -355,9 +355,9 @@ impl Board {
         let _ = self.workers.look(&self.vertices, 0);
     }
 
-    /// Recalls that the record is a run of the table from the opening state to the board's state, and that this run changes the lists of instances that
-    /// were handed in to those of the board: two boards with the same opening and the same record are the same. So granted events lead to the
-    /// board's state.
+    /// Proves that the record is a run of the table from the opening state to the board's state, and that this run leads from the lists of instances that were
+    /// handed in to the lists that the board has now. So the opening and the record determine the board: two boards with the same opening and the same record
+    /// are the same.
     pub fn replays(&self)
         ensures run { Replays self.now }
         ensures reached { IsReached self.now.build self.now.state }
@@ -366,7 +366,7 @@ impl Board {
     }
 }
 
-// Returns the tree of instance i of a key.
+// Returns the tree of instance `i` of a key.
 fn cached_in<'a>(caches: &'a Caches, key: &Key, i: u32) -> Option<&'a Tree>
     ensures { option_map (λ t. t.now) result ≡ content (store_of caches.now.rows) (place key.now i) }
 {
@@ -380,7 +380,7 @@ fn may_work(workers: u32) -> bool
     1 <= workers && workers <= 64
 }
 
-// Returns a copy of the first local source's name, by vertex, that has no tree.
+// Returns a copy of the name of the first local source, by vertex, that has no tree.
 fn missing(alloc: Global, graph: &Graph, locals: &Locals) -> Result<Option<Text>, Memory>
     ensures first { IfOk result (λ o. o ≡ missing_local locals.now graph.now.vertices) }
     ensures some { IfErr result (λ _. is_some (missing_local locals.now graph.now.vertices) ≡ true) }

@@ -67,7 +67,7 @@ impl History {
         self.events.push_reserved(event);
     }
 
-    /// Appends a cancel, for which there is room, and counts it for vertex v. So far v was cancelled at most as often as there are events.
+    /// Appends a cancel, for which there is room, and counts it for vertex `v`, which so far was cancelled at most as often as there are events.
     pub(crate) fn record_cancel(&mut self, w: u32, v: u32)
         requires room { length self.old.list < self.old.space.room }
         requires low { v < length self.old.space.cancels }
@@ -92,7 +92,8 @@ impl History {
         }
     }
 
-    /// Removes the last event, which is of vertex v. The room that a claim reserved for `events` events is released; the count of a cancel is decremented.
+    /// Removes the last event, which is of vertex `v`. If it is a claim, the room that it reserved for `events` events is released; if a cancel, it is not
+    /// counted any more.
     pub(crate) fn take_back(&mut self, v: u32, events: usize)
         ensures list { self.new.list ≡ front self.old.list }
         ensures space { self.new.space ≡ space_back (last_of self.old.list) v events self.old.space }

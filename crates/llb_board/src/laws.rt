@@ -13,10 +13,10 @@ ghost use Rattle.llb_board.specs.Headline.{Headline, StandsInClaimOrder};
 
 use crate::board::Board;
 
-/// Proves the promise of the whole machine. The record is a run of the written table from the opening state to the board's, which has replies.
-/// No two workers have the same locked cache at once, nor the same instance of a private one; another worker's event neither changes nor
-/// reads an instance that a worker holds exclusively. A settled vertex with no cache mount at or before it has its plain outcome. This holds
-/// at every moment, for any workers and any order of events.
+/// Proves the promise of the whole machine. The record is a run of the written table, with its replies, from the opening state to the board's state. No two
+/// workers have the same locked cache at once, nor the same instance of a private one; another worker's event neither changes nor reads an instance that a
+/// worker holds exclusively. A settled vertex with no cache mount at or before it has its plain outcome. This holds at every moment, for any workers and any
+/// order of events.
 pub fn headline(board: &Board)
     ensures { Headline board.now }
 {
@@ -24,8 +24,8 @@ pub fn headline(board: &Board)
     board.replays();
 }
 
-/// Proves that vertices and workers agree on what runs, that a vertex that is done has all its outputs, and that one that does not wait has all
-/// its inputs.
+/// Proves that vertices and workers agree on what runs, that a vertex that is done has all its outputs, and that a vertex that does not wait has all its
+/// inputs.
 pub fn is_consistent(board: &Board)
     ensures { IsConsistent board.now.build board.now.state }
 {
@@ -40,7 +40,7 @@ pub fn settled_are_plain(board: &Board)
     board.replays();
 }
 
-/// Proves that on a complete board of a graph without cache mounts every vertex is as its plain outcome says: it has ended like it, or is Blocked.
+/// Proves that on a complete board of a graph without cache mounts every vertex has ended with its plain outcome, or is Blocked if that outcome is blocked.
 pub fn complete_is_plain(board: &Board)
     ensures { machine.HasNoCaches board.now.build → is_complete board.now.build board.now.state ≡ true → (v : ℕ) → v < length board.now.build.graph.vertices
         → StandsPlainly (slice_get board.now.state.statuses v) (outcome board.now.build v) }
@@ -49,7 +49,7 @@ pub fn complete_is_plain(board: &Board)
     board.replays();
 }
 
-/// Proves that an event is chosen exactly until the board is complete.
+/// Proves that there is a chosen event exactly if the board is not complete.
 pub fn chosen_until_complete(board: &Board)
     ensures { (chosen board.now.build board.now.state ≡ None) ↔ (is_complete board.now.build board.now.state ≡ true) }
 {
@@ -64,9 +64,9 @@ pub fn chosen_is_granted(board: &Board)
     board.has_workers();
 }
 
-/// Proves that a granted event leaves what all other workers do as it is. From a worker's claim to its settle or cancel, other
-/// workers' events do not change the cache instances that it holds exclusively, and whatever trees these instances had, such an event would have
-/// the same reply, and the same effect elsewhere.
+/// Proves that a granted event changes nothing of what all other workers do. From a worker's claim to its settle or cancel, other workers' events do not change
+/// the cache instances that it holds exclusively; and whatever trees these instances had, such an event would have the same reply, and the same effect on
+/// everything else.
 pub fn others_keep(board: &Board)
     ensures workers { OthersKeep board.now }
     ensures instances { machine.OthersKeep board.now.build }
@@ -117,24 +117,25 @@ pub fn runs_in_claim_order(board: &Board)
     board.replays();
 }
 
-/// Proves that chosen events, from an opening on, leave vertices and cache instances as their claim order says (`runs_in_claim_order`), shared caches included.
+/// Proves that chosen events, done one after another on a board that was just opened, leave vertices and cache instances as the order of their claims says (see
+/// `runs_in_claim_order`), shared caches included.
 pub fn alone_in_claim_order(board: &Board)
     ensures { machine.AloneInClaimOrder board.now.build }
 {
     board.is_graph();
 }
 
-/// Proves that landing work that was done off the board, on a worker's view and the trees of its instances as they are now, has the same
-/// effect as the block of its micro-steps and its settle.
+/// Proves that landing work has the same effect as its micro-steps and its settle, done on the board with no other event between them, if the work was done off
+/// the board on the worker's view and on the trees of its instances as they are now.
 pub fn lands_as_block(board: &Board)
     ensures { LandsAsBlock board.now.build }
 {
     let _ = board;
 }
 
-/// Proves that an exec is finished after its last command, or as soon as the last status is not 0 and every later command is joined by `&&`.
-/// Its fault is then the exit of the last command that ran, exactly if that status is not 0. This holds for a script run by itself, and for
-/// every worker on this board and after any list of granted events, whatever others do to shared caches meanwhile.
+/// Proves that an exec is finished after its last command, or as soon as the last status is not 0 and every later command is joined by `&&`. If the last status
+/// is then not 0, the fault of the exec is the exit of the last command that ran; else it has no fault. This holds for a script that runs alone, and for every
+/// worker on this board and after any list of granted events, whatever others do to shared caches meanwhile.
 pub fn execs_end_by_last_status(board: &Board)
     ensures alone { machine.FailsByLastStatus }
     ensures among_others { machine.ExecsEndByLastStatus board.now.build }
@@ -179,8 +180,8 @@ pub fn outcome_by_inputs(board: &Board)
     board.is_graph();
 }
 
-/// Proves that a worker that has done no micro-step of a vertex with no cache mount at or before it has just the work that the build and the vertex
-/// determine; a claim of the vertex hands out just that job. So its outcome lands, and no tree has to be compared.
+/// Proves that if a worker has done no micro-step of its vertex, and no cache mount is at or before the vertex, then the worker's work is the one that the
+/// build and the vertex determine, and a claim of the vertex hands out the same job. So its outcome lands, and no tree has to be compared.
 pub fn begun_are_plain(board: &Board)
     ensures begun { BegunArePlain board.now }
     ensures claims { ClaimsArePlain board.now }

@@ -37,5 +37,5 @@ pub use llb_wire::{Bytes, Text};
 pub use status::{Status, WorkerStatus};
 pub use workers::Undo;
 
-/// What a worker does, by a shorter name.
+/// `WorkerStatus` under a shorter name.
 pub type At = WorkerStatus;

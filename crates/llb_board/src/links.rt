@@ -1,4 +1,4 @@
-//! Which vertices have an edge to which, and how many inputs of each are not done.
+//! For each vertex, which vertices have an edge to it, and how many of its inputs are not done.
 
 ghost use Rattle.std.specs.Prelude.{◌≡◌, ◌<◌, ◌≤◌, ◌+◌, ◌^◌, ℕ, List, false, [], ◌∷◌, ◌++◌, length, map, replicate, get_or};
 ghost use Rattle.std.specs.Prelude.{IfOk, vec_capacity};
@@ -14,9 +14,9 @@ use std::alloc::{AllocError, Global};
 use std::marker::Model;
 use std::sync::Arc;
 
-/// For each vertex of a graph: its users, the vertices that have an edge to it, ascending, each once, which copies share; and the number of
-/// vertices to which it has edges and that are not done. `reached` is an empty list with room for all vertices. Contracts see the users and
-/// the counts, as lists.
+/// For each vertex of a graph: its users (the vertices that have an edge to it), ascending, each once; and its count of open inputs: how many vertices that it
+/// has edges to are not done. Copies share the lists of users. `reached` is an empty list with room for all vertices. Contracts see the users and the counts,
+/// as lists.
 pub(crate) struct Links {
     users: Arc<Vec<Vec<u32>>>,
     counts: Vec<u32>,
@@ -47,8 +47,8 @@ impl Model for Links {
 }
 
 impl Links {
-    /// Makes the links of a graph in which no vertex is done, whose edges all lead to vertices below their own. Memory grows with the edges;
-    /// fails for want of memory alone.
+    /// Makes the links of a graph in which no vertex is done; every edge of a vertex leads to a vertex with a lower number. Memory grows with the edges; fails
+    /// for want of memory alone.
     pub(crate) fn new(alloc: Global, vertices: &[Vertex]) -> Result<Links, AllocError>
         requires below { AreBelow vertices.now }
         requires few { length vertices.now < 2 ^ 32 }
@@ -157,8 +157,8 @@ fn empty(alloc: Global, count: usize) -> Result<Vec<Vec<u32>>, AllocError>
     Ok(lists)
 }
 
-// Appends vertex v, which is above all that are listed, to the list of each vertex that one of the edges leads to, and returns
-// the number of these vertices.
+// Appends vertex `v`, whose number is above all numbers in the lists, to the list of each vertex that one of the edges leads to, and returns how many vertices
+// the edges lead to.
 fn enter(users: &mut Vec<Vec<u32>>, v: u32, edges: &[Edge]) -> Result<u32, AllocError>
     requires below { All (λ (e : edge.Edge). e.vertex < length users.old.items) edges.now }
     requires few { length users.old.items < 2 ^ 32 }

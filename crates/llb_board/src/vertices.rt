@@ -43,7 +43,7 @@ pub(crate) struct Vertices {
     /// Which vertices have failed, or are downstream of one that has.
     stop_marks: Vec<bool>,
     links: Links,
-    /// No vertex with a lower number is Ready or runs, or can become Ready before its own state or that of a lower one is changed.
+    /// No vertex with a lower number is Ready or runs, or can become Ready before its own state or the state of a lower vertex is changed.
     first_open: u32,
 }
 
@@ -137,7 +137,7 @@ impl Vertices {
         Some(look(stage, ready, is_marked(&self.stop_marks, v)))
     }
 
-    /// Returns output i of a vertex that is done; `None` if there is no such vertex or output. Does not allocate.
+    /// Returns output `i` of a vertex that is done; `None` if there is no such vertex or output. Does not allocate.
     pub(crate) fn output(&self, v: u32, i: u32) -> Option<&Tree>
         ensures { option_map (λ t. t.now) result ≡ output_in (ending_at self.now.statuses v) i }
     {
@@ -176,7 +176,7 @@ impl Vertices {
         true
     }
 
-    /// Changes the state of a vertex, from any to any. A vertex that is done has as many trees as outputs. Does not allocate.
+    /// Sets the state of a vertex, whatever it was. A vertex whose new state is done has as many trees as outputs. Does not allocate.
     pub(crate) fn set(&mut self, v: u32, stage: Stage)
         requires low { v < length self.old.statuses }
         requires whole { IsWhole (slice_get self.old.build.graph.vertices v) (status_of stage) }
@@ -231,7 +231,8 @@ impl Vertices {
         self.build.locals()
     }
 
-    /// Returns a vertex that waits and has all its inputs. Fails with 133 `NoVertex` or else 134 `NotReady`. Does not allocate.
+    /// Returns the vertex of a number. Fails with 133 `NoVertex` if there is none, else with 134 `NotReady` if it does not wait or lacks an input. Does not
+    /// allocate.
     pub(crate) fn ready(&self, v: u32) -> Result<&Vertex, ClaimFault>
         ensures there { IfOk result (λ x. slice_get self.now.build.graph.vertices v ≡ Some x.now) }
         ensures kind { IfOk result (λ x. IsVertexOf x.now x.now.op.kind) }
@@ -250,7 +251,7 @@ impl Vertices {
         Ok(vertex)
     }
 
-    // Copies the trees of a vertex's inputs. Fails with 134 `NotReady` if one is missing, with 141 `Memory`.
+    // Copies the trees of a vertex's inputs. Fails with 134 `NotReady` if a tree is missing, or with 141 `Memory`.
     pub(crate) fn inputs(&self, alloc: Global, vertex: &Vertex) -> Result<Vec<Tree>, ClaimFault>
         ensures { GivesClaim (λ trees. trees.items) result (or_not_ready (inputs_from (ending_at self.now.statuses) vertex.now.inputs)) }
     {
@@ -336,7 +337,7 @@ fn count(links: &mut Links, v: u32, was_done: bool, is_done: bool)
     }
 }
 
-// Returns how a vertex looks, given its state, whether it has no open input, and whether it is marked.
+// Returns the status of a vertex as callers see it, given its state, whether it has no open input, and whether it is marked.
 fn look(stage: &Stage, ready: bool, marked: bool) -> Status
     ensures { result ≡ look ready marked (status_of stage.now) }
 {

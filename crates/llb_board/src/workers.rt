@@ -1,5 +1,5 @@
-//! What the workers of a board do, on which cache instances, and the caches themselves. By the invariant of `Workers` there are 1 to 64
-//! workers, and each that runs with instances has a lease of exactly these.
+//! What the workers of a board do, on which cache instances, and the caches themselves. By the invariant of `Workers` there are 1 to 64 workers, and each
+//! worker that runs a vertex with cache instances has a lease of exactly these instances.
 
 ghost use Rattle.std.specs.Prelude.{◌≡◌, ◌↔◌, ◌<◌, ◌≤◌, [], IsTrue, length, option_map, replicate, slice_get, IfOk, IfErr};
 ghost use Rattle.llb_cache.specs.Caches.{leases};
@@ -34,8 +34,8 @@ use std::alloc::Global;
 use std::marker::Model;
 pub use undoing::Undo;
 
-/// The workers of a board, and the caches whose instances they hold. Contracts see what each worker does, the lists of instances, and what
-/// each worker is supplied with.
+/// The workers of a board, and the caches whose instances they hold. Contracts see what each worker does, the lists of instances, and what each worker was
+/// given at its claim.
 pub(crate) struct Workers {
     seats: Vec<Seat>,
     caches: Caches,
@@ -69,8 +69,7 @@ impl Model for Workers {
 }
 
 impl Workers {
-    /// Makes idle workers, of a number from 1 to 64, on caches without current leases. If memory is refused, returns
-    /// the caches.
+    /// Makes `count` idle workers, 1 to 64, on caches without current leases. If memory is refused, returns the caches.
     pub(crate) fn open(alloc: Global, caches: Caches, count: u32) -> Result<Workers, Caches>
         requires count { (0 < count) × (count ≤ 64) }
         requires free { leases caches.out ≡ 0 }
@@ -106,7 +105,7 @@ impl Workers {
         caches
     }
 
-    /// Returns the status of a worker; `None` past the last of the 1 to 64 workers. Does not allocate.
+    /// Returns the status of a worker; `None` past the last worker, of which there are 1 to 64. Does not allocate.
     pub(crate) fn look(&self, vertices: &Vertices, w: u32) -> Option<WorkerStatus>
         ensures looks { result ≡ option_map (look_of vertices.now.build) (slice_get self.now.workers w) }
         ensures some { 0 < length self.now.workers }
@@ -151,7 +150,7 @@ impl Workers {
         })
     }
 
-    /// Returns whether all workers do the same in both, by value, and the caches have the same trees. Does not allocate.
+    /// Returns whether each worker does the same here and in `other`, by value, and the caches have the same trees. Does not allocate.
     pub(crate) fn same(&self, other: &Workers) -> bool
         ensures { IsTrue result ↔ ((self.now.workers ≡ other.now.workers) × (self.now.rows ≡ other.now.rows)) }
     {

@@ -105,10 +105,9 @@ impl Caches {
         keys_differ(needs)
     }
 
-    /// Leases an instance for each need, or none at all: for a shared or a locked key instance 0, for a private one the
-    /// least that no lease has. An instance that does not exist is made with the tree of its need. The keys of the needs
-    /// are distinct, and there are fewer than 65,536 leases. Fails with 111 `Held` and the first locked key whose instance a
-    /// lease has; else with 112 `Memory`. After a refusal the caches are unchanged.
+    /// Leases an instance for each need, or none at all: for a shared or a locked key instance 0, for a private key the least instance that no lease has. An
+    /// instance that does not exist is made with the tree of its need. The keys of the needs are distinct, and there are fewer than 65,536 leases. Fails with
+    /// 111 `Held` and the first locked key whose instance a lease has; else with 112 `Memory`. After a refusal the caches are unchanged.
     pub fn lease(&mut self, needs: Many<Need>) -> Result<Lease, LeaseFault>
         requires differ { AllPairs (λ n m. n.key ≢ m.key) needs }
         requires few { leases self.old.out < 65536 }
@@ -120,7 +119,7 @@ impl Caches {
         self.lease_near(needs, &[])
     }
 
-    /// Leases as `lease` does, and fails as it does. For the key of need i, row `rows[i]`, if it is given,
+    /// Leases as `lease` does, and fails as it does. For the key of need `i`, row `rows[i]`, if it is given,
     /// is tried first.
     pub fn lease_near(
         &mut self,
@@ -233,7 +232,7 @@ impl Caches {
         self.rows.entries.len()
     }
 
-    /// Returns key k in the order in which the keys were first leased; `None` past the last one. Does not allocate.
+    /// Returns key `k` in the order in which the keys were first leased; `None` past the last one. Does not allocate.
     pub fn key(&self, k: usize) -> Option<&Key>
         ensures { option_map (λ x. x.now) result ≡ slice_get (keys_of self.now.rows) k }
     {

@@ -66,8 +66,8 @@ impl Caches {
         take_back(&mut self.out, lease.number);
     }
 
-    /// Proves that a lease of needs with distinct keys, taken back right after it was granted, leaves the caches exactly as
-    /// they were before; `growth` has returned for each need what the lease adds.
+    /// Proves that a lease of needs with distinct keys, taken back right after it was granted, leaves the caches exactly as they were before, if it is taken
+    /// back with what `growth` returned for each need before the lease.
     pub fn grants_come_back(&self)
         ensures { (needs : List asked.Need) → AllPairs (λ n m. n.key ≢ m.key) needs → taken_back (granted self.now needs).1 (granted self.now needs).0
             (growths self.now needs) ≡ self.now }
@@ -76,7 +76,7 @@ impl Caches {
     }
 }
 
-// Removes what was added for an instance, which is the last of all or of its key.
+// Removes what was added for an instance: nothing, the last instance of its key, or the last row.
 fn unmake(rows: &mut Rows, marks: &mut Vec<Marks>, place: &Instance, growth: Growth)
     requires order { AreOrdered rows.old }
     requires each { length marks.old.items ≡ length rows.old.entries.items }

@@ -88,8 +88,8 @@ fn rooms_for(alloc: Global, places: &[Instance]) -> Result<Vec<Marks>, Memory>
 }
 
 impl Caches {
-    /// Grants a lease of instances that exist and have distinct keys, and of which no lease has one of a private or a
-    /// locked key. There is room for one more lease, and fewer than 65,536 are current. Does not allocate.
+    /// Grants a lease of instances that exist and have distinct keys; no lease may have any of them whose key is private or locked. There is room for one more
+    /// lease, and fewer than 65,536 are current. Does not allocate.
     pub fn lend_again(&mut self, lent: Lent) -> Lease
         requires { CanLend self.old lent }
         ensures number { result ≡ free_lease self.old.out }
@@ -133,8 +133,7 @@ fn mark(rows: &Rows, marks: &mut Vec<Marks>, place: &Instance, room: Marks)
     }
 }
 
-// Adds a lease under the least free number, and returns the number. If all numbers are taken, the leases move into the
-// room.
+// Adds a lease under the least free number, and returns the number. If no number in the list is free, the leases are first moved into the list that has room.
 fn put_lease(
     out: &mut Vec<Option<Many<Instance>>>,
     places: Many<Instance>,

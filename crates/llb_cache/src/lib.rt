@@ -3,8 +3,8 @@
 //!
 //! Types: `Caches`, `Key` with `Mode` (shared, private, locked), `Need` (a key, and the tree of a new instance), `Lease`, `Instance`,
 //! `LeaseFault` (111, 112).
-//! Promise: `Caches::lease` (`gives`, `has`, `last`, `err`) is refused (111) for the first locked key that a lease has; else it takes instance
-//! 0 of a shared or a locked key, of a private one the least that no lease has. Law: `is_exclusive`, no two leases have one instance of a
+//! Promise: `Caches::lease` (`gives`, `has`, `last`, `err`) is refused (111) for the first locked key that a lease has; else it takes instance 0 of each shared
+//! or locked key, and of each private key the instance with the least number that no lease has. Law: `is_exclusive`, no two leases have one instance of a
 //! locked or a private key.
 //!
 //! A caller:

@@ -1,5 +1,4 @@
-//! Which instances of a locked or a private key leases have: a mark for each number, so that a look-up
-//! visits no lease.
+//! The marks of a locked or a private key: for each number of an instance, whether a lease has the instance. So a look-up visits no lease.
 
 ghost use Rattle.std.specs.Prelude.{◌≡◌, ◌<◌, ◌==◌, ℕ, true, false, if◌then◌else◌, length, slice_index_or, IfOk, []};
 
@@ -77,7 +76,7 @@ impl Marks {
         }
     }
 
-    // Sets the mark of a number; if the list is too short for it, the marks move into the room first.
+    // Sets the mark of a number; if the list is too short for it, the marks are first moved into the list `room`.
     pub(crate) fn set(&mut self, number: u32, room: Marks)
         requires room { number < length room }
         requires clear { (k : ℕ) → slice_index_or room k false ≡ false }

@@ -1,5 +1,5 @@
-//! The keys with the trees of their instances, and the row of each key. A look-up searches the rows in the order of
-//! their keys, so that it costs the logarithm of their number, whatever the keys are.
+//! The keys with the trees of their instances, and the row of each key. A look-up searches the rows in the order of their keys, so it takes time in the
+//! logarithm of their number, whatever the keys are.
 
 ghost use Rattle.std.specs.Prelude.{◌≡◌, ◌<◌, ◌+◌, ℕ, false, [], length, IfSome, OnOk, IsSome, Some};
 ghost use Rattle.std.specs.Prelude.{is_some, option_map, position, slice_get};

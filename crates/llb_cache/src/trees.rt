@@ -99,7 +99,7 @@ impl Trees {
         self.items[number as usize] = tree;
     }
 
-    // Appends a tree. All trees move into the room.
+    // Appends a tree. All trees are moved into the list that has room for them.
     pub(crate) fn push_into(&mut self, room: Room, tree: Tree)
         requires { length self.old < room }
         ensures { self.new ≡ self.old ++ tree ∷ [] }

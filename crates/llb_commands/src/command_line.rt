@@ -183,7 +183,7 @@ fn locals_in<'a>(alloc: Global, matches: &ArgMatches<'a>) -> Result<Many<Local<'
     }
 }
 
-// Returns how many workers the matches of a command name.
+// Returns the number of workers that the matches of a command have.
 fn workers_in(command: Command, matches: &ArgMatches<'_>) -> u32
     ensures { IsWorkers command (rows_of (found_of matches.now)) result }
 {
@@ -194,7 +194,7 @@ fn workers_in(command: Command, matches: &ArgMatches<'_>) -> u32
     }
 }
 
-// Returns the file that the matches of a command name.
+// Returns the file that the matches of a command have.
 fn file_in<'a>(command: Command, matches: &ArgMatches<'a>) -> Option<&'a str>
     ensures { IsFile command (rows_of (found_of matches.now)) result }
 {
@@ -204,7 +204,7 @@ fn file_in<'a>(command: Command, matches: &ArgMatches<'a>) -> Option<&'a str>
     }
 }
 
-// Returns the line of a command with its matches.
+// Returns the `Line` that a command and its matches make.
 fn line_of<'a>(
     alloc: Global,
     command: Command,
@@ -222,7 +222,7 @@ fn line_of<'a>(
     })
 }
 
-// Returns the line of `run` on no local sources.
+// Returns the `Line` of `run` without local sources.
 fn bare_run<'a>(alloc: Global) -> Line<'a>
     ensures { Says None result }
 {
@@ -270,8 +270,8 @@ pub(crate) fn line_or_page<'a, S: AsStr>(
     }
 }
 
-/// Returns what the words after the program's name ask for; no words are `run`. Fails with 183 without a word if `clap` refuses them, which is also its
-/// answer to a request for help; with 183 and the first word for a local source that has no `=`; with 184.
+/// Returns what the words after the program's name ask for; no words are `run`. Fails with 183 and no word if `clap` refuses the words, as it also does if they
+/// ask for help; with 183 and the first word that should be a local source and has no `=`; or with 184 if memory is refused.
 pub fn command_of<'a, S: AsStr>(alloc: Global, words: &'a [S]) -> Result<Line<'a>, WordsFault<'a>>
     ensures says { IfOk result (Says (subcommand_of llbm_app (map S.text words.entry.now))) }
     ensures refuses { IsByWords (fault_of llbm_app (map S.text words.entry.now))

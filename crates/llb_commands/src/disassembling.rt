@@ -15,7 +15,7 @@ use llb_wire::Over;
 use std::alloc::Global;
 use std::io::{Read, Write};
 
-// Returns the program's fault for one of reading a definition: a refusal, unless memory was refused.
+// Returns the program's fault for a fault of reading a definition: a refusal, unless memory was refused.
 fn entries_fault(fault: OpFault) -> ProgramFault
     ensures { result ≡ entries_fault fault }
 {
@@ -64,10 +64,9 @@ fn disassembled<R: Read, W: Write>(
     }
 }
 
-/// Reads a definition from `input` and writes its entries to `out` as their one text; a refusal goes to `err`, as a line. Returns the
-/// exit status: 0 if the whole text is written; 2 if the definition does not read (`fault 1` to `4`, `11` to `13`, and `fault 81 13` past
-/// 67,108,864 bytes), and nothing is written to `out`; 3 if a read (181), a write (164) or memory (14, 163, 184) failed, and
-/// nothing, or a prefix of the text, is written.
+/// Reads a definition from `input` and writes the text of its entries to `out`; a refusal goes to `err`, as a line. Returns the exit status: 0 if the whole
+/// text is written; 2 if the definition can't be read (`fault 1` to `4`, `11` to `13`, and `fault 81 13` past 67,108,864 bytes), and nothing is written to
+/// `out`; 3 if a read (181), a write (164) or memory (14, 163, 184) failed, and nothing, or a prefix of the text, is written.
 pub fn dis_over<R: Read, W: Write, E: Write>(
     alloc: Global,
     input: &mut R,

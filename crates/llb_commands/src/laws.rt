@@ -18,8 +18,8 @@ use llb_stepper::{
 use llb_wire::Bytes;
 use std::alloc::Global;
 
-/// Proves that for a text of some entries, the definition that it is assembled to, and any bytes that have the same entries, run on
-/// the same local trees to the text of one and the same result.
+/// Proves that, for a text of some entries, the definition that it is assembled to and any bytes that have the same entries run to the same text of the result,
+/// on the same local trees.
 pub fn assembled_runs_alike(text: &[u8], entries: &Entries, bytes: &Bytes)
     ensures { RunsAlike text.now entries.now bytes.now }
 {

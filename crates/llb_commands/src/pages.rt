@@ -1,5 +1,5 @@
-//! The pages that follow the line of words that ask for help or for the version. They are the texts that `clap` renders for the command line;
-//! no contract speaks of those, so they are constants here, and a test of the program compares them with `clap`'s.
+//! The pages that follow the line of words that ask for help or for the version. They are the texts that `clap` renders for the command line; no contract says
+//! what `clap` renders, so the pages are constants here, and a test of the program compares them with `clap`'s.
 
 ghost use Rattle.std.specs.Prelude.{◌≡◌, map};
 ghost use Rattle.llb_commands.specs.Pages.{command_named, help_page, named_first, page_for};

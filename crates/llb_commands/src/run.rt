@@ -39,12 +39,12 @@ impl Gate for Open {
     }
 }
 
-// How a run ended that was not cut short by a fault.
+// How a run ended, if no fault cut it short.
 #[derive(Drop)]
 enum Ended {
     // The text of its result is written.
     Printed,
-    // A vertex failed, so that the result is no tree: the board has them all.
+    // A vertex failed, so that there is no tree of the result; the board has all vertices that failed.
     Failed(Board),
 }
 
@@ -96,7 +96,7 @@ fn print_over<W: Write>(alloc: Global, tree: &Tree, out: &mut W) -> Result<(), P
     print_tree(alloc, tree, &mut sink)
 }
 
-// Writes the text of an output if it is a tree; if it is none, returns the board.
+// Writes the text of an output; if the vertex is not done and so has no tree for it, returns the board.
 fn print_output<W: Write>(
     alloc: Global,
     board: Board,
@@ -193,11 +193,10 @@ fn print_end<W: Write, E: Write>(
     exit_status(ended, out, err)
 }
 
-/// Reads a definition from `input`, runs it on the local trees with one worker and caches without instances, and writes
-/// the text of its result to `out`; refusals and failures go to `err`, a line each. Returns the exit status: 0 if the whole
-/// text is written; 1 if a vertex failed; 2 if the definition is refused, or a local source has no tree (`fault 121` and its
-/// name); 3 if a read, a write or memory failed. But for 0, nothing is written to `out`, or, for 3, a prefix of the text.
-/// Reading ends past 67,108,864 bytes (`fault 81 13`) or after 2^27 reads (`fault 181`).
+/// Reads a definition from `input`, runs it on the local trees with one worker and caches without instances, and writes the text of its result to `out`;
+/// refusals and failures go to `err`, a line each. Returns the exit status: 0 if the whole text is written; 1 if a vertex failed; 2 if the definition is
+/// refused, or a local source has no tree (`fault 121` and its name); 3 if a read, a write or memory failed. With 1 and 2 nothing is written to `out`, with 3
+/// nothing or a prefix of the text. Reading ends past 67,108,864 bytes (`fault 81 13`) or after 2^27 reads (`fault 181`).
 pub fn run_over<R: Read, W: Write, E: Write>(
     alloc: Global,
     input: &mut R,

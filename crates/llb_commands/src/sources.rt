@@ -1,5 +1,5 @@
-//! The trees of local sources, read from the texts of their files. Files are opened through a trait; contracts know the bytes of
-//! its files, but not those of the program's own files.
+//! The trees of local sources, read from the texts of their files. Files are opened through a trait: contracts know the bytes of files of this trait, but
+//! nothing of the bytes of the machine's own files.
 
 ghost use Rattle.std.specs.Prelude.{◌≡◌, ℕ, List, [], Option, Some, IfOk, IfSome};
 ghost use Rattle.llb_commands.specs.Faults.{source_text};
@@ -70,7 +70,7 @@ fn local_from<R: Read>(alloc: Global, input: &mut R) -> Result<Tree, SourceFault
     }
 }
 
-// Returns the result of reading a text as that of a local source.
+// Returns the result of reading a text as the result for a local source.
 fn told(read: Result<Tree, TextFault>) -> Result<Tree, SourceFault>
     ensures { result ≡ told read }
 {
@@ -80,9 +80,9 @@ fn told(read: Result<Tree, TextFault>) -> Result<Tree, SourceFault>
     }
 }
 
-/// Reads a text to its end as a tree, and adds it as the local tree of this name; of two under one name, the later holds. Fails with 181 if a
-/// read fails, or the end is not met in 2^27 reads; with 185 past 67,108,864 bytes; with 31 to 34 and 184; with 92 only if the text is a tree's.
-/// No tree is added then.
+/// Reads a text to its end as a tree, and adds it as the local tree of this name; a tree that the name had before is replaced. Fails with 181 if a read fails,
+/// or the end is not met in 2^27 reads; with 185 past 67,108,864 bytes; with 31 to 34 and 184; with 92 only if the text is a tree's. After a fault no tree is
+/// added.
 pub fn add_local<R: Read>(
     alloc: Global,
     name: &str,
@@ -119,8 +119,8 @@ fn add_file<F: Sources>(
     add_local(alloc, local.name, &mut input, locals)
 }
 
-/// Reads the trees of local sources, in their order; of two under one name, the later holds. The first fault ends it:
-/// 31 to 34, 92, 181, 184 and 185.
+/// Reads the trees of local sources, in their order; if two have one name, the tree of the later one is kept. The first fault ends it: 31 to 34, 92, 181, 184
+/// and 185.
 pub(crate) fn locals_of<F: Sources>(
     alloc: Global,
     files: &F,

@@ -27,7 +27,7 @@ pub fn acts_alike(action: &Action, base: &Tree, second: &Tree)
     let _ = second;
 }
 
-/// Proves that a command on alike views fails on both, or results in alike views.
+/// Proves that a command that runs on two alike views fails on both, or results in alike views.
 pub fn runs_alike(setting: &Setting, view: &View, command: &Command)
     ensures { RunsAlike setting.now view.now command.now }
 {
@@ -36,14 +36,14 @@ pub fn runs_alike(setting: &Setting, view: &View, command: &Command)
     let _ = command;
 }
 
-/// Proves that if local trees differ only in contents, so do the plain outcomes of a vertex: it is blocked in both,
-/// failed in both with the same fault, or done in both with equally many outputs. `relations`: the contents are in any
-/// relation that appending keeps, if what the ops themselves write is related to itself, and digests of
-/// related contents are related. `expansions`: one is what the other expands to. `tokens`: the same for tokens, the
-/// byte 255 and a number of four bytes, if no exec at or before the vertex makes a listing, nothing there writes the
-/// byte 255, and the sources at or before each exec that makes a digest are given by value: the same in both, without
-/// the byte 255. `undigested`: the relation relates each content to itself, and no exec at or before the vertex makes a
-/// digest. `contents`: the same if pieces of the contents are replaced by their partners in a list of pairs.
+/// Proves that if each local source at or before a vertex has the same tree in two lists of local trees but for the contents of files, and these are related,
+/// then the vertex has the same plain outcome with both lists but for related contents: blocked, failed with one fault, or done with as many outputs. Each
+/// clause is for one kind of relation. `relations`: any relation that appending keeps, if each content that the ops themselves write is related to itself, and
+/// digests of related contents are related. `expansions`: with the same premises, the second content is what the first expands to. `tokens`: the same for
+/// tokens (the byte 255 and a number of four bytes), if no exec at or before the vertex makes a listing, nothing there writes the byte 255, and the sources at
+/// or before each exec that makes a digest have the same trees in both lists, without the byte 255. `undigested`: any relation that appending keeps and that
+/// relates each content to itself, if no exec at or before the vertex makes a digest. `contents`: as `undigested`; the second content is the first with some
+/// pieces replaced, each by its partner in a list of pairs.
 pub fn contents_are_handed_on(graph: &Graph)
     ensures relations { HandsRelationsOn graph.now }
     ensures expansions { HandsExpansionsOn graph.now }
@@ -54,16 +54,15 @@ pub fn contents_are_handed_on(graph: &Graph)
     graph.is_graph();
 }
 
-/// Proves that a tree expands to at most one tree, given what its contents expand to.
+/// Proves that there is at most one tree that a tree expands to, if what each content expands to is given.
 pub fn expands_to_one(tree: &Tree)
     ensures { ExpandsToOne tree.now }
 {
     let _ = tree;
 }
 
-/// Proves that on two boards over one graph, whose local trees differ only in contents, vertices that are done or
-/// failed on both ended alike, failures included, if no cache mount is at or before them; by any workers and any order
-/// of events.
+/// Proves that if the local trees of two boards over one graph differ only in contents, then a vertex that is done or failed on both boards ended alike there
+/// (done with related outputs, or failed with the same fault), if no cache mount is at or before it. This holds for any workers and any order of events.
 pub fn boards_settle_alike(board: &Board, other: &Board)
     ensures relations { SettleAlike board.now other.now }
     ensures contents { SettleExchanged board.now other.now }

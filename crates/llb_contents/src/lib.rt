@@ -1,10 +1,10 @@
-//! Laws of contents: if the local trees of two runs differ only in the contents of files, by a relation that appending keeps, then so do the
-//! outcomes. There is no code but the laws. `tools/build` relies on them: it gives the program a short token for each content. It is built on
-//! `llb_board`.
+//! Laws of contents: if the local trees of two runs differ only in the contents of files, and these are related by a relation that appending keeps, then the
+//! outcomes differ only in related contents. There is no code but the laws. `tools/build` relies on them: it gives the program a short token in place of each
+//! content. It is built on `llb_board`.
 //!
 //! Types: none; `specs/Laws.antt` has the relation on trees, views and outcomes.
-//! Promise: `laws::contents_are_handed_on` (`tokens`, `contents`): if no exec at or before a vertex makes a listing, none there writes the byte
-//! 255, and each that makes a digest has its sources by value, tokens in the sources come out as the same tokens in the outcome.
+//! Promise: `laws::contents_are_handed_on` (`tokens`, `contents`): if no exec at or before a vertex makes a listing, nothing there writes the byte 255, and the
+//! sources before each exec that makes a digest have no tokens, then tokens in the sources come out as the same tokens in the outcome.
 //! `laws::boards_settle_alike` says the same of what two boards have settled.
 //!
 //! A caller:

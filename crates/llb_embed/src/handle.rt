@@ -8,7 +8,7 @@ use crate::kept::Kept;
 use std::alloc::Global;
 use std::mem::replace;
 
-/// Nothing, or a value in memory of its own.
+/// A handle: it holds nothing, or a value on the heap.
 #[repr(C)]
 #[derive(Drop)]
 pub struct Llb {

@@ -1,4 +1,4 @@
-//! A value behind a pointer that C keeps: none, or the content of a box whose pointer was taken.
+//! A value behind a pointer that C keeps: no value, or the content of a box whose pointer was taken.
 
 ghost use Rattle.std.specs.Prelude.{◌≡◌};
 ghost use Rattle.std.specs.declared.option.Option.{Option};
@@ -42,7 +42,7 @@ impl Kept {
         unsafe { Box::from_raw(alloc, at as *mut Held) }
     }
 
-    /// Returns no value.
+    /// Makes a `Kept` that has no value.
     pub fn none() -> Kept
         ensures { result.value ≡ None }
     {

@@ -31,7 +31,7 @@ use working::{assemble, copy_out, disassemble, local, open, reply, run, show};
 /// Memory for what the handle holds was refused.
 const NO_MEMORY: u8 = 3;
 
-/// Adds the tree of a text as the local tree of a name; of two under one name, the later holds. Returns 0; or 2 or 3, with a line of messages: 2 if the
+/// Adds the tree of a text as the local tree of a name; a tree that the name had before is replaced. Returns 0; or 2 or 3, with a line of messages: 2 if the
 /// text is refused (31 to 33, 185) or the name is not UTF-8 (183), 3 if memory is (34, 92, 184), and then no tree is added.
 #[unsafe(no_mangle)]
 pub extern "C" fn llb_local(alloc: Global, it: &mut Llb, name: &[u8], text: &[u8]) -> u8

@@ -23,7 +23,7 @@ pub enum Stepped {
     Read,
     /// The action with this number is done.
     Acted(u32),
-    /// The input with this number among the merge's is laid over those before it.
+    /// The merge's input with this number is laid over the inputs before it.
     Merged(u32),
     /// The command with this number has ended with this status.
     Ran(u32, u32),

@@ -2,7 +2,7 @@
 //! texts alone; which event is granted is what the table says (`llb_model`). It is built on `llb_cache`.
 //!
 //! Types: `Event`, `Stepped`, `Settled`, `Cancelled`; `ClaimFault`, `StepFault`, `SettleFault`, `CancelFault` (131 to 138, 141); `VertexFault`.
-//! Promise: Each refusal prints its number, and 135 the ID of the held key too: contracts have these texts (`claim_text` and its kin in
+//! Promise: each refusal prints its number, and 135 the ID of the held key too: contracts have these texts (`claim_text` and the like in
 //! `specs/Faults.antt`).
 //!
 //! A caller:

@@ -1,5 +1,5 @@
-//! Rows with digest texts of any kind: the graph that they make, or why they are refused. Rows are written as `DIGEST = NAME`, with `; ` between
-//! them; NAME is that of an entry of `llb_samples`.
+//! Rows with digest texts of any kind: the graph that they make, or why they are refused. Rows are written as `DIGEST = NAME`, with `; ` between them; NAME is
+//! the name of an entry of `llb_samples`.
 
 use super::told::{is_same, prints, say};
 use llb_loader::{Graph, LoadFault, Row, link};
@@ -44,7 +44,7 @@ fn refusal(rt: &impl Abort, alloc: Global, given: &str) -> LoadFault {
 
 // Rows, and the refusal of each.
 const REFUSED: &[(&str, &str)] = &[
-    // Inputs lead from row to row in a cycle; then there is none.
+    // Inputs lead from row to row in a cycle; in the next two cases there is no cycle.
     ("A = ON_B; B = ON_A; T = NAMES_A", "87"),
     ("A = ON_B; B = ON_C; T = NAMES_A", "86 1 0"),
     ("A = D_ON_T; T = NAMES_A", "86 0 0"),

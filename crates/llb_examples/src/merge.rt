@@ -1,5 +1,5 @@
-//! One tree laid over another: three of them, and what is known of any two. The results of merges of inputs are tested by the program (`layers` in
-//! `llbm`).
+//! One tree laid over another: examples with three trees, and the laws of laying on pairs of trees. The results of merges of inputs are tested by the program
+//! (`layers` in `llbm`).
 
 use super::overlay::lent;
 use super::told::{Row, is_same, made, prints, tree_text};

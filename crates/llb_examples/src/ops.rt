@@ -27,7 +27,7 @@ const BOTH: &[u8] = b"\x0A\x32\
     \x0A\x4B\x0A\x49\x0A\x47\
     sha256:e00d65597895790f7dc26dbf724a411bd83c8e15881ab3eea18ea75095782dab";
 
-// The source `local://a` with attributes for k, j and k again; the last has a field without a name.
+// The source `local://a` with attributes for `k`, `j` and `k` again; the last has a field without a name.
 const SOURCE: &[u8] =
     b"\x1A\x25\x0A\x09local://a\x12\x06\x0A\x01k\x12\x01v\x12\x06\x0A\x01j\x12\x01w\
     \x12\x08\x0A\x01k\x12\x01x\x18\x07";
@@ -88,7 +88,7 @@ const ENTRIES: &[(&[u8], Result<&[u8], OpFault>)] = &[
         b"\x22\x0C\x12\x0A\x2A\x08\x22\x02\x0A\x00\x22\x02\x12\x00",
         Ok(b"\x22\x0A\x12\x08\x2A\x06\x22\x04\x0A\x00\x12\x00"),
     ),
-    // The last member of the oneof is set, by its records after those of the others.
+    // The member of the last record is set; only its records after those of other members count.
     (
         b"\x22\x02\x12\x00\x3A\x00\x22\x02\x12\x00",
         Ok(b"\x22\x02\x12\x00"),

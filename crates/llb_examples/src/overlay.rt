@@ -232,7 +232,7 @@ fn in_place(rt: &impl Abort, mut lower: Tree, upper: &Tree) -> Tree {
     lower
 }
 
-// Returns whether laying over a tree in place, and over one that is handed over, gives the same as over one that is lent.
+// Returns whether `lay_over` and `lay_onto` lead to the same tree as `lay`.
 fn lays_the_same(rt: &impl Abort, alloc: Global, lower: &[Row<'_>], upper: &[Row<'_>]) -> bool {
     let (first, second) = (made(rt, alloc, lower), made(rt, alloc, lower));
     let upper = made(rt, alloc, upper);
@@ -255,7 +255,7 @@ fn a_lower_tree_is_lent_or_handed_over_or_laid_over_in_place(rt: HostRuntime) {
     }
 }
 
-// Returns whether a `Way` that keeps directories and sets modes and owners gives the same in place.
+// Returns whether laying in place, with a `Way` that keeps directories and sets modes and owners, leads to the same tree as laying on a copy.
 fn way_in_place(rt: &impl Abort, alloc: Global) -> bool {
     let (mut lower, upper) = (made(rt, alloc, LOWER), made(rt, alloc, UPPER));
     let way = Way::new(Some(0o4640), None, Some(5), true).expect(rt, "a way");

@@ -91,7 +91,7 @@ pub(crate) fn path_of(rt: &impl Abort, alloc: Global, text: &str) -> Path {
     Path::read(alloc, text).expect(rt, "a path")
 }
 
-// Returns whether a path is the same as another one, and whether it comes before it.
+// Returns whether two paths are the same, and whether the first comes before the other.
 fn compared(rt: &impl Abort, alloc: Global, one: &str, other: &str) -> (bool, bool) {
     let path = path_of(rt, alloc, one);
     let other = path_of(rt, alloc, other);

@@ -1,9 +1,9 @@
 //! Calls on trees in transcripts (`stage`). There are two trees, this one and the other, both empty at first.
 //!
-//! `dir PATH MODE OWNER` and `file PATH MODE OWNER CONTENT` put an entry; `remove PATH` removes what is at or below a path; `graft PATH GOAL`
-//! copies what is at or below the path to the goal as well; `share PATH GOAL MODE OWNER` puts a file with the content of the one at the path there,
-//! if there is one; `overlay MODE USER GROUP KEEPS` lays the other tree over this one. `look PATH`, `list PATH` and `tree` show this tree. `copy` and
-//! `subtree PATH` replace the other tree by one made from this, `below PATH` by an empty tree with this one at the path, and `swap` exchanges the two.
+//! `dir PATH MODE OWNER` and `file PATH MODE OWNER CONTENT` put an entry; `remove PATH` removes what is at or below a path; `graft PATH GOAL` puts what is at
+//! or below the path at the goal too; `share PATH GOAL MODE OWNER` puts a file at the goal with the content of the file at the path, if there is one;
+//! `overlay MODE USER GROUP KEEPS` lays the other tree over this one. `look PATH`, `list PATH` and `tree` show this tree. `copy` and `subtree PATH`
+//! replace the other tree by one made from this, `below PATH` by an empty tree with this one at the path, and `swap` exchanges the two.
 //! A content that ends in `\n` ends with a line end.
 
 use super::told::{say, say_looked, say_names, say_tree};

@@ -10,7 +10,7 @@ use std::io;
 use std::io::{ErrorKind, Write};
 use std::process::Abort;
 
-// Returns the number at a position, and its end. A position past the end has none.
+// Returns the number at a position, and its end; `None` for a position past the end.
 fn number(bytes: &[u8], at: usize) -> Option<Result<(u64, usize), WireFault>> {
     if at > bytes.len() {
         return None;
@@ -54,7 +54,7 @@ fn a_number_has_at_most_ten_bytes(rt: HostRuntime) {
     }
 }
 
-// Returns the record at a position. A position past the end has none.
+// Returns the record at a position; `None` for a position past the end.
 fn record(bytes: &[u8], at: usize) -> Option<Result<Option<Field>, WireFault>> {
     if at > bytes.len() {
         return None;

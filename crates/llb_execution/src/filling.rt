@@ -1,4 +1,4 @@
-//! Runs a command on mounts of which some show caches; their trees are put in for that one command. It is built on mounts and
+//! Runs a command on mounts, some of which show caches; the trees of the caches are put into their mounts for that one command. It is built on mounts and
 //! commands; it knows neither keys nor instances.
 
 ghost use Rattle.std.specs.Prelude.{◌≡◌, ◌<◌, length, replicate, IfOk, OnErr};
@@ -35,7 +35,7 @@ fn blanks(alloc: Global, count: usize) -> Result<Vec<Tree>, NoMemory>
     Ok(trees)
 }
 
-// Swaps each tree with that of the mount with its number. The spare tree is in the mount while the two are swapped.
+// Swaps each tree with the tree of the mount whose number is at the same index. The spare tree is in the mount while the two are swapped.
 fn swap_all(mounts: &mut Mounts, numbers: &[u32], trees: &mut Vec<Tree>, spare: Tree) -> Tree
     requires apart { Distinct numbers.now }
     requires within { All (λ n. n < length mounts.old) numbers.now }
@@ -52,9 +52,8 @@ fn swap_all(mounts: &mut Mounts, numbers: &[u32], trees: &mut Vec<Tree>, spare: 
     spare
 }
 
-// Runs a command on mounts, while those with these numbers show these trees, and returns its status. If that
-// is 0, the trees are written back and these mounts are empty; else, and if memory is refused, mounts and trees are as
-// they were.
+// Runs a command on mounts, while the mounts with these numbers show these trees, and returns the status of the command. If it is 0, the trees are as the
+// command left them, and these mounts are empty; otherwise, or if memory is refused, mounts and trees are as they were.
 pub(crate) fn run_filled(
     alloc: Global,
     command: &Command,

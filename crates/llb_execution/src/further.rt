@@ -21,9 +21,8 @@ pub struct Further {
     pub fault: Option<VertexFault>,
 }
 
-/// Does micro-steps from number `done`, up to the first that faults or the last. The trees are those
-/// of the instances of the caches that the workspace shows, in the order of the needs. Fails with 5 `Memory` alone;
-/// then some of the micro-steps may be done.
+/// Does micro-steps from number `done` on, up to the first that faults or else the last one. The trees given are those of the instances of the caches that the
+/// workspace shows, in the order of the needs. Fails with 5 `Memory` alone; then some of the micro-steps may be done.
 pub fn do_further(
     alloc: Global,
     steps: &Steps,

@@ -14,7 +14,7 @@ pub trait Gate {
     /// Whether it may stop this worker at this vertex.
     ghost may_stop: { ℕ → ℕ → Bool };
 
-    /// Lets worker w work on vertex v, or fails with 143 `Stopped`. It returns after a bounded number of turns.
+    /// Lets worker `w` work on vertex `v`, or fails with 143 `Stopped`. It returns after a bounded number of turns.
     fn pass(&self, w: u32, v: u32) -> Result<(), Stopped>
         ensures { IfErr result (λ _. IsTrue (may_stop w v)) };
 }

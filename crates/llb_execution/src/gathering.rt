@@ -1,4 +1,4 @@
-//! The trees of a vertex's inputs, among the vertices that have ended, as copies that share them.
+//! Gathers the trees of a vertex's inputs from the vertices that have ended. The copies share the trees.
 
 ghost use Rattle.std.specs.Prelude.{◌≡◌, ℕ, Option, IfOk, option_map};
 ghost use Rattle.llb_model.specs.Outcome.{Ending, inputs_from, output_in};

@@ -134,7 +134,7 @@ impl Job {
         self.trees.as_slice()
     }
 
-    /// Returns the numbers of these instances.
+    /// Returns the numbers of the cache instances, in the order of the mounts that show them.
     pub fn instances(&self) -> &[u32]
         ensures { result.now ≡ self.now.instances }
     {

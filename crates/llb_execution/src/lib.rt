@@ -3,8 +3,9 @@
 //!
 //! Types: `Program`, `Steps`, `MicroStep`, `Workspace` (what a program works on), `Job` (a program with its workspace and cache trees), `Outcome`,
 //! `Outputs` (vertices that are done, among which inputs are gathered), `Gate`, `WorkFault`.
-//! Promise: `Workspace::step` (`left`, `err`) leaves exactly what the machine's micro-step leaves; where memory is refused, all is as it was.
-//! `work` (`job`, `stopped`) does all micro-steps that a job has left, and is stopped (143) only where the gate's type allows it.
+//! Promise: `Workspace::step` (`left`, `err`) leaves exactly what the machine's micro-step leaves; if memory is refused, nothing is changed.
+//! `work` (`job`, `stopped`) does all micro-steps that a job has left, and is stopped (143) only if the gate's type says that the gate may stop that
+//! worker at that vertex.
 //!
 //! A caller:
 //!

@@ -1,5 +1,4 @@
-//! The trees that a workspace works on, in an order, and the role of each. Nothing here
-//! allocates.
+//! The trees that a workspace works on, in their order, and the role of each. Nothing here allocates.
 
 ghost use Rattle.std.specs.Prelude.{◌≡◌, ◌++◌, ◌∷◌, [], ℕ, List, Option, length, map, option_map, slice_get};
 ghost use Rattle.llb_tree.specs.Tree.{TreeMap};
@@ -34,7 +33,7 @@ pub enum Part<'a> {
 }
 
 impl Workspace {
-    /// Returns tree i of those that the workspace works on: the local tree of a source; the inputs of a file op, then
+    /// Returns tree `i` of those that the workspace works on: the local tree of a source; the inputs of a file op, then
     /// its results so far; the inputs of a merge, then what is laid so far; for each mount of an exec its tree or, if it
     /// shows a cache, the number of the need whose instance has that tree. `held` is how many instances are held. Returns
     /// `None` past the last tree. Does not allocate.
@@ -61,7 +60,7 @@ impl Workspace {
         }
     }
 
-    /// Returns the role of tree i; `None` past the last tree. Does not allocate.
+    /// Returns the role of tree `i`; `None` past the last tree. Does not allocate.
     pub fn part(&self, i: usize) -> Option<Part<'_>>
         ensures { option_map role_in result ≡ slice_get (roles_of self.now) i }
     {
@@ -74,7 +73,7 @@ impl Workspace {
     }
 }
 
-// Returns the role of tree i of a source.
+// Returns the role of tree `i` of a source.
 fn local_part<'a>(i: usize) -> Option<Part<'a>>
     ensures { option_map role_in result ≡ slice_get (Local ∷ []) i }
 {
@@ -84,7 +83,7 @@ fn local_part<'a>(i: usize) -> Option<Part<'a>>
     None
 }
 
-// Returns the role of tree i of a file op.
+// Returns the role of tree `i` of a file op.
 fn file_part<'a>(inputs: &[Tree], results: &[Tree], i: usize) -> Option<Part<'a>>
     ensures { option_map role_in result ≡ slice_get (map input_role inputs.now ++ results_from 0 results.now) i }
 {
@@ -98,7 +97,7 @@ fn file_part<'a>(inputs: &[Tree], results: &[Tree], i: usize) -> Option<Part<'a>
     None
 }
 
-// Returns the role of tree i of a merge.
+// Returns the role of tree `i` of a merge.
 fn merge_part<'a>(inputs: &[Tree], i: usize) -> Option<Part<'a>>
     ensures { option_map role_in result ≡ slice_get (map input_role inputs.now ++ Laid ∷ []) i }
 {
@@ -111,7 +110,7 @@ fn merge_part<'a>(inputs: &[Tree], i: usize) -> Option<Part<'a>>
     None
 }
 
-// Returns the role of tree i of an exec.
+// Returns the role of tree `i` of an exec.
 fn mount_part(mounts: &Mounts, i: usize) -> Option<Part<'_>>
     ensures { option_map role_in result ≡ slice_get (map mount_role mounts.now) i }
 {
@@ -131,7 +130,7 @@ fn here(tree: Option<&Tree>) -> Option<Look<'_>>
     }
 }
 
-// Returns tree i of two lists, one after the other.
+// Returns tree `i` of two lists, one after the other.
 fn among<'a>(first: &'a [Tree], second: &'a [Tree], i: u32) -> Option<&'a Tree>
     ensures { option_map (λ t. t.now) result ≡ slice_get (first.now ++ second.now) i }
 {
@@ -142,7 +141,7 @@ fn among<'a>(first: &'a [Tree], second: &'a [Tree], i: u32) -> Option<&'a Tree>
     second.get(at - first.len())
 }
 
-// Returns tree i of a list of trees and one more after them.
+// Returns tree `i` of a list of trees and one more after them.
 fn before_last<'a>(first: &'a [Tree], last: &'a Tree, i: u32) -> Option<&'a Tree>
     ensures { option_map (λ t. t.now) result ≡ slice_get (first.now ++ last.now ∷ []) i }
 {
@@ -192,7 +191,7 @@ fn last_place(numbers: &[u32], i: u32, held: usize) -> Option<usize>
     place
 }
 
-// Returns the last index known after number k.
+// Returns the index to keep after the number at index `k` is looked at: `k` if the number is `i`, else the index that was kept before.
 fn next_place(i: u32, number: u32, k: usize, place: Option<usize>) -> Option<usize>
     ensures { result ≡ next_place i number k place }
 {

@@ -1,4 +1,4 @@
-//! One micro-step, which borrows from the micro-steps that it is one of. Nothing here does one.
+//! One micro-step, which borrows from the list of micro-steps that it is in. Nothing here does a micro-step.
 
 ghost use Rattle.std.specs.Prelude.{◌≡◌, ◌∷◌, [], map, option_map, slice_get};
 ghost use Rattle.llb_model.specs.Program.{ReadLocal, Act, LayInput, runs_of};
@@ -20,7 +20,7 @@ pub enum MicroStep<'a> {
     Run(&'a Setting, &'a Joined, &'a [Joined]),
 }
 
-// Returns the one micro-step of a source, for k = 0.
+// Returns the one micro-step of a source, for `k` = 0.
 pub(crate) fn read_at<'a>(k: u32) -> Option<MicroStep<'a>>
     ensures { option_map step_in result ≡ slice_get (ReadLocal ∷ []) k }
 {
@@ -30,7 +30,7 @@ pub(crate) fn read_at<'a>(k: u32) -> Option<MicroStep<'a>>
     Some(MicroStep::ReadLocal)
 }
 
-// Returns the action at index k.
+// Returns the action at index `k`.
 pub(crate) fn act_at<'a>(actions: &'a [Action], k: u32) -> Option<MicroStep<'a>>
     ensures { option_map step_in result ≡ slice_get (map Act actions.now) k }
 {
@@ -40,7 +40,7 @@ pub(crate) fn act_at<'a>(actions: &'a [Action], k: u32) -> Option<MicroStep<'a>>
     }
 }
 
-// Returns the laying of the number at index k.
+// Returns the laying of the input whose number is at index `k`.
 pub(crate) fn lay_at<'a>(numbers: &[i64], k: u32) -> Option<MicroStep<'a>>
     ensures { option_map step_in result ≡ slice_get (map LayInput numbers.now) k }
 {
@@ -50,7 +50,7 @@ pub(crate) fn lay_at<'a>(numbers: &[i64], k: u32) -> Option<MicroStep<'a>>
     }
 }
 
-// Returns the command at index k, with those after it.
+// Returns the command at index `k`, with those after it.
 pub(crate) fn run_at<'a>(
     setting: &'a Setting,
     commands: &'a [Joined],

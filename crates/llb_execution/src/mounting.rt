@@ -15,7 +15,7 @@ use llb_tree::{Path, Tree, TreeFault};
 use llb_wire::{Many, Text};
 use std::alloc::Global;
 
-/// Returns where commands run that have this meta.
+/// Returns the setting of the commands that have this meta: the directory that they run in, and their variables.
 pub(crate) fn setting_with(alloc: Global, meta: &Option<Meta>) -> Result<Setting, NoMemory>
     ensures { IfOk result (λ s. s ≡ setting_of meta.now) }
 {
@@ -35,7 +35,7 @@ pub(crate) fn setting_with(alloc: Global, meta: &Option<Meta>) -> Result<Setting
     }
 }
 
-// Reads a text as a path; returns the root if it reads as none.
+// Reads a text as a path; returns the root if the text is no path.
 fn path_in(alloc: Global, text: &Text) -> Result<Path, NoMemory>
     ensures { IfOk result (λ p. p ≡ path_in text.now) }
 {

@@ -95,9 +95,8 @@ impl Outcome {
     }
 }
 
-/// Does all remaining micro-steps of a job, behind a gate. Fails with 143 `Stopped` if the gate stops the worker, which
-/// it does only if it may stop that worker at that vertex, and with 142 `Memory`; then the job is gone. It works on
-/// copies of the job's workspace and trees.
+/// Does all remaining micro-steps of a job, behind a gate. Fails with 143 `Stopped` if the gate stops the worker, which it does only if it may stop that worker
+/// at that vertex, or with 142 `Memory`; then the job is dropped. It works on copies of the job's workspace and trees.
 pub fn work<G: Gate>(alloc: Global, job: Job, gate: &G) -> Result<Outcome, WorkFault>
     ensures job { IfOk result (λ o. o.job ≡ job) }
     ensures stopped { result ≡ Err work.Stopped → IsTrue (G.may_stop job.worker job.vertex) }

@@ -51,8 +51,7 @@ fn place_first(mut outputs: Vec<Tree>, tree: Tree) -> Vec<Tree>
     outputs
 }
 
-// Puts each result in place of its action's output, the last result first, so that the first of two for one output
-// stays.
+// Puts each result in place of its action's output, the last result first, so that of two results for one output the first stays.
 fn place_all(mut outputs: Vec<Tree>, mut results: Vec<Tree>, actions: &[Action]) -> Vec<Tree>
     requires { outputs.items ≡ replicate (length outputs.items) empty_tree }
     ensures { result.items ≡ map (λ i. tree_by i (numbers_of actions.now) results.items) (range_with_len 0 (length outputs.items)) }
@@ -63,8 +62,7 @@ fn place_all(mut outputs: Vec<Tree>, mut results: Vec<Tree>, actions: &[Action])
     outputs
 }
 
-// Puts each mount's whole tree in place of the mount's output, the last mount first, so that the first of two for one
-// output stays.
+// Puts each mount's whole tree in place of the mount's output, the last mount first, so that of two trees for one output the first stays.
 fn place_shown(mut outputs: Vec<Tree>, mut mounts: Vec<Shown>, given: &[Mount]) -> Vec<Tree>
     requires { outputs.items ≡ replicate (length outputs.items) empty_tree }
     ensures { result.items ≡ map (λ i. tree_for i (mount_outputs given.now) mounts.items) (range_with_len 0 (length outputs.items)) }

@@ -20,7 +20,7 @@ pub struct Program {
     pub(crate) output_numbers: Vec<i64>,
 }
 
-// Written out, so that the crates above drop one by this one function.
+// Written by hand, so that it is proved once; a derived one is proved again in every function that drops such a value.
 impl Drop for Program {
     fn drop(self) {
         let Program {

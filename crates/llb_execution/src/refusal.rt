@@ -1,4 +1,4 @@
-//! Refused memory, the only fault that the calls of lower crates made here can have.
+//! Refused memory: the calls of lower crates that are made here can fail with nothing else.
 
 use llb_applet::ScriptFault;
 use llb_tree::TreeFault;

@@ -1,5 +1,5 @@
-//! Whether two workspaces are the same by value, or the micro-steps of two vertices, and whether a program is that of a vertex.
-//! Nothing here allocates: micro-steps are compared with those that are made, and the outputs with what the vertex says.
+//! Whether two workspaces are the same by value, whether two vertices have the same micro-steps, and whether a program is that of a vertex. Nothing here
+//! allocates: the vertex's micro-steps are made before, and the outputs are compared with the fields of the vertex.
 
 ghost use Rattle.std.specs.Prelude.{◌≡◌, ◌↔◌, IsTrue, [], ◌∷◌, map};
 ghost use Rattle.llb_loader.specs.Rules.{mount_outputs};
@@ -41,7 +41,7 @@ fn same_own(own: &WorkState, other: &WorkState) -> bool
 }
 
 impl Program {
-    /// Returns whether this is a vertex's program, but with these micro-steps; they are to be the vertex's. Does not allocate.
+    /// Returns whether this is the program of a vertex, given `steps`, the micro-steps of that vertex, which the caller has made. Does not allocate.
     pub fn is_of(&self, vertex: &Vertex, steps: &Steps) -> bool
         ensures { IsTrue result ↔ (self.now ≡ record (program_of vertex.now) { steps = steps.now }) }
     {
@@ -72,7 +72,7 @@ impl Same for Steps {
     }
 }
 
-// Returns whether both are the same micro-steps; those of two kinds are, where there are none.
+// Returns whether both have the same micro-steps. If they are of two kinds, this is so only if neither has any.
 fn are_steps(steps: &ByKind, other: &ByKind) -> bool
     ensures { IsTrue result ↔ (steps_in steps.now ≡ steps_in other.now) }
 {
@@ -98,7 +98,7 @@ fn are_none(steps: &ByKind) -> bool
     }
 }
 
-// Returns whether the one micro-step is the read of a source.
+// Returns whether there is one micro-step, the read of a source.
 fn are_reads(steps: &ByKind) -> bool
     ensures { IsTrue result ↔ (steps_in steps.now ≡ ReadLocal ∷ []) }
 {

@@ -1,4 +1,4 @@
-//! The micro-steps of a vertex, which own their data: the one place where code says what a vertex does. Nothing here does one.
+//! The micro-steps of a vertex, which own their data: the one place where code says what a vertex does. Nothing here does a micro-step.
 
 ghost use Rattle.std.specs.Prelude.{◌≡◌, ◌<◌, ◌^◌, [], IfOk, length, map, option_map, slice_get, unwrap_or};
 ghost use Rattle.llb_loader.specs.Graph.{IsVertexOf};
@@ -22,7 +22,7 @@ pub struct Steps {
     pub(crate) by: ByKind,
 }
 
-// Written out, so that the crates above drop them by this one function.
+// Written by hand, so that it is proved once; a derived one is proved again in every function that drops such a value.
 impl Drop for Steps {
     fn drop(self) {
         let Steps { by: _ } = self;
@@ -50,7 +50,7 @@ impl Model for Steps {
 }
 
 impl Steps {
-    /// Returns the micro-steps of a vertex; one that the loader made has as many as it says. Fails with 5 `Memory` alone.
+    /// Returns the micro-steps of a vertex; a vertex that the loader made has as many as its field `steps` says. Fails with 5 `Memory` alone.
     pub fn of(alloc: Global, vertex: &Vertex) -> Result<Steps, Memory>
         ensures steps { IfOk result (λ s. s ≡ (program_of vertex.now).steps) }
         ensures count { IfOk result (λ s. IsVertexOf vertex.now vertex.now.op.kind → length s ≡ vertex.now.steps) }
@@ -70,7 +70,7 @@ impl Steps {
         Ok(Steps { by })
     }
 
-    /// Returns micro-step k, from 0; `None` if k is at least the number of micro-steps. Does not allocate.
+    /// Returns micro-step `k`, from 0; `None` if `k` is at least the number of micro-steps. Does not allocate.
     pub fn get(&self, k: u32) -> Option<MicroStep<'_>>
         ensures { option_map step_in result ≡ slice_get self.now k }
     {

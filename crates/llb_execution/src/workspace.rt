@@ -115,10 +115,9 @@ impl Workspace {
         }
     }
 
-    /// Does micro-step k; that number is in its fault. The trees are those of the instances of the caches that the
-    /// workspace shows, in the order of the needs, and a command changes them. Returns the fault, if
-    /// there is one, and then the workspace and the trees are as they were except for the last status. Fails with 5
-    /// `Memory` alone; then they are as they were.
+    /// Does micro-step `k`; a fault of it has this number. The trees given are those of the instances of the caches that the workspace shows, in the order of
+    /// the needs, and a command changes them. Returns the fault, if there is one, and then the workspace and the trees are as they were except for the last
+    /// status. Fails with 5 `Memory` alone; then they are as they were.
     pub fn step(
         &mut self,
         alloc: Global,
@@ -166,7 +165,7 @@ impl Workspace {
         outputs_of(own, outputs, vertex)
     }
 
-    // Adds the tree that action k returned to the results, or else returns its fault.
+    // Adds the tree that action `k` returned to the results; if the action failed, returns its fault.
     fn put_result(
         &mut self,
         k: u32,
@@ -267,8 +266,8 @@ impl Workspace {
         }
     }
 
-    // Runs command k on an exec's mounts, of which those that show caches have these trees meanwhile; or skips it, by
-    // its join and the last status. Returns its fault: a status other than 0, if no later command may run.
+    // Runs command `k` on an exec's mounts, while those that show caches have these trees; or skips it, by its join and the last status. Returns its fault: a
+    // status other than 0, if no later command may run.
     fn run(
         &mut self,
         k: u32,
@@ -371,7 +370,7 @@ fn empty(alloc: Global) -> Result<Tree, NoMemory>
     Ok(Tree::empty(alloc)?)
 }
 
-// Returns the number of an action's fault; for 51 `File` that of the tree's fault.
+// Returns the number of an action's fault; for 51 `File` the number of the tree's fault.
 fn number(fault: ActFault) -> u32
     ensures { result ≡ fault_number fault }
 {
@@ -441,8 +440,8 @@ fn are_ands(commands: &[Joined]) -> bool
     true
 }
 
-// Returns the fault of a command that ended with a status other than 0, if no later one may run. Looks at the later
-// ones only then: all that it passes over are skipped, so that a whole script costs no more than its length.
+// Returns the fault of a command that ended with a status other than 0, if no later one may run. It looks at later commands only then, up to the first that is
+// not joined by `&&`; all before that one are skipped, so that a whole script takes time in its length.
 fn exit_of(command: u32, status: u32, later: &[Joined]) -> Option<VertexFault>
     ensures { result ≡ exit_of command (all_and later.now) status }
 {

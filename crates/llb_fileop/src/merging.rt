@@ -1,5 +1,5 @@
-//! Puts copied entries into a tree: a file at its path; a directory, with what is below it, merged with what is
-//! there: the copied directory is laid over a copy of what is there, and the result replaces it.
+//! Puts copied entries into a tree: a file at its path; a directory, with what is below it, merged with what is there. To merge them, the copied directory is
+//! laid over a copy of what is there, and the result replaces it.
 
 ghost use Rattle.std.specs.Prelude.{◌≡◌, ◌≤◌, [], length, false, Ok, None, Some, IsSome, map, IfErr};
 ghost use Rattle.std.specs.FinMap as finite;
@@ -36,9 +36,8 @@ pub fn land_file(
     copy_from(action, second, source, goal, tree)
 }
 
-/// Puts a copy of a directory, with what is below it, at its target. The directory is given as a tree of its own, of
-/// which it is the root. Fails with 24 `Conflict` if a file meets a directory, else as `Tree::put_dir` and
-/// `Tree::graft` do.
+/// Puts a copy of a directory, with what is below it, at its target. The directory is given as the root of a tree. Fails with 24 `Conflict` if a file meets a
+/// directory, else as `Tree::put_dir` and `Tree::graft` do.
 pub fn land_dir(
     alloc: Global,
     action: &CopyFile,
@@ -120,8 +119,8 @@ fn may_land(here: &Tree, source: &Tree, goal: &Path) -> Result<(), TreeFault>
     first_fault(here, source, goal)
 }
 
-// Checks whether each entry of a tree can be put over what another tree has at its path. Below a path where the other tree has nothing, it has
-// nothing, so the entries below that path are passed over.
+// Checks whether each entry of a tree can be put over what another tree has at the same path. If the other tree has nothing at a path, it has nothing below it
+// either, so the entries below that path are passed over.
 fn may_meet(here: &Tree, source: &Tree) -> Result<(), TreeFault>
     ensures { Gives (λ u. u) result (all_meet here.now (finite.entries source.now)) }
 {

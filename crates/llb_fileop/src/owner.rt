@@ -38,7 +38,7 @@ pub fn way(action: &CopyFile) -> Way
     Way::new(mode_given(action.mode), uid, gid, true).unwrap()
 }
 
-// Returns the low 12 bits of the mode that is given, or the entry's own mode if that is -1.
+// Returns the low 12 bits of the mode that is given, or the entry's own mode if the mode that is given is -1.
 fn mode_from(mode: i32, own: u16) -> u16
     requires { own ≤ 4095 }
     ensures value { result ≡ mode_from mode own }
@@ -47,7 +47,7 @@ fn mode_from(mode: i32, own: u16) -> u16
     mode_given(mode).unwrap_or(own)
 }
 
-// Returns the low 12 bits of the mode that is given; `None` if that is -1.
+// Returns the low 12 bits of the mode that is given; `None` if the mode is -1.
 fn mode_given(mode: i32) -> Option<u16>
     ensures value { (own : ℕ) → unwrap_or result own ≡ mode_from mode own }
     ensures small { is_mode result ≡ true }

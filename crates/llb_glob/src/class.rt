@@ -1,5 +1,5 @@
-//! Classes of characters, as `[a-z]` in a pattern. A class is built item by item while its part is read. It does not depend on
-//! the text that spells it.
+//! Classes of characters, as `[a-z]` in a pattern. A class is built item by item while its part is read. What it matches does not depend on the text that
+//! spells it.
 
 ghost use Rattle.std.specs.Prelude.{◌≡◌, ◌↔◌, ◌++◌, false, true, [], ◌∷◌, IsTrue, OnOk};
 ghost use Rattle.std.specs.List.{list_any};

@@ -18,8 +18,7 @@ pub fn reads_by_the_grammar(text: &str)
     let _ = text;
 }
 
-/// Proves that a pattern without classes, with a `\` before each `[`, is read the same whether or not classes are known: classes change the reading of no
-/// other pattern.
+/// Proves that a text that is a pattern by the rules without classes, where each `[` needs a `\` before it, is the same pattern by the rules with classes.
 pub fn reads_without_classes(text: &str)
     ensures { (parts : List (List Item)) → simple_pattern_of text.now ≡ Ok parts → pattern_of text.now ≡ Ok parts }
 {

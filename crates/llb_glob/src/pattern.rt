@@ -117,7 +117,7 @@ fn is_pattern(text: &str) -> bool
     walk.sound == walk.depth
 }
 
-// What a text has led to so far: how many names there are, and how many of the first names are all parts of a pattern.
+// What a text has led to so far: `depth`, how many names there are; and `sound`, how many names there are before the first one that is no part of a pattern.
 #[derive(Drop)]
 struct Walk {
     depth: usize,

@@ -54,7 +54,6 @@ pub(crate) fn vertices_of(
 }
 
 // Returns an empty op, to leave in the place of one that is taken out.
-
 fn no_op(alloc: Global) -> Op {
     Op {
         inputs: Many::new(Vec::new(alloc)),
@@ -64,13 +63,11 @@ fn no_op(alloc: Global) -> Op {
 }
 
 // Returns an empty row, to leave in the place of one that is taken out.
-
 fn no_row(alloc: Global) -> Row {
     Row::bare(alloc, Text::new(String::new(alloc)))
 }
 
 // Makes the vertex of an op whose inputs name these rows, under the numbers of the rows.
-
 fn vertex_of(
     alloc: Global,
     digest: Text,
@@ -108,7 +105,6 @@ fn script_in(alloc: Global, op: &Op) -> Result<Option<Script>, Memory>
 }
 
 // Reads the script in the words of an exec; `None` if it has none.
-
 fn commands_in(alloc: Global, meta: &Option<Meta>) -> Result<Option<Script>, Memory>
     ensures { IfOk result (λ script. script ≡ commands_in meta.now) }
 {
@@ -127,7 +123,6 @@ fn commands_in(alloc: Global, meta: &Option<Meta>) -> Result<Option<Script>, Mem
 }
 
 // Returns the edges of the op's inputs, in their order.
-
 fn edges_of(
     alloc: Global,
     op: &Op,

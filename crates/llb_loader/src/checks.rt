@@ -51,8 +51,7 @@ pub(crate) fn check_names(
     Ok(())
 }
 
-// Returns the index of the first input that names no row, given the rows that the inputs name. It looks no input up if
-// there is a row for each.
+// Returns the index of the first input that names no row, given the rows that the inputs name. If there are as many rows as inputs, it looks up none.
 fn unnamed_in(
     rows: &[Row],
     index: &BTreeMap<&str, usize>,
@@ -135,8 +134,7 @@ pub(crate) fn counts_of(alloc: Global, ops: &[Op]) -> Result<Vec<usize>, AllocEr
     Ok(counts)
 }
 
-// Checks that the inputs of the marked rows, and the terminal's first, have the indexes of outputs. Fails with 90
-// `BadIndex` alone.
+// Checks that each input of a marked row, and the terminal's first input, has the index of an output of the row that it names. Fails with 90 `BadIndex` alone.
 pub(crate) fn check_indexes(
     ops: &[Op],
     links: &[Vec<usize>],
@@ -192,8 +190,7 @@ fn first_bad(op: &Op, named: &[usize], counts: &[usize], asked: usize) -> Option
     None
 }
 
-// Returns whether the input has the index of one of `count` outputs.
-
+// Returns whether the input's index is that of one of `count` outputs.
 fn is_output_of(count: usize, input: &Input) -> bool
     ensures { IsTrue result ↔ IsBelow count input.now.index }
 {

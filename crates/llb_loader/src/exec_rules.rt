@@ -41,8 +41,7 @@ pub(crate) fn broken_in_exec(
     broken_script(alloc, exec)
 }
 
-// Returns the first broken rule on the words of an exec and what they need.
-
+// Returns the first broken rule on what an exec runs: its meta, its words and its mounts have to be there.
 fn broken_word(exec: &ExecOp) -> Option<Rule>
     ensures { (inputs : List Input) → IsFirstBroken inputs (Some (kind.Exec exec.now)) word_rules result }
 {
@@ -59,7 +58,6 @@ fn broken_word(exec: &ExecOp) -> Option<Rule>
 }
 
 // Returns the first broken rule on the paths of an exec.
-
 fn broken_path(alloc: Global, exec: &ExecOp) -> Result<Option<Rule>, Memory>
     ensures { IfOk result (λ broken. (inputs : List Input) → IsFirstBroken inputs (Some (kind.Exec exec.now)) path_rules broken) }
 {
@@ -84,7 +82,6 @@ fn broken_path(alloc: Global, exec: &ExecOp) -> Result<Option<Rule>, Memory>
 }
 
 // Returns the first broken rule on what the mounts show, and on their outputs.
-
 fn broken_mount(alloc: Global, inputs: &[Input], exec: &ExecOp) -> Result<Option<Rule>, AllocError>
     ensures { IfOk result (IsFirstBroken inputs.now (Some (kind.Exec exec.now)) mount_rules) }
 {
@@ -102,7 +99,6 @@ fn broken_mount(alloc: Global, inputs: &[Input], exec: &ExecOp) -> Result<Option
 }
 
 // Returns whether each mount is of a known type.
-
 fn all_known(mounts: &[Mount]) -> bool
     ensures { IsTrue result ↔ All (λ m. IsBelow 5 m.mount_type) mounts.now }
 {
@@ -115,7 +111,6 @@ fn all_known(mounts: &[Mount]) -> bool
 }
 
 // Returns whether the number is at least 0 and below the count.
-
 fn is_below(count: u32, number: i32) -> bool
     ensures { IsTrue result ↔ IsBelow count number }
 {
@@ -123,7 +118,6 @@ fn is_below(count: u32, number: i32) -> bool
 }
 
 // Returns whether each bind or cache mount shows one of `count` inputs, or nothing.
-
 fn all_show(count: usize, mounts: &[Mount]) -> bool
     ensures { IsTrue result ↔ All (ShowsInput count) mounts.now }
 {
@@ -136,7 +130,6 @@ fn all_show(count: usize, mounts: &[Mount]) -> bool
 }
 
 // Returns whether a mount, if it is a bind or cache mount, shows one of `count` inputs, or nothing.
-
 fn shows_input(count: usize, mount: &Mount) -> bool
     ensures { IsTrue result ↔ ShowsInput count mount.now }
 {
@@ -150,7 +143,6 @@ fn shows_input(count: usize, mount: &Mount) -> bool
 }
 
 // Returns whether the outputs are numbered from 0, each once, and only bind mounts have one.
-
 fn are_mount_outputs(alloc: Global, mounts: &[Mount]) -> Result<bool, AllocError>
     ensures { IfOk result (λ stand. IsTrue stand ↔ AreMountOutputs mounts.now) }
 {
@@ -179,7 +171,6 @@ fn all_silent(mount_type: MountType, mounts: &[Mount]) -> bool
 }
 
 // Returns the output of each mount.
-
 fn outputs_of(alloc: Global, mounts: &[Mount]) -> Result<Vec<i64>, AllocError>
     ensures { IfOk result (λ outputs. outputs.items ≡ mount_outputs mounts.now) }
 {
@@ -191,7 +182,6 @@ fn outputs_of(alloc: Global, mounts: &[Mount]) -> Result<Vec<i64>, AllocError>
 }
 
 // Returns the first broken rule on cache mounts.
-
 fn broken_cache(alloc: Global, inputs: &[Input], exec: &ExecOp) -> Result<Option<Rule>, Memory>
     ensures { IfOk result (IsFirstBroken inputs.now (Some (kind.Exec exec.now)) cache_rules) }
 {
@@ -209,7 +199,6 @@ fn broken_cache(alloc: Global, inputs: &[Input], exec: &ExecOp) -> Result<Option
 }
 
 // Returns whether each cache mount has its options.
-
 fn all_have_options(mounts: &[Mount]) -> bool
     ensures { IsTrue result ↔ All HasOptions mounts.now }
 {
@@ -224,7 +213,6 @@ fn all_have_options(mounts: &[Mount]) -> bool
 }
 
 // Returns whether each cache mount names a known mode.
-
 fn all_shared(mounts: &[Mount]) -> bool
     ensures { IsTrue result ↔ All IsShared mounts.now }
 {
@@ -239,7 +227,6 @@ fn all_shared(mounts: &[Mount]) -> bool
 }
 
 // Returns whether the options, if they are given, name a known mode.
-
 fn is_known(options: &Option<CacheOpt>) -> bool
     ensures { IsTrue result ↔ IsKnownSharing options.now }
 {
@@ -249,7 +236,7 @@ fn is_known(options: &Option<CacheOpt>) -> bool
     }
 }
 
-// Reads the words of an exec as a script; if they are none, returns the rule that they break.
+// Reads the words of an exec as a script; if they are not a script, returns the rule that they break.
 fn broken_script(alloc: Global, exec: &ExecOp) -> Result<Option<Rule>, Memory>
     requires there { IsSome exec.now.meta }
     requires words { HasWord exec.now.meta }

@@ -1,5 +1,4 @@
-//! The features of an op that are not supported. Each test looks at ops of one kind; the order of the features is that
-//! of `features`.
+//! The features of an op that are not supported. Each test looks at ops of one kind; the order of the features is that of the definition `features`.
 
 ghost use Rattle.std.specs.Prelude.{◌≡◌};
 ghost use Rattle.std.specs.List.{list_any, find};
@@ -32,7 +31,6 @@ pub(crate) fn first_feature(op: &Op) -> Option<Feature>
 }
 
 // Returns the first feature of a source that is not supported.
-
 fn source_feature(source: &SourceOp) -> Option<Feature>
     ensures { result ≡ find (has (Some (kind.Source source.now))) features }
 {
@@ -43,7 +41,6 @@ fn source_feature(source: &SourceOp) -> Option<Feature>
 }
 
 // Returns the first feature of an exec that is not supported.
-
 fn exec_feature(exec: &ExecOp) -> Option<Feature>
     ensures { result ≡ find (has (Some (kind.Exec exec.now))) features }
 {
@@ -60,8 +57,7 @@ fn exec_feature(exec: &ExecOp) -> Option<Feature>
     None
 }
 
-// Returns whether a mount has the type.
-
+// Returns whether one of the mounts has the type.
 fn any_of_type(mounts: &[Mount], mount_type: MountType) -> bool
     ensures { result ≡ list_any (has_type (number_of mount_type)) mounts.now }
 {
@@ -74,7 +70,6 @@ fn any_of_type(mounts: &[Mount], mount_type: MountType) -> bool
 }
 
 // Returns the first feature of a file op that is not supported.
-
 fn file_feature(file: &FileOp) -> Option<Feature>
     ensures { result ≡ find (has (Some (kind.File file.now))) features }
 {
@@ -97,8 +92,7 @@ fn file_feature(file: &FileOp) -> Option<Feature>
     None
 }
 
-// Returns whether an action has no named member.
-
+// Returns whether one of the actions has no named member.
 fn any_nameless(actions: &[Action]) -> bool
     ensures { result ≡ list_any (λ a. is_nameless a.kind) actions.now }
 {
@@ -110,8 +104,7 @@ fn any_nameless(actions: &[Action]) -> bool
     false
 }
 
-// Returns whether a copy unpacks archives.
-
+// Returns whether one of the actions is a copy that unpacks archives.
 fn any_unpacks(actions: &[Action]) -> bool
     ensures { result ≡ list_any (λ a. copies_with unpacks a.kind) actions.now }
 {
@@ -125,8 +118,7 @@ fn any_unpacks(actions: &[Action]) -> bool
     false
 }
 
-// Returns whether a copy has patterns.
-
+// Returns whether one of the actions is a copy with patterns.
 fn any_has_pattern(actions: &[Action]) -> bool
     ensures { result ≡ list_any (λ a. copies_with has_pattern a.kind) actions.now }
 {
@@ -141,15 +133,13 @@ fn any_has_pattern(actions: &[Action]) -> bool
 }
 
 // Returns whether the copy has patterns of what to leave in or out.
-
 fn has_pattern(copy: &CopyFile) -> bool
     ensures { result ≡ has_pattern copy.now }
 {
     !copy.include_patterns.is_empty() || !copy.exclude_patterns.is_empty()
 }
 
-// Returns whether a copy has a field that its message does not name.
-
+// Returns whether one of the actions is a copy with a field that its message does not name.
 fn any_has_field(actions: &[Action]) -> bool
     ensures { result ≡ list_any (λ a. copies_with has_field a.kind) actions.now }
 {
@@ -163,8 +153,7 @@ fn any_has_field(actions: &[Action]) -> bool
     false
 }
 
-// Returns whether an action gives an owner by name.
-
+// Returns whether one of the actions gives an owner by name.
 fn any_owner_by_name(actions: &[Action]) -> bool
     ensures { result ≡ list_any (λ a. owner_by_name (owner_of a.kind)) actions.now }
 {
@@ -177,7 +166,6 @@ fn any_owner_by_name(actions: &[Action]) -> bool
 }
 
 // Returns whether the action gives an owner by name.
-
 fn action_by_name(action: &Action) -> bool
     ensures { result ≡ owner_by_name (owner_of action.now.kind) }
 {
@@ -190,7 +178,6 @@ fn action_by_name(action: &Action) -> bool
 }
 
 // Returns whether the owner is given by name.
-
 fn by_name(owner: &Option<Boxed<ChownOpt>>) -> bool
     ensures { result ≡ owner_by_name owner.now }
 {
@@ -201,7 +188,6 @@ fn by_name(owner: &Option<Boxed<ChownOpt>>) -> bool
 }
 
 // Returns whether the user is given by name.
-
 fn is_name(user: &Option<UserOpt>) -> bool
     ensures { result ≡ user_by_name user.now }
 {

@@ -48,7 +48,6 @@ fn take_inputs(count: usize, actions: &[Action]) -> bool
 }
 
 // Returns whether the input is -1, one of `count` inputs, or the result of an action before index `place`.
-
 fn input_stands(count: usize, place: usize, input: i64) -> bool
     ensures { IsTrue result ↔ IsInput (count + place) input }
 {
@@ -60,7 +59,6 @@ fn input_stands(count: usize, place: usize, input: i64) -> bool
 }
 
 // Returns whether the second input of a copy exists; for other actions it is not used.
-
 fn second_stands(count: usize, place: usize, action: &Action) -> bool
     ensures { IsTrue result ↔ TakesSecond (count + place) action.now.kind action.now.secondary_input }
 {
@@ -71,7 +69,6 @@ fn second_stands(count: usize, place: usize, action: &Action) -> bool
 }
 
 // Returns the output of each action.
-
 fn outputs_of(alloc: Global, actions: &[Action]) -> Result<Vec<i64>, AllocError>
     ensures { IfOk result (λ outputs. outputs.items ≡ outputs_of actions.now) }
 {

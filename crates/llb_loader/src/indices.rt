@@ -36,7 +36,6 @@ pub(crate) fn are_outputs(alloc: Global, outputs: &[i64]) -> Result<bool, AllocE
 }
 
 // Returns the number of outputs other than -1.
-
 fn count_among(outputs: &[i64]) -> usize
     ensures { result ≡ count_outputs outputs.now }
 {
@@ -50,7 +49,6 @@ fn count_among(outputs: &[i64]) -> usize
 }
 
 // Returns whether the number is other than -1.
-
 fn is_output(number: &i64) -> bool
     ensures { result ≡ is_output number.now }
 {

@@ -3,7 +3,7 @@
 //!
 //! Types: `Graph` (vertices by number, and the result), `Vertex`, `Edge`, `Row` (an entry and its digest text), `Locals` (trees by name),
 //! `LoadFault` (81 to 91).
-//! Promise: `load` (`graph`, `refused`) returns the one graph of the entries, or the first refusal in a stated order. `Graph::is_graph` recalls
+//! Promise: `load` (`graph`, `refused`) returns the one graph of the entries, or the first refusal in a stated order. `Graph::is_graph` proves
 //! what is true of every graph: edges lead to outputs of lower vertices, vertices meet every rule, the result depends on all vertices. Law:
 //! `one_answer_in`.
 //!

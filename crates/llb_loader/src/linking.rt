@@ -1,4 +1,4 @@
-//! Rows are linked: each refusal in its order, then the graph. Nothing here recurses on the graph's depth.
+//! Links rows: looks for each refusal in its order, and then makes the graph. Nothing here recurses on the graph's depth.
 
 ghost use Rattle.std.specs.Prelude.{◌≡◌, ◌<◌, ◌≤◌, true, false, length, IfOk, IfErr};
 ghost use Rattle.std.specs.List.{All};
@@ -25,7 +25,7 @@ use llb_wire::{Bytes, Memory};
 use std::alloc::Global;
 use std::collections::BTreeMap;
 
-// Rows that are read as ops, whose names are resolved: each input of a reached row names a row. The rows are bare.
+// Rows whose entries were read as ops, and whose inputs were looked up: each input of a reached row names a row. The rows have no bytes any more.
 struct Linked {
     rows: Vec<Row>,
     ops: Vec<Op>,
@@ -37,7 +37,7 @@ struct Linked {
     seen: Vec<bool>,
 }
 
-// Written out, so that what owns one drops it by this one function.
+// Written by hand, so that it is proved once; a derived one is proved again in every function that drops such a value.
 impl Drop for Linked {
     fn drop(self) {
         let Linked {
@@ -51,7 +51,7 @@ impl Drop for Linked {
     }
 }
 
-// What the names in rows lead to: the parts of `Linked` beside the rows and the ops.
+// What the names in rows lead to: the fields of `Linked` besides the rows and the ops.
 #[derive(Drop)]
 struct Names {
     terminal: usize,
@@ -62,9 +62,8 @@ struct Names {
 
 /// Returns the graph of the rows. The last row given is the terminal; its first input is the result.
 ///
-/// Fails with the first fault, of the least row and its least input: 82 `Entry`, 83 `TooFew`, 84 `Collision`, 85
-/// `NoResult`, 86 `UnknownDigest`, 87 `Cycle`, 88 `Unsupported`, 89 `Invalid`, 90 `BadIndex`. Fails with 91 `Memory` if
-/// memory is refused.
+/// Fails with the fault of the least number that applies, at the least row that has it, and there at the least input: 82 `Entry`, 83 `TooFew`, 84 `Collision`,
+/// 85 `NoResult`, 86 `UnknownDigest`, 87 `Cycle`, 88 `Unsupported`, 89 `Invalid`, 90 `BadIndex`. Fails with 91 `Memory` if memory is refused.
 pub fn link(alloc: Global, rows: &[Row]) -> Result<Graph, LoadFault>
     requires { length rows.now ≤ 65_536 }
     ensures graph { IfOk result (λ g. IsGraphOf rows.now g) }
@@ -99,7 +98,7 @@ fn bytes_of(alloc: Global, rows: &[Row]) -> Result<Vec<Bytes>, Memory>
     Ok(entries)
 }
 
-// Links bare rows whose bytes are the entries. Fails as `link` does.
+// Links rows that have no bytes themselves; their bytes are the entries. Fails as `link` does.
 pub(crate) fn link_entries(
     alloc: Global,
     rows: Vec<Row>,
@@ -151,9 +150,9 @@ impl Names {
 }
 
 impl Linked {
-    // Reads the entries of bare rows, drops them and resolves the names. Fails with 82 `Entry`, 83 `TooFew`, 84
-    // `Collision`, 85 `NoResult` or 86 `UnknownDigest`, or with 91 `Memory`. The rows are compared before any is read,
-    // since an entry goes once it is read; what is found is told after.
+    // Reads the entries of rows without bytes, drops them and resolves the names. Fails with 82 `Entry`, 83 `TooFew`, 84 `Collision`, 85 `NoResult` or 86
+    // `UnknownDigest`, or with 91 `Memory`. The rows are compared before any entry is read, since each entry is dropped once it is read; what the comparison
+    // found is reported after the faults of reading.
     fn of(alloc: Global, rows: Vec<Row>, entries: Vec<Bytes>) -> Result<Linked, LoadFault>
         requires few { length rows.items ≤ 65_536 }
         requires len { length entries.items ≡ length rows.items }

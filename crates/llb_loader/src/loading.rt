@@ -1,4 +1,4 @@
-//! A definition is loaded: its entries are rows under their own digest texts. Entries are dropped one by one, once they are read as ops.
+//! Loads a definition: its entries become rows, each under its digest text. Entries are dropped one by one, once they are read as ops.
 
 ghost use Rattle.std.specs.Prelude.{◌≡◌, ◌≤◌, false, length, IfOk, IfErr};
 ghost use Rattle.llb_loader.specs.Faults.{is_memory};
@@ -48,7 +48,7 @@ fn linked(alloc: Global, entries: Entries) -> Result<Graph, LoadFault>
     link_entries(alloc, rows, entries.into_vec())
 }
 
-// Returns bare rows under the digest texts of the entries.
+// Returns for each entry a row that has its digest text and no bytes.
 fn titles_of(alloc: Global, entries: &[Bytes]) -> Result<Vec<Row>, Memory>
     ensures { IfOk result (λ rows. rows.items ≡ titles_from entries.now) }
 {

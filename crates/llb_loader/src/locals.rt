@@ -47,7 +47,7 @@ impl Locals {
         }
     }
 
-    /// Adds a tree under a name: it replaces the one that the name had, or else comes after all others.
+    /// Adds a tree under a name: it replaces the tree that the name had, or else comes after all others.
     ///
     /// Fails with 92 `Memory` alone; then the list is unchanged.
     #[tactic(auto, using(crate::proofs::Trees::locals_added, crate::proofs::Trees::last_given))]

@@ -107,7 +107,7 @@ fn first_open(named: &[usize], from: usize, done: &[bool]) -> usize
     named.len()
 }
 
-// Puts the row among the ready ones, or to those that wait for its first input that is not numbered.
+// Puts the row among the ready rows if all its inputs are numbered, else among the rows that wait for its first input that is not.
 fn place(
     rows: &[Vec<usize>],
     done: &[bool],

@@ -10,7 +10,7 @@ use llb_wire::{Memory, Text};
 use std::alloc::Global;
 use std::collections::BTreeSet;
 
-// Reads a text as a path; `None` if it reads as none.
+// Reads a text as a path; `None` if the text is no path.
 fn path_in(alloc: Global, text: &Text) -> Result<Option<Path>, Memory>
     ensures { IfOk result (λ path. path ≡ read_as text.now) }
 {
@@ -21,7 +21,7 @@ fn path_in(alloc: Global, text: &Text) -> Result<Option<Path>, Memory>
     }
 }
 
-// Reads the dests of the mounts as paths; `None` for one that reads as none.
+// Reads the dests of the mounts as paths; `None` for a dest that is no path.
 pub(crate) fn dests_of(alloc: Global, mounts: &[Mount]) -> Result<Vec<Option<Path>>, Memory>
     ensures { IfOk result (λ dests. dests.items ≡ dests_of mounts.now) }
 {

@@ -11,8 +11,7 @@ use llb_ops::{Bytes, Op, OpFault, read_op};
 use std::alloc::Global;
 use std::mem;
 
-// Reads the op of each entry, and drops the entry. Fails with 82 `Entry` at the first one that spells none, or with 91
-// `Memory`.
+// Reads the op of each entry, and drops the entry. Fails with 82 `Entry` at the first entry that spells no op, or with 91 `Memory`.
 pub(crate) fn ops_of(alloc: Global, mut entries: Vec<Bytes>) -> Result<Vec<Op>, LoadFault>
     requires { length entries.items ≤ 65_536 }
     ensures read { IfOk result (λ ops. AreRead entries.items ops.items) }
@@ -31,7 +30,6 @@ pub(crate) fn ops_of(alloc: Global, mut entries: Vec<Bytes>) -> Result<Vec<Op>, 
 }
 
 // Returns the fault of a row that spells no op.
-
 fn at_row(k: u32, fault: OpFault) -> LoadFault
     ensures { result ≡ row_fault k fault }
 {

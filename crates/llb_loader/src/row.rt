@@ -11,7 +11,7 @@ pub struct Row {
     pub bytes: Bytes,
 }
 
-// Written out, so that what owns one drops it by this one function.
+// Written by hand, so that it is proved once; a derived one is proved again in every function that drops such a value.
 impl Drop for Row {
     fn drop(self) {
         let Row {

@@ -1,5 +1,5 @@
-//! Which rows are distinct, and which row a digest text names. Look-ups by digest go through an index in the order of the texts, so
-//! that no choice of entries makes them slow; where a guess is right, there is none. The terminal's own digest names nothing.
+//! Which rows are distinct, and which row a digest text names. Look-ups by digest go through an index in the order of the texts, so that no choice of entries
+//! makes them slow; if a guessed row has the digest, no look-up is made. The terminal's own digest names nothing.
 
 ghost use Rattle.std.specs.Prelude.{◌≡◌, ◌<◌, ◌≤◌, ◌↔◌, ℕ, false, length, map, IfOk, IfErr, OnOk, IsTrue, Some};
 ghost use Rattle.std.specs.List.{filter_map};
@@ -17,7 +17,7 @@ use llb_wire::{Bytes, Same, Text};
 use std::alloc::{AllocError, Global};
 use std::collections::BTreeMap;
 
-/// Returns whether there are fewer than two distinct rows, whose bytes are the entries.
+/// Returns whether there are fewer than two distinct rows; the bytes of the rows are the entries.
 pub(crate) fn all_same(rows: &[Row], entries: &[Bytes]) -> bool
     requires { length entries.now ≡ length rows.now }
     ensures { IsTrue result ↔ AllSame (with_bytes rows.now entries.now) }
@@ -98,8 +98,8 @@ pub(crate) fn row_of(
     if row == terminal { None } else { Some(row) }
 }
 
-// Returns the row that the terminal's first input names. Fails with 85 `NoResult` if it has no input, and with 86
-// `UnknownDigest` if that one names no row.
+// Returns the row that the terminal's first input names. Fails with 85 `NoResult` if the terminal has no input, and with 86 `UnknownDigest` if its first input
+// names no row.
 pub(crate) fn start_of(
     rows: &[Row],
     index: &BTreeMap<&str, usize>,
@@ -122,7 +122,7 @@ pub(crate) fn start_of(
     }
 }
 
-// Returns the row that a digest text names, if it names one. A guess saves the look-up if the row there has the digest.
+// Returns the row that a digest text names, if it names one. No look-up is made if the guessed row has the digest.
 fn row_near(
     rows: &[Row],
     index: &BTreeMap<&str, usize>,
@@ -145,8 +145,8 @@ fn row_near(
     if row == terminal { None } else { Some(row) }
 }
 
-// Returns the rows that the op's inputs name. The guess for the first of them is given; after an input that names a row,
-// it is the row after that one.
+// Returns the rows that the op's inputs name. The guess for the first input is given; after an input that names a row, the next guess is the row after that
+// row.
 fn rows_named_by(
     alloc: Global,
     rows: &[Row],
@@ -171,7 +171,7 @@ fn rows_named_by(
     Ok(named)
 }
 
-// Returns the rows that each row names. The guess is the row before: many entries stand right after their first input.
+// Returns the rows that each row names. The first guess for a row is the row before it: many entries come right after their first input.
 pub(crate) fn links_of(
     alloc: Global,
     rows: &[Row],

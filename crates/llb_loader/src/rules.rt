@@ -26,7 +26,6 @@ pub(crate) fn broken_rule(alloc: Global, op: &Op) -> Result<Option<Rule>, Memory
 }
 
 // Returns the first rule that the kind of op breaks on these inputs.
-
 fn broken_in(alloc: Global, inputs: &[Input], kind: &Kind) -> Result<Option<Rule>, Memory>
     ensures { IfOk result (IsFirstBroken inputs.now (Some kind.now) (rules_on (Some kind.now))) }
 {
@@ -41,7 +40,6 @@ fn broken_in(alloc: Global, inputs: &[Input], kind: &Kind) -> Result<Option<Rule
 }
 
 // Returns the first rule on sources that the source breaks.
-
 fn broken_in_source(source: &SourceOp) -> Option<Rule>
     ensures { (inputs : List Input) → IsFirstBroken inputs (Some (kind.Source source.now)) source_rules result }
 {
@@ -52,7 +50,6 @@ fn broken_in_source(source: &SourceOp) -> Option<Rule>
 }
 
 // Returns the first rule on merges that the merge of these inputs breaks.
-
 fn broken_in_merge(inputs: &[Input], merge: &MergeOp) -> Option<Rule>
     ensures { IsFirstBroken inputs.now (Some (kind.Merge merge.now)) merge_rules result }
 {
@@ -63,7 +60,6 @@ fn broken_in_merge(inputs: &[Input], merge: &MergeOp) -> Option<Rule>
 }
 
 // Returns whether each merged input is one of `count` inputs, or nothing.
-
 fn all_merged(count: usize, merged: &[MergeInput]) -> bool
     ensures { IsTrue result ↔ All (λ m. IsInput count m.input) merged.now }
 {

@@ -9,8 +9,8 @@ ghost use Rattle.llb_merge.specs.Laying.{lay, lay_at};
 
 use llb_tree::Tree;
 
-/// Proves that at each path the result has what the upper tree has there, and else what the lower one has, if no file of the upper
-/// one is above the path; and that the result is a tree.
+/// Proves that at each path the result has what the upper tree has there. If the upper tree has nothing there, the result has what the lower tree has, unless a
+/// file of the upper one is above the path. It also proves that the result is a tree.
 pub fn at_each_path(lower: &Tree, upper: &Tree)
     ensures paths { (q : List (List ℕ)) → finite.get (lay lower.now upper.now) q ≡ lay_at (finite.get lower.now) (finite.get upper.now) q }
     ensures tree { IsTree (lay lower.now upper.now) }
@@ -26,8 +26,7 @@ pub fn over_the_empty_tree(tree: &Tree)
     tree.is_tree();
 }
 
-/// Proves that laying the empty tree over a tree returns that tree, except that its root has the mode and the owner of
-/// the empty tree's.
+/// Proves that laying the empty tree over a tree returns that tree, except that its root gets the mode and the owner of the root of the empty tree.
 pub fn under_the_empty_tree(tree: &Tree)
     ensures { lay tree.now empty_tree ≡ finite.insert tree.now [] (Dir new_dir_meta) }
 {

@@ -9,24 +9,23 @@ use crate::fault::Memory;
 use llb_tree::{Tree, Way};
 use std::alloc::Global;
 
-// Returns the `Way` that keeps each entry's own mode and owner, and takes a directory that both trees have as in the upper
-// one.
+// Returns the `Way` by which each upper entry keeps its mode and owner, and a directory that both trees have gets those of the upper one.
 fn plain() -> Way
     ensures { way_of None None None false ≡ Some result }
 {
     Way::new(None, None, None, false).unwrap()
 }
 
-/// Lays the upper tree over the lower one, and returns the result: at a path it has what the upper tree has there, and
-/// else what the lower one has, if no file of the upper one is above the path. Fails with 55 `Memory` alone.
+/// Lays the upper tree over the lower one, and returns the result. At a path it has what the upper tree has there; if that is nothing, what the lower one has,
+/// unless a file of the upper one is above the path. Fails with 55 `Memory` alone.
 pub fn lay(_: Global, lower: &Tree, upper: &Tree) -> Result<Tree, Memory>
     ensures { IfOk result (λ t. t ≡ lay lower.now upper.now) }
 {
     lay_onto(lower.copy()?, upper)
 }
 
-/// Lays the upper tree over the lower one as `lay` does, and takes ownership of the lower one, so that a caller that lays
-/// several trees copies none. Fails with 55 `Memory` alone.
+/// Lays the upper tree over the lower one as `lay` does, and takes ownership of the lower one, so that a caller that lays several trees one over another makes
+/// no copies. Fails with 55 `Memory` alone.
 pub fn lay_onto(lower: Tree, upper: &Tree) -> Result<Tree, Memory>
     ensures { IfOk result (λ t. t ≡ lay lower upper.now) }
 {
@@ -34,7 +33,7 @@ pub fn lay_onto(lower: Tree, upper: &Tree) -> Result<Tree, Memory>
     Ok(lower.overlaid(&way, upper)?)
 }
 
-/// Lays the upper tree over the lower one as `lay` does, in place. Fails with 55 `Memory` alone; then the lower tree is
+/// Lays the upper tree over the lower one as `lay` does, and replaces the lower tree by the result. Fails with 55 `Memory` alone; then the lower tree is
 /// unchanged.
 pub fn lay_over(lower: &mut Tree, upper: &Tree) -> Result<(), Memory>
     ensures ok { OnOk result (lower.new ≡ lay lower.old upper.now) }

@@ -1,9 +1,9 @@
-//! Lays one tree over another: each path has what the upper tree has there, and else what the lower one has, if no file of the upper one is
-//! above the path. It is built on `llb_tree`, and knows no op.
+//! Lays one tree over another: each path has what the upper tree has there; if that is nothing, what the lower one has, unless a file of the upper one is above
+//! the path. It is built on `llb_tree`, and knows no op.
 //!
 //! Types: `Memory` (fault 55), the one refusal.
-//! Promise: `lay` returns the laid tree, by one equation on maps. `lay_over` (`ok`, `err`) does so in place, and `lay_onto` onto a tree that is
-//! handed over. Laws say what is at each path, and what laying a tree over itself or over the empty one results in.
+//! Promise: `lay` returns the tree that one equation on maps describes. `lay_over` (`ok`, `err`) changes the lower tree into it, and `lay_onto` takes ownership
+//! of the lower tree. Laws say what is at each path, and what laying a tree over itself or over the empty one results in.
 //!
 //! A caller:
 //!

@@ -1,7 +1,6 @@
-//! The machine as mathematics: definitions in `specs/`, which the crates that run a graph cite. Its events and refusals are the types of
-//! `llb_events`. It is built on `llb_events`, `llb_fileop`, `llb_loader` and `llb_merge`. What follows for every list of granted events is in
-//! `proofs/`; the laws of `llb_board` state it. `specs/Lib.antt` has the order in which to read the files, and docs/FORMATS.md the machine in
-//! words.
+//! The machine as mathematics: definitions in `specs/`, which the crates that run a graph cite. Its events and refusals are the types of `llb_events`. It is
+//! built on `llb_events`, `llb_fileop`, `llb_loader` and `llb_merge`. What follows for every list of granted events is proved in `proofs/`; the laws of
+//! `llb_board` state it. `specs/Lib.antt` has the order in which to read the files, and docs/FORMATS.md describes the machine in words.
 //!
 //! Types: none in code; in `specs/`: `State` (statuses, workers, the store of caches), `Table` (the transition table), `Program`, `Outcome`,
 //! `Run`.

@@ -1,9 +1,9 @@
 //! A view: trees under dests, as the mounts of an execution show them. It is built on `llb_tree`.
 //!
 //! Types: `View` (its mounts, one of them at the root), `Shown` (a mount: dest, selector, whether it is read-only, tree), `ReadOnly`.
-//! Promise: `View::route` (`longest`, `only`) returns the mount with the longest dest that is a prefix of a path, by names. `View::set_tree`
-//! (`set`, `refused`, `back`) replaces one mount's tree, and refuses a read-only one. Of these calls and `View::make` only the last needs memory,
-//! and it works without.
+//! Promise: `View::route` (`longest`, `only`) returns the mount with the longest dest that is a prefix of a path, by names. `View::set_tree` (`set`, `refused`,
+//! `back`) replaces one mount's tree, and refuses a read-only one. These two calls need no memory; `View::make` makes an order of the dests if there is memory
+//! for it, and else a view that does without.
 //!
 //! A caller:
 //!

@@ -1,6 +1,6 @@
-//! The mounts of a view in the order of their dests, by which the mount of a path is found if there are many. A search finds the last dest
-//! that does not come after the path; the dests that are prefixes of the path are that one
-//! or above it, from each dest up to the longest other dest that is a prefix of it.
+//! The mounts of a view in the order of their dests, by which the mount of a path is found if there are many. A search finds the last dest that does not come
+//! after the path. Each dest has a link to the longest other dest that is a prefix of it. On the way up these links from the dest that was found, the first
+//! dest that is a prefix of the path is the longest one.
 
 ghost use Rattle.std.specs.Prelude.{◌≡◌, ◌<◌, ◌+◌, true, length, IfOk};
 ghost use Rattle.llb_tree.specs.Path.{is_within};
@@ -13,8 +13,8 @@ use crate::shown::Shown;
 use llb_tree::Path;
 use std::alloc::Global;
 
-// An entry in the order of the dests: the number of a mount, and the index of the longest other dest that is a prefix
-// of its own. The root, which has no such dest, is the first.
+// An entry of the list in the order of the dests: the number of a mount, and the index in this list of the longest other dest that is a prefix of the mount's
+// dest. The first entry is the root, which has no such other dest.
 #[derive(Clone, Copy)]
 pub(crate) struct Row {
     mount: usize,
@@ -39,7 +39,7 @@ fn place_of(mounts: &[Shown], rows: &[Row], path: &Path) -> usize
     low
 }
 
-// Returns the index of the longest dest that is a prefix of a path: the one at `from`, or one above it.
+// Returns the index of the longest dest that is a prefix of a path: the dest at index `from`, or one that its links lead up to.
 fn nearest(mounts: &[Shown], rows: &[Row], from: usize, path: &Path) -> usize
     requires rises { Rises (dests mounts.now) rows.now }
     requires root { AtRoot (dests mounts.now) rows.now }
@@ -57,7 +57,7 @@ fn nearest(mounts: &[Shown], rows: &[Row], from: usize, path: &Path) -> usize
     at
 }
 
-// Returns the mounts in the order of their dests; `link` then sets for each the one above it.
+// Returns the mounts in the order of their dests; `link` sets their links afterwards.
 fn sorted(alloc: Global, mounts: &[Shown]) -> Result<Vec<Row>, Memory>
     requires { IsView mounts.now }
     ensures rises { IfOk result (λ rows. Rises (dests mounts.now) rows.items) }
@@ -71,7 +71,7 @@ fn sorted(alloc: Global, mounts: &[Shown]) -> Result<Vec<Row>, Memory>
     Ok(rows)
 }
 
-// Sets for each entry the one above it: the longest other dest that is a prefix of its own.
+// Sets the link of each entry: the index of the longest other dest that is a prefix of the entry's dest.
 fn link(mounts: &[Shown], rows: &mut [Row])
     requires view { IsView mounts.now }
     requires rises { Rises (dests mounts.now) rows.old }
@@ -95,8 +95,8 @@ pub(crate) fn ordered(alloc: Global, mounts: &[Shown]) -> Result<Vec<Row>, Memor
     Ok(rows)
 }
 
-/// Returns the number of the mount with the longest dest that is a prefix of the path, and how many names that dest has. Does not
-/// allocate; takes time in the logarithm of the number of mounts, and in the number of dests above one.
+/// Returns the number of the mount with the longest dest that is a prefix of the path, and how many names that dest has. Does not allocate; takes time in the
+/// logarithm of the number of mounts, plus the number of dests that are prefixes of one dest.
 pub(crate) fn route_by(mounts: &[Shown], rows: &[Row], path: &Path) -> (u32, u32)
     requires view { IsView mounts.now }
     requires order { IsOrder (dests mounts.now) rows.now }

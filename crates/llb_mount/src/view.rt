@@ -1,5 +1,5 @@
-//! The view. Contracts see the list of its mounts, in the order in which they were given; a mount's number is its index
-//! in the list. The dests never change: from `make` on one of them is the root and no two are the same.
+//! The view. Contracts see the list of its mounts, in the order in which they were given; a mount's number is its index in the list. The dests never change
+//! after `make`: one of them is the root, and no two are the same.
 
 ghost use Rattle.std.specs.Prelude.{◌≡◌, ◌≢◌, ◌↔◌, IsTrue, ℕ, ◌<◌, ◌≤◌, List, length, IfOk, IfErr, IfSome, IsOk, OnOk, OnErr, is_err, Contains, AllPairs};
 ghost use Rattle.llb_mount.specs.View.{IsView, dests, mount_at, with_tree_of};
@@ -16,7 +16,7 @@ use std::marker::Model;
 use std::mem;
 use std::sync::Arc;
 
-// Up to this number of dests, each is compared with the path, which costs less than an order of them.
+// Up to this number of dests, each is compared with the path, which costs less than making an order of them.
 const FEW: usize = 8;
 
 /// Mounts with distinct dests, one of which is the root. Contracts see the list of the mounts.
@@ -149,9 +149,9 @@ impl View {
         self.mounts.as_slice()
     }
 
-    /// Returns the number of the mount with the longest dest that is a prefix of the path, by names, and how many names that
-    /// dest has, which the caller drops from the path. Does not allocate. With an order of the dests it takes time in the logarithm of the
-    /// number of mounts and in the number of dests above one; without one, as for at most eight mounts, it compares with each mount's dest.
+    /// Returns the number of the mount with the longest dest that is a prefix of the path, by names, and how many names that dest has, which the caller drops
+    /// from the path. Does not allocate. With an order of the dests it takes time in the logarithm of the number of mounts, plus the number of dests that are
+    /// prefixes of one dest; without an order, as for at most eight mounts, it compares the path with each mount's dest.
     pub fn route(&self, path: &Path) -> (u32, u32)
         ensures route { result ≡ route self.now path.now }
         ensures longest { IsRoute self.now path.now result }

@@ -68,7 +68,7 @@ impl Entries {
     }
 }
 
-// Counts one more record: returns the number of entries, and whether none is too long.
+// Counts one more record: returns how many entries there are with it, and whether none of them is too long.
 fn with_record(count: usize, short: bool, part: &Record<'_>) -> (usize, bool)
     requires { count < 67_108_864 }
     ensures { result ≡ one_more (count, short) (view part.now) }

@@ -61,7 +61,7 @@ impl Drop for Meta {
     }
 }
 
-/// A tree that an exec shows at a path.
+/// A tree that is shown at a path to the commands of an exec.
 pub struct Mount {
     pub input: i64,
     pub selector: Text,

@@ -3,7 +3,7 @@
 //!
 //! Types: `Op` with `Kind` (a source, a file op, a merge, an exec, or what is refused later), `Entries` (of a definition), `FieldRow` (a row of
 //! the table), `OpFault`.
-//! Promise: `read_op` (`gives`, `within`) returns exactly what the definitions read in an entry, field by field, or its first fault. `read_definition`
+//! Promise: `read_op` (`gives`, `within`) returns exactly the op that an entry is by the definitions, field by field, or its first fault. `read_definition`
 //! (`gives`, `last`) does so for a definition. Laws say that what was read is read again from its canonical bytes, and which fields these have.
 //!
 //! A caller:

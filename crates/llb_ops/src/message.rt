@@ -82,8 +82,8 @@ pub fn read_message<M: Message>(alloc: Global, bytes: &[u8]) -> Result<M, OpFaul
     M::read(alloc, &records)
 }
 
-/// Reads a message from the payloads of its records, one after the other. The payload of a single record is not copied.
-/// Fails with the first fault, or with 14 `Memory`.
+/// Reads a message from the payloads of its records, joined one after the other. The payload of a single record is not copied. Fails with the first fault, or
+/// with 14 `Memory`.
 pub fn joined_message<M: Message>(
     alloc: Global,
     records: &[Record<'_>],

@@ -1,4 +1,4 @@
-//! The records of a message, and what each kind of field is of them. Nothing here knows a message.
+//! The records of a message, and how the value of each kind of field is read from them. Nothing here knows a message.
 
 ghost use Rattle.std.specs.Prelude.{◌≡◌, ◌+◌, ◌≤◌, ◌<◌, ◌==◌, Option, Some, Ok, [], length, drop, take, map, IfOk, option_map, is_none, not, true};
 ghost use Rattle.std.specs.Option.{IfSome};
@@ -203,7 +203,7 @@ pub fn last_int32(records: &[Record<'_>], number: u32) -> i32
     last_uint32(records, number).cast_signed()
 }
 
-/// Returns whether the number of a field is another one than 0.
+/// Returns whether the number of a field is not 0.
 pub fn last_flag(records: &[Record<'_>], number: u32) -> bool
     ensures { result ≡ flag (number_of (all_of number (views records.now))) }
 {
@@ -334,7 +334,7 @@ pub fn within_limits(repeated: &[u32], records: &[Record<'_>]) -> bool
     true
 }
 
-/// Returns the number of the member of a oneof that is set: that of the last record of any; `None` if there is none.
+/// Returns the number of the member of a oneof that is set: the number of the last record of any member; `None` if there is none.
 pub fn chosen(records: &[Record<'_>], members: &[u32]) -> Option<u32>
     ensures { result ≡ chosen_of members.now (views records.now) }
 {

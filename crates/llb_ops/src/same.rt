@@ -176,8 +176,8 @@ impl Same for ActionKind {
     }
 }
 
-// Returns whether both follow links, take directories for their contents, unpack archives, make the directories above
-// what they copy, and read wildcards the same way.
+// Returns whether both copies have the same flags: for following links, copying the contents of directories, unpacking archives, making the directories above
+// the destination, and reading wildcards.
 fn same_choices(copy: &CopyFile, other: &CopyFile) -> bool
     ensures { IsTrue result ↔ ((copy.now.follow_symlink ≡ other.now.follow_symlink)
         × (copy.now.dir_copy_contents ≡ other.now.dir_copy_contents)

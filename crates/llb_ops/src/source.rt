@@ -32,8 +32,8 @@ impl Drop for SourceOp {
     }
 }
 
-/// The attributes of a source by their keys: the last entry for a key, at the index of the first. Contracts see the
-/// list of keys and attributes.
+/// The attributes of a source by their keys: for each key the last entry given, at the index of the first one given. Contracts see the list of keys and
+/// attributes.
 pub struct Attributes {
     held: IndexMap<Text, Attribute>,
 }
@@ -58,7 +58,7 @@ impl Drop for Attribute {
     }
 }
 
-/// An entry of the map of attributes, which is a message with key 1 and value 2.
+/// An entry of the map of attributes, which is a message: field 1 is the key, field 2 the value.
 #[derive(Drop)]
 pub struct AttributeEntry {
     pub key: Text,
@@ -90,7 +90,7 @@ impl Attributes {
         &self.held
     }
 
-    // Returns the last entry for each key, at the index of the first.
+    // Returns for each key the last entry given, at the index of the first one given.
     pub(crate) fn settled(
         alloc: Global,
         entries: Many<AttributeEntry>,

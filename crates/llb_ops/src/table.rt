@@ -32,7 +32,7 @@ pub enum MessageName {
     MergeInput,
 }
 
-/// What a field holds. `Bytes` is also a message that is not read.
+/// What a field holds. `Bytes` is also the kind of a message that is not read.
 #[derive(Clone, Copy)]
 pub enum FieldKind {
     Int64,
@@ -306,7 +306,7 @@ pub fn field_named(message: MessageName, name: &[u8]) -> Option<FieldRow>
     None
 }
 
-/// Proves that each row is found by its number and by its name: no two rows of a message share one of them.
+/// Proves that each row is found by its number and by its name: no two rows of a message have the same number or the same name.
 pub fn rows_are_apart(message: MessageName)
     ensures { AreRowsApart message }
 {

@@ -1,4 +1,4 @@
-//! The plain outcome of every vertex of a graph, from the lowest on.
+//! The plain outcome of every vertex of a graph, computed in ascending order of their numbers.
 
 ghost use Rattle.std.specs.Prelude.{◌≡◌, false, Ok};
 ghost use Rattle.llb_loader.specs.Graph.{IsVertexOf, Numbered};
@@ -18,10 +18,9 @@ use llb_loader::{Graph, Locals, Vertex, missing_local};
 use llb_wire::Text;
 use std::alloc::Global;
 
-/// Returns the plain outcome of every vertex: `Blocked` if an input of it is not done, else what its whole program
-/// leaves of its inputs' outputs, either its outputs or its first fault. Fails with 101 `MissingLocal` and the name of
-/// the least vertex whose local source has no tree; else with 102 `HasCache` and the least vertex that mounts a cache;
-/// else with 103 `Memory`, which can also come in place of 101 if there is no memory for the name.
+/// Returns the plain outcome of every vertex: `Blocked` if an input of it is not done, else what its whole program makes of its inputs' outputs: outputs of its
+/// own, or its first fault. Fails with 101 `MissingLocal` and the name of the first local source, by vertex, that has no tree; else with 102 `HasCache` and the
+/// least vertex that mounts a cache; else with 103 `Memory`, which can also come in place of 101 if memory for the name is refused.
 pub fn evaluate(alloc: Global, graph: &Graph, locals: &Locals) -> Result<Outcomes, PlainFault>
     ensures gives { Gives (λ o. o) result (evaluate_of (record { graph = graph.now; locals = locals.now })) }
     ensures last { MemoryLast result (evaluate_of (record { graph = graph.now; locals = locals.now })) }
@@ -50,7 +49,7 @@ fn evaluate_all(alloc: Global, graph: &Graph, locals: &Locals) -> Result<Outcome
     Ok(outcomes)
 }
 
-// Returns the outcome of a vertex, from those before it.
+// Returns the outcome of a vertex, from the outcomes of the vertices before it.
 fn next(
     alloc: Global,
     vertex: &Vertex,

@@ -104,7 +104,7 @@ impl Outcomes {
         self.items.len()
     }
 
-    /// Returns whether there are none.
+    /// Returns whether there are no outcomes.
     pub fn is_empty(&self) -> bool
         ensures { result ≡ (length self.now == 0) }
     {

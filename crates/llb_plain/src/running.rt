@@ -1,4 +1,4 @@
-//! How a vertex ends whose whole program is run on the trees of its inputs.
+//! Runs the whole program of a vertex on the trees of its inputs, and returns how the vertex ends.
 
 ghost use Rattle.std.specs.Prelude.{◌≡◌, false, Ok, Some};
 ghost use Rattle.llb_loader.specs.Graph.{IsVertexOf, Numbered};

@@ -2,8 +2,8 @@
 
 use std::collections::LinkedList;
 
-/// The fraction `num`/`den` of the whole; `room`, how many numbers the queue has room for; and the numbers that the pass put and took,
-/// each in their order. No value of this type exists at run time.
+/// What contracts see of a pass: `num`/`den`, its fraction of the whole; `room`, how many numbers the queue has room for; and the lists of the numbers that the
+/// pass put and took, each in order. No value of this type exists at run time.
 pub struct Hand {
     pub num: u64,
     pub den: u64,

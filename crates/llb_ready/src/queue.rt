@@ -1,5 +1,5 @@
-//! The queue and its passes. A queue begins with one pass, the whole; a fraction for each thread is split off, and joined again before
-//! the queue is closed.
+//! The queue and its passes. A new queue has one pass, the whole. A fraction of it is split off for each thread, and the fractions are joined again before the
+//! queue is closed.
 
 ghost use Rattle.std.specs.Prelude.{◌≡◌, ◌≤◌, ◌+◌, ℕ, List, length, IfOk, IfErr, IfSome, IfNone, OnOk, MatchResult, MatchOption};
 ghost use Rattle.crossbeam_queue.specs.Passes.{view};
@@ -19,8 +19,7 @@ pub struct ReadyQueue {
     queue: RuledArrayQueue<u32, Hand, Fair>,
 }
 
-/// The right of one thread to put and take. It has no bytes; in clauses it has its fraction of the whole, and what was put and
-/// taken by it.
+/// The right to put and take, held by one thread. It has no bytes; contracts see its fraction of the whole, and the numbers that were put and taken with it.
 #[derive(Drop)]
 pub struct ReadyPass {
     pass: Pass<u32, Hand>,
@@ -40,14 +39,14 @@ impl ReadyQueue {
     {
         let (queue, whole) = RuledArrayQueue::ruled(alloc, n as usize)?;
         let mut pass = whole;
-        // The queue begins with a rule that allows no numbers; it is changed n times, each time to allow one more. The queue's content stays.
+        // The rule of a new queue lets it hold no numbers; each of the `n` rounds lets it hold one more. What the queue holds stays the same.
         for _i in 0..n {
             drop(queue.another::<Widens>(&mut pass));
         }
         Ok((ReadyQueue { queue }, ReadyPass { pass }))
     }
 
-    /// Splits a pass into halves. The first keeps its numbers; the second is new, and has put and taken nothing.
+    /// Splits a pass into halves. The first half keeps the numbers that the pass put and took; the second has put and taken nothing.
     pub fn split(&self, pass: ReadyPass) -> (ReadyPass, ReadyPass)
         requires { IsReadyPassOf self.now pass }
         ensures passes { IsReadyPassOf self.now result.0 × IsReadyPassOf self.now result.1 }
@@ -59,7 +58,7 @@ impl ReadyQueue {
         (ReadyPass { pass: first }, ReadyPass { pass: second })
     }
 
-    /// Joins two passes: their fractions are added, and the numbers that the first put and took are followed by those of the other.
+    /// Joins two passes: their fractions are added, and the numbers that the first pass put and took are followed by those of the other.
     pub fn join(&self, pass: ReadyPass, other: ReadyPass) -> ReadyPass
         requires { IsReadyPassOf self.now pass × IsReadyPassOf self.now other }
         ensures pass { IsReadyPassOf self.now result }
@@ -81,8 +80,8 @@ impl ReadyQueue {
         ensures ok { OnOk result (hand_of pass.new ≡ with_put (hand_of pass.old) v) }
         ensures full { IfErr result (λ e. (e.0 ≡ v) × (hand_of pass.new ≡ hand_of pass.old)) }
 
-        // With the whole pass the queue is full exactly if the pass has put as many numbers more than it took as there is room
-        // for.
+        // With the whole pass the call fails exactly if the queue has no room left: the pass has put as many numbers more than it has taken as the queue has
+        // room for.
         ensures whole { let before = hand_of pass.old in IsWhole pass.old → MatchResult result (λ _. HasRoom before) (λ _. HasNoRoom before) }
     {
         let ReadyPass { pass } = pass;
@@ -100,16 +99,16 @@ impl ReadyQueue {
         ensures some { IfSome result (λ v. hand_of pass.new ≡ with_taken (hand_of pass.old) v) }
         ensures none { IfNone result (hand_of pass.new ≡ hand_of pass.old) }
 
-        // With the whole pass the queue is empty exactly if the pass took all that it put; else it takes a number that was put more
-        // often than taken.
+        // With the whole pass `None` is returned exactly if the pass has taken all that it put; a number that is returned was put by the pass more often than
+        // taken.
         ensures whole { let before = hand_of pass.old in IsWhole pass.old → MatchOption result (HasTakenAll before) (HasLeft before) }
     {
         let ReadyPass { pass } = pass;
         self.queue.pop_as::<Takes, R>(rt, pass)
     }
 
-    /// Takes the whole pass, and drops the queue with what it still has. Each number was put as often as it was taken and is
-    /// still there.
+    /// Takes the whole pass, and drops the queue with what it still has. How often a number was put is how often it was taken plus how often it is still in the
+    /// queue.
     pub fn close(self, pass: ReadyPass)
         requires pass { IsReadyPassOf self pass }
         requires whole { IsWhole pass }

@@ -3,7 +3,7 @@
 use crate::hand::Hand;
 use crossbeam_queue::protocol::{Join, Lesson, Outcome, Protocol, Split};
 
-/// The rule: what was put is what was taken and what the queue holds, and the passes are fractions of one whole.
+/// The rule: what was put is what was taken together with what the queue holds, and the passes are fractions of one whole.
 pub(crate) struct Fair;
 
 impl Protocol<u32, Hand> for Fair {

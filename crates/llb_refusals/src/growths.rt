@@ -1,14 +1,14 @@
-//! Refuses each growth (each request for memory) of a call in turn. A test does so through `tools/llbm_tools/refuse.c`, a library between the test and its
-//! allocator, to which it speaks by requests of sizes that no allocator grants.
+//! Refuses each growth (each request for memory) of a call in turn. This is done by `tools/llbm_tools/refuse.c`, a library between the test and its allocator.
+//! The test says what to refuse by requests of sizes that no allocator grants.
 
 use super::told::is_same;
 use llb_samples::tree_text;
 use std::alloc::Global;
 use std::process::Abort;
 
-/// A call in words; what it is called on; its result in words if memory is refused; and its result if not. For a call that does
-/// not allocate the third text is empty. If it has faults with ` and ` between them, each has to come; with ` or `, any may. The last text may be the name
-/// of a tree instead of the tree's text.
+/// A call in words; what it is called on; its result in words if memory is refused; and its result if not. For a call that does not allocate the third text is
+/// empty. If the third text has several faults with ` and ` between them, each has to come; with ` or `, any may. The last text may be the name of a tree
+/// instead of the tree's text.
 pub(crate) type Row = (&'static str, &'static str, &'static str, &'static str);
 
 /// A call with what it needs, and its latest result.

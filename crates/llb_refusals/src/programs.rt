@@ -443,7 +443,7 @@ fn run_many<R: Threads + Wait + Sync>(
     *status = run_many_over(rt, alloc, &mut input, out, err, locals, workers);
 }
 
-// Returns whether growth k of a run by two workers was refused. The status is then 3, or the run could do without that memory.
+// Returns whether growth `k` of a run by two workers was refused. The status is then 3, or the run could do without that memory.
 fn is_growth<R: Abort + Threads + Wait + Sync>(rt: &R, alloc: Global, row: &Row, k: usize) -> bool {
     let (_, on, lacks, wanted) = *row;
     let input = input_of(rt, alloc, "run_many_over", on);

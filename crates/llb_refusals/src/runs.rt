@@ -23,8 +23,8 @@ fn replayed(stepper: &mut Stepper, board: &Board) -> bool {
     stepper.replay(board.events().as_slice()).is_ok()
 }
 
-// Returns whether the record of a run leads from a board that was opened in the same way to the board at its end, and its length is that of the record before
-// the run with the workers' counts.
+// Returns whether the record of a run leads from a board that was opened in the same way to the board at its end, and its length is the length of the record
+// before the run plus the workers' counts.
 fn is_replayed(alloc: Global, end: &RunEnd, opened: Board, before: usize) -> bool {
     let mut stepper = Stepper::new(alloc, opened);
     let mut made = before as u64;
@@ -146,7 +146,8 @@ pub(crate) fn alone_told(rt: &impl Abort, alloc: Global, board: Board) -> String
     end_told(rt, alloc, &alone(board))
 }
 
-// Returns whether growth k of a run in threads was refused. Such a run ends because of that or does without; its record is right, and one driver finishes it.
+// Returns whether growth `k` of a run in threads was refused. Such a run ends because of that, or can do without the memory; its record is right, and one
+// driver finishes it.
 fn is_growth<R: Abort + Threads + Wait + Sync>(rt: &R, alloc: Global, row: &Row, k: usize) -> bool {
     let (_, on, lacks, wanted) = *row;
     let board = board_on(rt, alloc, &board_in(rt, on));
@@ -225,7 +226,7 @@ fn is_done(board: &Board, v: Option<u32>) -> bool {
     }
 }
 
-// Returns the vertex that the worker of thread k runs; the first thread is number 1.
+// Returns the vertex that the worker of thread `k` runs; the first thread is number 1.
 fn run_by(board: &Board, k: usize) -> Option<u32> {
     let worker = u32::try_from(k.checked_sub(1)?).ok()?;
     match board.worker(worker) {
@@ -234,7 +235,7 @@ fn run_by(board: &Board, k: usize) -> Option<u32> {
     }
 }
 
-// Returns whether thread k of a run could not be started. Such a run ends because of that; the vertex of the thread's worker is done, the record is right,
+// Returns whether thread `k` of a run could not be started. Such a run ends because of that; the vertex of the thread's worker is done, the record is right,
 // and one driver finishes the run.
 fn is_thread<R: Abort + Threads + Wait + Sync>(rt: &R, alloc: Global, row: &Row, k: usize) -> bool {
     let (_, on, fault, wanted) = *row;

@@ -1,6 +1,6 @@
-//! The entries of the definitions in tests, each after a line with `== `, its name and a description. They are in the lines of the
-//! assembler's text, with ` | ` in place of some line ends. `%0` is the first entry of the definition that an entry is in, so each has to be at the
-//! position that its name or its description says; a digest of one letter is that of a row.
+//! The entries of the definitions in tests, each after a line with `== `, its name and a description. They are in the lines of the assembler's text, with ` | `
+//! in place of some line ends. `%0` is the first entry of the definition that an entry is in, so each has to be at the position that its name or its
+//! description says; a digest of one letter names a row.
 
 pub(crate) const ENTRIES: &str = concat!(
     r#"

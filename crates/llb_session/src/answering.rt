@@ -90,7 +90,7 @@ fn go(alloc: Global, stepper: &mut Stepper) -> Result<Vec<u8>, StepperFault>
     }
 }
 
-// Takes the last event back, and returns its line. The line is made first: if memory for it is refused, the event is not yet taken back.
+// Takes the last event back, and returns its line. The line is made first: if memory for it is refused, the event is not taken back.
 fn back(alloc: Global, stepper: &mut Stepper) -> Result<Vec<u8>, StepperFault>
     ensures { IsPerformed ask.Back stepper.old stepper.new result }
 {
@@ -167,8 +167,8 @@ fn perform(alloc: Global, stepper: &mut Stepper, request: Request) -> Result<Vec
     }
 }
 
-// Does what a line asks for and returns what it prints: 173 and its number if it is no request. If memory for the line of a refusal is
-// refused, nothing is changed; neither `clear` nor `quit` is refused.
+// Does what a line asks for, and returns what it prints; for a line that is no request, that is `fault 173` and the line's number. If memory for the line of a
+// refusal is refused, nothing is changed; neither `clear` nor `quit` is refused.
 fn respond_to(
     alloc: Global,
     stepper: &mut Stepper,
@@ -189,10 +189,10 @@ fn respond_to(
     Ok(fault_line(alloc, &fault)?.into_bytes())
 }
 
-/// Replies to line `number` of a session, counted from 1, on the stepper, and returns the whole reply: no text if the line is granted and
-/// prints nothing; `fault 173` and its number if it is no request; `fault` and 171, 172 or 174 if what it asks for is refused, and then
-/// nothing is changed. Returns `None` if the line ends the session. Fails if memory is refused for the line of a refusal, and then nothing
-/// is changed either; neither `clear` nor a line that ends the session fails.
+/// Replies to line `number` of a session, counted from 1, on the stepper, and returns the whole reply: no text if the line is granted and prints nothing;
+/// `fault 173` and its number if the line is no request; `fault` and 171, 172 or 174 if what it asks for is refused, and then nothing is changed. Returns
+/// `None` if the line ends the session. Fails if memory for the line of a refusal is refused, and then nothing is changed either; neither `clear` nor a line
+/// that ends the session fails.
 pub fn respond(
     alloc: Global,
     stepper: &mut Stepper,

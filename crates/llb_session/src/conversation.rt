@@ -67,7 +67,7 @@ fn hear<W: Write>(
     Ok(goes_on)
 }
 
-// Takes bytes one by one, up to the end of a line that ends the session; returns false then.
+// Takes bytes one by one, up to the end of a line that ends the session. Returns false if there is such a line.
 fn hear_all<W: Write>(
     alloc: Global,
     session: &mut Stepper,

@@ -161,8 +161,8 @@ fn by_words(line: &str) -> Option<Request>
     }
 }
 
-/// Returns what a line without its end asks for: `None` for any other line, also for an empty one and for one that is not UTF-8. Words are separated by
-/// exactly one space, and numbers are decimal digits below 2^32. Does not allocate.
+/// Returns what a line without its end asks for; `None` if the line is no request, as an empty line or one that is not UTF-8. Words are separated by exactly
+/// one space, and numbers are decimal digits below 2^32. Does not allocate.
 pub fn request_in(line: &[u8]) -> Option<Request>
     ensures { result ≡ request_in line.now }
 {

@@ -107,7 +107,7 @@ pub(crate) fn tree_text(alloc: Global, tree: Option<&Tree>) -> Result<Vec<u8>, S
     Ok(text)
 }
 
-// Appends the line of tree i of a worker.
+// Appends the line of tree `i` of a worker.
 fn push_part(text: &mut String, i: usize, part: Part<'_>) -> Result<(), StepperFault>
     ensures line { IfOk result (λ _. string_bytes text.new ≡ string_bytes text.old ++ role_line i (role_in part.entry)) }
     ensures memory { IfErr result (λ e. e ≡ refusal.Memory) }
@@ -195,7 +195,7 @@ fn push_seed(text: &mut String, seed: &Option<Seed>) -> Result<(), StepperFault>
     Ok(())
 }
 
-// Appends the line for key k, which has n instances.
+// Appends the line for key `k`, which has `n` instances.
 fn push_key(text: &mut String, k: usize, key: &Key, n: u32) -> Result<(), StepperFault>
     ensures line { IfOk result (λ _. string_bytes text.new ≡ string_bytes text.old ++ key_line k key.now n) }
     ensures memory { IfErr result (λ e. e ≡ refusal.Memory) }

@@ -2,9 +2,9 @@
 //! It is built on `llb_board`; it has laws, and one caller of them.
 //!
 //! Types: none of its own.
-//! Promise: `laws::one_digest_one_outcome`: in two definitions that do not collide, vertices with the same digest have the same plain outcome, if their
-//! sources have the same trees. `laws::one_digest_one_job`: they have the same job, but for the numbers of worker and vertex.
-//! `laws::outcome_by_sources`: the outcome depends on no other local trees.
+//! Promise: `laws::one_digest_one_outcome`: in two definitions that do not collide, vertices with the same digest have the same plain outcome, if their sources
+//! have the same trees. `laws::one_digest_one_job`: such vertices have the same job, except for the numbers of worker and vertex. `laws::outcome_by_sources`:
+//! the outcome of a vertex depends on no local trees but those of its sources.
 //!
 //! A caller:
 //!

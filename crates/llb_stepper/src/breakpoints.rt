@@ -1,5 +1,5 @@
-//! The breakpoints of a stepper: the list of them, and besides it sets of vertices, one for each kind of breakpoint, in which the vertex of an event is looked
-//! up. So an event costs at most the logarithm of the number of breakpoints.
+//! The breakpoints of a stepper: the list of them, and for each kind of breakpoint a set of vertices, in which the vertex of an event is looked up. So a
+//! look-up takes time in the logarithm of the number of breakpoints at most.
 
 ghost use Rattle.std.specs.Prelude.{◌≡◌, ◌++◌, ◌∷◌, [], OnOk, OnErr};
 ghost use Rattle.std.specs.List.{list_any};

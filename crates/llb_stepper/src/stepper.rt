@@ -20,8 +20,8 @@ use llb_wire::Text;
 use std::alloc::Global;
 use std::marker::Model;
 
-/// A board, what takes back each event that the stepper did on it, and breakpoints. Contracts see the board, the boards before these events,
-/// the last first, and the breakpoints.
+/// A board, what takes back each event that the stepper did on it, and breakpoints. Contracts see the board, the boards before each of these events (the board
+/// before the last event comes first), and the breakpoints.
 pub struct Stepper {
     alloc: Global,
     board: Board,
@@ -95,7 +95,7 @@ impl Stepper {
         self.breaks.clear();
     }
 
-    /// Does one event. Fails with 171 and the board's refusal, or with 174. Memory may be refused, as 171 141 or 174, whenever something grows.
+    /// Does one event. Fails with 171 and the board's refusal, or with 174. Want of memory is 171 141 if the board lacks it, 174 if the stepper does.
     pub fn do_event(&mut self, event: Event) -> Result<(), StepperFault>
         ensures gives { GivesEvent (λ _. self.new) result (done_of self.old event) }
         ensures err { OnErr result (self.new ≡ self.old) }
@@ -128,7 +128,7 @@ impl Stepper {
         }
     }
 
-    /// Returns the line of event i of the board's record, counted from 1, with its reply: `None` past the end, at 0, and for events that the board
+    /// Returns the line of event `i` of the board's record, counted from 1, with its reply: `None` past the end, at 0, and for events that the board
     /// had when the stepper was made. Fails with 174 alone.
     pub fn record_line(&self, i: u64) -> Result<Option<Text>, StepperFault>
         ensures line { IfOk result (λ o. option_map (λ t. t) o ≡ option_map (record_text self.now.board.build.graph.vertices i) (record_at self.now i)) }
@@ -141,7 +141,7 @@ impl Stepper {
         Ok(Some(Text::new(line)))
     }
 
-    // Returns event i with its reply.
+    // Returns event `i` with its reply.
     fn recorded(&self, i: u64) -> Option<(Event, Reply)>
         ensures { result ≡ option_map told_pair (record_at self.now i) }
     {
@@ -205,8 +205,8 @@ impl Stepper {
         self.back_by(if count < depth { count } else { depth });
     }
 
-    /// Does the chosen events, up to the first that meets a breakpoint, or until the board is complete; at least one if it is not complete before. Fails
-    /// with 171 141 and 174 alone: then all that it did is taken back.
+    /// Does the chosen events, up to the first that meets a breakpoint, or until the board is complete; at least one event if the board is not complete before.
+    /// Fails with 171 141 or 174 alone; then all events that it did are taken back.
     pub fn go(&mut self) -> Result<Stop, StepperFault>
         ensures goes { IfOk result (IsGo self.old self.new) }
         ensures refused { IfErr result (λ e. stepper_memory e ≡ true) }
@@ -237,7 +237,7 @@ impl Stepper {
         })
     }
 
-    /// Does the given events, up to the first that meets a breakpoint. If one is refused, with 171 or 174, all that it did is taken back.
+    /// Does the given events, up to the first that meets a breakpoint. If one is refused, with 171 or 174, all events that it did are taken back.
     pub fn replay(&mut self, events: &[Event]) -> Result<Stop, StepperFault>
         ensures stops { IfOk result (IsStop self.old events.now self.new) }
         ensures refused { IfErr result (IsRefusedAt self.old events.now) }
@@ -282,7 +282,7 @@ pub fn there_and_back(stepper: &Stepper)
     let _ = &stepper.board;
 }
 
-/// A law: the boards of the past are those to which the record without its last events leads, however these events were done.
+/// A law: the board before the last `n` events is the one to which the record without its last `n` events leads, however those events were done.
 pub fn past_is_the_records(stepper: &Stepper)
     ensures { PastIsTheRecords stepper.now }
 {
@@ -296,8 +296,8 @@ pub fn record_is_the_run(stepper: &Stepper)
     let _ = &stepper.board;
 }
 
-/// A law: the record of a board, however its events were done, done again on the board as it was opened, leads to the board; and so a stepper without
-/// breakpoints over that opening board that replays the record is then on the board, with a line for each event of the record and its reply.
+/// A law: the record of a board, done again event by event on the board as it was opened, leads to the board, however its events were first done. So a stepper
+/// without breakpoints that begins with that opening board and replays the record is then on the board, with a line for each event of the record and its reply.
 pub fn replay_is_the_run(board: &Board)
     ensures leads { IsReplayed board.now }
     ensures lines { ReplaysOnAStepper board.now }
@@ -305,8 +305,8 @@ pub fn replay_is_the_run(board: &Board)
     board.replays();
 }
 
-/// A law: the reply that a call on a board returns is the one in the record of the board afterwards, the last one there.
-/// The calls are `claim`, `step`, `settle`, `cancel`, and `land`, where the replies of its steps come before its own.
+/// A law: the reply that a call on a board returns is the last reply in the record of the board after the call. The calls are `claim`, `step`, `settle`,
+/// `cancel`, and `land`; with `land` the replies of its steps come before the reply of its settle.
 pub fn replies_are_recorded(board: &Board)
     ensures { RepliesAreRecorded board.now }
 {

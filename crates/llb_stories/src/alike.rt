@@ -28,7 +28,7 @@ const COPIES: &[Copied] = &[
     (OPENED, "", OPENED, [true, true]),
     (CLAIMED, "", OPENED, [false, true]),
     (CLAIMED, "", CLAIMED, [true, true]),
-    // Two claims in two orders give the same state and another record.
+    // Two claims in two orders lead to the same state, but the records differ.
     (
         (TWO_FILES, 2, "claim 0 0\nclaim 1 1"),
         "",

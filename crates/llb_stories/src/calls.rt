@@ -105,7 +105,7 @@ pub(crate) fn worked_out<G: Gate>(alloc: Global, job: Job, gate: &G) -> Result<O
     }
 }
 
-// Returns the outcome of what worker w does at a vertex behind a gate, or the number of the fault.
+// Returns the outcome of what worker `w` does at a vertex behind a gate, or the number of the fault.
 pub(crate) fn worked<G: Gate>(
     alloc: Global,
     board: &mut Board,

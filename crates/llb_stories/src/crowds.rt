@@ -169,7 +169,7 @@ fn all_end<R: Abort + Threads + Wait + Sync>(
     true
 }
 
-// Returns a row number of its own for each shape and number of workers, which is below 100.
+// Returns a row number for a shape and a number of workers, which is below 100; each such pair has another row number.
 fn row(at: usize, workers: u32) -> usize {
     at.wrapping_mul(100).wrapping_add(workers as usize)
 }

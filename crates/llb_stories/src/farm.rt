@@ -76,7 +76,7 @@ pub(crate) fn push_merge(rt: &impl Abort, text: &mut String, count: u32) {
     write!(text, "}}\n}}\nop {{\ninputs {{\ndigest %{count}\n}}\n}}\n").expect(rt, "memory");
 }
 
-// Returns how many events were made in all, and by the one of the first workers that made the fewest; nothing if there is a fault, or the board is
+// Returns how many events the first `workers` workers made in all, and the fewest that any of them made; nothing if there is a fault, or the board is
 // not complete.
 pub(crate) fn counts(end: &RunEnd, workers: usize) -> Option<(u64, u64)> {
     if end.fault.is_some() || !end.board.is_complete() {

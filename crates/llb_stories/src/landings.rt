@@ -48,7 +48,7 @@ const SECOND_COMMAND_FAILS: &str =
 
 const APPENDS: &str = "locked: append /c/l a && append /c/l b; RESULT_0";
 
-// Returns the outcome of what worker w does at vertex 0, or the number of the fault.
+// Returns the outcome of what worker `w` does at vertex 0, or the number of the fault.
 fn outcome_from<G: Gate>(
     rt: &impl Abort,
     alloc: Global,
@@ -111,7 +111,7 @@ const LANDINGS: &[Landing] = &[
     (TWO_FILES, TWO_FILES, CLAIMED, 1, 136),
     (TWO_FILES, TWO_FILES, CLAIMED, 5, 131),
     (TWO_FILES, TWO_FILES, "", 0, 136),
-    // The job has to be what remains for that worker: not one over another graph, and no step may have been done.
+    // The job has to be what remains for that worker: a job over another graph does not land, nor a job after whose claim the worker has done a step.
     (OTHER_FILES, TWO_FILES, CLAIMED, 0, 139),
     (TWO_FILES, TWO_FILES, "claim 0 0\nstep 0", 0, 139),
     // The outcome of a claim that was cancelled lands if the same claim is made again, but not for another worker, nor after its

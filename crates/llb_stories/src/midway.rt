@@ -46,7 +46,7 @@ fn is_by_one(end: &RunEnd, before: usize) -> bool {
         && made == 11u64.saturating_sub(before as u64)
 }
 
-// The worker has claimed the second vertex; then has done one of its micro-steps; then both; and then it has settled.
+// In four cases the worker has claimed the second vertex, has done one of its two micro-steps, has done both, and has settled the vertex.
 #[test]
 fn a_worker_first_ends_what_it_runs(rt: HostRuntime) {
     for before in 1..=4 {

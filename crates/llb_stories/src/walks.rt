@@ -1,4 +1,4 @@
-//! Runs that are stepped through to their ends and taken back, event by event: then everything is as before. And records that are replayed.
+//! Runs that are stepped through to their ends and taken back, event by event, after which everything is as before; and records that are replayed.
 
 ghost use Rattle.std.specs.Prelude.{◌≡◌};
 

@@ -51,7 +51,7 @@ const ON_ONE_VERTEX: [Event; 8] = [
     Event::Cancel(1),
 ];
 
-// Returns how many more cancels there may be after an event; nothing if it is one too many.
+// Returns how many more cancels there may be after an event; nothing if the event is one cancel too many.
 fn cancels_left(event: Event, cancels: u32) -> Option<u32> {
     match event {
         Event::Cancel(_) => cancels.checked_sub(1),

@@ -1,5 +1,4 @@
-//! Whether upper children have all names of lower ones, so that laying them over the lower ones gives children with the upper ones'
-//! names alone.
+//! Whether upper children have all names of lower ones. If they do, laying them over the lower ones results in children with the upper names alone.
 
 ghost use Rattle.std.specs.Prelude.{◌≡◌, IsTrue, IfSome, map};
 ghost use Rattle.llb_tree.specs.Nodes.{kids_in, left_in, name_of};
@@ -10,8 +9,7 @@ use crate::name::Name;
 use crate::node::{Child, Piece};
 use std::cmp::Ordering;
 
-// Returns the children after the one of a name; `None` if no child has that name. Expects the children in the order of
-// their names.
+// Returns the children after the child that has a name; `None` if no child has that name. Expects the children in the order of their names.
 fn after<'a>(kids: Children<'a>, name: &Name) -> Option<Children<'a>>
     ensures { IfSome result (λ more. HasLater name.now (left_in kids.entry) (left_in more)) }
 {

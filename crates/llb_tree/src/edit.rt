@@ -1,7 +1,6 @@
-//! Edits of nodes that may be shared. Before a directory is changed, it gets a copy of its own of what other owners share with it:
-//! of its list of pieces, and of the children in the piece that is changed;
-//! what is below them stays shared, and the other owners see no change. So an edit copies one
-//! piece of each directory on its path, and the lists of their pieces.
+//! Edits of nodes that may be shared. Before a directory is changed, it gets copies of what it shares with other owners: of its list of pieces, and of the
+//! children in the piece that is changed. What is below these children stays shared, and the other owners see no change. So an edit copies, for each directory
+//! on its path, the list of its pieces and one piece.
 
 ghost use Rattle.std.specs.Prelude.{[], Ok, Err, ◌≡◌, ◌<◌, ◌≤◌, ℕ, List, length, map, option_map, IfOk, OnOk, OnErr};
 ghost use Rattle.std.specs.Arc.{arc_value};
@@ -27,7 +26,7 @@ pub(crate) fn copies(alloc: Global, kids: &[Child]) -> Result<Vec<Child>, AllocE
     Ok(copied)
 }
 
-// Makes a list of children that is shared this owner's own, by a copy; the trees that they represent are unchanged.
+// If a list of children is shared, replaces it by a copy that this owner has alone. The trees that the children represent are unchanged.
 pub(crate) fn own(alloc: Global, kids: &mut Arc<Vec<Child>>) -> Result<(), AllocError>
     ensures { map pair_of (arc_value kids.new).items ≡ map pair_of (arc_value kids.old).items }
 {
@@ -39,8 +38,7 @@ pub(crate) fn own(alloc: Global, kids: &mut Arc<Vec<Child>>) -> Result<(), Alloc
     Ok(())
 }
 
-// Replaces what is at the names below the child of a name, or that child itself if there are no names, by a node or by
-// nothing.
+// Replaces what is at the names below a child, or that child itself if there are no names, by a node, or removes it if no node is given.
 #[cycle(set)]
 fn set_in(
     list: &mut Vec<Child>,
@@ -71,7 +69,7 @@ fn set_in(
     }
 }
 
-// Does what `set_in` does in a piece, whose children may be shared: first makes them this owner's own.
+// Does what `set_in` does in a piece. If its children are shared, they are copied first.
 #[cycle(set)]
 fn set_rows(
     rows: &mut Arc<Vec<Child>>,
@@ -113,7 +111,7 @@ fn set_piece(
     Ok(())
 }
 
-// Does what `set_piece` does if the list of the pieces may be shared: first makes the list this owner's own.
+// Does what `set_piece` does in a list of pieces that may be shared. If it is shared, it is copied first.
 #[cycle(set)]
 fn set_below(
     kids: &mut Arc<Vec<Piece>>,
@@ -177,8 +175,8 @@ fn insert_child(
 }
 
 impl Node {
-    // Replaces what is at the names below this node by another node, or by nothing. Fails if a directory above it is
-    // missing, if nothing is to replace this node itself, or if memory is refused; then this node is unchanged.
+    // Replaces what is at the names below this node by another node, or removes it if none is given. Fails if a directory above it is missing, if this node
+    // itself would be removed, or if memory is refused; then this node is unchanged.
     #[cycle(set)]
     pub(crate) fn set(
         &mut self,

@@ -1,5 +1,5 @@
-//! Whether the entries of a tree have room at and below a path. Usually the known bound of the tree's depth is enough; otherwise the nodes
-//! are visited.
+//! Whether the entries of a tree can be put at and below a path, so that no path gets more than 128 names. Usually the known bound of the tree's depth is
+//! enough to say so; otherwise the nodes are visited.
 
 ghost use Rattle.std.specs.Prelude.{◌≡◌, ◌↔◌, ◌≤◌, IsTrue, IfErr, false};
 ghost use Rattle.std.specs.FinMap as finite;
@@ -12,8 +12,7 @@ use crate::path::Path;
 use crate::tree::Tree;
 
 impl Tree {
-    /// Checks that the entries have room at and below a path. Fails with 26 `BadName` if a path would have more than
-    /// 128 names. Does not allocate.
+    /// Checks that the entries can be put at and below a path. Fails with 26 `BadName` if a path would have more than 128 names. Does not allocate.
     pub fn fits(&self, path: &Path) -> Result<(), TreeFault>
         ensures fit { result ≡ places_fit path.now (finite.keys self.now) }
         ensures known { IfErr result (λ e. is_memory e ≡ false) }

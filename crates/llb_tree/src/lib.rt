@@ -1,10 +1,10 @@
-//! A tree is a map from paths to entries; each call reads the map or makes one change of it. Also names, paths and how they are read from a
-//! text, modes and owners. It is built on `llb_wire`. A node is a file or a directory; contents, lists of children and names are each behind an
-//! `Arc`, so a copy shares everything, and an edit copies only the directories on its path (docs/DECISIONS.md, "Trees").
+//! A tree is a map from paths to entries; each call reads the map or makes one change of it. Names, paths (and how they are read from a text), modes and owners
+//! are here too. It is built on `llb_wire`. A node is a file or a directory; contents, lists of children and names are each behind an `Arc`, so a copy shares
+//! everything, and an edit copies only the directories on its path (docs/DECISIONS.md, "Trees").
 //!
 //! Types: `Tree`, `Path`, `Name`, `Meta` (mode and owner), `Entry`, `Node` and `Children` (the nodes in memory), `Walk` (entries in
 //! path order), `TreeFault`.
-//! Promise: `Tree::put_file` (`gives`, `last`, `err`) makes one change of the map or fails with its first fault, and then nothing is changed;
+//! Promise: `Tree::put_file` (`gives`, `last`, `err`) makes one change of the map, or fails with its first fault and changes nothing;
 //! so do the other edits. `Tree::overlaid` (`paths`) lays one tree over another; `Tree::get` (`found`, `tree`) returns the entry at a path.
 //!
 //! A caller:

@@ -33,7 +33,7 @@ impl Child {
 }
 
 impl Node {
-    /// Returns the children in the order of their names; a file has none. After a node's own entry come those of its children, child
+    /// Returns the children in the order of their names; a file has none. The entries of a node are its own entry, and then the entries of its children, child
     /// by child, each with the child's name before its path. Does not allocate.
     pub fn children(&self) -> Children<'_>
         ensures entries { (e : base.Entry) → finite.get self.now [] ≡ Some e → finite.entries self.now ≡ ([], e) ∷ flat (left_in result) }
@@ -61,8 +61,8 @@ fn names_of(alloc: Global, kids: Children<'_>) -> Result<Vec<Name>, TreeFault>
 }
 
 impl Tree {
-    /// Returns the names directly below a path, in order. Fails with 21 `NotFound` if nothing is there, also below a
-    /// file, with 22 `NotDir` if a file is, else with 27 `Memory`.
+    /// Returns the names directly below a path, in order. Fails with 21 `NotFound` if nothing is there (nothing is ever below a file), with 22 `NotDir` if a
+    /// file is there, else with 27 `Memory`.
     pub fn list(&self, path: &Path) -> Result<Names, TreeFault>
         ensures gives { Gives (λ n. n) result (list self.now path.now) }
         ensures last { MemoryLast result (list self.now path.now) }

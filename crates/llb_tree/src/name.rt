@@ -57,7 +57,7 @@ impl Name {
         is_plain(bytes)
     }
 
-    /// Reads a text as a name. Fails with 26 `BadName` if it is none, else with 27 `Memory`.
+    /// Reads a text as a name. Fails with 26 `BadName` if it is not a name, else with 27 `Memory`.
     pub fn new(alloc: Global, text: &str) -> Result<Name, TreeFault>
         ensures gives { Gives (λ n. n) result (name_of text.now) }
         ensures last { MemoryLast result (name_of text.now) }

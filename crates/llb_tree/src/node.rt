@@ -160,7 +160,7 @@ impl Node {
         })
     }
 
-    // Returns a directory with another mode and owner and the same below it; an empty one if this node is a file.
+    // Returns this directory with another mode and owner; if this node is a file, returns an empty directory.
     fn with_meta(&self, alloc: Global, meta: Meta) -> Result<Node, AllocError>
         ensures { IfOk result (λ n. (q : List (List ℕ)) → finite.get n q ≡ dir_look meta (finite.get self.now) q) }
     {
@@ -175,7 +175,7 @@ impl Node {
         }
     }
 
-    // Returns the directory at these names with another mode and owner; an empty one if no directory is there.
+    // Returns the directory at these names with another mode and owner; if no directory is there, returns an empty one.
     pub(crate) fn dir_at(
         &self,
         alloc: Global,
@@ -190,8 +190,7 @@ impl Node {
         }
     }
 
-    // Checks that each proper prefix of these names is a directory. Fails with 21 `NotFound` or 22 `NotDir` at the first
-    // that is none.
+    // Checks that each proper prefix of these names is a directory. Fails with 21 `NotFound` or 22 `NotDir` at the first prefix that is not.
     pub(crate) fn walked(&self, names: &[Name]) -> Result<(), TreeFault>
         ensures walks { result ≡ walk (finite.get self.now) names.now }
         ensures known { IfErr result (λ e. is_memory e ≡ false) }

@@ -1,8 +1,7 @@
-//! Lays one tree over another. It goes down both at once and visits only what both have; what only one of them has is
-//! shared. At each level the upper children are put among the lower ones, each into the piece that its name belongs to.
-//! If they have every name of the lower ones, their pieces are taken as they are, but for the directories that both
-//! have, which are laid one level deeper. A refusal leaves the lower tree as it was: the new children are put into copies
-//! of the lower pieces.
+//! Lays one tree over another. It goes down both trees at once and visits only what both have; what only one of them has is shared. At each level the upper
+//! children are put among the lower ones, each into the piece that its name belongs to. If the upper children have every name of the lower ones, the upper
+//! pieces are taken as they are, except that the directories that both have are laid one level deeper. A refusal leaves the lower tree as it was: the new
+//! children are put into copies of the lower pieces.
 
 ghost use Rattle.std.specs.Prelude.{◌≡◌, ℕ, List, option_map, IfOk, IfErr, OnOk, OnErr, map, true, unwrap_or};
 ghost use Rattle.std.specs.Arc.{arc_value};
@@ -81,8 +80,8 @@ fn lay_node(lower: &mut Node, alloc: Global, way: &Way, upper: &Node) -> Result<
     }
 }
 
-// Lays children over others. If the upper ones have every name of the lower ones, none of the lower ones is copied.
-// If it returns true, the result is the upper ones, unchanged.
+// Lays upper children over lower ones. If the upper ones have every name of the lower ones, none of the lower ones is copied. If it returns true, the result is
+// the upper children, unchanged.
 #[cycle(lay)]
 fn lay_children(
     kids: &mut Arc<Vec<Piece>>,
@@ -105,7 +104,7 @@ fn lay_children(
     Ok(false)
 }
 
-// Lays children over others that have no other names. Returns whether the result is the upper ones, unchanged.
+// Lays upper children over lower ones; the upper ones have every name of the lower ones. Returns whether the result is the upper children, unchanged.
 #[cycle(lay)]
 fn lay_all(
     kids: &mut Arc<Vec<Piece>>,
@@ -134,7 +133,7 @@ fn lay_all(
     }
 }
 
-// Lays upper pieces over lower ones, and returns the upper ones, with copies of those that change; `None` if none changes.
+// Lays upper pieces over lower ones, and returns the upper pieces, with changed copies in place of those that change; `None` if none changes.
 #[cycle(lay)]
 fn laid_all(
     kids: &[Piece],
@@ -155,8 +154,8 @@ fn laid_all(
     Ok(made)
 }
 
-// Lays the upper children of one piece over the lower ones of their names; returns `None` if none changes. Looks for each name first at
-// the same index of the lower piece `at`.
+// Lays the upper children of one piece over the lower children that have the same names; returns `None` if none changes. Looks for each name first at the same
+// index of the lower piece `at`.
 #[cycle(lay)]
 fn laid_rows(
     kids: &[Piece],
@@ -203,7 +202,7 @@ fn laid_over(
     Ok(Some(node))
 }
 
-// Lays children over others one by one. Makes all results before it puts the first child in.
+// Lays upper children over lower ones, one by one. All results are made before the first of them is put in.
 #[cycle(lay)]
 fn lay_each(
     kids: &mut Arc<Vec<Piece>>,
@@ -240,8 +239,7 @@ fn laid_children(
     Ok(ready)
 }
 
-// Lays a child over a copy of the one of the same name; if there is none, returns it with the mode and the owner of the
-// `Way`.
+// Lays an upper child over a copy of the lower child of the same name; if there is none, returns the upper child with the mode and the owner of the `Way`.
 #[cycle(lay)]
 fn laid_child(kids: &[Piece], alloc: Global, way: &Way, upper: &Child) -> Result<Child, AllocError>
     requires { ArePieced kids.now }
@@ -262,11 +260,10 @@ fn laid_child(kids: &[Piece], alloc: Global, way: &Way, upper: &Child) -> Result
 }
 
 impl Tree {
-    /// Lays another tree over this one, and returns the result: at a path it has what the other has there, with the mode
-    /// and the owner of `way`, and else what this tree has there, unless a file of the other is above. A directory that
-    /// both have is the other's, or stays as it is if `way` keeps it. Fails with 27 `Memory` alone. It goes down both
-    /// trees at once and visits only what both have; what only one has is shared, not copied. Only if `way` has a mode
-    /// or an owner are there new nodes for all that is laid, and even then contents are shared.
+    /// Lays another tree over this one, and returns the result: at a path it has what the other tree has there, with the mode and the owner of `way`; if that
+    /// is nothing, what this tree has there, unless a file of the other is above the path. A directory that both have is as in the other tree, or as in this
+    /// one if `way` keeps it. Fails with 27 `Memory` alone. It goes down both trees at once and visits only what both have; what only one has is shared, not
+    /// copied. Only if `way` has a mode or an owner are there new nodes for all that is laid, and even then contents are shared.
     pub fn overlaid(self, way: &Way, upper: &Tree) -> Result<Tree, TreeFault>
         ensures paths { IfOk result (λ t. (q : List (List ℕ)) → finite.get t q ≡ over_at way.now (finite.get self) (finite.get upper.now) q) }
         ensures memory { IfErr result (λ e. is_memory e ≡ true) }

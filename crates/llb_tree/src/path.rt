@@ -161,8 +161,7 @@ impl Path {
         Ok(Path { names })
     }
 
-    /// Proves that the path, written with `/` between its names, and with or without a `/` before them, reads as
-    /// itself.
+    /// Proves that the path, written with `/` between its names, and with or without a `/` before them, is read as that path.
     pub fn reads_back(&self)
         ensures { ReadsBack self.now }
     {

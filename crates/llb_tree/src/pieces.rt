@@ -122,7 +122,7 @@ pub(crate) fn second_owners(alloc: Global, pieces: &[Piece]) -> Result<Vec<Piece
     Ok(copied)
 }
 
-// Makes a list of pieces that is shared this owner's own, by a copy; the pieces themselves may still be shared.
+// If a list of pieces is shared, replaces it by a copy that this owner has alone; the pieces themselves may still be shared.
 pub(crate) fn own_list(alloc: Global, pieces: &mut Arc<Vec<Piece>>) -> Result<(), AllocError>
     ensures { map row_pairs (arc_value pieces.new).items ≡ map row_pairs (arc_value pieces.old).items }
 {
@@ -198,7 +198,7 @@ pub(crate) fn drop_empty(pieces: &mut Vec<Piece>, at: usize)
     }
 }
 
-// Appends a piece of these children; none if there are no children.
+// Appends a piece of these children, unless there are none.
 fn end_piece(pieces: &mut Vec<Piece>, alloc: Global, rows: Vec<Child>) -> Result<(), AllocError>
     ensures same { OnOk result (kids_in pieces.new.items ≡ kids_in pieces.old.items ++ rows.items) }
     ensures full { AllFull (map row_pairs pieces.old.items) → AllFull (map row_pairs pieces.new.items) }

@@ -1,4 +1,4 @@
-//! Puts children among others: each replaces the one of the same name, or is inserted in the order of names.
+//! Puts children among others: each replaces the child that has the same name, or is inserted in the order of names.
 
 ghost use Rattle.std.specs.Prelude.{◌≡◌, OnOk, OnErr, map};
 ghost use Rattle.std.specs.Arc.{arc_value};
@@ -32,7 +32,7 @@ fn put_child(list: &mut Vec<Child>, child: Child) -> Result<(), AllocError>
     }
 }
 
-// Does what `put_child` does in a piece, whose children may be shared: first makes them this owner's own.
+// Does what `put_child` does in a piece. If its children are shared, they are copied first.
 fn put_in(rows: &mut Arc<Vec<Child>>, alloc: Global, child: Child) -> Result<(), AllocError>
     requires { AreSorted (arc_value rows.old).items }
     ensures ok { OnOk result (map pair_of (arc_value rows.new).items
@@ -58,8 +58,8 @@ fn put_piece(pieces: &mut Vec<Piece>, alloc: Global, child: Child) -> Result<(),
     put_in(&mut piece.rows, alloc, child)
 }
 
-// Puts children in, each in place of the one of the same name. They go into copies of the pieces, which replace the old ones
-// at the end: so a piece that no child goes into stays shared, and a refusal leaves all as it was.
+// Puts children in, each in place of the child that has the same name. They go into copies of the pieces, which replace the old ones at the end: so a piece
+// that no child goes into stays shared, and a refusal leaves all as it was.
 pub(crate) fn put_all(
     kids: &mut Arc<Vec<Piece>>,
     alloc: Global,

@@ -24,7 +24,7 @@ pub trait NameTest {
         ensures { result ≡ passes self.now name.now };
 }
 
-// Returns what remains of a node without all that passes the tests; `None` if nothing passes.
+// Returns a node without what passes the tests and what is below that; `None` if nothing passes.
 #[cycle(thin)]
 fn thinned<T: NameTest>(
     node: &Node,
@@ -48,7 +48,7 @@ fn thinned<T: NameTest>(
     }
 }
 
-// Returns what remains of children without all that passes the tests; `None` if nothing passes.
+// Returns children without what passes the tests and what is below that; `None` if nothing passes.
 #[cycle(thin)]
 fn thinned_children<T: NameTest>(
     kids: Children<'_>,
@@ -72,7 +72,7 @@ fn thinned_children<T: NameTest>(
     Ok(Some(kept))
 }
 
-// Appends what remains of a child, and returns whether any of it is gone.
+// Appends a child without what passes the tests and what is below that, and returns whether anything was left out.
 #[cycle(thin)]
 fn keep<T: NameTest>(
     kept: &mut Vec<Child>,
@@ -105,8 +105,8 @@ fn keep<T: NameTest>(
 }
 
 impl Tree {
-    /// Returns the tree without the paths that pass the tests, and what is below them; `None` if no path passes. Fails
-    /// with 25 `Root` if there are no tests, else with 27 `Memory`. What is unchanged is shared.
+    /// Returns the tree without the paths that pass the tests and all paths below these; `None` if no path passes. Fails with 25 `Root` if there are no tests,
+    /// else with 27 `Memory`. What is unchanged is shared.
     pub fn without_passing<T: NameTest>(&self, tests: &[T]) -> Result<Option<Tree>, TreeFault>
         ensures gives { Gives (λ o. o) result (rid_of T.passes tests.now self.now) }
         ensures last { MemoryLast result (rid_of T.passes tests.now self.now) }

@@ -1,6 +1,5 @@
-//! The tree: a root directory, a bound of how deep its paths go, and its allocator. Contracts state results by
-//! the map from paths to entries alone. A copy shares everything; an edit makes own copies of the directories on its path
-//! before it changes the last of them. Checks that can refuse an edit come first.
+//! The tree: a root directory, a bound of how deep its paths go, and its allocator. Contracts state results by the map from paths to entries alone. A copy
+//! shares everything; an edit copies the directories on its path before it changes the last of them. Checks that can refuse an edit come first.
 
 ghost use Rattle.std.specs.Prelude.{◌≡◌, ◌++◌, ℕ, List, Ok, Err, MatchResult, IfOk, IfErr, OnOk, OnErr, false, option_map};
 ghost use Rattle.std.specs.FinMap as finite;
@@ -138,8 +137,8 @@ impl Tree {
         }
     }
 
-    /// Proves that the root is a directory, and so is each proper prefix of a path that is there; and that each entry
-    /// is allowed at its path, which is a valid path, with a mode and owners and, for a file, with bytes.
+    /// Proves that the root is a directory, and so is each proper prefix of a path that is there; and that each entry is at a valid path where it is allowed,
+    /// has a valid mode and owners, and, if it is a file, a content of bytes.
     pub fn is_tree(&self)
         ensures { IsTree self.now }
     {
@@ -168,9 +167,8 @@ impl Tree {
         Ok(())
     }
 
-    /// Makes a directory at a path; one that is there, the root too, gets the new mode and owner. Fails, in this order,
-    /// with 21 `NotFound` or 22 `NotDir` at the first parent that is missing or a file, 24 `Conflict` if a file is
-    /// there; else with 27 `Memory`. After a refusal the tree is unchanged.
+    /// Makes a directory at a path; a directory that is there (the root too) gets the new mode and owner. Fails, in this order, with 21 `NotFound` or 22
+    /// `NotDir` at the first parent that is missing or a file, 24 `Conflict` if a file is there; else with 27 `Memory`. After a refusal the tree is unchanged.
     pub fn put_dir(&mut self, path: &Path, meta: Meta) -> Result<(), TreeFault>
         ensures gives { Gives (λ _. self.new) result (put_dir self.old path.now meta) }
         ensures last { MemoryLast result (put_dir self.old path.now meta) }
@@ -186,8 +184,8 @@ impl Tree {
         Ok(())
     }
 
-    /// Removes what is at and below a path. Fails, in this order, with 25 `Root` at the root, 21 `NotFound` if nothing
-    /// is there, also below a file; else with 27 `Memory`. After a refusal the tree is unchanged.
+    /// Removes what is at and below a path. Fails, in this order, with 25 `Root` at the root, 21 `NotFound` if nothing is there (nothing is ever below a file);
+    /// else with 27 `Memory`. After a refusal the tree is unchanged.
     pub fn remove(&mut self, path: &Path) -> Result<(), TreeFault>
         ensures gives { Gives (λ _. self.new) result (remove self.old path.now) }
         ensures last { MemoryLast result (remove self.old path.now) }
@@ -221,9 +219,8 @@ impl Tree {
         Ok(())
     }
 
-    /// Returns the tree of what is at and below a path, and shares it: what is at this path followed by q is
-    /// at q there. Fails with 21 `NotFound` if nothing is there, also below a file, with 22 `NotDir` if a file
-    /// is, else with 27 `Memory`.
+    /// Returns the tree of what is at and below a path, and shares it: what this tree has at the path followed by `q`, the result has at `q`. Fails with 21
+    /// `NotFound` if nothing is there (nothing is ever below a file), with 22 `NotDir` if a file is there, else with 27 `Memory`.
     pub fn subtree(&self, path: &Path) -> Result<Tree, TreeFault>
         ensures gives { Gives (λ t. t) result (subtree self.now path.now) }
         ensures last { MemoryLast result (subtree self.now path.now) }

@@ -1,5 +1,5 @@
-//! A walk through the entries of a tree in path order. It goes down from the root, and keeps the current path and, for each
-//! directory above, the children that come later. So a step copies one name, and no step visits what it skips.
+//! A walk through the entries of a tree in path order. It goes down from the root, and keeps the current path and, for each directory above, the children that
+//! come later. So going to the next entry copies one name, and `skip` does not visit what it passes.
 
 ghost use Rattle.std.specs.Prelude.{◌≡◌, ◌<◌, [], ◌∷◌, ◌++◌, length, drop, Some, Ok, IfOk, IfErr, OnOk, OnErr};
 ghost use Rattle.std.specs.Option.{option_map};

@@ -1,5 +1,5 @@
-//! Checks a line without allocating. The lines before it are those of a tree, so the last of them shows whether this one
-//! comes after them, and whether the directory of its path is there.
+//! Checks a line without allocating. The lines before it are those of a tree, so the last of them is enough to know whether this one comes after them all, and
+//! whether the directory that its path is in is there.
 
 ghost use Rattle.std.specs.Prelude.{◌≡◌, ◌≢◌, ◌+◌, ◌++◌, ◌∷◌, ℕ, List, IsTrue, true};
 ghost use Rattle.std.specs.FinMap as finite;
@@ -75,7 +75,7 @@ fn parent(names: &[u8]) -> &[u8]
     rest
 }
 
-// Returns whether a directory is at the path of a `Place`, or above that path.
+// Returns whether the directory `dir` is at the path of a `Place`, or above that path.
 fn holds(place: &Place<'_>, dir: &[u8]) -> bool
     ensures found { IsTrue result → (later : List ℕ) × (place.now.names.now ≡ dir.now ++ later) × (opens later place.now.is_dir ≡ true) }
     ensures each { (later : List ℕ) → place.now.names.now ≡ dir.now ++ later → result ≡ opens later place.now.is_dir }

@@ -2,7 +2,7 @@
 //!
 //! Types: `TextFault` (why a text is not that of a tree), `PrintFault`.
 //! Promise: `print_tree` (`prints`) writes exactly the text of the tree, or a prefix of it if memory is refused or the sink fails. `read_tree`
-//! (`answers`, `last`) returns a tree exactly if the bytes are its text, and else the first fault of the first faulty line: 31, 32 or 33.
+//! (`answers`, `last`) returns a tree exactly if the bytes are its text, and otherwise the first fault of the first faulty line: 31, 32 or 33.
 //!
 //! A caller:
 //!

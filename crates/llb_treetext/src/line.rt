@@ -66,8 +66,8 @@ fn push_names(line: &mut String, names: &[Name]) -> Result<(), AllocError>
     Ok(())
 }
 
-/// Appends the text of a path to a text: a slash before each name, and one alone for the root. Fails with `AllocError`
-/// alone; then some of it may be written.
+/// Appends the text of a path to a text: a slash before each name, and a single slash for the root. Fails with `AllocError` alone; then a part of it may be
+/// written.
 pub fn push_path(line: &mut String, path: &Path) -> Result<(), AllocError>
     ensures { OnOk result (string_bytes line.new ≡ string_bytes line.old ++ path_text path.now) }
 {

@@ -9,9 +9,9 @@ use crate::judge::{first_line, next_line};
 use llb_tree::Tree;
 use std::alloc::Global;
 
-/// Reads the tree of a text, as `print_tree` writes it; else fails with the first fault of the first line that has one:
-/// 31 `BadLine`, 32 `Order`, 33 `NoParent`. A text of no bytes and a last line with no end are 31. Fails with 34
-/// `Memory` only if the text is a tree's: once memory is refused, the later lines are checked without allocating.
+/// Reads the tree of a text, as `print_tree` writes it; else fails with the first fault of the first line that has one: 31 `BadLine`, 32 `Order`, 33
+/// `NoParent`. An empty text, and a last line without its end, have fault 31. Fails with 34 `Memory` only if the text is a tree's: once memory is refused, the
+/// later lines are checked without allocating.
 pub fn read_tree(alloc: Global, bytes: &[u8]) -> Result<Tree, TextFault>
     ensures answers { Answers bytes.now result }
     ensures last { MemoryIsLast bytes.now result }

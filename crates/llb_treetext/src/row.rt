@@ -1,4 +1,4 @@
-//! The path and the entry of a line; for these memory is needed.
+//! The path and the entry of a line. Unlike the checks of a line, making them needs memory.
 
 ghost use Rattle.std.specs.Prelude.{◌≡◌, IfOk};
 ghost use Rattle.std.specs.Option.{option_map};
@@ -19,7 +19,7 @@ pub(crate) struct Row {
     pub content: Option<Bytes>,
 }
 
-// Reads a text as a path; `None` if it reads as none.
+// Reads a text as a path; `None` if the text is no path.
 fn path_of(alloc: Global, text: &str) -> Result<Option<Path>, Memory>
     ensures { IfOk result (λ o. option_map (λ p. p) o ≡ result_ok (path_of text.now)) }
 {

@@ -3,8 +3,8 @@
 ghost use Rattle.std.specs.Prelude.{◌≡◌, ◌↔◌, List};
 ghost use Rattle.llb_wire.specs.Records.{Record, SpellRecords, Walks};
 
-/// Proves that calls of `next_record`, first at the start of the bytes and then at each record's end, get to the end
-/// without a fault exactly if the bytes spell the records that they return.
+/// Proves that calls of `next_record`, first at the start of the bytes and then at each record's end, get to the end without a fault exactly if the bytes spell
+/// the records that the calls return.
 pub fn walk_meets_what_is_spelled(bytes: &[u8])
     ensures { (rs : List Record) → Walks bytes.now 0 rs ↔ SpellRecords bytes.now rs }
 {

@@ -1,4 +1,4 @@
-//! Bytes as records: the wire format of Protocol Buffers, read and written one record at a time. Also what every crate above needs: texts, byte
+//! Bytes as records: the wire format of Protocol Buffers, read and written one record at a time. It also has what every crate above needs: texts, byte
 //! strings and lists that own their memory, equality by value, and sinks that take bytes. It knows no message.
 //!
 //! Types: `Field` (a record by its position), `Bytes`, `Text`, `Many`, `Boxed`, `Sink` with `Over` (a sink over any writer), `Same`, `Memory`

@@ -5,7 +5,7 @@ ghost use Rattle.std.specs.Prelude.{◌≡◌, ◌↔◌, IsTrue};
 
 /// Types whose values can be compared by what contracts see of them.
 pub trait Same {
-    /// Returns whether both are the same by value. Does not allocate.
+    /// Returns whether contracts see the same of this value and of the other. Does not allocate.
     fn same(&self, other: &Self) -> bool
         ensures { IsTrue result ↔ (self.now ≡ other.now) };
 }

@@ -28,8 +28,7 @@ pub trait Sink {
         ensures same { lender self.new ≡ lender self.old };
 }
 
-/// A sink over a writer. It has failed from the first write that failed, or that accepted none of some bytes, and then
-/// writes no more.
+/// A sink over a writer. It fails at the first write that fails, or that accepts none of the bytes it is given (at least one), and writes nothing after that.
 #[derive(Drop)]
 pub struct Over<'a, W> {
     pub out: &'a mut W,

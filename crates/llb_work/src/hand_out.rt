@@ -38,7 +38,7 @@ pub(crate) struct GivenBack<S: Ledger> {
 }
 
 impl<'x, S: Gated + Send + Sync, G: Gate + Sync, R: Threads + Wait + Sync> Crew<'x, S, G, R> {
-    /// Starts a thread for each worker, with a pass cut from the whole one, a share of the ledger and a list. Joins all threads.
+    /// Starts a thread for each worker, with a fraction of the whole pass, a share of the ledger and a list. Joins all threads.
     pub(crate) fn all_serve<E>(self, scope: &Scope<'x, E>, out: HandOut<S>) -> GivenBack<S>
         requires stop { AllowsStops G.may_stop S.may_stop }
         requires out { IsHandedOut self.queue.now out }

@@ -5,11 +5,10 @@
 //! it read the word, and a later wake does not miss it: the wake changes `wakes` first and then reads `sleepers`, which the worker
 //! has raised before it parks.
 //!
-//! Whoever puts numbers wakes one sleeper for each of them, except for the one that it takes itself right after. So while a worker sleeps,
-//! as many workers are about to take a number as there are numbers in the queue, and no number stays there. Whoever sees the run end wakes
-//! all sleepers. A number whose claim was refused for a held key is not in the queue: the worker that settles the vertex with that key puts
-//! it again, as it puts the numbers that have become ready. So after every settled vertex there is a worker awake that goes
-//! on or ends the run.
+//! A worker that puts numbers into the queue wakes one sleeper for each of them, except for the one that it takes itself right after. So while a worker sleeps,
+//! as many workers are about to take a number as there are numbers in the queue, and no number stays there. A worker that sees the run end wakes all sleepers.
+//! A number whose claim was refused for a held key is not in the queue: the worker that settles the vertex with that key puts it into the queue again, as it
+//! puts the numbers that have become ready. So after every settled vertex there is a worker awake that goes on or ends the run.
 
 use crossbeam_utils::Backoff;
 use std::sync::Wait;
@@ -36,8 +35,8 @@ impl Idle {
         }
     }
 
-    /// Returns the argument for `wait`: the low 32 bits of the number of wakes. It has to be read before the look into the queue that may
-    /// find nothing.
+    /// Returns the argument for `wait`: the low 32 bits of the number of wakes. It has to be read before the worker looks into the queue, which it may find
+    /// empty.
     pub(crate) fn wakes(&self) -> u32 {
         (self.wakes.load(Ordering::SeqCst) & 0xffff_ffff) as u32
     }
@@ -47,8 +46,7 @@ impl Idle {
         self.over.load(Ordering::SeqCst) != 0
     }
 
-    /// Waits for a short while; once `backoff` is completed, until there is a wake after those that were seen. May also return for no
-    /// reason.
+    /// Waits for a short while; once `backoff` is completed, until there is a wake that came after `seen` was read. It may also return without such a wake.
     pub(crate) fn wait<R: Wait>(&self, rt: &R, seen: u32, backoff: &Backoff) {
         if !backoff.is_completed() {
             backoff.snooze();

@@ -1,13 +1,13 @@
-//! The numbers of vertices whose claim was refused because another worker holds a locked key, by that key. They are put into the queue again
-//! one by one: the first when the vertex that holds the key ends, and each next one when the vertex of the one before ends or its claim is
-//! refused for another key. So a number is not claimed again and again. The table is made with all the room that it needs, and later calls
-//! do not allocate. Nothing here knows about the board.
+//! The numbers of vertices whose claim was refused because another worker holds a locked key, by that key. For each key they are put into the queue again one
+//! by one: the first number when the vertex that holds the key ends, and each later number when the vertex of the number before it ends, or the claim of that
+//! number is refused for another key. So a number is not claimed again and again. The table is made with all the room that it needs, and later calls do not
+//! allocate. Nothing here knows about the board.
 
 use llb_cache::Key;
 use std::alloc::{AllocError, Global};
 
-// The numbers that wait for one key: the first and the last of them in the order in which they came, and the one that was put into the queue
-// again and has not been claimed since. The table `after` has which number follows which.
+// The numbers that wait for one key: the first and the last of them in the order in which they came, and the number, if any, that was put into the queue again
+// and has not been claimed since. The table `after` says which number follows which.
 #[derive(Drop)]
 struct Row {
     key: Key,
@@ -23,7 +23,7 @@ impl Row {
     }
 }
 
-/// The numbers that wait, by key. There are few rows: for each of them a worker holds the key, or a number was put into the queue again.
+/// The numbers that wait, by key. There are few rows: each has a key that a worker holds, or a number that was put into the queue again.
 #[derive(Drop)]
 pub(crate) struct KeyWaiters {
     rows: Vec<Row>,
@@ -94,7 +94,8 @@ impl KeyWaiters {
         true
     }
 
-    // Takes the next number of a row, to be put into the queue again; `None` if one was put again already, or none waits.
+    // Takes the next number of a row, to be put into the queue again; `None` if a number of the row was put again before and not claimed since, or no number
+    // waits.
     fn next_at(&mut self, at: usize) -> Option<u32> {
         let KeyWaiters { rows, after } = self;
         let row = rows.get_mut(at)?;
@@ -107,14 +108,14 @@ impl KeyWaiters {
         row.put
     }
 
-    /// Takes a number that waits for a key which will be free soon; `None` if one was put into the queue again already, or none waits.
+    /// Takes a number that waits for a key which will be free soon; `None` if a number was put again for this key and not claimed since, or no number waits.
     pub(crate) fn next_of(&mut self, key: &Key) -> Option<u32> {
         let at = self.place_of(key)?;
         self.next_at(at)
     }
 
-    /// Notes that a number was claimed, or refused for a key. Returns the next number of the row that it came from if it was refused for
-    /// another key, because the key of that row may then be free.
+    /// Notes that the claim of a number was granted, or was refused for a key. If the number had waited in the row of another key than the one it was refused
+    /// for, returns the next number of that row, because the key of that row may be free.
     pub(crate) fn answered(&mut self, v: u32, refused: Option<&Key>) -> Option<u32> {
         let at = self.rows.iter().position(|row| row.put == Some(v))?;
         let row = self.rows.get_mut(at)?;

@@ -14,8 +14,8 @@ pub(crate) struct Owners {
 }
 
 impl Owners {
-    /// Makes further owners of the trees that a worker's landing, step, settle or cancel may drop: those of the workspace that its outcome
-    /// leaves, or that it works on, and those of its cache instances. `None` if it runs nothing or memory is refused.
+    /// Makes further owners of the trees that a worker's landing, step, settle or cancel may drop: the trees of the workspace that its outcome leaves, or that
+    /// it works on, and the trees of its cache instances. `None` if it runs nothing or memory is refused.
     pub(crate) fn of(alloc: Global, board: &Board, w: u32, report: &Report) -> Option<Owners> {
         let workspace = match report {
             Report::Outcome(outcome) => outcome.workspace().copy(),

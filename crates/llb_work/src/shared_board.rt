@@ -34,7 +34,7 @@ pub(crate) struct SharedBoard<S: Gated> {
     pub plain: Vec<bool>,
     pub waiters: KeyWaiters,
     pub calls: Book<S>,
-    /// How many events the record had when a worker last counted what it had added.
+    /// How many events the record had when a worker last counted the events that it had added.
     pub counted: usize,
     pub noted: Option<Noted>,
     pub ghost kept: { start ≡ S.start } by { Prim.hlevel (codes, coded_tree, coded_store) },
@@ -176,10 +176,9 @@ impl<S: Gated> SharedBoard<S> {
         self.counted = now;
     }
 
-    /// Does what a worker has to do in one hold of the lock, by what it brings, and counts the events for the worker. Returns what it is to do
-    /// next, and further owners of the trees that this hold has dropped. Adds to `news` the numbers that the worker then has to put into the
-    /// queue: those of the vertices that became ready when its vertex ended, the greatest first, and those of the vertices that waited for its
-    /// keys.
+    /// Does what a worker has to do in one hold of the lock, by what it reports, and counts the events for the worker. Returns what the worker is to do next,
+    /// and further owners of the trees that this hold has dropped. Adds to `news` the numbers that the worker then has to put into the queue: those of the
+    /// vertices that became ready when its vertex ended, the greatest first, and those of the vertices that waited for its keys.
     pub(crate) fn next_task(
         &mut self,
         w: u32,
@@ -196,7 +195,7 @@ impl<S: Gated> SharedBoard<S> {
         (task, owners)
     }
 
-    // Does what a worker has to do, by what it brings.
+    // Does what a worker has to do, by what it reports.
     fn act(&mut self, w: u32, report: Report, news: &mut Vec<u32>) -> Task
         requires { IsReport S.may_stop S.start w report }
         ensures { IsHere S.start w result }
@@ -278,7 +277,7 @@ impl<S: Gated> SharedBoard<S> {
         }
     }
 
-    // Lets a number wait for a key that another worker holds. If it had waited for another key, adds the next number of that key to `news`.
+    // Lets a number wait for a key that another worker holds. If the number had waited for another key, adds the next number of that key to `news`.
     fn wait_for(&mut self, key: Key, v: u32, news: &mut Vec<u32>) -> Task
         ensures { (w : ℕ) → IsHere S.start w result }
     {

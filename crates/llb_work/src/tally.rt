@@ -1,4 +1,4 @@
-//! The two counts of a run's events. Workers that share the lock count what they add to the record, each with its share of a ledger, which keeps
+//! Counts a run's events in two ways. Workers that share the lock count what they add to the record, each with its share of a ledger; the ledger makes sure
 //! that the counts add up to the number of these events. What one thread does alone is counted afterwards, from the record.
 
 ghost use Rattle.std.specs.Prelude.{◌≡◌, ◌≤◌, ◌<◌, ◌+◌, ◌^◌, ◌==◌, ℕ, sum, length, drop, slice_index};

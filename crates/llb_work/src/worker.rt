@@ -26,8 +26,8 @@ pub(crate) struct WorkerKit<S: Ledger> {
 }
 
 impl<'x, S: Gated, G: Gate, R: Wait> Crew<'x, S, G, R> {
-    /// Ends what its worker runs, then takes one number after another from the queue and works on the vertex, until the board is complete or
-    /// a fault is noted. A worker that meets a fault itself brings it to the lock, cancels there what it runs and ends at once.
+    /// Ends what its worker runs, then takes one number after another from the queue and works on the vertex, until the board is complete or a fault is noted.
+    /// A worker that meets a fault itself reports it at the lock, cancels there what it runs and ends at once.
     pub(crate) fn serve(self, w: u32, kit: WorkerKit<S>) -> WorkerKit<S>
         requires stop { AllowsStops G.may_stop S.may_stop }
         requires pass { IsPassFor self.queue.now w kit.pass }
@@ -53,7 +53,7 @@ impl<'x, S: Gated, G: Gate, R: Wait> Crew<'x, S, G, R> {
         kit
     }
 
-    // Does what a worker has to do away from the lock. Returns what it brings to the lock next; `None` if it ends.
+    // Does what a worker has to do away from the lock. Returns what it then reports at the lock; `None` if it ends.
     fn away(self, w: u32, task: Task, kit: &mut WorkerKit<S>) -> Option<Report>
         requires stop { AllowsStops G.may_stop S.may_stop }
         requires here { IsHere S.start w task }
@@ -111,7 +111,7 @@ impl<'x, S: Gated, G: Gate, R: Wait> Crew<'x, S, G, R> {
         before.saturating_sub(kit.news.len())
     }
 
-    // Passes the gate. Brings the stop to the lock if the gate stops the worker there, and nothing otherwise.
+    // Passes the gate, and returns what the worker then reports at the lock: the stop if the gate stops the worker, else nothing.
     fn passed(self, w: u32, v: u32) -> Report
         requires stop { AllowsStops G.may_stop S.may_stop }
         requires here { is_of S.start w v ≡ true }
@@ -123,7 +123,7 @@ impl<'x, S: Gated, G: Gate, R: Wait> Crew<'x, S, G, R> {
         }
     }
 
-    // Works on a job. Brings its outcome to the lock, or why there is none.
+    // Works on a job, and returns what the worker then reports at the lock: the outcome, or why there is none.
     fn worked(self, w: u32, job: Job) -> Report
         requires stop { AllowsStops G.may_stop S.may_stop }
         requires here { IsClaimed S.start w job.vertex job }

@@ -6,7 +6,7 @@ use std::snapshot::Snapshot;
 use std::sync::ledger::Ledger;
 use std::thread::{Promise, PromisedHandle, Threads};
 
-/// What a worker has promised to give back: its part of the queue's pass. Only clauses read it.
+/// What a worker has promised to give back: its fraction of the queue's pass. Only clauses read it.
 #[derive(Drop)]
 pub(crate) struct Owed {
     pub queue: Snapshot<ReadyQueue>,

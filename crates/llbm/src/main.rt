@@ -20,7 +20,7 @@ fn words_given(rt: &HostRuntime) -> Result<Vec<String>, WordsFault<'static>> {
     Ok(words.skip(1).collect(rt.alloc())?)
 }
 
-// The machine's own files. Contracts know nothing of their bytes.
+// The files of the machine that the program runs on. Contracts know nothing of their bytes.
 #[derive(Clone, Copy)]
 struct Files<'a> {
     rt: &'a HostRuntime,
@@ -38,7 +38,7 @@ impl Sources for Files<'_> {
     }
 }
 
-// Returns standard error with a buffer for a whole line, so that a line is written at once. If memory for that is refused, a line is written in parts.
+// Returns standard error with a buffer for a whole line, so that a line is written at once. If memory for the buffer is refused, a line is written in parts.
 fn errors(rt: &HostRuntime) -> io::Result<LineWriter<Stderr>> {
     match LineWriter::new(rt.alloc(), rt.stderr()) {
         Ok(err) => Ok(err),

@@ -1,5 +1,5 @@
-//! The landing of an outcome: all remaining micro-steps of a worker and its settle at once, for work that was done away from
-//! the board. It settles and does no micro-step. `land` compares trees, by value alone; `land_known` compares nothing.
+//! The landing of an outcome: all remaining micro-steps of a worker and its settle at once, for work that was done away from the board. It settles the vertex,
+//! and does no micro-step again. `land` compares the trees of the outcome's job with the worker's, by value; `land_known` compares nothing.
 
 ghost use Rattle.std.specs.Prelude.{◌≡◌, option_map, slice_get, IfOk, IfErr, OnOk, OnErr};
 ghost use Rattle.std.specs.List.{list_any};
@@ -44,8 +44,8 @@ impl Board {
         Ok(self.settle(w).unwrap())
     }
 
-    /// Lands an outcome, as `land` does, whose job is known to be what the worker runs: with no cache mount at or before its vertex and no
-    /// micro-step done. It compares nothing. Does not allocate.
+    /// Lands an outcome, as `land` does, whose job is known to be what the worker runs: no cache mount is at or before the vertex, and the worker has done no
+    /// micro-step of it. It compares nothing. Does not allocate.
     pub fn land_known(&mut self, w: u32, outcome: Outcome) -> Settled
         requires known { IsKnown self.old w outcome.job }
         ensures gives { Lands self.old w outcome self.new (HasSettled result) }
@@ -77,7 +77,7 @@ impl Board {
         self.workers.workspace(w)
     }
 
-    // Checks that the outcome of a job lands; otherwise returns the first cause why it does not.
+    // Checks that the outcome of a job can land; otherwise returns the first cause why it can't.
     fn can_land(&self, w: u32, job: &Job) -> Result<(), LandCause>
         ensures ok { OnOk result (CanLand self.now w job.now) }
         ensures err { IfErr result (λ cause. StandsInWay self.now w job.now cause) }
@@ -97,7 +97,7 @@ impl Board {
         }
     }
 
-    // Puts what an outcome's steps leave into its worker's execution and its caches, and records the steps.
+    // Puts the result of an outcome's micro-steps into its worker's execution and the caches, and records these steps.
     fn go_through(&mut self, w: u32, outcome: Outcome)
         requires { CanLand self.old w outcome.job }
         ensures { IsThrough self.old w outcome.count self.new }

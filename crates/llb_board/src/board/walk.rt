@@ -25,8 +25,8 @@ pub struct Walked {
 }
 
 impl Board {
-    /// Does an event, and returns its reply with what takes it back; memory for that grows with what the event changes. Fails with the fault of
-    /// the claim, the step, the settle or the cancel, or with 141 `Memory`, which may come at any time.
+    /// Does an event, and returns its reply with what takes it back; memory for that grows with what the event changes. Fails with the fault of the claim, the
+    /// step, the settle or the cancel, or with 141 `Memory`, which may come in place of another fault.
     pub fn walk(&mut self, event: Event) -> Result<Walked, WalkFault>
         ensures gives { GivesWalk (λ r. (self.new, r.reply)) result (walk_of self.old event) }
         ensures undo { IfOk result (λ r. undone r.undo self.new ≡ self.old) }

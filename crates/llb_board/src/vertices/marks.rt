@@ -21,7 +21,7 @@ pub(crate) fn is_marked(stop_marks: &[bool], v: u32) -> bool
     stop_marks.get(v as usize).copied().unwrap_or(false)
 }
 
-/// Updates the marks after a change of the state of vertex v alone; its state before was `had`.
+/// Updates the marks after a change of the state of vertex `v` alone; its state before was `had`.
 pub(crate) fn mark(
     stop_marks: &mut [bool],
     links: &mut Links,
@@ -55,7 +55,7 @@ fn mark_stopped(stop_marks: &mut [bool], stages: &[Stage], vertices: &[Vertex])
     }
 }
 
-// Returns whether vertex v has failed or an input of it is marked.
+// Returns whether vertex `v` has failed or an input of it is marked.
 fn is_stopped(before: &[bool], stages: &[Stage], v: usize, vertex: &Vertex) -> bool
     requires { length before.now ≡ v }
     ensures { result ≡ next_stopped (map status_of stages.now) before.now vertex.now }

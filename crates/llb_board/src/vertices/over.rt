@@ -35,7 +35,7 @@ pub(crate) fn is_ended(stages: &[Stage], stop_marks: &[bool], v: u32) -> bool
     }
 }
 
-/// Returns a number at or after `from` below which no vertex can be claimed now or later, given that this holds below `from`.
+/// Returns a number at or after `from` such that no vertex below it can be claimed now or later, given that none below `from` can.
 pub(crate) fn first_open(
     build: &Build,
     stages: &[Stage],

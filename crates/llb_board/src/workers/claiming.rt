@@ -33,7 +33,7 @@ use llb_wire::Many;
 use std::alloc::Global;
 use std::marker::Model;
 
-/// A claim that is prepared: the job, what the worker will run, the needs to be leased, and the rows in which their keys were found.
+/// A claim that is prepared: the job, what the worker will run, the needs of the lease to be made, and the rows in which the keys of the needs were found.
 pub(crate) struct Begun {
     job: Job,
     execution: Execution,
@@ -73,7 +73,7 @@ impl Model for Begun {
 }
 
 impl Begun {
-    // Returns the fields, of which a claim is started.
+    // Returns the fields, from which `start` makes the claim.
     fn into_parts(self) -> (Job, Execution, Vec<Need>, Vec<Option<usize>>)
         ensures job { result.0 ≡ self.job }
         ensures execution { execution_of result.1 ≡ self.execution }
@@ -91,9 +91,8 @@ impl Begun {
 }
 
 impl Workers {
-    /// Prepares a worker's claim of a vertex; nothing changes. Fails with the first of 131 `NoWorker`,
-    /// 132 `Busy`, 133 `NoVertex`, 134 `NotReady` and 135 `Held` that applies, or with 141 `Memory`: for the text of
-    /// the key that is held, or if nothing else refuses it.
+    /// Prepares a worker's claim of a vertex; nothing changes. Fails with the first of 131 `NoWorker`, 132 `Busy`, 133 `NoVertex`, 134 `NotReady` and 135
+    /// `Held` that applies, or with 141 `Memory`: if nothing else refuses the claim, or in place of 135 if memory for the text of the held key is refused.
     pub(crate) fn begin(
         &self,
         alloc: Global,
@@ -144,10 +143,9 @@ impl Workers {
     }
 }
 
-// Makes the job and the execution of a vertex, before its first micro-step, with the caches that it wants, as they were
-// found: both have the trees of the inputs and the cache instances that a lease will give; the execution also has an
-// empty tree for each output, and the micro-steps. Fails with 134 `NotReady` if an input is not there, with 141
-// `Memory`.
+// Makes the job and the execution of a vertex, before its first micro-step, given the caches that the vertex wants, as they were found. The job and the
+// execution both have the trees of the inputs and the cache instances that a lease will give; the execution also has an empty tree for each output, and the
+// micro-steps. Fails with 134 `NotReady` if an input is not there, or with 141 `Memory`.
 fn begun_with(
     alloc: Global,
     vertices: &Vertices,

@@ -20,7 +20,7 @@ use llb_tree::Tree;
 use llb_wire::Many;
 use std::alloc::Global;
 
-/// Returns copies of the trees of instances, the empty tree for one that does not exist. Fails with 141 `Memory` alone.
+/// Returns copies of the trees of instances; for an instance that does not exist, the empty tree. Fails with 141 `Memory` alone.
 pub(crate) fn contents(
     alloc: Global,
     caches: &Caches,
@@ -75,7 +75,7 @@ pub(crate) fn give_back(caches: &mut Caches, lease: Option<Lease>)
     }
 }
 
-/// Takes back a lease, if there is one, and what it added for each of its instances.
+/// Takes back a lease, if there is one, and removes from the caches what the lease added for each of its instances.
 pub(crate) fn take_back(caches: &mut Caches, lease: Option<Lease>, growths: &[Growth])
     requires out { IsOutIf caches.old.out lease }
     requires there { AreThere (taken_back caches.old lease growths.now).rows (taken_back caches.old lease growths.now).out }

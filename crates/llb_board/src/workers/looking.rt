@@ -1,4 +1,4 @@
-//! Returns the trees that a worker works on, those of its cache instances as they are now.
+//! Returns the trees that a worker works on; the trees of its cache instances are returned as they are now.
 
 ghost use Rattle.std.specs.Prelude.{◌≡◌, ◌<◌, length, option_map, slice_get, Some};
 ghost use Rattle.llb_cache.specs.Caches.{trees_of};
@@ -16,7 +16,7 @@ use llb_execution::Look;
 use llb_tree::Tree;
 
 impl Workers {
-    /// Returns tree i of those that a worker works on (`Workspace::look`), a cache instance's tree as it is now;
+    /// Returns tree `i` of those that a worker works on (`Workspace::look`), a cache instance's tree as it is now;
     /// `None` if the worker is idle, past the last worker, or past the last tree. Does not allocate.
     pub(crate) fn worked_on(&self, w: u32, i: u32) -> Option<&Tree>
         ensures { option_map (λ t. t.now) result ≡ slice_get (worked_by (store_of self.now.rows) (runs (slice_get self.now.workers w))) i }
@@ -29,7 +29,7 @@ impl Workers {
     }
 }
 
-// Returns tree i of those that an execution works on; all its instances exist.
+// Returns tree `i` of those that an execution works on; all its instances exist.
 fn tree_in<'a>(caches: &'a Caches, execution: &'a Execution, i: u32) -> Option<&'a Tree>
     requires { (p : model.Instance) → Has execution.now.places.items p → p.number < length (trees_of caches.now.rows p.key) }
     ensures { option_map (λ t. t.now) result ≡ slice_get (worked_by (store_of caches.now.rows) (Some (execution_of execution.now))) i }
@@ -43,7 +43,7 @@ fn tree_in<'a>(caches: &'a Caches, execution: &'a Execution, i: u32) -> Option<&
     }
 }
 
-// Returns the tree of the held instance at index k; all held instances exist.
+// Returns the tree of the held instance at index `k`; all held instances exist.
 fn instance_at<'a>(caches: &'a Caches, places: &[Instance], k: usize) -> Option<&'a Tree>
     requires { (p : model.Instance) → Has places.now p → p.number < length (trees_of caches.now.rows p.key) }
     ensures { option_map (λ t. t.now) result ≡ slice_get (trees_at (store_of caches.now.rows) places.now) k }
@@ -54,7 +54,7 @@ fn instance_at<'a>(caches: &'a Caches, places: &[Instance], k: usize) -> Option<
     caches.instance(&place.key, place.number)
 }
 
-// Returns the instance at index k.
+// Returns the instance at index `k`.
 fn place_at(places: &[Instance], k: usize) -> Option<&Instance>
     ensures { option_map (λ p. p.now) result ≡ slice_get places.now k }
 {

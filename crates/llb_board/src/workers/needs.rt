@@ -44,8 +44,8 @@ pub(crate) struct Taking {
     pub rows: Vec<Option<usize>>,
 }
 
-// Returns the caches that a vertex mounts, in the order of the mounts. Fails with 135 `Held` and the first locked key
-// that a lease has, for which alone it then allocates; else with 141 `Memory`, which can also come in place of 135.
+// Returns the caches that a vertex mounts, in the order of the mounts. Fails with 135 `Held` and the first locked key that a lease has; then it allocates for
+// that key alone. Else fails with 141 `Memory`, which can also come in place of 135.
 pub(crate) fn wanted_by<'a>(
     alloc: Global,
     caches: &'a Caches,
@@ -153,8 +153,8 @@ fn key_shown<'a>(vertex: &'a Vertex, mount: &'a Mount) -> Option<KeyRef<'a>>
     Some(KeyRef::new(options.id.as_str(), seed, mode_of(options.sharing)))
 }
 
-// Returns the digest text and the index of the output that a new instance begins with: that of an input of a vertex;
-// `None` for -1.
+// Returns the seed of a new instance, an output that an input of the vertex names, as the digest text and the index of that output; `None` if the input's
+// number is -1.
 fn seed_shown(vertex: &Vertex, input: i64) -> Option<(&str, u32)>
     requires { HasEdges vertex.now }
     ensures { option_map (λ s. seed_by s.0.now s.1) result ≡ option_map seed_as (seed_of vertex.now.op.inputs input) }
@@ -189,7 +189,7 @@ pub(crate) fn mount_numbers(alloc: Global, wanted: &[Wanted<'_>]) -> Result<Vec<
     Ok(numbers)
 }
 
-// Returns what a claim of these caches takes, with the trees of the inputs. Fails with 141 `Memory` alone.
+// Returns what a claim of these caches takes, given the trees of the inputs. Fails with 141 `Memory` alone.
 pub(crate) fn taking_for(
     alloc: Global,
     inputs: &[Tree],
@@ -250,7 +250,7 @@ fn first_trees(
     Ok(trees)
 }
 
-// Copies the tree of an instance, or that of its seed if the instance does not exist.
+// Copies the tree of an instance, or the tree of its seed if the instance does not exist.
 fn first_tree(alloc: Global, inputs: &[Tree], want: &Wanted<'_>) -> Result<Tree, ClaimFault>
     ensures { GivesClaim (λ t. t) result (Ok (first_tree inputs.now want.now)) }
 {

@@ -89,7 +89,7 @@ pub(crate) fn vacate(seats: &mut Vec<Seat>, w: u32) -> (Option<Lease>, Execution
     }
 }
 
-/// Takes one micro-step back from what a worker runs: the count, the fault and the view are as they were. Returns its lease, if any.
+/// Takes one micro-step back from what a worker runs: its count, its fault and its view are again as they were before. Returns its lease, if any.
 pub(crate) fn step_back(seats: &mut Vec<Seat>, w: u32, mark: Mark) -> Option<Lease>
     requires { w < length seats.old.items }
     ensures before { seats.new.items ≡ slice_set seats.old.items w (seat_before mark (slice_get seats.old.items w)) }

@@ -1,5 +1,5 @@
-//! What an event displaces of the workers and of the caches: kept before the event, and put back to take the event back. It has an item for each cache
-//! that the vertex of the event mounts, and none for other caches.
+//! What an event displaces of the workers and of the caches: kept before the event, and put back to take the event back. What is kept has an item for each
+//! cache that the vertex of the event mounts, and none for other caches.
 
 ghost use Rattle.std.specs.Prelude.{◌≡◌, ◌<◌, false, length, map, option_map, slice_get, IfOk, IfErr, Err};
 ghost use Rattle.llb_events.specs.declared.event.Event.TheVariants.{Step};
@@ -48,7 +48,7 @@ pub(crate) enum Back {
     Resume(End, u32, Execution, Option<Lent>),
 }
 
-/// The event by which a worker gives up what it runs.
+/// The event by which a worker ends what it runs.
 #[derive(Clone, Copy)]
 pub(crate) enum End {
     /// The execution was finished.

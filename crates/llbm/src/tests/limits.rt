@@ -70,7 +70,7 @@ fn repeated(
     text
 }
 
-// An empty entry is a record of the two bytes `0a 00`. Equal entries count once, and a single one is too few.
+// An empty entry is a record of the two bytes `0a 00`. Equal entries count as one entry, and one entry is too few.
 #[test]
 fn a_definition_has_65536_entries_at_most(rt: HostRuntime) {
     let alloc = rt.alloc();
@@ -94,7 +94,7 @@ fn a_text_of_entries_has_65536_at_most(rt: HostRuntime) {
     assert!(rt; disassembled(alloc, definition.as_str().as_bytes()).is(2, "", "fault 13\n"));
 }
 
-// Returns a definition of three entries: an empty one, the one with these bytes, and the terminal, which names that one.
+// Returns a definition of three entries: an empty entry, the entry with these bytes, and the terminal, which names the entry with these bytes.
 fn with_entry(rt: &impl Abort, alloc: Global, entry: &str) -> Bytes {
     let text = repeated(
         rt,

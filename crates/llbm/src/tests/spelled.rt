@@ -1,5 +1,5 @@
-//! Entries given as bytes: some that are no ops, and some that are spelled otherwise than the assembler spells them. Beside each record of
-//! these, or the first bytes of one that contains the next ones, is a note of what it is.
+//! Entries given as bytes: some that are no ops, and some that are spelled otherwise than the assembler spells them. Beside each record of the latter is a note
+//! of what the record is; if a record contains the next ones, the note is beside its first bytes.
 
 pub(crate) const SPELLED: &str = concat!(
     // The first field has the number 0.

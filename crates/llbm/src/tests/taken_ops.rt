@@ -1,4 +1,4 @@
-//! Ops by themselves: which ones the loader accepts, and the feature or rule by which it refuses any other.
+//! Single ops: which ones the loader accepts, and the feature or rule by which it refuses any other.
 
 use super::told::is_told;
 
