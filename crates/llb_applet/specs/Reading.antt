@@ -27,7 +27,7 @@ ahead reading words = behind reading.commands.items (commands_of (length reading
 abbrev pub with_call : Reading → Result (List Joined) ScriptFault
 with_call reading = command_of (length reading.commands.items) reading.words.items >>= λ c. Ok (reading.commands.items ++ joined reading.join c ∷ [])
 
--- a step that succeeds leaves the final result as it was; a step that fails has the fault of the final result, or `Memory`
+-- a step that succeeds does not change what the reading will return in the end; a step that fails has the fault that the reading would return, or `Memory`
 abbrev pub Reads : Result (Unit {0}) ScriptFault → Result (List Joined) ScriptFault → Result (List Joined) ScriptFault → Type 0
 Reads (Ok _) before after = before ≡ after
 Reads (Err e) before after = is_memory e ≡ false → before ≡ Err e

@@ -175,7 +175,7 @@ impl From<llb_cache::Memory> for ClaimFault {
     }
 }
 
-/// Converts the fault of a lease that can only lack memory.
+/// Converts the fault of a lease that can be refused for want of memory alone.
 impl From<llb_cache::LeaseFault> for ClaimFault {
     ghost use Rattle.std.specs.Prelude.{◌≡◌};
     ghost use Rattle.llb_events.specs.declared.refusal.ClaimFault.TheVariants.{Memory};

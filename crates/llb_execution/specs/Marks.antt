@@ -28,8 +28,8 @@ mark_of (Files inputs results) = Results (length results)
 mark_of (Layers inputs t) = Laid t
 mark_of (Mounted mounts caches last) = Mounts mounts last
 
--- a workspace after a mark is put back: it has only the first `count` results, or what was laid then, or the mounts and the last status of then; a mark of
--- another kind of workspace changes nothing
+-- a workspace after a mark is put back: it has only its first `count` results, or the tree that was laid when the mark was made, or the mounts and the last
+-- status of that moment; a mark of another kind of workspace changes nothing
 abbrev pub put_back : Mark → Workspace → Workspace
 put_back Nothing workspace = workspace
 put_back (Results count) (Files inputs results) = Files inputs (take count results)

@@ -42,7 +42,7 @@ mode_from (negsuc zero) own = own
 mode_from (negsuc (suc n)) own = mode_of (negsuc (suc n))
 mode_from (pos n) own = mode_of (pos n)
 
--- the mode and the owner of what is copied; each of mode, user and group that is not given stays as it was
+-- the mode and the owner of what is copied: the mode stays if it is -1; a user or group that is not given by number stays
 abbrev pub copied : ℤ → Option ChownOpt → MetaValue → MetaValue
 copied mode owner own =
     record { mode = mode_from mode own.mode; uid = unwrap_or (user_in owner) own.uid; gid = unwrap_or (group_in owner) own.gid }

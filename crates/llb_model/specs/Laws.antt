@@ -175,7 +175,7 @@ ExecsEndByLastStatus b = (s : State) → IsReached b s → (w : ℕ) (x : Execut
     → slice_get b.graph.vertices x.vertex ≡ Some v → v.op.kind ≡ Some (kind.Exec e)
     → StandsByLastStatus (unwrap_or v.script []) (program_in b x).steps x
 
--- whether the first command of a script runs, at a last status of 0, and all others are joined by And
+-- whether the first command of a script is not joined by Or, and all others are joined by And
 abbrev pub are_ands : List Joined → Bool
 are_ands [] = true
 are_ands (c ∷ cs) = is_run c.join 0 && all_and cs

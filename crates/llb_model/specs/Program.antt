@@ -298,7 +298,7 @@ is_run Then last = true
 is_run And last = last == 0
 is_run Or last = not (last == 0)
 
--- the result of a micro-step that has no fault: this work after it
+-- what a micro-step without a fault leaves: this work
 abbrev pub no_fault : Work → Left
 no_fault work = record { work = work; fault = None }
 

@@ -43,8 +43,8 @@ impl Drop for Op {
     }
 }
 
-/// What an op does. Builds and diffs are kept as their joined payloads; the two large messages are on the heap, so that
-/// an op of another kind is small.
+/// What an op does. A build and a diff are kept as their joined payloads. `ExecOp` and `SourceOp`, which are large, are
+/// on the heap, so that an op of another kind is small.
 #[derive(Drop)]
 pub enum Kind {
     Exec(Boxed<ExecOp>),

@@ -78,7 +78,7 @@ impl Lesson<u32, Hand> for Takes {
     ghost fact = { Knows };
 }
 
-/// The step in which the whole pass learns what the queue still holds.
+/// The step by which a pass, if it is the whole one, has its numbers conserved and the queue within its room.
 pub(crate) struct Learns;
 
 impl Lesson<u32, Hand> for Learns {

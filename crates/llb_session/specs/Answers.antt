@@ -111,12 +111,12 @@ pub record PrintsRefusal (r : Request) (s : Stepping) (text : List ℕ) (t : Ste
   pub printed : text ≡ fault_line fault
   pub same : t ≡ s
 
--- a line that is no request prints its number, or that memory was refused for that, and changes nothing
+-- for a line that is no request, the reply is fault 173 with the line's number, or fault 174 if memory for that was refused; the stepper stays as it was
 pub record PrintsNumber (s : Stepping) (n : ℕ) (text : List ℕ) (t : Stepping) : Type 0 where
   pub printed : (text ≡ fault_line (BadCommand n)) ⊎ (text ≡ fault_line Memory)
   pub same : t ≡ s
 
--- the reply to line n: for a request what it grants, or the line of its refusal; for a line that is no request its number, or that memory was refused for that
+-- the reply to line n: for a request what it grants, or the line of its refusal; for a line that is no request 173 with its number, or 174
 abbrev pub AnswersAs : Option Request → Stepping → ℕ → List ℕ → Stepping → Type 0
 AnswersAs None s n text t = PrintsNumber s n text t
 AnswersAs (Some r) s n text t = Grants r s text t ⊎ PrintsRefusal r s text t

@@ -37,7 +37,7 @@ impl Drop for Undo {
     }
 }
 
-/// What an event displaced, by the kind of the event.
+/// What takes an event back, by the kind of the event.
 #[derive(Drop)]
 pub(crate) enum Back {
     /// For a claim: the worker, the vertex, and what its lease added to the caches.

@@ -1,7 +1,7 @@
 //! The program as transcripts. A line that begins with `> ` is a call, and the lines after it are what the call writes, its error lines with `! ` before them,
-//! and its status if that is not 0. A line that begins with `# ` describes the next calls. A call is the program's words; after ` < ` come the
-//! entries that it reads as a definition (`written`), or `=` and the bytes in hexadecimal, or `@` and the name of a text, or `$` and a
-//! text in which `|` ends a line; for a session then, after the last ` | `, its commands, each ended by `;`. The file `FILE` has the definition too,
+//! and its status if that is not 0. A line that begins with `# ` describes the next calls. A call is the program's words. After ` < ` comes its input,
+//! in one of four forms: entries, as a definition (`written`); `=` and bytes in hexadecimal; `@` and the name of a text; `$` and a text in
+//! which `|` ends a line. The call of a session ends with ` | ` and its commands, which are separated by `;`. The file `FILE` has the definition too,
 //! and the other files are those of `local_trees`. What `asm` writes is shown in hexadecimal. All devices read and write one byte at a time.
 
 use super::assembling::TEXTS;
