@@ -25,7 +25,7 @@ names_word (Err (Usage number)) = false
 names_word (Err (ShellSyntax place)) = false
 names_word (Err Memory) = false
 
--- `Memory` is reported last: a call fails with it only if the rule has no fault, or one that has a text in it
+-- `Memory` is reported last: a call fails with it only if its rule has no fault, or a fault that has a text in it
 abbrev pub MemoryLast : {X Y : Type 0} → Result X ScriptFault → Result Y ScriptFault → Type 0
 MemoryLast (Ok x) rule = Unit {0}
 MemoryLast (Err e) rule = is_memory e ≡ true → (is_ok rule || names_word rule) ≡ true

@@ -53,7 +53,7 @@ abbrev pub with_change : Mounts → ℕ → Result TreeMap TreeFault → Option 
 with_change view mount (Ok t) = if (mount_at view mount).readonly then None else Some (with_tree_of view mount t)
 with_change view mount (Err e) = None
 
--- the view after a file is put at a spot; at a dest only if an entry is there already
+-- the view after a file is put at a spot; nothing if this is refused, or if the spot is the one that a dest names and has no entry
 abbrev pub with_file : Mounts → Spot → MetaValue → List ℕ → Option Mounts
 with_file view spot meta content =
     if is_dest spot && not (is_some (entry_at view spot)) then None

@@ -47,17 +47,17 @@ is_word_byte b =
     (nat_le 48 b && nat_le b 57) || (nat_le 65 b && nat_le b 90) || (nat_le 97 b && nat_le b 122)
     || list_any (λ c. c == b) (codes "_-./,:+@%=") || nat_le 128 b
 
--- the position in a word of its first bad byte: the start of a separator with no call before it; in any other word the first byte that
--- words may not have
+-- the position of the first bad byte in a word, if there is one: 0 in a separator with no call before it; in a word that is no separator,
+-- the position of the first byte that words may not have
 abbrev pub bad_in : Bool → List ℕ → Option ℕ
 bad_in called word = if is_separator word then (if called then None else Some 0) else position (λ b. not (is_word_byte b)) word
 
--- whether the last word so far belongs to a call, after one more part: the part is a word but no separator, or it is empty and this was so before
+-- whether the last word belongs to a call after one more part: a separator does not, any other word does, and an empty part leaves it as it was (`called`)
 abbrev pub called_after : Bool → List ℕ → Bool
 called_after called part = if length part == 0 then called else not (is_separator part)
 
--- the first bad position among words, in a text of `end` bytes; `called` says whether the word before them belongs to a call; at
--- the end of the text the last word has to belong to one
+-- the first bad position among words, in a text of `end` bytes; `called` says whether the word before them belongs to a call. The last
+-- word of the text has to belong to a call; if it does not, the bad position is `end`.
 abbrev pub bad_place : ℕ → Bool → List Word → Option ℕ
 bad_place end called [] = if called then None else Some end
 bad_place end called (w ∷ ws) = option_or (option_map (λ k. w.place + k) (bad_in called w.bytes)) (bad_place end (not (is_separator w.bytes)) ws)

@@ -31,7 +31,7 @@ OthersLeave b = (w : ℕ) (p : Instance) → HoldsInstance b w p → IsExclusive
     → table b.build b.state e ≡ Some (t, r)
     → content t.store p ≡ content b.state.store p
 
--- whatever tree an instance has that a running worker holds exclusively, an event of another worker has the same reply, and the same effect elsewhere
+-- whatever tree is put in an instance that a running worker holds exclusively, another worker's event has the same reply, and the same effect elsewhere
 abbrev pub OthersIgnore : BoardValue → Type 0
 OthersIgnore b = (w : ℕ) (p : Instance) → HoldsInstance b w p → IsExclusive p.key.mode → (e : Event) (tree : TreeMap) → worker_of e ≢ w
     → table b.build (with_content p tree b.state) e ≡ option_map (with_content_after p tree) (table b.build b.state e)

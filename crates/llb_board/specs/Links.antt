@@ -31,7 +31,7 @@ count_below p (suc n) = (if p n then 1 else 0) + count_below p n
 abbrev pub waits_for : (ℕ → Bool) → Vertex → ℕ → Bool
 waits_for done x u = leads x.inputs u && not (done u)
 
--- to how many vertices that are not done vertex x has an edge
+-- how many vertices there are that are not done, and to which vertex x has an edge
 abbrev pub open_inputs : List Vertex → (ℕ → Bool) → Vertex → ℕ
 open_inputs vs done x = count_below (waits_for done x) (length vs)
 
@@ -39,13 +39,13 @@ open_inputs vs done x = count_below (waits_for done x) (length vs)
 abbrev pub AreBelow : List Vertex → Type 0
 AreBelow vs = (v : ℕ) (x : Vertex) → slice_get vs v ≡ Some x → All (λ (e : Edge). e.vertex < v) x.inputs
 
--- v is appended to the list of users of each vertex that its edges lead to; `count` is the number of these vertices
+-- v is appended to the list of users of each vertex that these edges lead to; `count` is the number of these vertices
 pub record IsEntered (edges : List Edge) (v : ℕ) (old new : List (List ℕ)) (count : ℕ) : Type 0 where
   pub same : length new ≡ length old
   pub lists : (u : ℕ) → u < length old → get_or new u [] ≡ (if leads edges u then get_or old u [] ++ v ∷ [] else get_or old u [])
   pub counted : count ≡ count_below (leads edges) (length old)
 
--- the links: for each vertex its users, and to how many vertices that are not done it has an edge
+-- the links: for each vertex a list of its users, and a count of the vertices that are not done and to which it has an edge
 pub record Linked : Type 0 where
   pub users : List (List ℕ)
   pub counts : List ℕ
@@ -55,7 +55,7 @@ pub record HasRoom (count : ℕ) (reached : List ℕ) (room : ℕ) : Type 0 wher
   pub none : reached ≡ []
   pub fits : count ≤ room
 
--- the links are right for these vertices, of which those are done for which `done` is true
+-- the links are right for these vertices; `done` says which of the vertices are done
 pub record IsLinked (vs : List Vertex) (done : ℕ → Bool) (l : Linked) : Type 0 where
   pub same_users : length l.users ≡ length vs
   pub same_counts : length l.counts ≡ length vs

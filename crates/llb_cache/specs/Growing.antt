@@ -7,7 +7,7 @@ use Rattle.llb_cache.specs.declared.fault.LeaseFault.{LeaseFault}
 use Rattle.llb_cache.specs.declared.fault.LeaseFault.TheVariants.{Held}
 use Rattle.llb_cache.specs.Caches.{Taken}
 
--- what is prepared for a need: the instance that it takes, and a tree for a new one
+-- what is prepared for a need: the instance that the need takes, and the tree with which the instance is made if it is new
 abbrev pub shown : Ready → Taken
 shown r = (r.place, r.tree)
 

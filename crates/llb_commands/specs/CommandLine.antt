@@ -144,7 +144,7 @@ matches_named (Some p) = p.1
 abbrev pub Says : Option (Text × List Row) → Line → Type 0
 Says met line = SaysCommand (named met) (matches_named met) line
 
--- If `clap` refuses the words for another cause than memory, the fault names no word. If it does not, the fault names the first local source without `=`.
+-- A fault without a word is for words that `clap` refuses. A fault with a word is for words that it accepts: the first local source without `=`.
 abbrev pub Refuses : Kinds → List Text → WordsFault → Type 0
 Refuses kinds words (Words None) = kinds ≢ []
 Refuses kinds words (Words (Some w)) = (kinds ≡ []) × IsUnsplit words w.now

@@ -112,7 +112,7 @@ pub record AreAlikeWorks (R : List ℕ → List ℕ → Type 0) (x y : Work) : T
   pub own : AreAlikeWorkspaces R x.own y.own
   pub trees : BothLists (AreAlike R) x.trees y.trees
 
--- results with alike works, and either with the same fault or both without a fault
+-- two results whose works are alike, and which have the same fault or both have none
 pub record AreAlikeLefts (R : List ℕ → List ℕ → Type 0) (x y : Left) : Type 0 where
   pub work : AreAlikeWorks R x.work y.work
   pub fault : x.fault ≡ y.fault
@@ -131,7 +131,7 @@ AreAlikeEndings R (Failed f) (Failed g) = f ≡ g
 AreAlikeEndings R (Done trees) (Failed g) = ⊥
 AreAlikeEndings R (Failed f) (Done others) = ⊥
 
--- alike endings, or both blocked
+-- two outcomes that are alike: both ended, with alike endings, or both are blocked
 abbrev pub AreAlikeOutcomes : (List ℕ → List ℕ → Type 0) → Outcome → Outcome → Type 0
 AreAlikeOutcomes R (Ended d) (Ended e) = AreAlikeEndings R d e
 AreAlikeOutcomes R Blocked Blocked = Unit {0}

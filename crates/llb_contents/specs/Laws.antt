@@ -30,12 +30,12 @@ By test a b = test a b ≡ true
 abbrev pub LaysAlike : TreeMap → TreeMap → Type 0
 LaysAlike t v = (test : List ℕ → List ℕ → Bool) (u w : TreeMap) → AreAlike (By test) t u → AreAlike (By test) v w → AreAlike (By test) (lay t v) (lay u w)
 
--- an action fails with the same fault on trees that are alike to `t` and `v`, or results in an alike tree; if what it writes is related to itself
+-- if what an action writes is related to itself: on trees alike to `t` and `v` it fails with the same fault as on these, or its result is alike
 abbrev pub ActsAlike : Option ActionKind → TreeMap → TreeMap → Type 0
 ActsAlike a t v = (test : List ℕ → List ℕ → Bool) (u w : TreeMap) → RelatesBody (By test) a → AreAlike (By test) t u → AreAlike (By test) v w
     → BothResults (AreAlike (By test)) (act a t v) (act a u w)
 
--- a command fails on an alike view too, or both results are alike; if the relation is kept by appending and relates what the command writes
+-- if the relation is kept by appending and relates what a command writes: on two alike views the command fails on both, or has alike results
 abbrev pub RunsAlike : Setting → List Shown → Command → Type 0
 RunsAlike s v c = (test : List ℕ → List ℕ → Bool) (w : List Shown) → IsKept (By test) → RelatesTexts (By test) s c → AreAlikeViews (By test) v w
     → BothOptions (AreAlikeViews (By test)) (run s v c) (run s w c)

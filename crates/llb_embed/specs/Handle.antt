@@ -25,8 +25,8 @@ abbrev pub StartsWith : Option Held → Held → Type 0
 StartsWith None start = IsEmpty start
 StartsWith (Some h) start = start ≡ h
 
--- A call changes what the handle holds as a relation says; or memory for the handle itself was refused, the status is 3, and it holds nothing before
--- and after.
+-- A call changes what the handle holds as the relation `Leads` says; or memory for the handle itself was refused: the status is 3, and the handle holds
+-- nothing, before and after.
 abbrev pub Calls : (Held → Held → ℕ → Type 0) → Option Held → Option Held → ℕ → Type 0
 Calls Leads old None status = (status ≡ 3) × (old ≡ None)
 Calls Leads old (Some new) status = (start : Held) × StartsWith old start × Leads start new status

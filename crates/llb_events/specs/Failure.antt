@@ -1,4 +1,4 @@
--- The text of a failure: the rest of its line after the vertex.
+-- The text of a failure: the rest of its line after the number of the vertex.
 use Rattle.std.specs.Prelude.{ℕ, List, ◌++◌, codes}
 use Rattle.std.specs.Fmt.{decimal}
 use Rattle.llb_events.specs.declared.fault.VertexFault.{VertexFault}

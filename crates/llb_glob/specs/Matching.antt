@@ -21,7 +21,7 @@ MatchesName (Run ∷ items) name = (n : ℕ) × MatchesName items (drop n name)
 MatchesName (One letter ∷ items) [] = ⊥
 MatchesName (One letter ∷ items) (c ∷ name) = Takes letter c × MatchesName items name
 
--- a path has as many names as the pattern has parts, and each matches the part at its position
+-- a path has as many names as the pattern has parts, and each part matches the name at its position
 abbrev pub Matches : List (List Item) → List (List ℕ) → Type 0
 Matches [] [] = Unit {0}
 Matches [] (name ∷ path) = ⊥

@@ -60,7 +60,7 @@ pub record FirstBad (counts named : List ℕ) (op : Op) (n i : ℕ) : Type 0 whe
 abbrev pub asked_of : List Op → List Bool → ℕ → ℕ → ℕ
 asked_of ops seen terminal k = cond (slice_index_or seen k false) (length (op_at ops k).inputs) (cond (k == terminal) 1 0)
 
--- e names the least row with a checked input whose index is not the index of an output of the row that it names, and the first such input
+-- e names the least row with a checked input whose index is not the index of an output of the row that the input names, and the first such input
 abbrev pub RefusesIndex : List Op → List (List ℕ) → List ℕ → List Bool → ℕ → LoadFault → Type 0
 RefusesIndex ops links counts seen t e = (k : ℕ) × (i : ℕ) × (e ≡ BadIndex k i) × (k < length ops)
     × FirstBad counts (inputs links k) (op_at ops k) (asked_of ops seen t k) i

@@ -98,12 +98,12 @@ pub record HasResult (p : Plan) : Type 0 where
   pub terminal : IsTerminal p.rows p.terminal
   pub input : 0 < length (op_at p.ops p.terminal).inputs
 
--- The terminal has an input, and the first one names the row of the result.
+-- `HasResult` holds, so the terminal has an input; and the terminal's first input names the row of the result.
 pub record IsStarted (p : Plan) : Type 0 where
   pub result : HasResult p
   pub start : input_row p p.terminal 0 ≡ Some p.start
 
--- There is a result, and each input of a reached row names a row.
+-- `IsStarted` holds, so there is a row of the result; and each input of a reached row names a row.
 pub record IsNamed (p : Plan) : Type 0 where
   pub started : IsStarted p
   pub named : (k i : ℕ) → ¬ IsUnknown p k i
@@ -167,7 +167,7 @@ Refused rows ops e = Refuses (plan_of rows ops) e
 
 -- ---- the graph
 
--- the edge of an input: the number of the vertex that it names, and its index
+-- the edge of an input: the number of the vertex that the input names, and the input's index
 abbrev pub edge_of : Plan → List ℕ → Input → Edge
 edge_of p order i = record { vertex = rank_in order (unwrap_or (row_named p.rows p.terminal i.digest) 0); index = nat_abs i.index }
 

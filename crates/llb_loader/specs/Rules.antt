@@ -85,7 +85,7 @@ pub record IsBelow (n : ℕ) (i : ℤ) : Type 0 where
 abbrev pub ActionInputs : ℕ → List Action → Type 0
 ActionInputs n actions = (a : ℕ) (d : Action) → a < length actions → IsInput (n + a) (slice_index_or actions a d).input
 
--- the second input of an action: for a copy one of n, or none; for any other action it is not used and may be any number
+-- the second input of an action: for a copy a number from 0 to n - 1, or -1 for none; for any other action it is not used and may be any number
 abbrev pub TakesSecond : ℕ → Option ActionKind → ℤ → Type 0
 TakesSecond n (Some (Copy c)) second = IsInput n second
 TakesSecond n _ second = ⊤

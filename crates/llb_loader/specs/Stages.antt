@@ -36,7 +36,7 @@ pub record AreNames (rows : List Row) (ops : List Op) (n : Names) : Type 0 where
   pub seen : length n.seen.items ≡ length rows
   pub exact : (k : ℕ) → IsMarked n.seen.items k ↔ ReachedRow (plan rows ops n.terminal n.start) k
 
--- These rows are read as the ops of l, and l is linked: for each of the rows it has one with the same digest text.
+-- These rows are read as the ops of l, and l is linked; for each of these rows, l has a row with the same number and digest text.
 pub record IsLinkedFrom (rows : List Row) (l : Linked) : Type 0 where
   pub ops : AreOps rows l.ops.items
   pub len : length l.rows.items ≡ length rows

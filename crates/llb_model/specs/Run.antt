@@ -8,7 +8,7 @@ use Rattle.llb_events.specs.declared.event.Event.{Event}
 use Rattle.llb_events.specs.declared.event.Event.TheVariants.{Claim, Step, Settle, Cancel}
 use Rattle.llb_model.specs.Table.{Reply, worker_of, table}
 
--- the result of a run, given the result of its first event, and how it goes on (`go`): the first reply is put before the others; none if a refusal comes
+-- the result of a run, given the result of its first event and, as `go`, the run of the others: the first reply is put first; nothing after a refusal
 abbrev pub after : Option (State × Reply) → (State → Option (State × List Reply)) → Option (State × List Reply)
 after None go = None
 after (Some (s, r)) go = option_map (λ (t : State × List Reply). (t.0, r ∷ t.1)) (go s)

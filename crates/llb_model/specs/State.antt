@@ -161,7 +161,7 @@ abbrev pub above : List Instance → ℕ
 above [] = 0
 above (p ∷ ps) = p.number + 1 + above ps
 
--- the least number at or after n whose instance of the key is not in the list; if all of the given number of tries find one in the list, the number after them
+-- the least number at or after n whose instance of the key is not in the list, if it is one of the `tries` numbers from n on; else n + tries
 abbrev pub first_free : List Instance → Key → ℕ → ℕ → ℕ
 first_free ps k n zero = n
 first_free ps k n (suc tries) = if is_in ps (place k n) then first_free ps k (n + 1) tries else n

@@ -175,7 +175,7 @@ unnamed shape rs = flat_map (λ r. r.text) (filter (λ r. is_none (form_of shape
 abbrev pub is_member : List ℕ → Record → Bool
 is_member members r = list_any (λ m. m == r.number) members
 
--- the member of a oneof that is set: the last record that is of any member is of this one
+-- the member of a oneof that is set: the member to which the last of all its members' records belongs
 abbrev pub chosen : List ℕ → List Record → Option ℕ
 chosen members rs = option_map (λ r. r.number) (last_of (filter (is_member members) rs))
 

@@ -116,7 +116,7 @@ pub record PrintsNumber (s : Stepping) (n : ℕ) (text : List ℕ) (t : Stepping
   pub printed : (text ≡ fault_line (BadCommand n)) ⊎ (text ≡ fault_line Memory)
   pub same : t ≡ s
 
--- the reply to line n: for a request what it grants, or the line of its refusal; for a line that is no request 173 with its number, or 174
+-- the reply to line n: for a request what it prints if it is granted, else the line of its refusal; for any other line fault 173 with n, or fault 174
 abbrev pub AnswersAs : Option Request → Stepping → ℕ → List ℕ → Stepping → Type 0
 AnswersAs None s n text t = PrintsNumber s n text t
 AnswersAs (Some r) s n text t = Grants r s text t ⊎ PrintsRefusal r s text t
@@ -126,7 +126,7 @@ abbrev pub MayFail : Option Request → Type 0
 MayFail None = ⊤
 MayFail (Some r) = Wants r Memory
 
--- the whole reply to line n, by its request if it is one; a line that is no request prints its number and changes nothing
+-- the whole reply to line n, by its request if it is one; a line that is no request prints fault 173 with n, and changes nothing
 abbrev pub RespondsAs : Option Request → Stepping → ℕ → List ℕ → Stepping → Type 0
 RespondsAs None s n text t = (text ≡ fault_line (BadCommand n)) × (t ≡ s)
 RespondsAs (Some r) s n text t = Grants r s text t ⊎ PrintsRefusal r s text t

@@ -81,7 +81,7 @@ meets_any breaks b e = meets_by breaks e (answered b e)
 
 -- ---- lists of events
 
--- what `go` returns for the board after an event; none if the event was refused
+-- the function `go` applied to the board after an event; nothing if the event was refused
 abbrev pub then_on : Option (BoardValue × Reply) → (BoardValue → Option BoardValue) → Option BoardValue
 then_on None go = None
 then_on (Some p) go = go p.0

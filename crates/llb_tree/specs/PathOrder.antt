@@ -9,7 +9,7 @@ use Rattle.llb_tree.specs.Path.{name_cmp, path_cmp}
 pub path_cmp-IsTotalOrder : IsTotalOrder path_cmp
 path_cmp-IsTotalOrder = lists_total nat_list_cmp_total
 
--- only equal names, and equal paths, compare as equal
+-- two names that compare as equal are equal, and so are two paths
 pub name_cmp-IsAntisymmetric : IsAntisymmetric name_cmp
 name_cmp-IsAntisymmetric = slice_cmp-IsAntisymmetric nat_cmp-IsAntisymmetric
 

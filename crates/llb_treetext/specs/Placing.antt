@@ -50,8 +50,8 @@ rank b = if b == 47 then 0 else b
 abbrev pub trail_cmp : List ℕ → List ℕ → Ordering
 trail_cmp p q = slice_cmp nat_cmp (map rank p) (map rank q)
 
--- whether there is a directory at a path with which the last path begins, given what follows it in the last path: nothing, if the last entry is a
--- directory, or a slash, before another name
+-- whether a path with which the text of the last path begins is the path of a directory, given the text after it there: if no text follows, `dir` says
+-- whether the last entry is a directory; else a slash has to follow, and then another name
 abbrev pub opens : List ℕ → Bool → Bool
 opens [] dir = dir
 opens (b ∷ later) dir = b == 47

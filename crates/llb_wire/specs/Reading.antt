@@ -16,7 +16,7 @@ varint_from more [] = Err Truncated
 varint_from zero (b ∷ bs) = if nat_lt 1 b then Err LongVarint else Ok (b, 1)
 varint_from (suc more) (b ∷ bs) = if nat_lt b 128 then Ok (b, 1) else (varint_from more bs >>= λ m. Ok (b - 128 + 128 * m.0, suc m.1))
 
--- a number above all those that the last n + 1 of a varint's ten bytes can spell
+-- `varint_limit n` is above every number that the last n + 1 of a varint's ten bytes can spell
 abbrev pub varint_limit : ℕ → ℕ
 varint_limit zero = 2
 varint_limit (suc more) = 128 * varint_limit more
