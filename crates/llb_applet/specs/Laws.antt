@@ -1,5 +1,5 @@
--- What holds for a text without a bad position: its calls are valid, and written as a text they are read as the same commands; and what the
--- calls are if every separator is `&&`.
+-- What holds for a text without a bad position: its calls are valid, and the text as which these calls are written is read as the same
+-- commands. And what the calls of a text are if every separator is `&&`.
 use Rattle.std.specs.Prelude.{◌≡◌, ℕ, ◌==◌, Bool, true, false, ◌&&◌, ◌||◌, not, IsTrue, List, [], ◌∷◌, ◌++◌, length, map, codes}
 use Rattle.std.specs.List.{list_all, join_with_byte, slice_split}
 use Rattle.llb_applet.specs.declared.join.Join.{Join}
@@ -27,7 +27,7 @@ abbrev pub after_separators : List Call → List (List ℕ)
 after_separators [] = []
 after_separators (call ∷ calls) = separator call.join ∷ call.words ++ after_separators calls
 
--- the words of calls, with a separator between each two
+-- the words of calls, with a separator between each two calls
 abbrev pub with_separators : List Call → List (List ℕ)
 with_separators [] = []
 with_separators (call ∷ calls) = call.words ++ after_separators calls

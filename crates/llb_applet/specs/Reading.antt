@@ -52,13 +52,13 @@ pub record Refuses (e : ScriptFault) (rule : Result (Unit {0}) ScriptFault) : Ty
   pub known : is_memory e ≡ false → rule ≡ Err e
   pub last : is_memory e ≡ true → names_word rule ≡ true
 
--- the check of one more part succeeds, and leaves the first fault of the text as it was; or it fails with this first fault, or with `Memory`
+-- the check of one more part succeeds, and leaves the first fault of the text as it was; or it fails as `Refuses` says of this first fault
 abbrev pub Judges : Result (Unit {0}) ScriptFault → List ℕ → List (List ℕ) → Begun → Begun → Type 0
 Judges (Ok _) part call old new = (next : List (List ℕ)) × IsBegun next new
     × ((rest : List (List ℕ)) → judged old.number call (some_word part ++ rest) ≡ judged new.number next rest)
 Judges (Err e) part call old new = (rest : List (List ℕ)) → Refuses e (judged old.number call (some_word part ++ rest))
 
--- the check of a whole call: the call makes a command, or the check fails with the fault of the call, or with `Memory`
+-- the check of a whole call: the call makes a command; or the check fails as `Refuses` says of the fault of the call
 abbrev pub JudgesCall : Result (Unit {0}) ScriptFault → ℕ → List (List ℕ) → Type 0
 JudgesCall (Ok _) number call = verdict (command_of number call) ≡ Ok tt
 JudgesCall (Err e) number call = Refuses e (verdict (command_of number call))

@@ -1,5 +1,5 @@
--- The words of a script's text with their positions, and the first position at which the text is no list of calls with a separator
--- between each two. A position is counted in bytes from 0.
+-- The words of a script's text with their positions, and the first bad position of a text that is no list of calls with a separator
+-- between each two calls. A position is counted in bytes from 0.
 use Rattle.std.specs.Prelude.{ℕ, ◌+◌, ◌==◌, nat_le, Bool, false, ◌&&◌, ◌||◌, not, if◌then◌else◌, List, [], ◌∷◌, ◌++◌, length, map, filter}
 use Rattle.std.specs.Prelude.{Option, Some, None, is_some, option_map, codes}
 use Rattle.std.specs.List.{slice_split, position, list_any}
@@ -62,7 +62,7 @@ abbrev pub bad_place : ℕ → Bool → List Word → Option ℕ
 bad_place end called [] = if called then None else Some end
 bad_place end called (w ∷ ws) = option_or (option_map (λ k. w.place + k) (bad_in called w.bytes)) (bad_place end (not (is_separator w.bytes)) ws)
 
--- the first position at which a text is no list of calls with a separator between each two; nothing if it is one
+-- the first bad position of a text; nothing if the text is a list of calls with a separator between each two calls
 abbrev pub bad_place_of : List ℕ → Option ℕ
 bad_place_of text = bad_place (length text) false (words_of text)
 

@@ -1,4 +1,4 @@
--- The refusals of `walk`: the text of each, and which of them there is for each refusal of a claim or a step.
+-- The refusals of `walk`: the text of each, and which of them `walk` returns for each refusal of a claim or a step.
 use Rattle.std.specs.Prelude.{List, ℕ, Result, Ok, Err, codes}
 use Rattle.llb_events.specs.declared.refusal.ClaimFault.{ClaimFault}
 use Rattle.llb_events.specs.declared.refusal.ClaimFault.TheVariants as claim

@@ -20,7 +20,7 @@ runs_shared (Some (Runs x)) = has_shared x
 runs_shared (Some Idle) = false
 runs_shared None = false
 
--- job is what remains for worker w, which holds no instance of a shared cache
+-- `job` is the job that remains for worker w, which holds no instance of a shared cache
 pub record CanLand (b : BoardValue) (w : ℕ) (job : Job) : Type 0 where
   pub x : Execution
   pub runs : slice_get b.state.workers w ≡ Some (Runs x)

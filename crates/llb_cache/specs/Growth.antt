@@ -59,7 +59,7 @@ pub record LentValue : Type 0 where
 abbrev pub lent_again : CachesValue → List Instance → CachesValue
 lent_again c ps = record c { out = with_lease c.out (free_lease c.out) ps }
 
--- these instances exist and have distinct keys, no lease has one of a private or a locked key, and there is room for one more lease
+-- these instances exist and have distinct keys, no lease has any of them whose key is private or locked, and there is room for one more lease
 pub record CanLend (c : CachesValue) (l : LentValue) : Type 0 where
   pub free : All (λ p. IsExclusive p.key.mode → is_held c.out p ≡ false) l.places
   pub apart : AllPairs (λ p q. p.key ≢ q.key) l.places

@@ -60,7 +60,7 @@ pub record IsDone (files : Shelf) (line : Line) (io : Io) (status : ℕ) : Type 
   pub gathered : Gathers files line.locals [] (Ok locals)
   pub done : Performs files line locals io status
 
--- The words ask for a command, and it has ended; or a local source of it has no tree.
+-- The words ask for a command: either it has ended, or one of its local sources has no tree.
 pub record IsAsked (files : Shelf) (words : List Text) (io : Io) (status : ℕ) : Type 0 where
   pub line : Line
   pub taken : IsByWords (fault_of llbm_app words) (named_local_words (subcommand_of llbm_app words)) (Ok line)

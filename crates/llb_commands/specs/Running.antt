@@ -74,7 +74,7 @@ abbrev pub IsWhole : BoardValue → Option RunFault → Result BoardValue Progra
 IsWhole board fault (Ok b) = (b ≡ board) × (fault ≡ None)
 IsWhole board fault (Err e) = ¬ IsRefusal e
 
--- if there is a tree, its text is written, or a prefix of it if there is a fault; if there is none, the board is returned
+-- if there is a tree, its text is written, or a prefix of its text if there is a fault; if there is no tree, the board is returned
 abbrev pub Shows : BoardValue → Stream → Option TreeMap → Result Ended ProgramFault → Type 0
 Shows board output tree (Ok Printed) = (t : TreeMap) × (tree ≡ Some t) × IsWritten output (tree_text t)
 Shows board output tree (Ok (Failed b)) = (b ≡ board) × (tree ≡ None) × IsKept output

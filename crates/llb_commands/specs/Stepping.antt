@@ -47,7 +47,7 @@ session_fault session.Write = fault.Output output.Write
 session_fault session.Memory = fault.Memory
 session_fault session.TooLong = fault.TooLong
 
--- the session went on to its end; or none began, and nothing is written; or it ended with a fault
+-- a session went on to its end; or no session began, and nothing is written; or a session ended with a fault
 abbrev pub StepsIn : ℕ → List Local → Option (List ℕ) → Stream → Stream → Result (Unit {0}) ProgramFault → Type 0
 StepsIn workers locals file commands output (Ok u) = IfSome file (IsSession workers locals commands output (Ok u))
 StepsIn workers locals file commands output (Err e) =

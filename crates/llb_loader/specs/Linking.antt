@@ -26,7 +26,7 @@ op_at ops k = slice_index_or ops k (record { inputs = []; kind = None; extra = [
 abbrev pub input_at : Op → ℕ → Input
 input_at op i = slice_index_or op.inputs i (record { digest = []; index = pos 0; extra = [] })
 
--- k and i are the least pair with the property P: no pair has a lower first number, and none with the first number k has a lower second one
+-- k and i have the property P; each pair with this property has a first number above k, or the first number k and a second number that is at least i
 pub record Foremost (P : ℕ → ℕ → Type 0) (k i : ℕ) : Type 0 where
   pub holds : P k i
   pub least : (j h : ℕ) → P j h → (k < j) ⊎ ((k ≡ j) × (i ≤ h))
@@ -76,7 +76,7 @@ pub record IsUnknown (p : Plan) (k i : ℕ) : Type 0 where
   pub input : HasInput p k i
   pub unknown : input_row p k i ≡ None
 
--- how many outputs the row has that input i of row k names; if it names none, how many row 0 has
+-- how many outputs the row has that input i of row k names; if the input names no row, how many outputs row 0 has
 abbrev pub outputs_there : Plan → ℕ → ℕ → ℕ
 outputs_there p k i = output_count (op_at p.ops (unwrap_or (input_row p k i) 0))
 

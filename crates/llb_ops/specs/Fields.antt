@@ -100,7 +100,7 @@ AreFields m last set (message row inner rest) =
 
 -- ---- entries of a map
 
--- the fields without the keys and values of map entries that are empty, which canonical bytes do write
+-- the fields without each empty key and each empty value of a map's entries; canonical bytes have these too
 abbrev pub without_empty : Fields → Fields
 without_empty (extra more) = extra more
 without_empty (number row v rest) = number row v (without_empty rest)

@@ -76,8 +76,8 @@ Refuses ask.Caches s fault = ⊥
 Refuses (ask.Cache k i) s fault = ⊥
 Refuses ask.Quit s fault = ⊥
 
--- the request may fail with this fault if it is refused memory: `clear` and `quit` with none; an event, `next` and `go` with the board's `Memory` or the
--- stepper's; the others with the stepper's alone
+-- The request may fail with this fault if memory is refused. `clear` and `quit` can't fail so. An event, `next` and `go` may fail with the board's `Memory`
+-- or the stepper's; each other request may fail with the stepper's alone.
 abbrev pub Wants : Request → StepperFault → Type 0
 Wants ask.Clear fault = ⊥
 Wants ask.Quit fault = ⊥

@@ -55,7 +55,7 @@ pub record Talked (p : Standing) (bytes text : List ℕ) (q : Standing) : Type 0
   pub talks : Talks p.session p.number lines text q.session
   pub count : q.number ≡ p.number + length lines
 
--- ---- what is written when it ends
+-- ---- what is written when a conversation ends
 
 -- the replies to the lines that the bytes complete are written, and nothing else
 pub record Answered (p : Standing) (bytes : List ℕ) (t : Stepping) (out : Stream) : Type 0 where
@@ -95,7 +95,7 @@ pub record Concluded (s : Stepping) (input : List ℕ) (t : Stepping) (out : Str
   pub talks : Talks s 1 (lines ++ last_line rest) text t
   pub printed : IsWritten out text
 
--- ---- how it ends
+-- ---- how a conversation ends
 
 -- a conversation: the most bytes and the most reads that it may take, the stepper before and after it, and its two streams
 pub record Conversation : Type 0 where

@@ -46,7 +46,7 @@ ThereAndBack s = (e : Event) (t u : Stepping) → done_of s e ≡ Ok t → GoesB
 abbrev pub MeetsOn : Stepping → Event → Stepping → Bool → Type 0
 MeetsOn s e t met = (b : BoardValue) × (r : Reply) × (answered s.board e ≡ Some (b, r)) × (t ≡ onward s b) × (met ≡ list_any (meets e r) s.breaks)
 
--- The fault of an event of a list on the board after the events before it, of which none meets a breakpoint; unless it is `Memory`, the rule has it too.
+-- The first `count` events of a list are granted and meet no breakpoint. The event after them is refused with e, or e says that memory was refused.
 pub record IsRefusedAt (s : Stepping) (es : List Event) (e : StepperFault) : Type 0 where
   pub count : ℕ
   pub board : BoardValue

@@ -52,7 +52,7 @@ TakesMemory (Some (Settle w)) = ⊥
 TakesMemory (Some (Cancel w)) = ⊥
 TakesMemory None = ⊥
 
--- the event was refused: a claim or a step perhaps for want of memory, a settle or a cancel only because the table does not grant it
+-- what is known of a refused event: a settle or a cancel is refused by the table; of a claim or a step nothing is known, since memory may be the cause
 abbrev pub IsLeft : BoardValue → Event → Type 0
 IsLeft b (Claim w v) = ⊤
 IsLeft b (Step w) = ⊤

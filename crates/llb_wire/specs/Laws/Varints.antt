@@ -24,7 +24,7 @@ ok_pair e = cc
 
 -- ---- the bytes that are read for a number spell it
 
--- a byte is the last one of a number, or the rest of the number follows it
+-- if reading a byte `b` and what follows it succeeds: `b` is the last byte of the number (`test`), or the rest of the number was read after it
 pub short_or : (b v n : ℕ) (more : Result (ℕ × ℕ) WireFault) (test : Bool)
     → cond {A = Result (ℕ × ℕ) WireFault} test (Ok (b, 1)) (more >>= λ m. Ok (b - 128 + 128 * m.0, suc m.1)) ≡ Ok (v, n)
     → ((test ≡ true) × (n ≡ 1)) ⊎ ((test ≡ false) × ((m : ℕ × ℕ) × (more ≡ Ok m) × (b - 128 + 128 * m.0 ≡ v) × (suc m.1 ≡ n)))
