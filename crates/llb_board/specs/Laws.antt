@@ -1,4 +1,4 @@
--- What holds of every board besides the headline; the contracts of the laws use these definitions.
+-- What holds of every board in addition to the headline; the contracts of the laws use these definitions.
 use Rattle.std.specs.Prelude.{◌≡◌, ◌≢◌, ℕ, true, is_some, Bool, ◌||◌, ◌&&◌, Some, slice_get}
 use Rattle.std.specs.List.{list_any, list_all}
 use Rattle.llb_loader.specs.declared.graph.Edge.{Edge}

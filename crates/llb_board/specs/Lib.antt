@@ -2,7 +2,7 @@
 -- Landing (of work done away from the board), Begun (which outcomes land without a comparison) and Undo (an event is done and taken back). Laws has what else
 -- holds of every board; Kept and History say what a board keeps.
 -- The modules of a board: Links (the users of a vertex, how many of its inputs are open, and where a mark spreads), Vertices (what contracts see of the
--- vertices, and what is kept besides) and Workers (what contracts see of the workers), then WorkerRules (the results of a claim, a step, a settle and a
+-- vertices, and what else is kept) and Workers (what contracts see of the workers), then WorkerRules (the results of a claim, a step, a settle and a
 -- cancel), OptionalLeases and Jobs.
 -- Needs has what a claim takes of the caches, Supplies what each worker has from its claim on, Displaced what is kept to take an event back, Looks the
 -- trees that a worker works on, Statuses how callers see a vertex and a worker, Faults the refusals of `walk`, and Views what a worker's data represents.

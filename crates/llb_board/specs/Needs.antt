@@ -33,7 +33,7 @@ abbrev pub unless_held : List Need → Option Key → Result (List Need) ClaimFa
 unless_held needs None = Ok needs
 unless_held needs (Some k) = Err (claim.Held k)
 
--- a wanted cache as a need of the model
+-- a wanted cache (one that a mount of the vertex shows) as a need of the model
 abbrev pub need_of : Wanted → Need
 need_of w = record { mount = w.mount; key = w.key; input = w.input }
 

@@ -5,7 +5,7 @@ use Rattle.llb_tree.specs.Tree.{TreeMap, empty_tree}
 use Rattle.llb_model.specs.Program as model
 use Rattle.llb_board.specs.declared.workers.outfit.Outfit.{Outfit}
 
--- what an execution has besides its view
+-- what an execution has in addition to its view
 pub record Outfitted : Type 0 where
   pub program : model.Program
   pub outputs : List TreeMap

@@ -1,4 +1,4 @@
--- What contracts see of the vertices, and what is kept besides, which follows from it.
+-- What contracts see of the vertices; and what else is kept of them, which follows from what contracts see.
 use Rattle.std.specs.Prelude.{◌≡◌, ℕ, ◌<◌, Bool, true, false, ◌||◌, ◌&&◌, not, List, length, replicate, Option, Some, None, is_some, slice_get, slice_set}
 use Rattle.llb_loader.specs.Graph.{IsGraph}
 use Rattle.llb_loader.specs.declared.graph.Vertex.{Vertex}
@@ -32,7 +32,7 @@ status_of (stage.Running w) = Running w
 status_of (stage.Done trees) = Settled (Done trees)
 status_of (stage.Failed f) = Settled (Failed f)
 
--- ---- what is kept besides
+-- ---- what else is kept
 
 -- a vertex that is done has as many trees as outputs
 abbrev pub IsWhole : Option Vertex → Status → Type 0
@@ -65,7 +65,7 @@ AreCounted true false users old new = AreRaised users old new
 AreCounted false false users old new = new ≡ old
 AreCounted true true users old new = new ≡ old
 
--- Everything kept besides follows from the build and the statuses: a vertex is marked if it has failed or is downstream of one that has; the links count the
+-- What else is kept follows from the build and the statuses: a vertex is marked if it has failed or is downstream of one that has; the links count the
 -- inputs that are not done; no vertex below `first_open` can be claimed. There is a status for each vertex, and each vertex that is done has all its outputs.
 pub record IsInStep (b : Build) (statuses : List Status) (stop_marks : List Bool) (links : Linked) (first_open : ℕ) : Type 0 where
   pub graph : IsGraph b.graph

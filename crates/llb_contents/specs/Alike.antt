@@ -73,7 +73,7 @@ AreAlikeViews R = BothLists (AreAlikeMounts R)
 abbrev pub AreLikeFiles : (List ℕ → List ℕ → Type 0) → MetaValue × List ℕ → MetaValue × List ℕ → Type 0
 AreLikeFiles R f g = (f.0 ≡ g.0) × R f.1 g.1
 
--- each text that a command writes, other than the contents of files, is related to itself; if the command writes digests, those of related contents are related
+-- each text that a command writes, other than the contents of files, is related to itself; if it writes digests, digests of related contents are related
 abbrev pub RelatesTexts : (List ℕ → List ℕ → Type 0) → Setting → Command → Type 0
 RelatesTexts R setting (command.Write path word) = R (line word) (line word)
 RelatesTexts R setting (command.Append path word) = R (line word) (line word)
@@ -117,7 +117,7 @@ pub record AreAlikeLefts (R : List ℕ → List ℕ → Type 0) (x y : Left) : T
   pub work : AreAlikeWorks R x.work y.work
   pub fault : x.fault ≡ y.fault
 
--- each content that a micro-step writes, and does not take from a file, is related to itself; if it writes digests, those of related contents are related
+-- each content that a micro-step writes, and does not take from a file, is related to itself; if it writes digests, digests of related contents are related
 abbrev pub RelatesStep : (List ℕ → List ℕ → Type 0) → MicroStep → Type 0
 RelatesStep R (Act action) = RelatesBody R action.kind
 RelatesStep R (Run setting command ends) = RelatesTexts R setting command.command

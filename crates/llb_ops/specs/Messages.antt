@@ -382,7 +382,7 @@ source_op_in rs = do
 abbrev pub source_op_of : List ℕ → Result SourceOp OpFault
 source_op_of = message_of source_op_shape source_op_in
 
--- the shape of an `Op` message; likewise `X_shape` for each message X
+-- the shape of an `Op` message; each other message has a definition of its shape too
 abbrev pub op_shape : Shape
 op_shape = shape_of message.Op
 
@@ -400,7 +400,7 @@ kind_of n rs =
     else if n == 6 then (merge_op_of (joined rs) >>= λ m. Ok (Merge m))
     else Ok (Diff (joined rs))
 
--- an op from its records; likewise `X_in` for each message X
+-- an op from its records: its inputs in order, if they are not too many, and its kind, if a member of its oneof is set
 unfoldable pub op_in : List Record → Result Op OpFault
 op_in rs = do
   inputs ← each input_of (all 1 rs)

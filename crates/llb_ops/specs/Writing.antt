@@ -184,6 +184,6 @@ kind_bytes (Build bytes) = set_bytes 5 bytes
 kind_bytes (Merge m) = set_bytes 6 (merge_op_bytes m)
 kind_bytes (Diff bytes) = set_bytes 7 bytes
 
--- the canonical bytes of an op; likewise `X_bytes` for each message X
+-- the canonical bytes of an op: its inputs in order, its kind if it has one, and its extra bytes
 unfoldable pub op_bytes : Op → List ℕ
 op_bytes m = messages_field input_bytes 1 m.inputs ++ one_of_field kind_bytes m.kind ++ m.extra

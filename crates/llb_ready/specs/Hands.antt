@@ -42,7 +42,7 @@ halved v = hand v.num (2 * v.den) v.room v.put v.taken
 abbrev pub other_half : Hand → Hand
 other_half v = hand v.num (2 * v.den) v.room [] []
 
--- Two passes that are joined have the sum of both fractions; the numbers that the first pass put and took are followed by those that the second put and took.
+-- Two passes that are joined have the sum of their fractions; the numbers that the first pass put and took are followed by those that the second put and took.
 abbrev pub together : Hand → Hand → Hand
 together v w = hand (v.num * w.den + w.num * v.den) (v.den * w.den) v.room (v.put ++ w.put) (v.taken ++ w.taken)
 

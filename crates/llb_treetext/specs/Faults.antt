@@ -40,7 +40,7 @@ reading_text (text.Order line) = codes "32 " ++ decimal line
 reading_text (text.NoParent line) = codes "33 " ++ decimal line
 reading_text text.Memory = codes "34"
 
--- the text of a fault of writing a text: its number alone, for refused memory the same number as in reading (docs/FAULTS.md)
+-- the text of a fault of writing a text: the fault's number alone; for refused memory reading has this number too (docs/FAULTS.md)
 abbrev pub printing_text : PrintFault → List ℕ
 printing_text print.Memory = codes "34"
 printing_text print.Write = codes "35"

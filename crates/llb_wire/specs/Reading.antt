@@ -10,7 +10,7 @@ use Rattle.llb_wire.specs.declared.field.Field.{Field}
 use Rattle.llb_wire.specs.declared.fault.WireFault.{WireFault}
 use Rattle.llb_wire.specs.declared.fault.WireFault.TheVariants.{Truncated, LongVarint, BadField, BadWireType}
 
--- The number that the varint at the start spells, and how many bytes the varint has: at most `more` + 1. If it has so many, the last one is 0 or 1.
+-- The number that the varint at the start spells, and how many bytes the varint has: at most `more` + 1. If it has `more` + 1, the last byte is 0 or 1.
 unfoldable pub varint_from : ℕ → List ℕ → Result (ℕ × ℕ) WireFault
 varint_from more [] = Err Truncated
 varint_from zero (b ∷ bs) = if nat_lt 1 b then Err LongVarint else Ok (b, 1)

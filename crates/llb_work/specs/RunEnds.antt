@@ -32,7 +32,7 @@ StopsSomewhere may_stop b = (w : ℕ) × (v : ℕ) × (w < length b.state.worker
 abbrev pub is_of : BoardValue → ℕ → ℕ → Bool
 is_of b w v = nat_lt w (length b.state.workers) && nat_lt v (length b.build.graph.vertices)
 
--- if a stop is noted, the gate may stop that worker at that vertex, and both exist on the given board
+-- if a stop of a worker at a vertex is noted, the gate may stop that worker there, and the worker and the vertex exist on the given board
 abbrev pub may_be : (ℕ → ℕ → Bool) → BoardValue → Option Noted → Bool
 may_be may_stop b None = true
 may_be may_stop b (Some noted.Memory) = true
