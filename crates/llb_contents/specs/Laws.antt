@@ -64,7 +64,7 @@ HaveAlikeSources R g v ls ms = (name : List ℕ) → IsSourceOf g v name → Bot
 abbrev pub HasAlikeOutcomes : (List ℕ → List ℕ → Type 0) → Numbered → List Local → List Local → ℕ → Type 0
 HasAlikeOutcomes R g ls ms v = BothOptions (AreAlikeOutcomes R) (outcome (record { graph = g; locals = ls }) v) (outcome (record { graph = g; locals = ms }) v)
 
--- if `RelatesWritten` holds, and the trees of sources differ only in contents, as R relates them, then the outcomes too differ only in contents, as R relates them
+-- if `RelatesWritten` holds of a vertex, and the trees of its sources differ only in contents that R relates, its outcomes differ only in such contents
 abbrev pub HandsOn : (List ℕ → List ℕ → Type 0) → Numbered → Type 0
 HandsOn R g = (ls ms : List Local) (v : ℕ) → RelatesWritten R g v → HaveAlikeSources R g v ls ms → HasAlikeOutcomes R g ls ms v
 
