@@ -56,7 +56,7 @@ concat_of [] = None
 concat_of (out ∷ []) = None
 concat_of (out ∷ a ∷ ws) = Some (command.Concat out (a ∷ ws))
 
--- the command of an applet with these words after its name, if they are one of its forms
+-- the command of an applet with these words after its name, if the words are in one of the applet's forms
 abbrev pub form : Applet → List Word → Option Command
 form True ws = no_words ws command.True
 form False ws = no_words ws command.False
@@ -78,11 +78,11 @@ pub record IsFront (words : List Word) (count : ℕ) (word : Word) : Type 0 wher
   pub counted : count ≡ length words
   pub first : word ≡ slice_index_or words 0 []
 
--- the command of a call, given the applet that its first word names; a fault if it names none, or if the other words are none of the applet's forms
+-- the command of a call, given the applet that its first word names; a fault if it names none, or if the other words are in none of the applet's forms
 abbrev pub command_by : ℕ → List Word → Option Applet → Result Command ScriptFault
 command_by number call None = Err (NoApplet (slice_index_or call 0 []))
 command_by number call (Some applet) = ok_or (form applet (drop 1 call)) (Usage number)
 
--- the command of the call with this number: its first word is an applet's name, and its other words are one of this applet's forms; else a fault
+-- the command of the call with this number: its first word is an applet's name, and its other words are in one of this applet's forms; else a fault
 abbrev pub command_of : ℕ → List Word → Result Command ScriptFault
 command_of number call = command_by number call (applet_of (slice_index_or call 0 []))

@@ -223,7 +223,7 @@ pub record SpellsEntries (lines : List Line) (entries : List (List ℕ)) : Type 
 
 -- ---- the first line that is refused
 
--- A line in an op that is not closed is refused with e: it closes the op, and the op's entry is refused; or its item is refused in the current message.
+-- A line in an op that is not closed is refused with e: the line closes the op, and the op's entry is refused; or the line's item is refused.
 abbrev pub IsRefusedIn : List (List ℕ) → Items → List ℕ → Refusal → Type 0
 IsRefusedIn earlier items line e =
     ((line ≡ closing) × IsWhole items × (entry_in earlier (records_of items) ≡ Err e))

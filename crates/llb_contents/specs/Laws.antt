@@ -175,7 +175,7 @@ abbrev pub DigestsLiterals : Numbered → List Local → List Local → ℕ → 
 DigestsLiterals g ls ms v = (k : ℕ) (x : Vertex) → Reached (links g.vertices) v k → slice_get g.vertices k ≡ Some x
     → (list_any step_digests (program_of x).steps ≡ false) ⊎ HaveAlikeSources IsLiteral g k ls ms
 
--- the outcome on local trees with tokens expands to the outcome on the expanded trees, if no vertex writes tokens, and digests are only of sources by value
+-- if no vertex writes tokens, and `DigestsLiterals` holds, the outcome on local trees with tokens expands to the outcome on the expanded trees
 abbrev pub HandsTokensOn : Numbered → Type 0
 HandsTokensOn g = (table : ℕ → List ℕ) (ls ms : List Local) (v : ℕ) → WritesNoMark g v → DigestsLiterals g ls ms v
     → HaveAlikeSources (ExpandsTo (spelled table)) g v ls ms → HasAlikeOutcomes (ExpandsTo (spelled table)) g ls ms v
@@ -186,7 +186,7 @@ HandsTokensOn g = (table : ℕ → List ℕ) (ls ms : List Local) (v : ℕ) → 
 abbrev pub MakesNoDigest : Numbered → ℕ → Type 0
 MakesNoDigest g v = (k : ℕ) (x : Vertex) → Reached (links g.vertices) v k → slice_get g.vertices k ≡ Some x → list_any step_digests (program_of x).steps ≡ false
 
--- `HandsOn` with the premise that no digest is made, in place of the one on what is written; for relations that relate each content to itself
+-- `HandsOn` with the premise that no digest is made, in place of the premise `RelatesWritten`; it is for relations that relate each content to itself
 abbrev pub HandsOnUndigested : (List ℕ → List ℕ → Type 0) → Numbered → Type 0
 HandsOnUndigested R g = (ls ms : List Local) (v : ℕ) → MakesNoDigest g v → HaveAlikeSources R g v ls ms → HasAlikeOutcomes R g ls ms v
 

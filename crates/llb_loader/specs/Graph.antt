@@ -48,7 +48,7 @@ pub record HasInputs (vertices : List Vertex) (v : Vertex) : Type 0 where
   pub each : (i : ℕ) (input : Input) (e : Edge) → i < length v.inputs
       → IsEdgeOfInput vertices (slice_index_or v.op.inputs i input) (slice_index_or v.inputs i e)
 
--- what holds of each vertex: its op is within the limits, has no unsupported feature and meets the rules; its script and its few steps and outputs are the op's
+-- what holds of a vertex: its op is within the limits, meets the rules and has no unsupported feature; its script and counts of steps and outputs are its op's
 pub record IsVertex (v : Vertex) : Type 0 where
   pub within : IsWithinLimits v.op
   pub featureless : feature_of v.op ≡ None

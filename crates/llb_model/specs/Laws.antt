@@ -102,7 +102,7 @@ AreChosen b s es = EachIn (IsChosen b) b s es
 abbrev pub IsAtRest : State → Type 0
 IsAtRest s = (v w : ℕ) → slice_get s.statuses v ≡ Some (Running w) → ⊥
 
--- a run of chosen events, at whose end no vertex runs, ends in the state to which its claims lead, done one after another; shared caches included
+-- a run of chosen events, at whose end no vertex runs, ends in the state to which its claims lead if they are done one after another, also with shared caches
 abbrev pub AloneInClaimOrder : Build → Type 0
 AloneInClaimOrder b = (o : Opening) (es : List Event) (rs : List Reply) (s : State) → run b (opening b o) es ≡ Some (s, rs)
     → AreChosen b (opening b o) es → IsAtRest s

@@ -7,7 +7,7 @@ use Rattle.llb_ready.specs.Hands.{HasAll, with_put, with_taken}
 abbrev pub times : ℕ → List ℕ → ℕ
 times x xs = count_by (λ y. y == x) xs
 
--- For each number, how often it was put is the sum of how often it was taken and how often it is in the queue; and so it is with all numbers together.
+-- For each number, how often it was put is the sum of how often it was taken and how often it is in the queue. The same holds of all numbers together.
 pub record IsConserved (v : Hand) (present : List ℕ) : Type 0 where
   pub each : (x : ℕ) → times x v.put ≡ times x v.taken + times x present
   pub all : length v.put ≡ length v.taken + length present

@@ -18,6 +18,6 @@ capacity_of q = ruled_capacity q.queue
 abbrev pub IsReadyPassOf : ReadyQueue → ReadyPass → Type 0
 IsReadyPassOf q p = IsPassOf q.queue p.pass × ((hand_of p).room ≡ capacity_of q)
 
--- the pass is the whole one: it is not split
+-- the pass is the whole one: its fraction is 1
 abbrev pub IsWhole : ReadyPass → Type 0
 IsWhole p = HasAll (hand_of p)

@@ -25,7 +25,7 @@ pub record Follows (before b : BoardValue) (r : short.Reply) : Type 0 where
   pub given : answered before event ≡ Some (b, reply)
   pub same : r ≡ told reply
 
--- each event that was done, the last one first, can be taken back from the board after it, and leads there from the board before it with the reply that is kept
+-- each event that was done, the last one first, can be taken back from the board after it; it leads from the board before it to that board, with the kept reply
 abbrev pub AreWalked : BoardValue → List Walked → Type 0
 AreWalked b [] = Unit {0}
 AreWalked b (w ∷ ws) = CanUndo w.undo b × Follows (undone w.undo b) b w.reply × AreWalked (undone w.undo b) ws

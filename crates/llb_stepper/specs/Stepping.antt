@@ -96,7 +96,7 @@ abbrev pub meets_from : Option (BoardValue × Reply) → (BoardValue → Bool) �
 meets_from None go = false
 meets_from (Some p) go = go p.0
 
--- whether event k of a list, counted from 0, meets a breakpoint when the events before it have been done; false if there is none or one of them is refused
+-- whether event k of a list, counted from 0, meets a breakpoint after the events before it; false if there is no event k, or it or one before it is refused
 unfoldable pub meets_at : List Break → BoardValue → List Event → ℕ → Bool
 meets_at breaks b [] k = false
 meets_at breaks b (e ∷ es) zero = meets_any breaks b e

@@ -121,7 +121,7 @@ file_look m b (n ∷ q) = None
 abbrev pub Pairs : Type 0
 Pairs = List (List ℕ × TreeMap)
 
--- the children `new` are `old` after tree `t` replaces everything at or below path `p` in child `n`; without a `t` that is only removed
+-- the children `new` are `old` after tree `t` replaces everything at or below path `p` in child `n`; if there is no tree `t`, what is there is removed
 pub record Sets (n : List ℕ) (p : List (List ℕ)) (t : Option TreeMap) (old new : Pairs) : Type 0 where
   pub sorted : T (finite.is_sorted name_cmp new)
   pub children : (m : List ℕ) (q : List (List ℕ)) → look_in (finite.find name_cmp m new) q
