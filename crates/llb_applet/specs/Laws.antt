@@ -32,7 +32,7 @@ abbrev pub with_separators : List Call → List (List ℕ)
 with_separators [] = []
 with_separators (call ∷ calls) = call.words ++ after_separators calls
 
--- the text of calls: their words and separators with a space between each two
+-- the text of calls: their words and separators, one after another, with one space between them
 abbrev pub text_of : List Call → List ℕ
 text_of calls = join_with_byte 32 (with_separators calls)
 

@@ -116,7 +116,7 @@ named_local_words (Some p) = local_words p.1
 abbrev pub number_of : Text → Option ℕ
 number_of text = if is_unsigned_in 0 4294967295 text then Some (digits_value 10 (without_leading_plus text)) else None
 
--- The number of workers is the one that the words give; if they give none, 1 for `run` and 2 for `step`. No other command takes a number. After a hyphen `clap`
+-- The number of workers is the one that the words give; if they give none, 1 for `run` and 2 for `step`. For any other command it is 1. After a hyphen `clap`
 -- accepts the number 0 alone (`--workers=-0`), and hands it on without the hyphen.
 abbrev pub IsWorkers : Command → List Row → ℕ → Type 0
 IsWorkers Run rows n = n ≡ unwrap_or (option_and_then number_of (one_of (codes "workers") rows)) 1

@@ -31,7 +31,7 @@ is_dots part = pointwise nat_eq part (46 ∷ 46 ∷ [])
 abbrev pub is_name_byte : ℕ → Bool
 is_name_byte b = nat_le 32 b && not (b == 127) && not (b == 47)
 
--- whether a part is a name: 1 to 255 such bytes, in UTF-8, and neither `.` nor `..`
+-- whether a part is a name: 1 to 255 bytes for which `is_name_byte` is true, in UTF-8, and neither `.` nor `..`
 abbrev pub is_name : List ℕ → Bool
 is_name part = not (length part == 0) && nat_le (length part) 255 && not (is_dot part) && not (is_dots part) && list_all is_name_byte part && is_utf8 part
 
