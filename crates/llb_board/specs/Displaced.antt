@@ -136,7 +136,7 @@ pub record IsLeft (workers : List WorkerStatus) (w : ℕ) (left : Left) (lent : 
   pub keys : Distinct (map (λ (p : Instance). p.key) left.execution.places)
   pub ready : lent ≡ lent_of left.execution.places (length workers + 1)
 
--- the event's worker is in the condition in which the event left it
+-- what has to hold of the event's worker before the event is taken back: after a claim the worker exists; else `IsStepped` or `IsLeft` holds of it
 abbrev pub IsBehind : Back → List WorkerStatus → Type 0
 IsBehind (Unclaim w v growths) workers = w < length workers
 IsBehind (Unstep w mark trees) workers = IsStepped workers w mark trees
