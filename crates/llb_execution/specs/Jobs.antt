@@ -25,7 +25,7 @@ pub record OutcomeValue : Type 0 where
 abbrev pub begun_on : Job → Left
 begun_on j = record { work = j.work; fault = None }
 
--- `count` micro-steps of the job remained, and this is their result; the workspace still shows the same caches
+-- `count` micro-steps of the job remained, and this is their result; the workspace has as many mounts as before, and shows caches in the same ones
 pub record IsOutcome (j : Job) (count : ℕ) (left : Left) : Type 0 where
   pub few : j.done + count < 2 ^ 32
   pub all : AreLeft j.program.steps j.done (begun_on j) count

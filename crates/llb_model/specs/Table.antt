@@ -139,7 +139,7 @@ abbrev pub step_with : State → ℕ → Execution → Option MicroStep → Resu
 step_with s w x None = Err step.NothingLeft
 step_with s w x (Some m) = Ok (step_by s w x m (step_on x.done (Some m) (work_of s x)))
 
--- the result of a step, given what the worker does; the step is refused if the worker runs nothing
+-- the result of a step, given what the worker does; the step is refused if the worker runs nothing, or nothing that is unfinished
 abbrev pub stepped : Build → State → ℕ → Option WorkerStatus → Result (State × Reply) StepFault
 stepped b s w None = Err step.NoWorker
 stepped b s w (Some Idle) = Err step.NotRunning
