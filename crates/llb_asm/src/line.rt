@@ -27,7 +27,7 @@ pub enum Refusal {
     UnknownLabel,
 }
 
-/// The context of a line: its message, and what came before it there.
+/// The context of a line: the message that it is in, and what came before the line in this message.
 #[derive(Clone, Copy)]
 pub struct Here {
     pub message: MessageName,
@@ -35,7 +35,7 @@ pub struct Here {
     pub last: u32,
     /// Whether a member of the message's oneof is set.
     pub set: bool,
-    /// How often the last field has occurred.
+    /// How often the last field has occurred in the message.
     pub count: usize,
     /// Whether the extra bytes have come.
     pub ended: bool,

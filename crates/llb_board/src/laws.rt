@@ -1,5 +1,5 @@
-//! What holds for a board after every list of granted events, since its record replays to its state. If you read only one contract, read
-//! that of `headline`.
+//! What holds for a board after every list of granted events, since its record replays to its state. If you read only one contract, read the contract of
+//! `headline`.
 
 ghost use Rattle.std.specs.Prelude.{◌≡◌, ◌↔◌, ◌<◌, ℕ, None, true, length, slice_get};
 ghost use Rattle.llb_model.specs.Outcome.{outcome};

@@ -69,7 +69,7 @@ impl<'a> KeyRef<'a> {
         self.mode
     }
 
-    // Returns whether both are the same key.
+    // Returns whether this key and the other are the same.
     pub(crate) fn is(&self, other: &KeyRef<'_>) -> bool
         ensures { result ≡ same_key self.now other.now }
     {

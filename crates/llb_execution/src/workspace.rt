@@ -115,9 +115,9 @@ impl Workspace {
         }
     }
 
-    /// Does micro-step `k`; a fault of it has this number. The trees given are those of the instances of the caches that the workspace shows, in the order of
-    /// the needs, and a command changes them. Returns the fault, if there is one, and then the workspace and the trees are as they were except for the last
-    /// status. Fails with 5 `Memory` alone; then they are as they were.
+    /// Does micro-step `k`; if it faults, the fault has the number `k` in it. The trees given are those of the instances of the caches that the workspace
+    /// shows, in the order of the needs, and a command changes them. Returns the fault, if there is one, and then the workspace and the trees are as they were
+    /// except for the last status. Fails with 5 `Memory` alone; then they are as they were.
     pub fn step(
         &mut self,
         alloc: Global,

@@ -1,5 +1,5 @@
-//! Patterns. A text is split like that of a path, and each part is then read as items. Reading first checks the text
-//! once without allocating, so that a bad pattern can't be hidden by want of memory, and then makes the pattern.
+//! Patterns. A text is split like the text of a path, and each part is then read as items. Reading first checks the text once without allocating, so that a bad
+//! pattern can't be hidden by want of memory, and then makes the pattern.
 
 ghost use Rattle.std.specs.Prelude.{◌≡◌, ◌↔◌, List, ℕ, [], is_ok, IsTrue};
 ghost use Rattle.llb_tree.specs.Path.{enter};

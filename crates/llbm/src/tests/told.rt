@@ -158,7 +158,7 @@ pub(crate) fn ran_words<R: Abort + Threads + Wait + Sync>(
     ran(rt, alloc, &call_in(words), AMPLE)
 }
 
-/// Returns the result of a call on devices with these rooms.
+/// Returns the result of a call whose devices do so many reads, writes and flushes before they fail.
 pub(crate) fn tried<R: Abort + Threads + Wait + Sync>(
     rt: &R,
     alloc: Global,
