@@ -69,7 +69,8 @@ fn finished(opened: Result<Board, ProgramFault>) -> Result<Board, ProgramFault>
     whole(board, fault)
 }
 
-// Runs the board, if one was opened, with this number of workers, until the run ends; if there are several workers, each has a thread.
+// Runs the board, if one was opened, with this number of workers, until the run ends; if there are several workers, each has a thread. If no board was opened,
+// returns the fault.
 fn finished_by<T: Threads + Wait + Sync>(
     rt: &T,
     alloc: Global,

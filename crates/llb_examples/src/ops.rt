@@ -88,7 +88,7 @@ const ENTRIES: &[(&[u8], Result<&[u8], OpFault>)] = &[
         b"\x22\x0C\x12\x0A\x2A\x08\x22\x02\x0A\x00\x22\x02\x12\x00",
         Ok(b"\x22\x0A\x12\x08\x2A\x06\x22\x04\x0A\x00\x12\x00"),
     ),
-    // The member of the last record is set; only its records after those of other members count.
+    // The member of the last record is set; of its records only those count that come after the last record of another member.
     (
         b"\x22\x02\x12\x00\x3A\x00\x22\x02\x12\x00",
         Ok(b"\x22\x02\x12\x00"),

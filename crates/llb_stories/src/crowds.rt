@@ -73,7 +73,8 @@ impl Gate for Ten {
     }
 }
 
-// What each vertex is: a file made on the vertex before it, a file by itself, or a command that ends with a status, on up to two caches.
+// What each vertex does: it makes a file on the output of the vertex before it (`Chain`) or on the empty tree (`Fan`), or runs a command that ends with a
+// status, on up to two caches.
 #[derive(Clone, Copy)]
 enum Shape {
     Chain,
