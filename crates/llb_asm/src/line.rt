@@ -145,14 +145,14 @@ pub(crate) fn parted(line: &[u8]) -> Option<(&[u8], &[u8])>
     Some((name, value))
 }
 
-/// Returns whether the field is written even if its value is 0 or empty, to say that it is set.
+/// Returns whether the field is written even if its value is 0 or empty: it is a member of a oneof, repeated, or in an entry of a map.
 fn may_be_empty(field: NamedField) -> bool
     ensures { result ≡ may_be_empty field }
 {
     field.member || field.repeated || field.of_entry
 }
 
-// Returns whether the value is left out: it is 0 or empty, and such a value is not written.
+// Returns whether the value is left out: it is 0 or empty, and this field is not written with such a value.
 fn is_left_out(field: NamedField, is_default: bool) -> bool
     ensures { result ≡ is_default && not (may_be_empty field) }
 {

@@ -47,7 +47,7 @@ impl Lease {
     }
 }
 
-/// Caches, and their current leases. Contracts see both as lists.
+/// Caches, and their current leases. Contracts see a list of the keys with their trees, and a list of the leases.
 pub struct Caches {
     pub(crate) rows: Rows,
     // For each row the marks of instances that leases have; for locked and private keys an instance is marked exactly if a lease has it.

@@ -79,7 +79,7 @@ const ENTRIES: &[(&[u8], Result<&[u8], OpFault>)] = &[
     (MOUNT, Ok(MOUNT)),
     (COPY, Ok(COPY)),
     (RUNS_TRUE, Ok(RUNS_TRUE)),
-    // The last index of an input holds, in any spelling.
+    // If an input has several indexes, the last one counts, in any spelling.
     (b"\x0A\x04\x10\x01\x10\x02", Ok(b"\x0A\x02\x10\x02")),
     (b"\x0A\x04\x10\x82\x80\x00", Ok(b"\x0A\x02\x10\x02")),
     // A message that is split is joined, also inside a record.
