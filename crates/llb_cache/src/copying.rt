@@ -1,4 +1,4 @@
-//! Copies caches and leases, sharing the trees, and compares two of them.
+//! Copies the rows of caches and the instances of leases; the copies share the trees. Also compares two lists of rows.
 
 ghost use Rattle.std.specs.Prelude.{◌≡◌, ◌↔◌, IsTrue, IfOk};
 ghost use Rattle.llb_cache.specs.RowOrder.{AreOrdered};

@@ -170,7 +170,7 @@ fn all_end<R: Abort + Threads + Wait + Sync>(
     true
 }
 
-// Returns a row number for a shape and a number of workers, which is below 100; each such pair has another row number.
+// Returns a row number for the shape at an index and for a number of workers below 100; different pairs have different row numbers.
 fn row(at: usize, workers: u32) -> usize {
     at.wrapping_mul(100).wrapping_add(workers as usize)
 }
