@@ -43,7 +43,7 @@ pub fn runs_alike(setting: &Setting, view: &View, command: &Command)
 /// second content is what the first expands to. `tokens`: the same for tokens (the byte 255 and a number of four bytes), if no exec at or before the vertex
 /// makes a listing, nothing there writes the byte 255, and the sources at or before each exec that makes a digest have the same trees in both lists, without
 /// the byte 255. `undigested`: any relation that appending keeps and that relates each content to itself, if no exec at or before the vertex makes a digest.
-/// `contents`: as `undigested`; the second content is the first with some pieces replaced, each by its partner in a list of pairs.
+/// `contents`: with the premises of `undigested`, the second content is the first with some pieces replaced, each by its partner in a list of pairs.
 pub fn contents_are_handed_on(graph: &Graph)
     ensures relations { HandsRelationsOn graph.now }
     ensures expansions { HandsExpansionsOn graph.now }
