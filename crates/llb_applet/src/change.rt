@@ -140,8 +140,8 @@ pub fn put_dir(alloc: Global, view: &mut View, spot: &Spot, meta: Meta) -> Resul
     }
 }
 
-/// Removes what is at and below a spot. Returns false, and leaves the view as it was, if that is refused, as it is at a
-/// dest. Fails with 75 `Memory` alone; then too the view is as it was.
+/// Removes what is at and below a spot. Returns false, and leaves the view as it was, if that is refused; at a dest it is always refused. Fails with 75
+/// `Memory` alone; then too the view is as it was.
 pub fn remove(alloc: Global, view: &mut View, spot: &Spot) -> Result<bool, Memory>
     requires { spot.now.mount < length view.old }
     ensures { Does result (without_spot view.old spot.now) view.old view.new }

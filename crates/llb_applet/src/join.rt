@@ -7,7 +7,7 @@ use crate::command::Command;
 use crate::fault::ScriptFault;
 use llb_wire::Same;
 
-/// When a command runs, by the separator before it. The last status is that of the last command that ran.
+/// When a command runs, by the separator before it. The last status is the status of the last command that ran.
 #[derive(Clone, Copy)]
 pub enum Join {
     /// The first command of a script, or one after `;`: it always runs.

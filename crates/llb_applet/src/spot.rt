@@ -153,7 +153,7 @@ impl Spot {
         }
     }
 
-    /// Returns the mode and owner of the entry at the spot; if there is no entry, those of a new file, 0644 0:0.
+    /// Returns the mode and owner of the entry at the spot; if there is no entry, the mode and owner of a new file, 0644 0:0.
     pub fn meta(&self, view: &View) -> Meta
         requires { self.now.mount < length view.now }
         ensures { result ≡ meta_there (entry_at view.now self.now) }

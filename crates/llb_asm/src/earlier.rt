@@ -36,9 +36,9 @@ pub(crate) fn record_length(number: u32, size: usize) -> usize
 /// The whole entries so far, in order. Contracts see the list of their bytes.
 pub struct Earlier {
     entries: Vec<Bytes>,
-    /// The texts of their digests.
+    /// The digest text of each entry.
     labels: Vec<Text>,
-    /// How many bytes a definition of them has.
+    /// How many bytes a definition of these entries has.
     size: usize,
 }
 

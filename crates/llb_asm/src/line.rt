@@ -27,7 +27,7 @@ pub enum Refusal {
     UnknownLabel,
 }
 
-/// The context of a line: its message, and what came before it there.
+/// The context of a line: the message that it is in, and what came before the line in this message.
 #[derive(Clone, Copy)]
 pub struct Here {
     pub message: MessageName,
@@ -35,7 +35,7 @@ pub struct Here {
     pub last: u32,
     /// Whether a member of the message's oneof is set.
     pub set: bool,
-    /// How often the last field has occurred.
+    /// How often the last field has occurred in the message.
     pub count: usize,
     /// Whether the extra bytes have come.
     pub ended: bool,
@@ -145,14 +145,14 @@ pub(crate) fn parted(line: &[u8]) -> Option<(&[u8], &[u8])>
     Some((name, value))
 }
 
-/// Returns whether the field is written even if its value is 0 or empty, to say that it is set.
+/// Returns whether the field is written even if its value is 0 or empty: it is a member of a oneof, repeated, or in an entry of a map.
 fn may_be_empty(field: NamedField) -> bool
     ensures { result ≡ may_be_empty field }
 {
     field.member || field.repeated || field.of_entry
 }
 
-// Returns whether the value is left out: it is 0 or empty, and such a value is not written.
+// Returns whether the value is left out: it is 0 or empty, and this field is not written with such a value.
 fn is_left_out(field: NamedField, is_default: bool) -> bool
     ensures { result ≡ is_default && not (may_be_empty field) }
 {

@@ -1,5 +1,5 @@
-//! What holds for a board after every list of granted events, since its record replays to its state. If you read only one contract, read
-//! that of `headline`.
+//! What holds for a board after every list of granted events, since its record replays to its state. If you read only one contract, read the contract of
+//! `headline`.
 
 ghost use Rattle.std.specs.Prelude.{◌≡◌, ◌↔◌, ◌<◌, ℕ, None, true, length, slice_get};
 ghost use Rattle.llb_model.specs.Outcome.{outcome};
@@ -65,8 +65,8 @@ pub fn chosen_is_granted(board: &Board)
 }
 
 /// Proves that a granted event changes nothing of what all other workers do. From a worker's claim to its settle or cancel, other workers' events do not change
-/// the cache instances that it holds exclusively; and whatever trees these instances had, such an event would have the same reply, and the same effect on
-/// everything else.
+/// the cache instances that it holds exclusively; and whatever trees these instances had, an event of another worker would have the same reply, and the same
+/// effect on everything else.
 pub fn others_keep(board: &Board)
     ensures workers { OthersKeep board.now }
     ensures instances { machine.OthersKeep board.now.build }

@@ -47,7 +47,7 @@ impl Lease {
     }
 }
 
-/// Caches, and their current leases. Contracts see both as lists.
+/// Caches, and their current leases. Contracts see a list of the keys with their trees, and a list of the leases.
 pub struct Caches {
     pub(crate) rows: Rows,
     // For each row the marks of instances that leases have; for locked and private keys an instance is marked exactly if a lease has it.
@@ -266,7 +266,7 @@ impl Caches {
         Ok(Caches { rows, marks, out })
     }
 
-    /// Returns whether both have the same keys in the same order with the same trees, and the same leases. Does not allocate.
+    /// Returns whether these caches and the others have the same keys in the same order with the same trees, and the same leases. Does not allocate.
     pub fn same(&self, other: &Caches) -> bool
         ensures { IsTrue result ↔ (self.now ≡ other.now) }
     {
@@ -274,7 +274,7 @@ impl Caches {
             && all_same(self.out.as_slice(), other.out.as_slice())
     }
 
-    /// Returns whether both have the same keys in the same order with the same trees, whatever their leases. Does not allocate.
+    /// Returns whether these caches and the others have the same keys in the same order with the same trees, whatever their leases. Does not allocate.
     pub fn has_same_trees(&self, other: &Caches) -> bool
         ensures { IsTrue result ↔ (self.now.rows ≡ other.now.rows) }
     {

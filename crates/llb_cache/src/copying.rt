@@ -1,4 +1,4 @@
-//! Copies caches and leases, sharing the trees, and compares two of them.
+//! Copies the rows of caches and the instances of leases; the copies share the trees. Also compares two lists of rows.
 
 ghost use Rattle.std.specs.Prelude.{◌≡◌, ◌↔◌, IsTrue, IfOk};
 ghost use Rattle.llb_cache.specs.RowOrder.{AreOrdered};
@@ -81,8 +81,7 @@ pub(crate) fn copied_marks(marks: &Vec<Marks>) -> Result<Vec<Marks>, Memory>
     Ok(copies)
 }
 
-// Returns whether both have the same keys in the same order with the same trees. If they do, a key has the same row in
-// both.
+// Returns whether two lists of rows have the same keys in the same order with the same trees. If they do, a key has the same row in both lists.
 pub(crate) fn same_rows(rows: &[(Key, Trees)], others: &[(Key, Trees)]) -> bool
     ensures { IsTrue result ↔ (rows.now ≡ others.now) }
 {

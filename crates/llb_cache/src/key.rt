@@ -107,7 +107,7 @@ impl Key {
         Ok(Key { id, seed, mode })
     }
 
-    /// Returns whether both are the same key. Does not allocate.
+    /// Returns whether this key and the other are the same. Does not allocate.
     pub fn same(&self, other: &Key) -> bool
         ensures { IsTrue result ↔ (self.now ≡ other.now) }
     {

@@ -1,4 +1,4 @@
-//! A key whose texts another value owns: caches are searched by it before a key is made.
+//! A key that borrows its texts from another value: caches are searched by such a key before a key that owns its texts is made.
 
 ghost use Rattle.std.specs.Prelude.{◌≡◌, ◌==◌, not, length, option_map, true, IfErr, IfOk};
 ghost use Rattle.std.specs.Option.{option_cmp};
@@ -69,7 +69,7 @@ impl<'a> KeyRef<'a> {
         self.mode
     }
 
-    // Returns whether both are the same key.
+    // Returns whether this key and the other are the same.
     pub(crate) fn is(&self, other: &KeyRef<'_>) -> bool
         ensures { result ≡ same_key self.now other.now }
     {
@@ -88,7 +88,7 @@ impl<'a> KeyRef<'a> {
 }
 
 impl Key {
-    /// Returns a key that borrows this one's texts. Does not allocate.
+    /// Returns a key that borrows the texts of this key. Does not allocate.
     pub fn by_ref(&self) -> KeyRef<'_>
         ensures { result ≡ self.now }
     {
@@ -142,7 +142,7 @@ fn owned(alloc: Global, text: &str) -> Result<Text, Memory>
     Ok(Text::from_str(alloc, text)?)
 }
 
-// Makes a seed with a digest text of its own.
+// Makes a seed that owns a copy of the digest text.
 fn owned_seed(alloc: Global, parts: Option<(&str, u32)>) -> Result<Option<Seed>, Memory>
     ensures ok { IfOk result (λ s. s ≡ option_map (λ s. seed_by s.0.now s.1) parts.entry) }
     ensures memory { IfErr result (λ _. has_digest (option_map (λ s. seed_by s.0.now s.1) parts.entry) ≡ true) }

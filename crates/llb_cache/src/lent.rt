@@ -88,8 +88,8 @@ fn rooms_for(alloc: Global, places: &[Instance]) -> Result<Vec<Marks>, Memory>
 }
 
 impl Caches {
-    /// Grants a lease of instances that exist and have distinct keys; no lease may have any of them whose key is private or locked. There is room for one more
-    /// lease, and fewer than 65,536 are current. Does not allocate.
+    /// Grants a lease of instances that exist and have distinct keys; if the key of one of them is private or locked, no current lease may have that instance.
+    /// There is room for one more lease, and fewer than 65,536 are current. Does not allocate.
     pub fn lend_again(&mut self, lent: Lent) -> Lease
         requires { CanLend self.old lent }
         ensures number { result ≡ free_lease self.old.out }

@@ -89,7 +89,7 @@ impl Caches {
         None
     }
 
-    // Returns the needs if no lease has a locked key of theirs; else fails with 111 `Held` and the first such key.
+    // Returns the needs if no lease has the locked key of one of them; else fails with 111 `Held` and the first such key.
     pub(crate) fn admitted(
         &self,
         needs: Vec<Need>,
@@ -194,7 +194,7 @@ pub(crate) fn free_lease(out: &[Option<Many<Instance>>]) -> usize
     out.len()
 }
 
-// Returns whether one of the needs has the key of this one.
+// Returns whether one of `needs` has the same key as `need`.
 fn has_key_of(needs: &[Need], need: &Need) -> bool
     ensures { result ≡ list_any (λ n. same_key need.now.key n.key) needs.now }
 {

@@ -1,5 +1,5 @@
-//! The command line, which `clap` reads: no words or `run`, which takes the number of workers and local sources as NAME=FILE; `step`,
-//! which takes a file too; and `show`, `asm` and `dis`. The texts for its pages of help are those of `pages`.
+//! The command line, which `clap` reads. `run` takes the number of workers, and local sources as NAME=FILE; `step` takes these and the file of a definition;
+//! `show`, `asm` and `dis` take no words. No words at all mean `run`. The texts of the pages of help are in `pages`.
 
 ghost use Rattle.std.specs.Prelude.{◌≡◌, false, map, IfOk, IfErr};
 ghost use Rattle.clap.specs.Words.{app_of, kind_of, fault_of, found_of, new_app, rows_of, rule_of, subcommand_of};
@@ -270,8 +270,8 @@ pub(crate) fn line_or_page<'a, S: AsStr>(
     }
 }
 
-/// Returns what the words after the program's name ask for; no words are `run`. Fails with 183 and no word if `clap` refuses the words, as it also does if they
-/// ask for help; with 183 and the first word that should be a local source and has no `=`; or with 184 if memory is refused.
+/// Returns what the words after the program's name ask for; no words are `run`. Fails with 183 and no word if `clap` refuses the words; words that ask for help
+/// or for the version are refused too; with 183 and the first word that should be a local source and has no `=`; or with 184 if memory is refused.
 pub fn command_of<'a, S: AsStr>(alloc: Global, words: &'a [S]) -> Result<Line<'a>, WordsFault<'a>>
     ensures says { IfOk result (Says (subcommand_of llbm_app (map S.text words.entry.now))) }
     ensures refuses { IsByWords (fault_of llbm_app (map S.text words.entry.now))

@@ -20,7 +20,7 @@ fn passed_on(fault: LoadFault) -> ProgramFault
     }
 }
 
-/// Returns why the program ends if no definition was read: one that is too long is refused (81 13), else 181 or 184.
+/// Returns the fault with which the program ends if the definition was not read to its end: 81 13 if it is too long, else 181 or 184.
 pub(crate) fn unread(fault: ReadFault) -> ProgramFault
     ensures { result ≡ unread_as fault }
 {

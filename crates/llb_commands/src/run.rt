@@ -58,7 +58,7 @@ fn whole(board: Board, fault: Option<RunFault>) -> Result<Board, ProgramFault>
     }
 }
 
-// Runs a board that was opened to its end with one worker; if none was opened, returns the fault.
+// Runs the board, if one was opened, with one worker, until the run ends; if no board was opened, returns the fault.
 fn finished(opened: Result<Board, ProgramFault>) -> Result<Board, ProgramFault>
     ensures { (locals : List Local) (input : Option (List ℕ)) → Opens 1 locals input opened → Finishes 1 locals input result }
 {
@@ -69,7 +69,8 @@ fn finished(opened: Result<Board, ProgramFault>) -> Result<Board, ProgramFault>
     whole(board, fault)
 }
 
-// Runs a board that was opened to its end with this number of workers; if there are several, each has a thread.
+// Runs the board, if one was opened, with this number of workers, until the run ends; if there are several workers, each has a thread. If no board was opened,
+// returns the fault.
 fn finished_by<T: Threads + Wait + Sync>(
     rt: &T,
     alloc: Global,
@@ -214,9 +215,9 @@ pub fn run_over<R: Read, W: Write, E: Write>(
     print_end(alloc, finished(opened), out, err)
 }
 
-/// Does what `run_over` does with this number of workers; if there are several, each has a thread, and the call waits for them. If no cache is mounted,
-/// the text is that of the plain outcomes, for any number of workers. The status is 2 also if the number is 0, or more than 64 (`fault 122`),
-/// and 3 also if a thread could not be started (`fault 153`).
+/// Does what `run_over` does with this number of workers; if there are several, each has a thread, and the call waits for them. If no cache is mounted, the
+/// text is the one that the plain outcomes give, for any number of workers. The status is 2 also if the number is 0, or more than 64 (`fault 122`), and 3 also
+/// if a thread could not be started (`fault 153`).
 pub fn run_many_over<T: Threads + Wait + Sync, R: Read, W: Write, E: Write>(
     rt: &T,
     alloc: Global,

@@ -1,5 +1,5 @@
-//! The trees of local sources, read from the texts of their files. Files are opened through the trait `Sources`. Contracts speak of the
-//! bytes that an implementation of it gives; none says that these are the bytes of the machine's files.
+//! The trees of local sources, read from the texts of their files. Files are opened through the trait `Sources`. Contracts speak of the bytes that an
+//! implementation of the trait gives; no contract says that these are the bytes of the machine's files.
 
 ghost use Rattle.std.specs.Prelude.{◌≡◌, ℕ, List, [], Option, Some, IfOk, IfSome};
 ghost use Rattle.llb_commands.specs.Faults.{source_text};
@@ -70,7 +70,7 @@ fn local_from<R: Read>(alloc: Global, input: &mut R) -> Result<Tree, SourceFault
     }
 }
 
-// Returns the result of reading a text as the result for a local source.
+// Turns the result of reading the text of a tree into the result for a local source.
 fn told(read: Result<Tree, TextFault>) -> Result<Tree, SourceFault>
     ensures { result ≡ told read }
 {
@@ -119,8 +119,8 @@ fn add_file<F: Sources>(
     add_local(alloc, local.name, &mut input, locals)
 }
 
-/// Reads the trees of local sources, in their order; if two have one name, the tree of the later one is kept. The first fault ends it: 31 to 34, 92, 181, 184
-/// and 185.
+/// Reads the trees of local sources, in their order; if two sources have the same name, the tree of the later one is kept. Stops at the first source that has
+/// no tree, and fails with its fault: 31 to 34, 92, 181, 184 or 185.
 pub(crate) fn locals_of<F: Sources>(
     alloc: Global,
     files: &F,

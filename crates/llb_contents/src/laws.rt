@@ -36,14 +36,14 @@ pub fn runs_alike(setting: &Setting, view: &View, command: &Command)
     let _ = command;
 }
 
-/// Proves that if each local source at or before a vertex has the same tree in two lists of local trees but for the contents of files, and these are related,
-/// then the vertex has the same plain outcome with both lists but for related contents: blocked, failed with one fault, or done with as many outputs. Each
-/// clause is for one kind of relation. `relations`: any relation that appending keeps, if each content that the ops themselves write is related to itself, and
-/// digests of related contents are related. `expansions`: with the same premises, the second content is what the first expands to. `tokens`: the same for
-/// tokens (the byte 255 and a number of four bytes), if no exec at or before the vertex makes a listing, nothing there writes the byte 255, and the sources at
-/// or before each exec that makes a digest have the same trees in both lists, without the byte 255. `undigested`: any relation that appending keeps and that
-/// relates each content to itself, if no exec at or before the vertex makes a digest. `contents`: as `undigested`; the second content is the first with some
-/// pieces replaced, each by its partner in a list of pairs.
+/// Proves of a vertex and two lists of local trees: if each local source at or before the vertex has trees in the two lists that differ only in the contents of
+/// files, and these contents are related, then the plain outcomes of the vertex with the two lists differ only in related contents. Both are blocked, both
+/// failed with the same fault, or both are done with as many outputs. Each clause is for one kind of relation. `relations`: any relation that appending keeps,
+/// if each content that the ops themselves write is related to itself, and digests of related contents are related. `expansions`: with the same premises, the
+/// second content is what the first expands to. `tokens`: the same for tokens (the byte 255 and a number of four bytes), if no exec at or before the vertex
+/// makes a listing, nothing there writes the byte 255, and the sources at or before each exec that makes a digest have the same trees in both lists, without
+/// the byte 255. `undigested`: any relation that appending keeps and that relates each content to itself, if no exec at or before the vertex makes a digest.
+/// `contents`: with the premises of `undigested`, the second content is the first with some pieces replaced, each by its partner in a list of pairs.
 pub fn contents_are_handed_on(graph: &Graph)
     ensures relations { HandsRelationsOn graph.now }
     ensures expansions { HandsExpansionsOn graph.now }

@@ -1,6 +1,6 @@
-//! Laws of contents: if the local trees of two runs differ only in the contents of files, and these are related by a relation that appending keeps, then the
-//! outcomes differ only in related contents. There is no code but the laws. `tools/build` relies on them: it gives the program a short token in place of each
-//! content. It is built on `llb_board`.
+//! Laws of contents: if the local trees of two runs differ only in the contents of files, and these contents are related by a relation that appending keeps,
+//! then the outcomes differ only in related contents. There is no code but the laws. `tools/build` relies on these laws: it gives the program a short token in
+//! place of each content. It is built on `llb_board`.
 //!
 //! Types: none; `specs/Laws.antt` has the relation on trees, views and outcomes.
 //! Promise: `laws::contents_are_handed_on` (`tokens`, `contents`): if no exec at or before a vertex makes a listing, nothing there writes the byte 255, and the

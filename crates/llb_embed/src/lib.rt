@@ -31,8 +31,8 @@ use working::{assemble, copy_out, disassemble, local, open, reply, run, show};
 /// Memory for what the handle holds was refused.
 const NO_MEMORY: u8 = 3;
 
-/// Adds the tree of a text as the local tree of a name; a tree that the name had before is replaced. Returns 0; or 2 or 3, with a line of messages: 2 if the
-/// text is refused (31 to 33, 185) or the name is not UTF-8 (183), 3 if memory is (34, 92, 184), and then no tree is added.
+/// Adds the tree of a text as the local tree of a name; a tree that the name had before is replaced. Returns 0 if it is added; 2 if the text is refused (31 to
+/// 33, 185) or the name is not UTF-8 (183); 3 if memory is refused (34, 92, 184). With 2 or 3 there is a line in the messages, and no tree is added.
 #[unsafe(no_mangle)]
 pub extern "C" fn llb_local(alloc: Global, it: &mut Llb, name: &[u8], text: &[u8]) -> u8
     requires { IsSound it.old }
@@ -47,9 +47,9 @@ pub extern "C" fn llb_local(alloc: Global, it: &mut Llb, name: &[u8], text: &[u8
     status
 }
 
-/// Opens a session on a definition, with this number of workers, on the local trees. Returns 0; or 2 or 3, with a line of messages, and then the session
-/// that was open before, if any, is as it was: 2 if the definition is refused (81 to 90), a local source has no tree (121), or the number of workers
-/// is not 1 to 64 (122); 3 if memory is (91, 92, 123, 184).
+/// Opens a session on a definition, with this number of workers, on the local trees. Returns 0 if it is open; 2 if the definition is refused (81 to 90), a
+/// local source has no tree (121), or the number of workers is not 1 to 64 (122); 3 if memory is refused (91, 92, 123, 184). With 2 or 3 there is a line in the
+/// messages, and the session that was open before, if any, is as it was.
 #[unsafe(no_mangle)]
 pub extern "C" fn llb_open(alloc: Global, it: &mut Llb, definition: &[u8], workers: u32) -> u8
     requires { IsSound it.old }
@@ -64,9 +64,9 @@ pub extern "C" fn llb_open(alloc: Global, it: &mut Llb, definition: &[u8], worke
     status
 }
 
-/// Sends a line, without its end, to the session; the output is its reply. Returns 0 if the session goes on; 1 if the line ends it, and then no
-/// session is open; 4 if none is open. Or 2 or 3, with a line of messages, and then the session is as it was: 3 if memory for the line of a refusal
-/// is refused (184), 2 past 2^64 - 1 lines (185). A refusal of what the line asks for is a reply (171 to 174).
+/// Sends a line, without its end, to the session; the output is its reply. Returns 0 if the session goes on; 1 if the line ends it, and then no session is
+/// open; 4 if no session was open; 3 if memory for the line of a refusal is refused (184); 2 past 2^64 - 1 lines (185). With 2 or 3 there is a line in the
+/// messages, and the session is as it was. A refusal of what the line asks for is a reply (171 to 174).
 #[unsafe(no_mangle)]
 pub extern "C" fn llb_line(alloc: Global, it: &mut Llb, line: &[u8]) -> u8
     requires { IsSound it.old }
@@ -81,8 +81,9 @@ pub extern "C" fn llb_line(alloc: Global, it: &mut Llb, line: &[u8]) -> u8
     status
 }
 
-/// Runs a definition on the local trees with one worker; the output is the text of its result. Returns the status of `llbm run`: 0; 1 if a vertex
-/// failed, with its line in the messages; 2 if the definition is refused, or a local source has no tree, and 3 if memory is, with a line of messages.
+/// Runs a definition on the local trees with one worker; the output is the text of its result. Returns the status of `llbm run`: 0; 1 if a vertex failed, with
+/// its line in the messages; 2 if the definition is refused, or a local source has no tree; 3 if memory is refused. With 2 or 3 there is a line in the
+/// messages.
 #[unsafe(no_mangle)]
 pub extern "C" fn llb_run(alloc: Global, it: &mut Llb, definition: &[u8]) -> u8
     requires { IsSound it.old }

@@ -203,7 +203,7 @@ fn applets_do_what_they_say_on_one_tree(rt: HostRuntime) {
     are_told(&rt, rt.alloc(), ON_ONE_TREE);
 }
 
-// From one mount to another, below read-only mounts, and with selectors.
+// Commands on more than one mount: from one mount to another, below read-only mounts, and with selectors.
 const ON_MORE_MOUNTS: &str = r#"
     # From mount to mount.
     > new

@@ -50,7 +50,7 @@ const REFUSED: &[(&str, &str)] = &[
     ("A = D_ON_T; T = NAMES_A", "86 0 0"),
     // An unsupported feature of a later row is reported before a broken rule of an earlier one.
     ("A = NAMES_B; B = DIFF; T = NAMES_A", "88 1 DiffOp"),
-    // Rows that are dropped count in the numbers of rows.
+    // Rows that repeat an earlier row count in the numbers of rows.
     (
         "T = NAMES_INDEX_ONE_OF_ROW_A; A = MAKES_A; A = MAKES_A; T = NAMES_INDEX_ONE_OF_ROW_A",
         "90 0 0",

@@ -46,8 +46,8 @@ fn prints(rt: &impl Abort, alloc: Global, tree: &Tree, others: &str, of_500: &st
     text.as_slice() == wanted(rt, alloc, others, of_500).as_bytes()
 }
 
-// Puts one byte into file 500 of a tree, and drops the tree before its older copy or after it. Returns whether the one that
-// remains has the text that it should: the tree differs in one line, and its copy not at all.
+// Puts one byte into file 500 of a tree, and drops the tree before its older copy or after it. Returns whether the texts are right: the copy has no changed
+// line, and the tree, if the copy is dropped first, has one changed line.
 fn one_byte(rt: &impl Abort, alloc: Global, mut first: Tree, first_goes: bool) -> bool {
     let copied = copied(rt, &first);
     put_file(alloc, &mut first, 500, "!").expect(rt, "memory");

@@ -79,7 +79,7 @@ const ENTRIES: &[(&[u8], Result<&[u8], OpFault>)] = &[
     (MOUNT, Ok(MOUNT)),
     (COPY, Ok(COPY)),
     (RUNS_TRUE, Ok(RUNS_TRUE)),
-    // The last index of an input holds, in any spelling.
+    // If an input has several indexes, the last one counts, in any spelling.
     (b"\x0A\x04\x10\x01\x10\x02", Ok(b"\x0A\x02\x10\x02")),
     (b"\x0A\x04\x10\x82\x80\x00", Ok(b"\x0A\x02\x10\x02")),
     // A message that is split is joined, also inside a record.
@@ -88,7 +88,7 @@ const ENTRIES: &[(&[u8], Result<&[u8], OpFault>)] = &[
         b"\x22\x0C\x12\x0A\x2A\x08\x22\x02\x0A\x00\x22\x02\x12\x00",
         Ok(b"\x22\x0A\x12\x08\x2A\x06\x22\x04\x0A\x00\x12\x00"),
     ),
-    // The member of the last record is set; only its records after those of other members count.
+    // The member of the last record is set; of its records only those count that come after the last record of another member.
     (
         b"\x22\x02\x12\x00\x3A\x00\x22\x02\x12\x00",
         Ok(b"\x22\x02\x12\x00"),

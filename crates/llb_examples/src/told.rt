@@ -1,5 +1,5 @@
-//! Trees by their rows, and how they are written in a line of text: for each entry a `d` or an `f` and its path, its mode and owner if they
-//! are not those of a new one, and the content of a file after `=`.
+//! Trees by their rows, and how they are written in a line of text: for each entry a `d` or an `f` and its path, its mode and owner if a new entry has others,
+//! and the content of a file after `=`.
 
 use llb_samples::push_path;
 use llb_tree::{Bytes, Entry, Meta, Name, Node, Path, Tree, TreeFault};
@@ -87,7 +87,7 @@ pub(crate) fn say_fault<E: Display>(rt: &impl Abort, text: &mut String, fault: &
     write!(text, "{fault}\n").expect(rt, "memory");
 }
 
-// Returns a text: one part, repeated a number of times, and then another.
+// Returns the text `part` as often as `count` says, and then `rest`.
 pub(crate) fn repeated(
     rt: &impl Abort,
     alloc: Global,

@@ -26,7 +26,7 @@ fn octal(word: &str) -> Option<u16> {
     u16::from_str_radix(word, 8).ok()
 }
 
-// Returns the mode and the owner that these words give; those of a new directory if they give none.
+// Returns the mode and the owner that these words give; if they give none, the mode and the owner of a new directory.
 fn meta(mode: &str, owner: &str) -> Meta {
     let (user, group) = owner.split_once(':').unwrap_or(("", ""));
     match (octal(mode), user.parse::<u32>(), group.parse::<u32>()) {

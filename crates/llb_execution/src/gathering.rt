@@ -14,7 +14,7 @@ pub trait Outputs {
     /// How each vertex ended; `None` if it has not.
     ghost ending: { Self → ℕ → Option Ending };
 
-    /// Returns the output that an edge leads to, if its vertex is done and has it.
+    /// Returns the output that an edge leads to, if the vertex of the edge is done and has that output.
     fn tree(&self, edge: Edge) -> Option<&Tree>
         ensures { option_map (λ t. t.now) result ≡ output_in (ending self.now edge.vertex) edge.index };
 }

@@ -1,5 +1,5 @@
-//! A job is what a worker has to do: a vertex's program, and what it works on. All parts own their data. By the type's invariant its
-//! micro-steps can be done.
+//! A job is what a worker has to do: a vertex's program, and what the program works on. It owns all its data. By the type's invariant the micro-steps of the
+//! job can be done.
 
 ghost use Rattle.std.specs.Prelude.{◌≡◌};
 ghost use Rattle.llb_execution.specs.Jobs.{IsWorkable};
@@ -120,7 +120,7 @@ impl Job {
         self.done
     }
 
-    /// Returns the workspace that it works on, in which the mounts of caches are empty.
+    /// Returns the workspace that the job works on, in which the mounts of caches are empty.
     pub fn workspace(&self) -> &Workspace
         ensures { result.now ≡ self.now.work.own }
     {

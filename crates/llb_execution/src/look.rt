@@ -179,7 +179,7 @@ fn mount_tree(mounts: &Mounts, i: u32) -> Option<&Tree>
     }
 }
 
-// Returns the last index among the first `held` at which `numbers` has i.
+// Returns the last index below `held` at which `numbers` has the number `i`.
 fn last_place(numbers: &[u32], i: u32, held: usize) -> Option<usize>
     ensures { (trees : List TreeMap) (own : Option TreeMap) → length trees ≡ held → tree_or own trees result ≡ last_tree i numbers.now trees own }
 {

@@ -1,4 +1,4 @@
-//! What a micro-step can change of a workspace, kept before it and put back after it.
+//! What a micro-step can change of a workspace: kept before the micro-step, and put back when the micro-step is taken back.
 
 ghost use Rattle.std.specs.Prelude.{◌≡◌, IfOk};
 ghost use Rattle.llb_execution.specs.Marks.{mark_in, mark_of, put_back, PutsBack};

@@ -16,8 +16,8 @@ use llb_wire::Memory;
 use std::alloc::Global;
 use std::marker::Model;
 
-/// The outcome of a job: how many micro-steps remained, and the workspace, the trees of the cache instances and the
-/// fault after them. By the type's invariant these are the result of the job's program, so no board has to check it.
+/// The outcome of a job: how many micro-steps remained, and the workspace, the trees of the cache instances and the fault after them. By the type's invariant
+/// these are the result of the job's program, so no board has to check that.
 #[derive(Drop)]
 pub struct Outcome {
     job: Job,
@@ -95,8 +95,8 @@ impl Outcome {
     }
 }
 
-/// Does all remaining micro-steps of a job, behind a gate. Fails with 143 `Stopped` if the gate stops the worker, which it does only if it may stop that worker
-/// at that vertex, or with 142 `Memory`; then the job is dropped. It works on copies of the job's workspace and trees.
+/// Does all remaining micro-steps of a job, behind a gate. Fails with 143 `Stopped` if the gate stops the worker (a gate stops only a worker that it may stop
+/// at that vertex), or with 142 `Memory`; then the job is dropped. The micro-steps are done on copies of the job's workspace and trees.
 pub fn work<G: Gate>(alloc: Global, job: Job, gate: &G) -> Result<Outcome, WorkFault>
     ensures job { IfOk result (λ o. o.job ≡ job) }
     ensures stopped { result ≡ Err work.Stopped → IsTrue (G.may_stop job.worker job.vertex) }

@@ -1,4 +1,4 @@
-//! Whether two workspaces are the same by value, whether two vertices have the same micro-steps, and whether a program is that of a vertex. Nothing here
+//! Whether two workspaces are the same by value, whether two vertices have the same micro-steps, and whether a program is the program of a vertex. Nothing here
 //! allocates: the vertex's micro-steps are made before, and the outputs are compared with the fields of the vertex.
 
 ghost use Rattle.std.specs.Prelude.{◌≡◌, ◌↔◌, IsTrue, [], ◌∷◌, map};
@@ -72,7 +72,7 @@ impl Same for Steps {
     }
 }
 
-// Returns whether both have the same micro-steps. If they are of two kinds, this is so only if neither has any.
+// Returns whether two vertices have the same micro-steps. Vertices of two kinds have the same micro-steps only if neither has any.
 fn are_steps(steps: &ByKind, other: &ByKind) -> bool
     ensures { IsTrue result ↔ (steps_in steps.now ≡ steps_in other.now) }
 {

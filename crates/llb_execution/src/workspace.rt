@@ -115,9 +115,9 @@ impl Workspace {
         }
     }
 
-    /// Does micro-step `k`; a fault of it has this number. The trees given are those of the instances of the caches that the workspace shows, in the order of
-    /// the needs, and a command changes them. Returns the fault, if there is one, and then the workspace and the trees are as they were except for the last
-    /// status. Fails with 5 `Memory` alone; then they are as they were.
+    /// Does micro-step `k`; if it faults, the fault has the number `k` in it. The trees given are those of the instances of the caches that the workspace
+    /// shows, in the order of the needs, and a command changes them. Returns the fault, if there is one, and then the workspace and the trees are as they were
+    /// except for the last status. Fails with 5 `Memory` alone; then they are as they were.
     pub fn step(
         &mut self,
         alloc: Global,
@@ -440,8 +440,8 @@ fn are_ands(commands: &[Joined]) -> bool
     true
 }
 
-// Returns the fault of a command that ended with a status other than 0, if no later one may run. It looks at later commands only then, up to the first that is
-// not joined by `&&`; all before that one are skipped, so that a whole script takes time in its length.
+// Returns the fault of a command that ended with a status other than 0, if no later one may run. Only if the status is not 0 are later commands looked at, up
+// to the first that is not joined by `&&`. The commands before that one are all skipped, so over a whole script this takes time in the length of the script.
 fn exit_of(command: u32, status: u32, later: &[Joined]) -> Option<VertexFault>
     ensures { result ≡ exit_of command (all_and later.now) status }
 {

@@ -1,5 +1,5 @@
-//! Patterns. A text is split like that of a path, and each part is then read as items. Reading first checks the text
-//! once without allocating, so that a bad pattern can't be hidden by want of memory, and then makes the pattern.
+//! Patterns. A text is split like the text of a path, and each part is then read as items. Reading first checks the text once without allocating, so that a bad
+//! pattern can't be hidden by want of memory, and then makes the pattern.
 
 ghost use Rattle.std.specs.Prelude.{◌≡◌, ◌↔◌, List, ℕ, [], is_ok, IsTrue};
 ghost use Rattle.llb_tree.specs.Path.{enter};
@@ -35,13 +35,11 @@ impl Model for Pattern {
 }
 
 impl Pattern {
-    /// Reads a text as a pattern: the text is split at `/`, empty parts and `.` are dropped, `..` removes the last part
-    /// and stops at the root, and each part that remains is cut into items: `*` matches any run of characters, `?` any
-    /// one character, `[..]` one that is in an item of the class, `[^..]` one that is in none, `\c` the character c,
-    /// any other character itself. An item of a class is a character or a range `lo-hi`. Fails with 41 `BadPattern` at
-    /// a part that is no name or is the 129th, also if a later `..` would remove it, and if a part that remains ends in
-    /// a lone `\` or has a class that is empty, not closed or misspelled. Fails with 42 `Memory` if there is no other
-    /// fault.
+    /// Reads a text as a pattern: the text is split at `/`, empty parts and `.` are dropped, `..` removes the last part and stops at the root, and each part
+    /// that remains is cut into items: `*` matches any run of characters, `?` any one character, `[..]` one character that is in an item of the class, `[^..]`
+    /// one character that is in no item of the class, `\c` the character `c`; any other character matches itself. An item of a class is a character or a range
+    /// `lo-hi`. Fails with 41 `BadPattern` at a part that is no name or is the 129th, also if a later `..` would remove it, and if a part that remains ends in
+    /// a lone `\` or has a class that is empty, not closed or misspelled. Fails with 42 `Memory` if there is no other fault.
     pub fn read(alloc: Global, text: &str) -> Result<Pattern, PatternFault>
         ensures gives { Gives (λ p. p) result (pattern_of text.now) }
         ensures last { MemoryLast result (pattern_of text.now) }

@@ -51,7 +51,8 @@ pub(crate) fn check_names(
     Ok(())
 }
 
-// Returns the index of the first input that names no row, given the rows that the inputs name. If there are as many rows as inputs, it looks up none.
+// Returns the index of the first input that names no row, given `named`, the rows that the inputs name. If these are as many as the inputs, no input is looked
+// up.
 fn unnamed_in(
     rows: &[Row],
     index: &BTreeMap<&str, usize>,
@@ -174,7 +175,7 @@ fn asked_inputs(op: &Op, reached: bool, terminal: bool) -> usize
     if terminal { 1 } else { 0 }
 }
 
-// Returns the first of `asked` inputs whose index is that of no output.
+// Returns which of the first `asked` inputs is the first one whose index no output has; `None` if there is no such input.
 fn first_bad(op: &Op, named: &[usize], counts: &[usize], asked: usize) -> Option<usize>
     requires named { asked ≤ length named.now }
     requires inputs { asked ≤ length op.now.inputs }
@@ -190,7 +191,7 @@ fn first_bad(op: &Op, named: &[usize], counts: &[usize], asked: usize) -> Option
     None
 }
 
-// Returns whether the input's index is that of one of `count` outputs.
+// Returns whether the input's index is the index of one of `count` outputs.
 fn is_output_of(count: usize, input: &Input) -> bool
     ensures { IsTrue result ↔ IsBelow count input.now.index }
 {

@@ -1,4 +1,4 @@
-//! The features of an op that are not supported. Each test looks at ops of one kind; the order of the features is that of the definition `features`.
+//! The features of an op that are not supported. Each test looks at ops of one kind; the features are in the order of the definition `features`.
 
 ghost use Rattle.std.specs.Prelude.{◌≡◌};
 ghost use Rattle.std.specs.List.{list_any, find};

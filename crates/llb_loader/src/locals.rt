@@ -105,7 +105,7 @@ impl Same for Locals {
     }
 }
 
-// Returns whether both have the same trees under the same names, in the same order.
+// Returns whether two lists have the same trees under the same names, in the same order.
 fn same_trees(trees: &IndexMap<String, Tree>, others: &IndexMap<String, Tree>) -> bool
     ensures { IsTrue result ↔ (locals_of trees.now.entries ≡ locals_of others.now.entries) }
 {
@@ -120,7 +120,7 @@ fn same_trees(trees: &IndexMap<String, Tree>, others: &IndexMap<String, Tree>) -
     true
 }
 
-// Returns whether both have the same tree under the same name at an index.
+// Returns whether two lists have the same tree under the same name at an index.
 #[tactic(auto, using(crate::proofs::Trees::local_at))]
 fn same_at(trees: &IndexMap<String, Tree>, others: &IndexMap<String, Tree>, i: usize) -> bool
     ensures { IsTrue result ↔ (slice_get (locals_of trees.now.entries) i ≡ slice_get (locals_of others.now.entries) i) }

@@ -1,4 +1,4 @@
-//! The ops that entries spell, each by its own bytes.
+//! The ops that entries spell. Each op is read from the bytes of its entry alone.
 
 ghost use Rattle.std.specs.Prelude.{◌≡◌, ◌≤◌, false, length, IfOk, IfErr};
 ghost use Rattle.std.specs.List.{All};

@@ -62,7 +62,7 @@ pub(crate) fn index_of<'a>(
         if !entries[first].same(&entries[k]) {
             return Err(LoadFault::Collision(k as u32));
         }
-        // Puts back what was there.
+        // Puts the earlier row back: the index keeps the first row of a digest text.
         index.insert(digest, first)?;
         firsts.push(first)?;
     }
@@ -122,7 +122,7 @@ pub(crate) fn start_of(
     }
 }
 
-// Returns the row that a digest text names, if it names one. No look-up is made if the guessed row has the digest.
+// Returns the row that a digest text names, if it names one. No look-up is made if the row at `guess` has the digest text.
 fn row_near(
     rows: &[Row],
     index: &BTreeMap<&str, usize>,

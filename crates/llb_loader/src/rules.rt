@@ -1,4 +1,4 @@
-//! Finds the first rule that an op breaks. Each kind has its own rules; their order is that of `rules_on`.
+//! Finds the first rule that an op breaks. Each kind has rules of its own; the definition `rules_on` has them in the order in which they are checked.
 
 ghost use Rattle.std.specs.Prelude.{◌↔◌, Some, IfOk, MatchOption, IsTrue, List};
 ghost use Rattle.llb_ops.specs.declared.op.Input.{Input};

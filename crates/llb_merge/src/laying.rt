@@ -1,5 +1,5 @@
-//! Lays one tree over another: all entries of the upper tree are kept, and those of the lower tree that are below no file of the
-//! upper one.
+//! Lays one tree over another: at a path the result has what the upper tree has there; if that is nothing, what the lower tree has, unless a file of the upper
+//! tree is above the path.
 
 ghost use Rattle.std.specs.Prelude.{◌≡◌, IfOk, OnOk, OnErr, Some, None, false};
 ghost use Rattle.llb_tree.specs.Overlay.{way_of};
@@ -9,7 +9,7 @@ use crate::fault::Memory;
 use llb_tree::{Tree, Way};
 use std::alloc::Global;
 
-// Returns the `Way` by which each upper entry keeps its mode and owner, and a directory that both trees have gets those of the upper one.
+// Returns the `Way` by which each upper entry keeps its mode and owner, also if both trees have a directory at its path.
 fn plain() -> Way
     ensures { way_of None None None false ≡ Some result }
 {

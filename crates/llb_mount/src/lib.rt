@@ -2,8 +2,8 @@
 //!
 //! Types: `View` (its mounts, one of them at the root), `Shown` (a mount: dest, selector, whether it is read-only, tree), `ReadOnly`.
 //! Promise: `View::route` (`longest`, `only`) returns the mount with the longest dest that is a prefix of a path, by names. `View::set_tree` (`set`, `refused`,
-//! `back`) replaces one mount's tree, and refuses a read-only one. These two calls need no memory; `View::make` makes an order of the dests if there is memory
-//! for it, and else a view that does without.
+//! `back`) replaces one mount's tree, and refuses a read-only one. These two calls need no memory; `View::make` makes a view; if there are many mounts, it also
+//! makes an order of the dests, or does without that order if memory is refused for it.
 //!
 //! A caller:
 //!

@@ -214,7 +214,7 @@ impl View {
         Ok(())
     }
 
-    /// Replaces a mount's tree, even that of a read-only mount, and returns the tree that was there. Does not allocate.
+    /// Replaces a mount's tree, even if the mount is read-only, and returns the tree that was there. Does not allocate.
     pub fn swap_tree(&mut self, mount: u32, tree: Tree) -> Tree
         requires { mount < length self.old }
         ensures old { result ≡ (mount_at self.old mount).tree }

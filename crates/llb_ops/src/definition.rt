@@ -141,10 +141,9 @@ fn admitted(bytes: &[u8]) -> Result<(), OpFault>
 
 /// Reads the entries of a definition.
 ///
-/// Fails with the first fault: 13 `OverLimit` of a definition of more than 67,108,864 bytes; then of its records from
-/// left to right, 1 to 4 `Wire` or 11 `WrongWireType` of a field that it names; then 13 `OverLimit` of more than 65,536
-/// entries, then of an entry of more than 16,777,216 bytes. Fails with 14 `Memory` if memory is refused and there is no
-/// other fault.
+/// Fails with the first of these faults that applies: 13 `OverLimit` if the definition has more than 67,108,864 bytes; at the first faulty record from left to
+/// right, 1 to 4 `Wire`, or 11 `WrongWireType` if the message names its field; 13 `OverLimit` if there are more than 65,536 entries, or if an entry has more
+/// than 16,777,216 bytes. Fails with 14 `Memory` if memory is refused and there is no other fault.
 pub fn read_definition(alloc: Global, bytes: &[u8]) -> Result<Entries, OpFault>
     ensures gives { Gives (λ e. e) result (definition_of bytes.now) }
     ensures last { MemoryLast is_memory result (definition_of bytes.now) }

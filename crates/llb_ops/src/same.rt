@@ -51,7 +51,7 @@ impl Same for SourceOp {
     }
 }
 
-// Returns whether both have the same attribute under the same key at an index.
+// Returns whether two maps have the same attribute under the same key at an index.
 fn same_entry(
     held: &IndexMap<Text, Attribute>,
     others: &IndexMap<Text, Attribute>,
@@ -68,7 +68,7 @@ fn same_entry(
     }
 }
 
-// Returns whether both have the same attributes under the same keys, in the same order.
+// Returns whether two maps have the same attributes under the same keys, in the same order.
 fn same_entries(held: &IndexMap<Text, Attribute>, others: &IndexMap<Text, Attribute>) -> bool
     ensures { IsTrue result ↔ (held.now.entries ≡ others.now.entries) }
 {

@@ -58,7 +58,8 @@ impl ReadyQueue {
         (ReadyPass { pass: first }, ReadyPass { pass: second })
     }
 
-    /// Joins two passes: their fractions are added, and the numbers that the first pass put and took are followed by those of the other.
+    /// Joins two passes: their fractions are added, and the numbers that the first pass put and took are followed by the numbers that the other one put and
+    /// took.
     pub fn join(&self, pass: ReadyPass, other: ReadyPass) -> ReadyPass
         requires { IsReadyPassOf self.now pass × IsReadyPassOf self.now other }
         ensures pass { IsReadyPassOf self.now result }

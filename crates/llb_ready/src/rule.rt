@@ -78,7 +78,7 @@ impl Lesson<u32, Hand> for Takes {
     ghost fact = { Knows };
 }
 
-/// The step by which a pass, if it is the whole one, has its numbers conserved and the queue within its room.
+/// What a pass says of the queue if it is the whole one: its numbers are conserved, and the queue holds no more numbers than it has room for.
 pub(crate) struct Learns;
 
 impl Lesson<u32, Hand> for Learns {

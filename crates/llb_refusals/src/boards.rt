@@ -158,7 +158,7 @@ pub(crate) fn are_same(board: &Board, other: &Board) -> bool {
     board.same(other)
 }
 
-// What a board is opened on, and an equal copy of that.
+// What a board is opened on, with an equal copy, and the result of the latest opening.
 #[derive(Drop)]
 struct OnParts {
     workers: u32,
@@ -168,7 +168,7 @@ struct OnParts {
 }
 
 impl OnParts {
-    // Returns what is handed in: the first time the parts, and after a refusal those that it returned.
+    // Returns what is handed to the opening: the first time the parts that were made, and after a refusal the parts that the refused opening returned.
     fn taken(&mut self) -> Option<Parts> {
         let answer = mem::replace(&mut self.answer, Answer::None);
         match answer {

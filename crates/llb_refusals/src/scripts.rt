@@ -48,7 +48,7 @@ fn read(alloc: Global, args: &[Text]) -> Answer {
     Answer::Script(read_script(alloc, args))
 }
 
-// Returns the script of a text; that of `true` if the text is no script.
+// Returns the script of a text; the script of the text `true` if the text is no script.
 fn script_of(rt: &impl Abort, alloc: Global, text: &str) -> Script {
     let args = args_of(rt, alloc, text);
     assert!(rt; !args.is_empty());

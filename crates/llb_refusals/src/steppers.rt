@@ -99,7 +99,7 @@ impl OnStepper {
         }
     }
 
-    // Returns whether the stepper and its equal get to the same board by `go`; takes the events back.
+    // Returns whether `go` leads to the same board on the stepper and on the one that is equal to it; takes the events back.
     fn goes_alike(&mut self) -> bool {
         match (stop_of(&mut self.stepper), stop_of(&mut self.twin)) {
             (Some(stop), Some(other)) => {

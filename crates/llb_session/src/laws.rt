@@ -4,7 +4,8 @@ ghost use Rattle.llb_session.specs.Told.{GoPrintsTheRun};
 
 use llb_stepper::Stepper;
 
-/// Proves that the lines that a session's `go` prints are those of the run of the whole record, event for event and reply for reply.
+/// Proves that the events and the replies in the lines that a session's `go` prints are the events of the record and their replies in the run of the whole
+/// record.
 pub fn go_prints_the_run(stepper: &Stepper)
     ensures { GoPrintsTheRun stepper.now }
 {

@@ -25,15 +25,15 @@ pub enum Request {
     Back,
     /// Prints the statuses of the vertices.
     Status,
-    /// Prints an output of a vertex as text: the number of the vertex and that of the output.
+    /// Prints an output of a vertex as text: the number of the vertex, and the number of the output.
     Tree(u32, u32),
     /// Prints a line for each tree that a worker works on, by the number of the worker.
     Work(u32),
-    /// Prints a tree that a worker works on as text: the number of the worker and that of the tree.
+    /// Prints a tree that a worker works on as text: the number of the worker, and the number of the tree.
     WorkTree(u32, u32),
     /// Prints a line for each key of the caches.
     Caches,
-    /// Prints the tree of an instance of a cache as text: the number of the key and that of the instance.
+    /// Prints the tree of an instance of a cache as text: the number of the key, and the number of the instance.
     Cache(u32, u32),
     /// Ends the session.
     Quit,
@@ -161,8 +161,8 @@ fn by_words(line: &str) -> Option<Request>
     }
 }
 
-/// Returns what a line without its end asks for; `None` if the line is no request, as an empty line or one that is not UTF-8. Words are separated by exactly
-/// one space, and numbers are decimal digits below 2^32. Does not allocate.
+/// Returns what a line without its end asks for; `None` if the line is no request, for example if it is empty or not UTF-8. Words are separated by exactly one
+/// space, and numbers are decimal digits below 2^32. Does not allocate.
 pub fn request_in(line: &[u8]) -> Option<Request>
     ensures { result ≡ request_in line.now }
 {

@@ -95,7 +95,8 @@ impl Stepper {
         self.breaks.clear();
     }
 
-    /// Does one event. Fails with 171 and the board's refusal, or with 174. Want of memory is 171 141 if the board lacks it, 174 if the stepper does.
+    /// Does one event. Fails with 171 and the board's refusal, or with 174. If memory is refused, the fault is 171 141 if the board needed it, and 174 if the
+    /// stepper itself did.
     pub fn do_event(&mut self, event: Event) -> Result<(), StepperFault>
         ensures gives { GivesEvent (λ _. self.new) result (done_of self.old event) }
         ensures err { OnErr result (self.new ≡ self.old) }
@@ -206,7 +207,7 @@ impl Stepper {
     }
 
     /// Does the chosen events, up to the first that meets a breakpoint, or until the board is complete; at least one event if the board is not complete before.
-    /// Fails with 171 141 or 174 alone; then all events that it did are taken back.
+    /// Fails with 171 141 or 174 alone; then all events that the call did are taken back.
     pub fn go(&mut self) -> Result<Stop, StepperFault>
         ensures goes { IfOk result (IsGo self.old self.new) }
         ensures refused { IfErr result (λ e. stepper_memory e ≡ true) }
@@ -237,7 +238,7 @@ impl Stepper {
         })
     }
 
-    /// Does the given events, up to the first that meets a breakpoint. If one is refused, with 171 or 174, all events that it did are taken back.
+    /// Does the given events, up to the first that meets a breakpoint. If an event is refused, with 171 or 174, all events that the call did are taken back.
     pub fn replay(&mut self, events: &[Event]) -> Result<Stop, StepperFault>
         ensures stops { IfOk result (IsStop self.old events.now self.new) }
         ensures refused { IfErr result (IsRefusedAt self.old events.now) }
@@ -289,7 +290,7 @@ pub fn past_is_the_records(stepper: &Stepper)
     let _ = &stepper.board;
 }
 
-/// A law: the events and replies in the lines of a record are those of the run of the whole record from the board's opening.
+/// A law: the events and replies in the lines of a record are the events and replies of the run of the whole record from the board's opening.
 pub fn record_is_the_run(stepper: &Stepper)
     ensures { RecordIsTheRun stepper.now }
 {

@@ -137,8 +137,8 @@ fn two_workers_are_at_work_together_and_their_record_is_walked(rt: HostRuntime) 
     );
 }
 
-// Returns whether the run was stopped right after its claim of vertex 0, which the worker then gave up: the vertex is ready, no cache is held,
-// and the record and the worker's count have both events.
+// Returns whether the run was stopped right after its claim of vertex 0, which the worker then gave up: the vertex is ready, no cache is held, and the record
+// and the worker's count have these two events.
 fn is_stopped(end: &RunEnd) -> bool {
     let [first, ..] = end.made;
     matches!(end.fault, Some(RunFault::Stopped))

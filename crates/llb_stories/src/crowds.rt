@@ -73,7 +73,8 @@ impl Gate for Ten {
     }
 }
 
-// What each vertex is: a file made on the vertex before it, a file by itself, or a command that ends with a status, on up to two caches.
+// What each vertex does: it makes a file on the output of the vertex before it (`Chain`) or on the empty tree (`Fan`), or runs a command that ends with a
+// status, on up to two caches.
 #[derive(Clone, Copy)]
 enum Shape {
     Chain,
@@ -169,7 +170,7 @@ fn all_end<R: Abort + Threads + Wait + Sync>(
     true
 }
 
-// Returns a row number for a shape and a number of workers, which is below 100; each such pair has another row number.
+// Returns a row number for the shape at an index and for a number of workers below 100; different pairs have different row numbers.
 fn row(at: usize, workers: u32) -> usize {
     at.wrapping_mul(100).wrapping_add(workers as usize)
 }

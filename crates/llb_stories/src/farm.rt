@@ -127,7 +127,7 @@ pub(crate) fn have_one_tree(one: &Board, other: &Board, v: u32) -> bool {
     }
 }
 
-// Returns how many events a run with a number of workers has, if its result is that of the given board.
+// Returns how many events a run with a number of workers has, if its result is the same tree as on the given board.
 fn made_by<R: Abort + Threads + Wait + Sync>(
     rt: &R,
     alloc: Global,

@@ -1,5 +1,5 @@
-//! What calls on a board print if memory is refused. The other refusals of claims, steps, settles and cancels are printed by sessions (`runs`,
-//! `caches`), and those of an opening by the program (`run` in `llbm`).
+//! What calls on a board print if memory is refused. The other refusals of claims, steps, settles and cancels are printed by sessions (`runs`, `caches`), and
+//! the refusals of an opening by the program (`run` in `llbm`).
 
 use super::runs::IN_A_ROW;
 use super::told::prints;

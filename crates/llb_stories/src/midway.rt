@@ -37,7 +37,7 @@ fn board_after(rt: &impl Abort, alloc: Global, workers: u32, events: &[Event]) -
     board
 }
 
-// Returns whether the record is that of one worker, who made all events but the first `before`.
+// Returns whether the run had no fault, the record is `BY_ONE`, and worker 0 made all events in it but the first `before`.
 fn is_by_one(end: &RunEnd, before: usize) -> bool {
     let [made, ..] = end.made;
     let events = end.board.events().as_slice();

@@ -46,7 +46,7 @@ fn shared(rt: &impl Abort, alloc: Global, head: &str) -> String {
     text
 }
 
-/// Returns whether the pairs of vertices with the same digest are those of the story.
+/// Returns whether the pairs of vertices with the same digest are the pairs that the story has.
 pub(crate) fn are_shared(rt: &impl Abort, alloc: Global, head: &str, lines: &str) -> bool {
     shared(rt, alloc, head).as_str() == wanted(rt, alloc, lines).as_str()
 }

@@ -6,7 +6,7 @@ ghost use Rattle.llb_tree.specs.Nodes.{kids_in, left_in, SplitsFirst};
 
 use crate::node::{Child, Piece};
 
-/// Children in the order of their names: all those of a directory, or those at and after one of them.
+/// Children in the order of their names: all children of a directory, or one of them and all after it.
 #[derive(Clone, Copy)]
 pub struct Children<'a> {
     rows: &'a [Child],

@@ -16,8 +16,8 @@ impl Same for Tree {
 }
 
 impl Node {
-    // Returns whether both have the same entries at the same paths. The calls of `entry` do nothing at run time; they prove
-    // that something is at a child's name, so a child that the other node lacks makes a difference.
+    // Returns whether this node and the other have the same entries at the same paths. The calls of `entry` do nothing at run time; they prove that something
+    // is at a child's name, so a child that the other node lacks makes a difference.
     pub(crate) fn same(&self, other: &Node) -> bool
         ensures { IsTrue result ↔ (self.now ≡ other.now) }
     {

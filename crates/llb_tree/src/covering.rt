@@ -54,15 +54,15 @@ fn are_alike(upper: &[Piece], lower: &[Piece]) -> bool
     true
 }
 
-// Returns whether each name of the lower children is one of the upper ones'. If one directory comes from the other,
-// their names are most often the same, so that is tried first.
+// Returns whether each name of the lower children is a name of an upper child. If one of the two directories was made from the other, they most often have the
+// same names, so this is tested first.
 pub(crate) fn covers(upper: &[Piece], lower: &[Piece]) -> bool
     ensures { IsTrue result → Covers (kids_in upper.now) (kids_in lower.now) }
 {
     are_alike(upper, lower) || has_all(Children::of(upper), Children::of(lower))
 }
 
-// Returns whether each name of the lower children is one of the upper ones', by one pass over both.
+// Returns whether each name of the lower children is a name of an upper child, by one pass over the lower and the upper children.
 fn has_all(upper: Children<'_>, lower: Children<'_>) -> bool
     ensures { IsTrue result → Covers (left_in upper.entry) (left_in lower.entry) }
 {

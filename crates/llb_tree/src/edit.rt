@@ -38,7 +38,7 @@ pub(crate) fn own(alloc: Global, kids: &mut Arc<Vec<Child>>) -> Result<(), Alloc
     Ok(())
 }
 
-// Replaces what is at the names below a child, or that child itself if there are no names, by a node, or removes it if no node is given.
+// Replaces what is at the names below a child (the child itself if there are no names) by a node; if no node is given, removes it.
 #[cycle(set)]
 fn set_in(
     list: &mut Vec<Child>,

@@ -110,7 +110,7 @@ fn row_at(pieces: &[Piece], at: usize, i: usize) -> Option<&Child>
     Some(&rows[i])
 }
 
-// Copies a list of pieces; both copies share the children.
+// Copies a list of pieces; the copy shares the children with the list.
 pub(crate) fn second_owners(alloc: Global, pieces: &[Piece]) -> Result<Vec<Piece>, AllocError>
     ensures { IfOk result (λ v. map row_pairs v.items ≡ map row_pairs pieces.now) }
 {

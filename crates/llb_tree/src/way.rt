@@ -51,7 +51,7 @@ impl Way {
         })
     }
 
-    // Returns the mode and the owner of an upper entry, given its own.
+    // Returns the mode and the owner that an upper entry gets, given the mode and the owner that it has.
     pub(crate) fn laid_meta(&self, own: Meta) -> Meta
         ensures { result ≡ laid_meta self.now own }
     {

@@ -1,6 +1,6 @@
 //! The text of a tree: a line for each entry in path order. It is built on `llb_tree`, and knows no op.
 //!
-//! Types: `TextFault` (why a text is not that of a tree), `PrintFault`.
+//! Types: `TextFault` (why a text is not the text of a tree), `PrintFault`.
 //! Promise: `print_tree` (`prints`) writes exactly the text of the tree, or a prefix of it if memory is refused or the sink fails. `read_tree`
 //! (`answers`, `last`) returns a tree exactly if the bytes are its text, and otherwise the first fault of the first faulty line: 31, 32 or 33.
 //!

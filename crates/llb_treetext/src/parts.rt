@@ -49,8 +49,8 @@ fn mode_of(text: &str) -> Option<Mode>
     Mode::read(text)
 }
 
-// Reads decimal digits as a number; `None` above 2^32 - 1. Bytes that are no digits give some number too: `decimal_of` checks that
-// the text is the spelling of the number.
+// Reads decimal digits as a number; `None` above 2^32 - 1. Bytes that are no digits give a number too, so `decimal_of` checks that the text is the spelling of
+// the number.
 fn number(text: &str) -> Option<u32>
     ensures { result ≡ number_from 0 text.now }
 {

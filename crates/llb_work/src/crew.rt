@@ -57,8 +57,8 @@ pub(crate) struct CrewStart {
     pub workers: u32,
 }
 
-/// What is left when the threads have ended: the board, the board that the run began from, as the lock kept it, how many events each worker made, and the fault
-/// that was noted first.
+/// What is left when the threads have ended: the board; the board that the run began from, which was kept under the lock; how many events each worker made; and
+/// the fault that was noted first.
 #[derive(Drop)]
 pub(crate) struct CrewEnd {
     pub board: Board,

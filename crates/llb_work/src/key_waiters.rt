@@ -1,7 +1,7 @@
 //! The numbers of vertices whose claim was refused because another worker holds a locked key, by that key. For each key they are put into the queue again one
-//! by one: the first number when the vertex that holds the key ends, and each later number when the vertex of the number before it ends, or the claim of that
-//! number is refused for another key. So a number is not claimed again and again. The table is made with all the room that it needs, and later calls do not
-//! allocate. Nothing here knows about the board.
+//! by one: the first number when the vertex that holds the key ends, and each later number when the vertex of the number before it ends, or when the claim of
+//! the number before it is refused for another key. So no number is claimed again and again. The table is made with all the room that it needs, and later calls
+//! do not allocate. Nothing here knows about the board.
 
 use llb_cache::Key;
 use std::alloc::{AllocError, Global};

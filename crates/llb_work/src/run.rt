@@ -25,13 +25,12 @@ use std::thread::Threads;
 /// that are now ready. A number whose vertex needs a locked cache that another worker holds is put again when the vertex with that cache
 /// ends. A worker that finds the queue empty sleeps until more numbers are put than others are about to take, or until the run is over.
 ///
-/// The fault is the first that is met: 151 `Memory` if memory is refused, 152 `Stopped` if the gate stops a worker, 153 `Thread` if a
-/// thread can't be started. If memory is refused for the copies of the board, the queue, the workers' lists or the table of numbers that wait
-/// for a key, no thread starts, and the board is returned as it was given. The worker that meets 151 or 152 notes the fault and cancels what
-/// it runs, both in one hold of the lock; every other worker ends what it runs, and the work of a worker without a thread is done by the
-/// caller's thread. So on any other board that is returned no worker runs anything and no cache is held. It goes on from the given board by
-/// granted events, none of which is a cancel unless there is a fault, and the sum of `made` is their number. 154 `Foreign` would say that the
-/// board kept under the lock from the beginning is another one; it never occurs.
+/// The fault is the first that is met: 151 `Memory` if memory is refused, 152 `Stopped` if the gate stops a worker, 153 `Thread` if a thread can't be started.
+/// If memory is refused for the copies of the board, the queue, the workers' lists or the table of numbers that wait for a key, no thread starts, and the board
+/// is returned as it was given. The worker that meets 151 or 152 notes the fault and cancels what it runs, both in one hold of the lock; every other worker
+/// ends what it runs, and the work of a worker without a thread is done by the caller's thread. So on any other board that is returned no worker runs anything
+/// and no cache is held. Granted events lead from the given board to the returned one, and the sum of `made` is their number; none of them is a cancel unless
+/// there is a fault. 154 `Foreign` would say that the board kept under the lock from the beginning is another one; it never occurs.
 pub fn run_workers<G: Gate + Sync, R: Threads + Wait + Sync>(
     rt: &R,
     alloc: Global,

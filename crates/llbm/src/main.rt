@@ -1,4 +1,4 @@
-//! The program: passes the process's words, files, readers and writers to `llb_commands`, which has what the commands do, and sets its exit status.
+//! The program: passes the words, files, readers and writers of the process to `llb_commands`, which does what the words ask for; then sets the exit status.
 #![tactic(auto)]
 
 #[cfg(test)]

@@ -6,8 +6,8 @@ use crate::board::Board;
 use crate::fault::Memory;
 
 impl Board {
-    /// Returns a second board with the same state and record. Its record also has the same room: a clause of `events` says how much, by what contracts see of a
-    /// board. The boards share the graph and all trees. Fails with 141 `Memory` alone.
+    /// Returns a second board with the same state and record. The record of the second board has room for as many events as the record of the first one: a
+    /// clause of `events` says how many. The boards share the graph and all trees. Fails with 141 `Memory` alone.
     pub fn copy(&self) -> Result<Board, Memory>
         ensures { IfOk result (λ b. b ≡ self.now) }
     {

@@ -44,8 +44,8 @@ impl Board {
         Ok(self.settle(w).unwrap())
     }
 
-    /// Lands an outcome, as `land` does, whose job is known to be what the worker runs: no cache mount is at or before the vertex, and the worker has done no
-    /// micro-step of it. It compares nothing. Does not allocate.
+    /// Lands an outcome as `land` does, without comparing anything. The outcome's job has to be known to be what the worker runs: no cache mount is at or
+    /// before the vertex, and the worker has done no micro-step of the vertex. Does not allocate.
     pub fn land_known(&mut self, w: u32, outcome: Outcome) -> Settled
         requires known { IsKnown self.old w outcome.job }
         ensures gives { Lands self.old w outcome self.new (HasSettled result) }

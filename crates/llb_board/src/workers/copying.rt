@@ -1,4 +1,4 @@
-//! Copies of what workers have, which share trees and views as far as they can.
+//! Copies of what workers have. The copies share trees.
 
 ghost use Rattle.std.specs.Prelude.{◌≡◌, map, IfOk};
 ghost use Rattle.llb_board.specs.Supplies.{ready_made};

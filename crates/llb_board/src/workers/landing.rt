@@ -71,7 +71,7 @@ fn is_left(vertices: &Vertices, caches: &Caches, w: u32, execution: &Execution, 
         && has_numbers(&execution.places, job.instances())
 }
 
-// Returns whether a program is that of the vertex of an execution.
+// Returns whether a program is the program of the vertex that an execution runs.
 fn has_program(vertices: &Vertices, execution: &Execution, program: &Program) -> bool
     requires vertex { is_some (slice_get vertices.now.build.graph.vertices execution.now.vertex) ≡ true }
     requires supplies { supplies_of execution.now ≡ supplies_for (slice_get vertices.now.build.graph.vertices execution.now.vertex) }

@@ -1,4 +1,4 @@
-//! What an execution of a vertex begins with beside its view.
+//! What an execution of a vertex begins with besides its view.
 
 ghost use Rattle.std.specs.Prelude.{Ok};
 ghost use Rattle.llb_board.specs.Outfits.{outfit_as, outfit_of};
@@ -18,7 +18,7 @@ pub(crate) struct Outfit {
     pub steps: Steps,
 }
 
-/// Returns what the execution of a vertex begins with beside its view. Fails with 141 `Memory` alone.
+/// Returns what the execution of a vertex begins with besides its view. Fails with 141 `Memory` alone.
 pub(crate) fn outfit_for(alloc: Global, vertex: &Vertex) -> Result<Outfit, ClaimFault>
     ensures { GivesClaim outfit_as result (Ok (outfit_of vertex.now)) }
 {

@@ -1,4 +1,4 @@
-//! What each worker runs, with what that needs until its end.
+//! What each worker runs, and what the execution needs until its end.
 
 ghost use Rattle.std.specs.Prelude.{◌≡◌, ◌↔◌, ◌<◌, ◌+◌, ◌^◌, ◌||◌, ℕ, IsTrue, IfOk, Option, Some, is_some, length, map, nat_le, option_map};
 ghost use Rattle.std.specs.Prelude.{replicate, slice_get, slice_set};
@@ -89,7 +89,8 @@ pub(crate) fn vacate(seats: &mut Vec<Seat>, w: u32) -> (Option<Lease>, Execution
     }
 }
 
-/// Takes one micro-step back from what a worker runs: its count, its fault and its view are again as they were before. Returns its lease, if any.
+/// Takes one micro-step back from what a worker runs: the execution's count, fault and view are again as they were before the micro-step. Returns the worker's
+/// lease, if any.
 pub(crate) fn step_back(seats: &mut Vec<Seat>, w: u32, mark: Mark) -> Option<Lease>
     requires { w < length seats.old.items }
     ensures before { seats.new.items ≡ slice_set seats.old.items w (seat_before mark (slice_get seats.old.items w)) }
@@ -107,8 +108,8 @@ pub(crate) fn step_back(seats: &mut Vec<Seat>, w: u32, mark: Mark) -> Option<Lea
     lease
 }
 
-/// Adds to a running worker's execution the micro-steps that are done, with the fault and the view that they left, and returns its
-/// lease. Does not allocate.
+/// Adds to a running worker's execution the micro-steps that are done, with the fault and the view that they left, and returns the worker's lease. Does not
+/// allocate.
 pub(crate) fn put_left(
     seats: &mut Vec<Seat>,
     w: u32,
@@ -157,7 +158,7 @@ fn same_seat(seat: &Seat, other: &Seat) -> bool
     }
 }
 
-// Returns whether both run the same vertex with the same view and instances, the same count of micro-steps done and the same fault.
+// Returns whether two executions are of the same vertex and have the same view, the same instances, the same count of micro-steps done and the same fault.
 fn same_execution(execution: &Execution, other: &Execution) -> bool
     ensures { IsTrue result ↔ (execution_of execution.now ≡ execution_of other.now) }
 {

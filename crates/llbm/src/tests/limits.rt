@@ -35,7 +35,7 @@ fn assembled(alloc: Global, text: &str) -> Ran {
     Ran { status, out, err }
 }
 
-// The definition of a file and of the terminal that names it has 129 bytes; its first entry is the first 52.
+// The definition has two entries, a file and the terminal that names it, and 129 bytes; the record of the first entry is the first 52 of them.
 #[test]
 fn a_definition_that_is_cut_is_refused(rt: HostRuntime) {
     let definition = definition_of(&rt, rt.alloc(), "MAKES_A; RESULT_0");
@@ -52,7 +52,7 @@ fn a_definition_that_is_cut_is_refused(rt: HostRuntime) {
     }
 }
 
-// Returns a text, followed by a part that is repeated, and another text.
+// Returns the text `before`, then `part` as often as `count` says, and then `rest`.
 fn repeated(
     rt: &impl Abort,
     alloc: Global,
@@ -108,7 +108,7 @@ fn with_entry(rt: &impl Abort, alloc: Global, entry: &str) -> Bytes {
     write_definition(alloc, &entries).expect(rt, "memory")
 }
 
-// Returns a definition with a merge of empty trees: the head of its entry, and 13 bytes for each input, which is -1.
+// Returns a definition with a merge of empty trees. The bytes of the merge's entry are `head`, and then 13 bytes for each input, whose number is -1.
 fn merge_of(rt: &impl Abort, alloc: Global, head: &str, count: usize) -> Bytes {
     let entry = repeated(rt, alloc, head, "0a0b08ffffffffffffffffff01", count, "");
     with_entry(rt, alloc, entry.as_str())

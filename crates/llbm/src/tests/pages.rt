@@ -85,7 +85,7 @@ fn nothing_follows_another_refusal(rt: HostRuntime) {
     }
 }
 
-// Words, and the part of the message that a standard error with little room takes.
+// Words, and the beginning of their message that is written if standard error takes no more bytes than that.
 const NARROW: &[(&str, &str)] = &[
     ("--help", "fau"),
     ("run -h", "fault 183\nRu"),

@@ -1,5 +1,5 @@
-//! Entries given as bytes: some that are no ops, and some that are spelled otherwise than the assembler spells them. Beside each record of the latter is a note
-//! of what the record is; if a record contains the next ones, the note is beside its first bytes.
+//! Entries given as bytes: some that are no ops, and some that are spelled otherwise than the assembler spells them. Beside each record of such a spelling is a
+//! note that says what the record is; for a record that contains the records after it, the note is beside its first bytes.
 
 pub(crate) const SPELLED: &str = concat!(
     // The first field has the number 0.
@@ -58,7 +58,7 @@ pub(crate) const SPELLED: &str = concat!(
     "7001",                   // field 14, which has no name
     "620161",                 // include_patterns "a"
     "\n",
-    // A copy that unpacks, with this field after a pattern.
+    // A copy with a pattern, and after the pattern the field that says to unpack archives.
     "== UNPACKING_LAST\nraw ",
     "221f",                   // file, of 31 bytes
     "121d",                   // actions, of 29

@@ -1,8 +1,8 @@
 //! The program as transcripts. A line that begins with `> ` is a call, and the lines after it are what the call writes, its error lines with `! ` before them,
-//! and its status if that is not 0. A line that begins with `# ` describes the next calls. A call is the program's words. After ` < ` comes its input,
-//! in one of four forms: entries, as a definition (`written`); `=` and bytes in hexadecimal; `@` and the name of a text; `$` and a text in
-//! which `|` ends a line. The call of a session ends with ` | ` and its commands, which are separated by `;`. The file `FILE` has the definition too,
-//! and the other files are those of `local_trees`. What `asm` writes is shown in hexadecimal. All devices read and write one byte at a time.
+//! and its status if that is not 0. A line that begins with `# ` describes the next calls. A call is the program's words. After ` < ` comes its input, in one
+//! of four forms: entries, as a definition (`written`); `=` and bytes in hexadecimal; `@` and the name of a text; `$` and a text in which `|` ends a line. The
+//! call of a session ends with ` | ` and its commands, which are separated by `;`. The file `FILE` has the definition too, and the other files are in
+//! `local_trees`. What `asm` writes is shown in hexadecimal. All devices read and write one byte at a time.
 
 use super::assembling::TEXTS;
 use super::devices::{AMPLE, Narrow, Ran, Rooms, Slow};
@@ -109,7 +109,7 @@ fn lines_of(rt: &impl Abort, alloc: Global, commands: &str) -> String {
     text
 }
 
-// Returns devices that do so many reads, writes and flushes; standard input has these bytes.
+// Returns devices that do so many reads, writes and flushes before they fail; standard input has these bytes.
 fn streams_of(alloc: Global, bytes: &[u8], rooms: Rooms) -> Streams<Slow<'_>, Narrow, Narrow> {
     let room = rooms.input;
     let mut out = Narrow::new(alloc, rooms.out);
@@ -158,7 +158,7 @@ pub(crate) fn ran_words<R: Abort + Threads + Wait + Sync>(
     ran(rt, alloc, &call_in(words), AMPLE)
 }
 
-/// Returns the result of a call on devices with these rooms.
+/// Returns the result of a call whose devices do so many reads, writes and flushes before they fail.
 pub(crate) fn tried<R: Abort + Threads + Wait + Sync>(
     rt: &R,
     alloc: Global,
