@@ -62,7 +62,7 @@ pub fn put_file(
     put_there(alloc, view, spot, meta, content)
 }
 
-// Puts a file at a spot, also at a dest.
+// Puts a file at a spot, whether or not that is the dest of a mount.
 fn put_there(
     alloc: Global,
     view: &mut View,

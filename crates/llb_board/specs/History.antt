@@ -53,7 +53,7 @@ front xs = take (length xs - 1) xs
 abbrev pub last_of : {A : Type 0} → List A → Option A
 last_of xs = slice_get xs (length xs - 1)
 
--- the room and the counts before an event of vertex v: before a claim the room that it reserved is not there, before a cancel the count is one lower
+-- the room and the counts before the last event, which is of vertex v, given those after it: the room of a claim is taken off, a cancel is no longer counted
 abbrev pub space_back : Option Event → ℕ → ℕ → Space → Space
 space_back (Some (Claim w u)) v events s = unclaimed v events s
 space_back (Some (Step w)) v events s = s

@@ -6,7 +6,7 @@ use crate::fault::Memory;
 use llb_tree::Tree;
 use std::alloc::Global;
 
-/// Copies trees, which stay shared. Fails with 141 `Memory` alone.
+/// Returns shared copies of trees. Fails with 141 `Memory` alone.
 pub(crate) fn copied_trees(alloc: Global, trees: &[Tree]) -> Result<Vec<Tree>, Memory>
     ensures { IfOk result (λ t. t.items ≡ trees.now) }
 {

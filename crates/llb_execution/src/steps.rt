@@ -56,7 +56,7 @@ impl Steps {
         ensures count { IfOk result (λ s. IsVertexOf vertex.now vertex.now.op.kind → length s ≡ vertex.now.steps) }
         ensures few { IfOk result (λ s. IsVertexOf vertex.now vertex.now.op.kind → length s < 2 ^ 32) }
     {
-        // The vertex counts them in a `u32`, so they are few.
+        // The vertex counts its micro-steps in a `u32`, so there are fewer than 2^32.
         let _count = vertex.steps;
         let by = by_kind(alloc, &vertex.op.kind, &vertex.script)?;
         Ok(Steps { by })

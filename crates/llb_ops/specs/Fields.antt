@@ -77,7 +77,7 @@ pub record AreUnnamed (m : MessageName) (more : List ℕ) : Type 0 where
   pub read : parts (shape_of m) more ≡ Ok records
   pub unnamed : AllByRecursion (λ r. is_none (form_of (shape_of m) r.number) ≡ true) records
 
--- whether records were read and are all of fields that the message does not name
+-- whether the records were read, and each is of a field that the message does not name; false if the read failed
 abbrev pub only_unnamed : MessageName → Result (List Record) OpFault → Bool
 only_unnamed m (Ok records) = list_all (λ r. is_none (form_of (shape_of m) r.number)) records
 only_unnamed m (Err f) = false

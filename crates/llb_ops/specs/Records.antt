@@ -179,7 +179,7 @@ is_member members r = list_any (λ m. m == r.number) members
 abbrev pub chosen : List ℕ → List Record → Option ℕ
 chosen members rs = option_map (λ r. r.number) (last_of (filter (is_member members) rs))
 
--- the records that are kept after one more: a record that passes the test clears all before it, and is itself not kept
+-- the kept records once a further record is read: none if it passes the test, else it is added to them
 abbrev pub kept : (Record → Bool) → List Record → Record → List Record
 kept p rs r = if p r then [] else rs ++ r ∷ []
 

@@ -318,7 +318,7 @@ fn work_told(rt: &impl Abort, alloc: Global, w: u32, v: u32, name: &str) -> Stri
     format!(in alloc; "{w} at {v}, {name}").expect(rt, "memory")
 }
 
-// Returns what a micro-step did, and whether the board is as it should be then.
+// Returns in words what a micro-step did, and then the name that is given.
 fn stepped_told(rt: &impl Abort, alloc: Global, stepped: Stepped, name: &str) -> String {
     format!(in alloc; "{stepped:?}, {name}").expect(rt, "memory")
 }

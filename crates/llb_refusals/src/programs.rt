@@ -277,7 +277,7 @@ const GONE_ON: &[(&str, &str, &str)] = &[
         "171 141 or 174",
         "0 mount /\n1 mount /c\nd 0755 0 0 /\nd 0755 0 0 /\n0 locked 1 - k\nd 0755 0 0 /\nnone\n",
     ),
-    // A look changes nothing.
+    // A refused `work`, `caches` or `cache` changes nothing: the later commands print what they print without the refusal.
     (
         "1 claim 0 0 -> exec 1\n2 step 0 -> ran 0 0\n",
         "174",

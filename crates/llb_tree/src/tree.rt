@@ -236,7 +236,7 @@ impl Tree {
         })
     }
 
-    /// Copies the tree, which shares all of it. Fails with 27 `Memory` alone.
+    /// Returns a copy of the tree, which shares all its nodes with it. Fails with 27 `Memory` alone.
     pub fn copy(&self) -> Result<Tree, TreeFault>
         ensures { Gives (λ t. t) result (Ok self.now) }
     {
