@@ -32,6 +32,7 @@ from llbm_tools.streams import exit_status
 
 # The crates whose proofs others may cite, and which others; None for any.
 LENDERS = {
+    "llb_wire": None,
     "llb_model": None,
     "llb_tree": {"llb_merge", "llb_treetext", "llb_fileop", "llb_applet"},
     "llb_merge": {"llb_contents"},

@@ -6,7 +6,7 @@ use Rattle.std.specs.Result.{IsErrAnd}
 use Rattle.std.specs.Io.KnownBytes.{Appends}
 use Rattle.std.proofs.Math.Numerals.{add-one}
 use Rattle.llb_wire.specs.Sink.{PartOut}
-use Rattle.llb_wire.specs.Laws.Sinks.{part_then, part_after}
+use Rattle.llb_wire.proofs.WrittenParts.{part_then, part_after}
 use Rattle.llb_asm.specs.declared.fault.AsmFault.{AsmFault}
 use Rattle.llb_asm.specs.declared.fault.AsmFault.TheVariants as fault
 use Rattle.llb_asm.specs.Printing.{Prints}

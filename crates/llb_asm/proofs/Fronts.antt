@@ -6,14 +6,14 @@ use Rattle.std.specs.List.{AllByRecursion, list_all}
 use Rattle.std.proofs.lemmas.Bool.{and_parts, ltb-true, leb-true}
 use Rattle.std.proofs.lemmas.List.{drop_at}
 use Rattle.llb_wire.specs.Answer.{◌>>=◌}
-use Rattle.llb_wire.specs.Laws.Answers.{bind_ok}
+use Rattle.llb_wire.proofs.RuleSteps.{bind_ok}
 use Rattle.llb_wire.specs.declared.fault.WireFault.{WireFault}
 use Rattle.llb_wire.specs.declared.field.Wire.TheVariants as wire
 use Rattle.llb_wire.specs.declared.field.Field.{Field}
 use Rattle.llb_wire.specs.Spelling.{Spells, IsFieldNumber, code_of, record_text, tag_text, varint_text}
 use Rattle.llb_wire.specs.Reading.{next_field, field_at}
 use Rattle.llb_wire.specs.Records.{Record, IsRecord, record_of, placed, written_record}
-use Rattle.llb_wire.specs.Laws.Records.{record_read, record_kept, written_is_record}
+use Rattle.llb_wire.proofs.SpelledRecords.{record_read, record_kept, written_is_record}
 use Rattle.llb_ops.specs.declared.fault.OpFault.{OpFault}
 use Rattle.llb_ops.specs.declared.fault.OpFault.TheVariants.{WrongWireType, NotUtf8}
 use Rattle.llb_ops.specs.declared.shape.Form.{Form}

@@ -3,7 +3,7 @@ use Rattle.std.proofs.Common.{◌≡◌, ℕ, ◌+◌, ◌*◌, ◌<◌, ◌≤�
 use Rattle.std.specs.Prelude.{nat_lt, if◌then◌else◌, not, ◌==◌, ◌&&◌, ◌||◌}
 use Rattle.std.proofs.lemmas.Bool.{and_parts, and_from, or_left, or_right, lt-ltb, ltb-true, eq-eqb, eqb-true, cases_lt}
 use Rattle.llb_wire.specs.Spelling.{AreBytes, varint_text}
-use Rattle.llb_wire.specs.Laws.Varints.{are_bytes-front, are_bytes-back}
+use Rattle.llb_wire.proofs.Varints.{are_bytes-front, are_bytes-back}
 use Rattle.llb_ops.specs.declared.table.MessageName.{MessageName}
 use Rattle.llb_ops.specs.declared.table.NamedField.{NamedField}
 use Rattle.llb_ops.specs.Writing.{set_number, set_bytes}

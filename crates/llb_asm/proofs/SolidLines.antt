@@ -14,7 +14,7 @@ use Rattle.llb_wire.specs.Spelling.{AreBytes, varint_text, tag_text}
 use Rattle.llb_wire.specs.declared.field.Wire.TheVariants as wire
 use Rattle.llb_wire.specs.Digest.{digest_text}
 use Rattle.llb_wire.specs.Hexadecimal.{hex_text}
-use Rattle.llb_wire.specs.Laws.Varints.{are_bytes-front, are_bytes-back}
+use Rattle.llb_wire.proofs.Varints.{are_bytes-front, are_bytes-back}
 use Rattle.llb_ops.specs.declared.table.MessageName.{MessageName}
 use Rattle.llb_ops.specs.declared.table.MessageName.TheVariants as named
 use Rattle.llb_ops.specs.declared.table.FieldKind.{FieldKind}

@@ -7,7 +7,7 @@ use Rattle.std.proofs.lemmas.Bool.{ltb-false, leb-true, lt-ltb, le-leb, and_from
 use Rattle.std.proofs.lemmas.List.{map-append, map_push, length-map}
 use Rattle.std.proofs.lemmas.List.Concat.{flat_map-append}
 use Rattle.llb_wire.specs.Answer.{◌>>=◌}
-use Rattle.llb_wire.specs.Laws.Answers.{bind_ok}
+use Rattle.llb_wire.proofs.RuleSteps.{bind_ok}
 use Rattle.llb_wire.specs.Digest.{digest_text}
 use Rattle.llb_wire.specs.Hexadecimal.{hex_text}
 use Rattle.llb_wire.specs.Spelling.{AreBytes}

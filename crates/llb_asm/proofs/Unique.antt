@@ -1,7 +1,7 @@
 -- A text has one result at most: entries, or a refusal, are what it is read as.
 use Rattle.std.proofs.Common.{◌≡◌, refl, sym, ap, ◌∙◌, ℕ, List, [], ◌∷◌, ◌++◌, map, Result, Ok, Err, append_assoc, append-nil, inl, inr}
 use Rattle.llb_wire.specs.Answer.{◌>>=◌}
-use Rattle.llb_wire.specs.Laws.Answers.{bind_ok}
+use Rattle.llb_wire.proofs.RuleSteps.{bind_ok}
 use Rattle.llb_ops.specs.Writing.{set_bytes}
 use Rattle.llb_asm.specs.declared.fault.Rule.TheVariants.{Unclosed}
 use Rattle.llb_asm.specs.declared.line.Refusal.{Refusal}

@@ -5,7 +5,7 @@ use Rattle.std.specs.Option.{option_map}
 use Rattle.std.proofs.lemmas.Bool.{cases_lt, lt-ltb, ne_eqb}
 use Rattle.llb_wire.specs.Texts.{then_in, where_so}
 use Rattle.llb_wire.specs.Decimal.{capped, magnitude, below}
-use Rattle.llb_wire.specs.Laws.Decimal.{capped_low, capped_high}
+use Rattle.llb_wire.proofs.Capped.{capped_low, capped_high}
 use Rattle.llb_asm.specs.Values.{signed_in, negated}
 
 -- a number that is held and below a limit is the number of a text without a sign

@@ -6,7 +6,7 @@ use Rattle.std.specs.Io.KnownBytes.{Appends}
 use Rattle.std.proofs.lemmas.Grind.{flat_map-append}
 use Rattle.std.proofs.lemmas.List.{append-nil}
 use Rattle.std.proofs.KnownBytes.{Appends-trans}
-use Rattle.llb_wire.specs.Laws.Sinks.{part_then, part_after}
+use Rattle.llb_wire.proofs.WrittenParts.{part_then, part_after}
 use Rattle.llb_commands.specs.Output.{Writes}
 
 module _ {A : Type 0} where

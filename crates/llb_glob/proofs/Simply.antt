@@ -4,7 +4,7 @@ use Rattle.std.proofs.Common.{refl, ap, ◌∙◌, inl, inr, subst, eqb-true}
 use Rattle.std.proofs.lemmas.Bool.{eqb-false}
 use Rattle.std.specs.Str.{chars}
 use Rattle.llb_wire.specs.Answer.{◌>>=◌}
-use Rattle.llb_wire.specs.Laws.Answers.{bind_ok}
+use Rattle.llb_wire.proofs.RuleSteps.{bind_ok}
 use Rattle.llb_tree.specs.declared.fault.TreeFault.{TreeFault}
 use Rattle.llb_glob.specs.declared.fault.PatternFault.TheVariants.{BadPattern}
 use Rattle.llb_glob.specs.declared.item.Item.{Item}

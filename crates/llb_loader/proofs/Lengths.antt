@@ -9,7 +9,7 @@ use Rattle.std.proofs.lemmas.List.Splits.{length-slice_split}
 use Rattle.std.specs.List.{All}
 use Rattle.std.specs.Result.{result_ok}
 use Rattle.llb_wire.specs.Answer.{◌>>=◌}
-use Rattle.llb_wire.specs.Laws.Answers.{bind_ok}
+use Rattle.llb_wire.proofs.RuleSteps.{bind_ok}
 use Rattle.llb_ops.specs.declared.exec.Meta.{Meta}
 use Rattle.llb_ops.specs.Within.{IsMetaOptWithin}
 use Rattle.llb_ops.specs.Limits.{entry_limit}

@@ -8,7 +8,7 @@ use Rattle.llb_wire.specs.Answer.{◌>>=◌}
 use Rattle.llb_wire.specs.Reading.{field_at}
 use Rattle.llb_wire.specs.Spelling.{code_of, Spells, varint_text, record_text}
 use Rattle.llb_wire.specs.Records.{Record, record_of, placed, IsRecord}
-use Rattle.llb_wire.specs.Laws.Records.{record_read, record_kept, written_is_record}
+use Rattle.llb_wire.proofs.SpelledRecords.{record_read, record_kept, written_is_record}
 use Rattle.llb_ops.specs.Records.{Shape, form_of, wire_fits, records_from}
 use Rattle.llb_ops.proofs.Split.{parts_skip, drop_pred}
 

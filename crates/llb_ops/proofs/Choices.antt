@@ -7,7 +7,7 @@ use Rattle.std.proofs.lemmas.Bool.{eqb-true}
 use Rattle.std.proofs.lemmas.List.{append-nil}
 use Rattle.std.proofs.lemmas.List.Elements.{filter-append}
 use Rattle.llb_wire.specs.Answer.{◌>>=◌}
-use Rattle.llb_wire.specs.Laws.Answers.{bind_ok}
+use Rattle.llb_wire.proofs.RuleSteps.{bind_ok}
 use Rattle.llb_wire.specs.Records.{Record}
 use Rattle.llb_ops.specs.declared.fault.OpFault.{OpFault}
 use Rattle.llb_ops.specs.Records.{Shape, all, last_of, is_member, chosen, kept, since, is_other, member, member_of, one_of}

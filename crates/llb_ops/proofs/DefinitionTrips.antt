@@ -7,11 +7,11 @@ use Rattle.std.proofs.lemmas.List.{length-append}
 use Rattle.llb_wire.specs.declared.field.Wire.{Wire}
 use Rattle.llb_wire.specs.declared.field.Wire.TheVariants as wire
 use Rattle.llb_wire.specs.Answer.{◌>>=◌}
-use Rattle.llb_wire.specs.Laws.Answers.{bind_ok}
+use Rattle.llb_wire.proofs.RuleSteps.{bind_ok}
 use Rattle.llb_wire.specs.Spelling.{AreBytes}
 use Rattle.llb_wire.specs.Records.{Record, IsPayload, IsRecord, SpellRecords}
-use Rattle.llb_wire.specs.Laws.Varints.{are_bytes-front, are_bytes-back}
-use Rattle.llb_wire.specs.Laws.Records.{written_is_shortest}
+use Rattle.llb_wire.proofs.Varints.{are_bytes-front, are_bytes-back}
+use Rattle.llb_wire.proofs.SpelledRecords.{written_is_shortest}
 use Rattle.llb_ops.specs.declared.fault.OpFault.{OpFault}
 use Rattle.llb_ops.specs.Limits.{definition_limit}
 use Rattle.llb_ops.specs.Laws.{AreReadAgain}

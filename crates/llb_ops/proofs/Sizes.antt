@@ -7,9 +7,9 @@ use Rattle.std.proofs.lemmas.List.{length-append, length-take, length-drop}
 use Rattle.llb_wire.specs.declared.field.Field.{Field}
 use Rattle.llb_wire.specs.Reading.{field_at}
 use Rattle.llb_wire.specs.Records.{Record, record_of}
-use Rattle.llb_wire.specs.Laws.Own.{field_local}
+use Rattle.llb_wire.proofs.OwnBytes.{field_local}
 use Rattle.llb_wire.specs.Answer.{◌>>=◌}
-use Rattle.llb_wire.specs.Laws.Answers.{bind_ok}
+use Rattle.llb_wire.proofs.RuleSteps.{bind_ok}
 use Rattle.llb_ops.specs.declared.fault.OpFault.TheVariants.{WrongWireType, NotUtf8}
 use Rattle.llb_ops.specs.Records.{Shape, from_wire, first_record, form_of, wire_fits, records_from, texts_fit, parts, all, payloads, joined}
 use Rattle.llb_ops.specs.Records.{kept, since, is_other, member}

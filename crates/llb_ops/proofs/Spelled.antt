@@ -6,11 +6,11 @@ use Rattle.std.proofs.lemmas.Bool.{le-ltb}
 use Rattle.std.proofs.lemmas.List.{length-append, drop_at}
 use Rattle.llb_wire.specs.declared.field.Field.{Field}
 use Rattle.llb_wire.specs.Answer.{◌>>=◌}
-use Rattle.llb_wire.specs.Laws.Answers.{bind_ok}
+use Rattle.llb_wire.proofs.RuleSteps.{bind_ok}
 use Rattle.llb_wire.specs.Reading.{field_at}
 use Rattle.llb_wire.specs.Spelling.{AreBytes}
 use Rattle.llb_wire.specs.Records.{Record, record_of, placed, IsRecord, SpellRecords}
-use Rattle.llb_wire.specs.Laws.Records.{record_found, record_read, record_kept, spelled_none, spelled_next}
+use Rattle.llb_wire.proofs.SpelledRecords.{record_found, record_read, record_kept, spelled_none, spelled_next}
 use Rattle.llb_ops.specs.declared.fault.OpFault.{OpFault}
 use Rattle.llb_ops.specs.declared.fault.OpFault.TheVariants.{WrongWireType, NotUtf8, OverLimit}
 use Rattle.llb_ops.specs.declared.op.Op.{Op}

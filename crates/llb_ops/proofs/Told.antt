@@ -7,7 +7,7 @@ use Rattle.std.proofs.lemmas.Bool.{ne_eqb}
 use Rattle.std.proofs.lemmas.List.{append-nil, map-append}
 use Rattle.std.proofs.lemmas.List.Concat.{flat_map-append}
 use Rattle.llb_wire.specs.Answer.{◌>>=◌}
-use Rattle.llb_wire.specs.Laws.Answers.{bind_ok}
+use Rattle.llb_wire.proofs.RuleSteps.{bind_ok}
 use Rattle.llb_wire.specs.declared.field.Wire.TheVariants as wire
 use Rattle.llb_wire.specs.Records.{Record}
 use Rattle.llb_ops.specs.declared.fault.OpFault.{OpFault}

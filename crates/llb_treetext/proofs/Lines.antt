@@ -5,7 +5,7 @@ use Rattle.std.specs.Result.{IsErrAnd}
 use Rattle.std.specs.List.{flat_map}
 use Rattle.std.specs.Io.KnownBytes.{Appends}
 use Rattle.std.proofs.lemmas.List.{append-nil}
-use Rattle.llb_wire.specs.Laws.Sinks.{part_then, part_after}
+use Rattle.llb_wire.proofs.WrittenParts.{part_then, part_after}
 use Rattle.llb_tree.specs.Tree.{Gives}
 use Rattle.llb_tree.specs.declared.fault.TreeFault.{TreeFault}
 use Rattle.llb_treetext.specs.Output.{Writes}

@@ -9,7 +9,7 @@ use Rattle.std.proofs.lemmas.List.Folds.{list_all_more}
 use Rattle.std.proofs.lemmas.Int.Digits.{digits_value_more}
 use Rattle.std.proofs.lemmas.Str.{digit_value_digit}
 use Rattle.llb_wire.specs.Decimal.{capped, is_digit}
-use Rattle.llb_wire.specs.Laws.Decimal.{capped_low, capped_high}
+use Rattle.llb_wire.proofs.Capped.{capped_low, capped_high}
 use Prim.Native.Nat.{min}
 
 capped_more : (v n m d r : ℕ) → n ≡ capped v → m ≡ min (n * 10) (2 ^ 64 - 1) → r ≡ min (m + d) (2 ^ 64 - 1) → r ≡ capped (v * 10 + d)

@@ -8,7 +8,7 @@ use Rattle.llb_wire.specs.declared.fault.WireFault.TheVariants.{Truncated, LongV
 use Rattle.llb_wire.specs.Answer.{◌>>=◌}
 use Rattle.llb_wire.specs.Reading.{varint_from, varint_at}
 use Rattle.llb_wire.specs.Spelling.{IsOpen, IsLong, VarintAt, VarintCause, CutVarint, AreBytes}
-use Rattle.llb_wire.specs.Laws.Varints.{varint_found}
+use Rattle.llb_wire.proofs.Varints.{varint_found}
 
 -- a number that is read at a place is spelled from there up to the end that is given
 pub at_varint : (bytes : List ℕ) (at : ℕ) (r : Result (ℕ × ℕ) WireFault) → AreBytes bytes → at ≤ length bytes → r ≡ varint_at bytes at

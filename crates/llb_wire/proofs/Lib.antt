@@ -1,3 +1,10 @@
+pub mod RuleSteps
+pub mod Varints
+pub mod OwnBytes
+pub mod Payloads
+pub mod SpelledRecords
+pub mod Capped
+pub mod WrittenParts
 pub mod Limits
 pub mod Faults
 pub mod RecordGrammar

@@ -9,8 +9,8 @@ use Rattle.llb_wire.specs.declared.field.Wire.TheVariants as wire
 use Rattle.llb_wire.specs.declared.field.Field.{Field}
 use Rattle.llb_wire.specs.Reading.{fixed_at, as_field, payload_at, field_at}
 use Rattle.llb_wire.specs.Spelling.{code_of, FixedAt, PayloadAt, RecordAt}
-use Rattle.llb_wire.specs.Laws.Varints.{varint_only}
-use Rattle.llb_wire.specs.Laws.Records.{number_is, wire_is}
+use Rattle.llb_wire.proofs.Varints.{varint_only}
+use Rattle.llb_wire.proofs.SpelledRecords.{number_is, wire_is}
 
 abbrev ok_of : Field → Result Field WireFault
 ok_of f = Ok f

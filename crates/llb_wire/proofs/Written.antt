@@ -6,7 +6,7 @@ use Rattle.llb_wire.specs.declared.field.Wire.TheVariants as wire
 use Rattle.llb_wire.specs.Reading.{field_at, as_field}
 use Rattle.llb_wire.specs.Spelling.{varint_text, tag_text, payload_text, record_text, value_text, payload_start, written_field, IsFieldNumber}
 use Rattle.llb_wire.specs.Records.{own_text, written_record}
-use Rattle.llb_wire.specs.Laws.Records.{record_read, written_is_record}
+use Rattle.llb_wire.proofs.SpelledRecords.{record_read, written_is_record}
 
 -- where the payload's own bytes begin
 begins : (number : ℕ) (w : Wire) (value : ℕ) (payload : List ℕ)

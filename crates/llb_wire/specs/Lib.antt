@@ -1,10 +1,9 @@
 -- Read first Answer (how a result is specified, in every crate), Spelling (the grammar of the wire), Reading (a record from left to right, with its first
--- fault) and Records, then Sink (what takes bytes), Hexadecimal, Texts, Decimal, Digest, Hashing and Faults. Laws are for proofs built on the grammar.
+-- fault) and Records, then Sink (what takes bytes), Hexadecimal, Texts, Decimal, Digest, Hashing and Faults.
 pub mod Answer
 pub mod Spelling
 pub mod Reading
 pub mod Records
-pub mod Laws
 pub mod Sink
 pub use Rattle.std.specs.Io.KnownBytes.{Appends, Keeps}
 pub mod Hashing

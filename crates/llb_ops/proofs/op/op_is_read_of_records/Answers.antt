@@ -1,5 +1,5 @@
 use Rattle.std.proofs.Common.{arith}
-use Rattle.llb_wire.specs.Laws.Varints.{are_bytes}
+use Rattle.llb_wire.proofs.Varints.{are_bytes}
 use Rattle.llb_ops.proofs.Spelled.{read_of_records}
 use Rattle.llb_ops.proofs.op.op_is_read_of_records.Goals as goal
 

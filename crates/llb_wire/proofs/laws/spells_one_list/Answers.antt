@@ -1,4 +1,4 @@
-use Rattle.llb_wire.specs.Laws.Records.{one_list}
+use Rattle.llb_wire.proofs.SpelledRecords.{one_list}
 use Rattle.llb_wire.proofs.laws.spells_one_list.Goals as goal
 
 pub returns : goal.returns

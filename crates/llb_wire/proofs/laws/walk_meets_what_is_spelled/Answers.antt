@@ -1,6 +1,6 @@
 use Rattle.std.proofs.Common.{arith}
-use Rattle.llb_wire.specs.Laws.Records.{walk_is}
-use Rattle.llb_wire.specs.Laws.Varints.{are_bytes}
+use Rattle.llb_wire.proofs.SpelledRecords.{walk_is}
+use Rattle.llb_wire.proofs.Varints.{are_bytes}
 use Rattle.llb_wire.proofs.laws.walk_meets_what_is_spelled.Goals as goal
 
 pub returns : goal.returns

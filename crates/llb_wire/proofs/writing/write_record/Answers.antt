@@ -1,6 +1,6 @@
 use Rattle.std.proofs.Common.{arith}
-use Rattle.llb_wire.specs.Laws.Records.{written_is_shortest}
-use Rattle.llb_wire.specs.Laws.Varints.{are_bytes}
+use Rattle.llb_wire.proofs.SpelledRecords.{written_is_shortest}
+use Rattle.llb_wire.proofs.Varints.{are_bytes}
 use Rattle.llb_wire.proofs.Written.{record_again}
 use Rattle.llb_wire.proofs.writing.write_record.Goals as goal
 

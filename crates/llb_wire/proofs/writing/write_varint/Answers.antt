@@ -1,4 +1,4 @@
-use Rattle.llb_wire.specs.Laws.Varints.{is_shortest, reads_back}
+use Rattle.llb_wire.proofs.Varints.{is_shortest, reads_back}
 use Rattle.std.proofs.Common.{arith}
 use Rattle.llb_wire.proofs.writing.write_varint.Goals as goal
 

@@ -10,9 +10,9 @@ use Rattle.llb_wire.specs.declared.field.Wire.{Wire}
 use Rattle.llb_wire.specs.declared.field.Wire.TheVariants as wire
 use Rattle.llb_wire.specs.declared.field.Field.{Field}
 use Rattle.llb_wire.specs.Answer.{◌>>=◌}
-use Rattle.llb_wire.specs.Laws.Answers.{bind_ok, guard_ok}
+use Rattle.llb_wire.proofs.RuleSteps.{bind_ok, guard_ok}
 use Rattle.llb_wire.specs.Reading.{varint_from, varint_at, number_of, wire_of, fixed_at, as_field, payload_at, field_at}
-use Rattle.llb_wire.specs.Laws.Varints.{short_or, varint_len}
+use Rattle.llb_wire.proofs.Varints.{short_or, varint_len}
 
 -- a value as a result without a fault
 abbrev is_ok_of : {A : Type 0} → A → Result A WireFault

@@ -6,7 +6,7 @@ use Rattle.llb_wire.specs.declared.field.Wire.{Wire}
 use Rattle.llb_wire.specs.declared.field.Wire.TheVariants as wire
 use Rattle.llb_wire.specs.Spelling.{AreBytes, varint_text, payload_text, value_text}
 use Rattle.llb_wire.specs.Records.{IsPayload}
-use Rattle.llb_wire.specs.Laws.Varints.{is_shortest, least_spelling, are_bytes-append, are_bytes-front}
+use Rattle.llb_wire.proofs.Varints.{is_shortest, least_spelling, are_bytes-append, are_bytes-front}
 
 -- what is written for a payload consists of bytes
 pub written_bytes : (w : Wire) (value : ℕ) (payload : List ℕ) → value < 2 ^ 64 → length payload < 2 ^ 64 → AreBytes payload
