@@ -14,6 +14,7 @@ use Rattle.hex.specs.Hex.{encode_with, encode_lower, lower_digits, decode_of, Is
 use Rattle.hex.proofs.HexLemmas.{length-encode_with, decode_of-encode_lower}
 use Rattle.llb_wire.specs.Spelling.{AreBytes}
 use Rattle.llb_wire.specs.Hexadecimal.{is_lower, is_hex, bytes_in, hex_text}
+use Rattle.llb_wire.proofs.HexTexts.{content_is, is_content_text}
 use Rattle.llb_asm.specs.Values.{bytes_spelled}
 
 lower_small : (b : ℕ) → is_lower b ≡ true → b < 128
@@ -48,54 +49,6 @@ no_text_spells text none = elim (cases_Bool (is_hex text)) [
 ]
 
 -- ---- what is written is read
-
--- bytes as `hex` says it: at each place a number below 256, 0 past the end
-byte_at : (content : List ℕ) → AreBytes content → IsBytes content
-byte_at [] bytes k = omega arith
-byte_at (b ∷ content) bytes zero = bytes.0
-byte_at (b ∷ content) bytes (suc k) = byte_at content bytes.1 k
-
-no_dash : (b : ℕ) (content : List ℕ) → pointwise nat_eq (encode_lower (b ∷ content)) (codes "-") ≡ false
-unfolding encode_with
-no_dash b content = and_false (nat_eq (get_or lower_digits (b / 16) 0) 45)
-  where
-    and_false : (t : Bool) → (t && false) ≡ false
-    and_false true = refl
-    and_false false = refl
-
-content_is : (content : List ℕ) → AreBytes content → bytes_in (hex_text content) ≡ Some content
-content_is [] bytes = refl
-content_is (b ∷ content) bytes =
-    ap (λ t. cond t (Some []) (result_ok (decode_of (encode_lower (b ∷ content))))) (no_dash b content)
-    ∙ ap result_ok (decode_of-encode_lower (b ∷ content) (byte_at (b ∷ content) bytes))
-
-abbrev all_lower : ℕ → Bool
-all_lower zero = true
-all_lower (suc n) = is_lower (get_or lower_digits n 0) && all_lower n
-
-digit_lower : (n k : ℕ) → all_lower n ≡ true → k < n → is_lower (get_or lower_digits k 0) ≡ true
-digit_lower zero k all lt = absurd (omega arith)
-digit_lower (suc n) k all lt =
-    let both = and_parts (is_lower (get_or lower_digits n 0)) (all_lower n) all in
-    elim (cases_lt k n) [
-      | inl below ↦ digit_lower n k both.1 below
-      | inr top ↦ let e : k ≡ n = omega arith in ap (λ j. is_lower (get_or lower_digits j 0)) e ∙ both.0
-    ]
-
-encode_lower_all : (content : List ℕ) → AreBytes content → list_all is_lower (encode_with lower_digits content) ≡ true
-unfolding encode_with
-encode_lower_all [] bytes = refl
-encode_lower_all (b ∷ content) bytes =
-    let small : b < 256 = bytes.0 in
-    λ i. digit_lower 16 (b / 16) refl (omega arith) i && (digit_lower 16 (b % 16) refl (omega arith) i && encode_lower_all content bytes.1 i)
-
-is_content_text : (content : List ℕ) → AreBytes content → is_hex (hex_text content) ≡ true
-is_content_text [] bytes = refl
-is_content_text (b ∷ content) bytes =
-    let long = length-encode_with lower_digits (b ∷ content) in
-    let some = ne_eqb (length (encode_lower (b ∷ content))) 0 (λ e. omega (arith, e, long)) in
-    let even = eq-eqb (length (encode_lower (b ∷ content)) % 2) 0 (omega (arith, long)) in
-    λ i. no_dash b content i || (not (some i) && even i && encode_lower_all (b ∷ content) bytes i)
 
 pub bytes_back : (b : List ℕ) → AreBytes b → bytes_spelled (hex_text b) ≡ Some b
 unfolding bytes_spelled

@@ -11,7 +11,7 @@ use Rattle.std.specs.Prelude.{is_some, option_map}
 use Rattle.llb_asm.specs.declared.fault.Rule.TheVariants.{Unclosed}
 use Rattle.llb_asm.specs.declared.line.Refusal.TheVariants.{Breaks, UnknownLabel}
 use Rattle.llb_asm.specs.declared.open.Open.{Open}
-use Rattle.llb_asm.specs.Running.{Progress, open_op_of, step_of, run_from, finish, fault_at, Gives}
+use Rattle.llb_asm.specs.Running.{Progress, open_op_of, step_of, run_from, finish, fault_at, GivesEntries}
 
 abbrev pub pieces : List ℕ → List (List ℕ)
 pieces text = slice_split (λ b. nat_eq b 10) text
@@ -86,6 +86,6 @@ finish_whole last earlier None e = refl
 finish_whole last earlier (Some s) e = absurd cc
 
 -- where the reading is refused at a line, the fault of that line is the right result
-pub gives_fault : (n : ℕ) (e : Refusal) (r : Result (List (List ℕ)) (ℕ × Refusal)) → r ≡ Err (n, e) → Gives (Err (fault_at n e)) r
+pub gives_fault : (n : ℕ) (e : Refusal) (r : Result (List (List ℕ)) (ℕ × Refusal)) → r ≡ Err (n, e) → GivesEntries (Err (fault_at n e)) r
 gives_fault n (Breaks rule) r same = same
 gives_fault n UnknownLabel r same = same

@@ -9,7 +9,7 @@ use Rattle.llb_asm.specs.Lines.{Line, kept}
 use Rattle.llb_asm.specs.Reading.{Items, records_of, IsWhole, at_hand, outermost, item_at, is_within, labels_of, closing, IsRefusedIn}
 use Rattle.llb_asm.specs.Reading.{Entries, none, raw, op, open_op, text_of, AreClosed, AreEntries, begun_in, entry_in, IsRefused, SpellsEntries, FaultAt}
 use Rattle.llb_asm.specs.Reading.{Assembles}
-use Rattle.llb_asm.specs.Running.{Progress, at_front, between, amid, with_item, with_begun, closed_on, step_in, step_of, run_from, finish, next, Gives}
+use Rattle.llb_asm.specs.Running.{Progress, at_front, between, amid, with_item, with_begun, closed_on, step_in, step_of, run_from, finish, next, GivesEntries}
 use Rattle.llb_asm.proofs.States.{state_in_op, hand_after, whole_or_not, below_open, item_in, closes_or_not, step_other}
 use Rattle.llb_asm.proofs.States.{progress_after, progress_closed, closed_or_not, progress_open}
 use Rattle.llb_asm.proofs.Onward.{refused_from, step_closing, AddsTo, adds_to}
@@ -141,7 +141,7 @@ read_so : (lines : List Line) (r : Result (List (List ℕ)) (ℕ × Refusal)) �
 read_so lines r e = subst (λ (x : Result (List (List ℕ)) (ℕ × Refusal)). Says lines x) e (all_lines lines)
 
 -- the result of the lines, read one after another, is what the text is assembled to
-pub answers : (text : List ℕ) (r : Result (List (List ℕ)) AsmFault) → Gives r (run_from 0 (between []) (kept text)) → Assembles text r
+pub answers : (text : List ℕ) (r : Result (List (List ℕ)) AsmFault) → GivesEntries r (run_from 0 (between []) (kept text)) → Assembles text r
 answers text (Ok entries) e = read_so (kept text) (Ok entries) e
 answers text (Err (fault.Line n rule)) e = read_so (kept text) (Err (n, Breaks rule)) e
 answers text (Err (fault.UnknownLabel n)) e = read_so (kept text) (Err (n, UnknownLabel)) e

@@ -142,12 +142,12 @@ run_from last p [] = finish last p.earlier p.current
 run_from last p (l ∷ lines) = next l.0 (λ q. run_from l.0 q lines) (step_of p l.1)
 
 -- a call returns this result, or it fails for want of memory
-abbrev pub Gives : Result (List (List ℕ)) AsmFault → Result (List (List ℕ)) (ℕ × Refusal) → Type 0
-Gives (Ok entries) r = r ≡ Ok entries
-Gives (Err (fault.Line n rule)) r = r ≡ Err (n, Breaks rule)
-Gives (Err (fault.UnknownLabel n)) r = r ≡ Err (n, UnknownLabel)
-Gives (Err fault.Memory) r = Unit {0}
-Gives (Err fault.Write) r = ⊥
+abbrev pub GivesEntries : Result (List (List ℕ)) AsmFault → Result (List (List ℕ)) (ℕ × Refusal) → Type 0
+GivesEntries (Ok entries) r = r ≡ Ok entries
+GivesEntries (Err (fault.Line n rule)) r = r ≡ Err (n, Breaks rule)
+GivesEntries (Err (fault.UnknownLabel n)) r = r ≡ Err (n, UnknownLabel)
+GivesEntries (Err fault.Memory) r = Unit {0}
+GivesEntries (Err fault.Write) r = ⊥
 
 -- these entries if the call succeeded; else its fault
 abbrev pub reached : List (List ℕ) → Result (Unit {0}) AsmFault → Result (List (List ℕ)) AsmFault

@@ -3,7 +3,7 @@
 ghost use Rattle.std.specs.Prelude.{◌≡◌, IfOk, []};
 ghost use Rattle.llb_asm.specs.Lines.{kept};
 ghost use Rattle.llb_asm.specs.Reading.{Assembles};
-ghost use Rattle.llb_asm.specs.Running.{progresses, progress_of, open_op_of, step_of, step_in, closed_on, run_from, between, fault_at, Gives, reached};
+ghost use Rattle.llb_asm.specs.Running.{progresses, progress_of, open_op_of, step_of, step_in, closed_on, run_from, between, fault_at, GivesEntries, reached};
 
 use crate::earlier::Earlier;
 use crate::entry::{Begun, begun_in, entry_in};
@@ -103,7 +103,7 @@ fn step(
 /// Reads the lines of a text, and appends their entries to the earlier ones.
 #[tactic(auto, unfolding(crate::specs::Running::run_from))]
 fn read_lines(alloc: Global, earlier: &mut Earlier, text: &[u8]) -> Result<(), AsmFault>
-    ensures { Gives (reached earlier.new result) (run_from 0 (between earlier.old) (kept text.now)) }
+    ensures { GivesEntries (reached earlier.new result) (run_from 0 (between earlier.old) (kept text.now)) }
 {
     let mut current = None;
     let mut number: u64 = 0;
@@ -127,7 +127,7 @@ fn read_lines(alloc: Global, earlier: &mut Earlier, text: &[u8]) -> Result<(), A
 
 /// Returns the entries that the lines of a text are read as.
 fn run_lines(alloc: Global, text: &[u8]) -> Result<Entries, AsmFault>
-    ensures { Gives result (run_from 0 (between []) (kept text.now)) }
+    ensures { GivesEntries result (run_from 0 (between []) (kept text.now)) }
 {
     let mut earlier = Earlier::new(alloc);
     read_lines(alloc, &mut earlier, text)?;

@@ -10,8 +10,8 @@ use Rattle.clap.proofs.ValueTestLemmas.{accepts-Accepts, Accepts-accepts}
 use Rattle.llb_commands.specs.CommandLine.{number_of}
 
 -- what `parse` says of a number of 32 bits
-abbrev Gives : List ℕ → Result ℕ ParseIntError → Type 0
-Gives bs r = ParsesUnsigned 32 10 bs r × ExplainsUnsignedError 10 bs r × HasUnsignedDigitsIfOk bs r
+abbrev IsParse : List ℕ → Result ℕ ParseIntError → Type 0
+IsParse bs r = ParsesUnsigned 32 10 bs r × ExplainsUnsignedError 10 bs r × HasUnsignedDigitsIfOk bs r
 
 abbrev IsNumber : Text → Type 0
 IsNumber t = IsNumeral 10 (without_leading_plus t) × (digits_value 10 (without_leading_plus t) < 2 ^ 32)
@@ -29,11 +29,11 @@ number_none t fails = go (is_unsigned_in 0 4294967295 t) refl
     go true e = let h = accepts-Accepts false (Unsigned 0 4294967295) t e in absurd (fails (h.0, omega arith))
     go false e = refl
 
-one_number : (t : Text) (r : Option ℕ) → ReadsOne Gives t r → r ≡ number_of t
+one_number : (t : Text) (r : Option ℕ) → ReadsOne IsParse t r → r ≡ number_of t
 one_number t (Some n) h = ap Some h.0.1 ∙ sym (number_some t h.0.0)
 one_number t None h = sym (number_none t h.1.0)
 
 -- the number that is read of a word that may be there
-pub number_read : (o : Option Text) (r : Option ℕ) → (o ≡ None → r ≡ None) → ((t : Text) → o ≡ Some t → ReadsOne Gives t r) → r ≡ option_and_then number_of o
+pub number_read : (o : Option Text) (r : Option ℕ) → (o ≡ None → r ≡ None) → ((t : Text) → o ≡ Some t → ReadsOne IsParse t r) → r ≡ option_and_then number_of o
 number_read None r none value = none refl
 number_read (Some t) r none value = one_number t r (value t refl)

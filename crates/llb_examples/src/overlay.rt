@@ -1,9 +1,9 @@
-//! One tree laid over another, with the modes and owners that a `Way` sets; the entries of the result are shown.
+//! One tree laid over another, with the modes and owners that a `OverlaySettings` sets; the entries of the result are shown.
 
 use super::stage::are_told;
 use super::told::{Row, is_so, made, row_holds};
 use llb_merge::{lay, lay_onto, lay_over};
-use llb_tree::{Tree, Way};
+use llb_tree::{Tree, OverlaySettings};
 use llb_wire::Same;
 use std::alloc::Global;
 use std::process::Abort;
@@ -38,7 +38,7 @@ fn a_way_has_a_mode_of_at_most_4095(rt: HostRuntime) {
         (Some(u16::MAX), false),
     ];
     for (at, (mode, wanted)) in rows.iter().enumerate() {
-        let made = Way::new(*mode, Some(u32::MAX), None, true);
+        let made = OverlaySettings::new(*mode, Some(u32::MAX), None, true);
         row_holds(&rt, at, made.is_some() == *wanted);
     }
 }
@@ -150,7 +150,7 @@ const LAID: &str = "
     > tree
     d(700 1:1) d/a(700 1:1) f/a/x(644 2:2)=up f/a/y(600 1:1)=low d/b(755 2:2) f/b/e(644 2:2)=up d/c(755 2:2) f/c/d(644 2:2)=up f/z(644 2:2)=up
 
-    # A way gives a mode and a user.
+    # A settings gives a mode and a user.
     > new
     > dir /a 755 2:2
     > file /a/x 644 2:2 up
@@ -171,7 +171,7 @@ const LAID: &str = "
     > tree
     d(4640 9:0) d/a(4640 9:2) f/a/x(4640 9:2)=up f/a/y(600 1:1)=low d/b(4640 9:2) f/b/e(4640 9:2)=up d/c(4640 9:2) f/c/d(4640 9:2)=up f/z(4640 9:2)=up
 
-    # A way gives a group, and directories that both have stay.
+    # A settings gives a group, and directories that both have stay.
     > new
     > dir /a 755 2:2
     > file /a/x 644 2:2 up
@@ -202,15 +202,15 @@ pub(crate) fn copied(rt: &impl Abort, tree: &Tree) -> Tree {
     tree.copy().expect(rt, "memory")
 }
 
-fn overlaid(rt: &impl Abort, lower: Tree, way: &Way, upper: &Tree) -> Tree {
-    lower.overlaid(way, upper).expect(rt, "memory")
+fn overlaid(rt: &impl Abort, lower: Tree, settings: &OverlaySettings, upper: &Tree) -> Tree {
+    lower.overlaid(settings, upper).expect(rt, "memory")
 }
 
 // Returns whether the upper tree, and the lower tree of which a copy was used, are unchanged after a laying.
 fn both_stay(rt: &impl Abort, alloc: Global) -> bool {
     let (lower, upper) = (made(rt, alloc, LOWER), made(rt, alloc, UPPER));
-    let way = Way::new(Some(0), Some(0), Some(0), false).expect(rt, "a way");
-    let _laid = overlaid(rt, copied(rt, &lower), &way, &upper);
+    let settings = OverlaySettings::new(Some(0), Some(0), Some(0), false).expect(rt, "a settings");
+    let _laid = overlaid(rt, copied(rt, &lower), &settings, &upper);
     lower.same(&made(rt, alloc, LOWER)) && upper.same(&made(rt, alloc, UPPER))
 }
 
@@ -255,12 +255,12 @@ fn a_lower_tree_is_lent_or_handed_over_or_laid_over_in_place(rt: HostRuntime) {
     }
 }
 
-// Returns whether laying in place, with a `Way` that keeps directories and sets modes and owners, leads to the same tree as laying on a copy.
+// Returns whether laying in place, with a `OverlaySettings` that keeps directories and sets modes and owners, leads to the same tree as laying on a copy.
 fn way_in_place(rt: &impl Abort, alloc: Global) -> bool {
     let (mut lower, upper) = (made(rt, alloc, LOWER), made(rt, alloc, UPPER));
-    let way = Way::new(Some(0o4640), None, Some(5), true).expect(rt, "a way");
-    let laid = overlaid(rt, copied(rt, &lower), &way, &upper);
-    lower.overlay(&way, &upper).expect(rt, "memory");
+    let settings = OverlaySettings::new(Some(0o4640), None, Some(5), true).expect(rt, "a settings");
+    let laid = overlaid(rt, copied(rt, &lower), &settings, &upper);
+    lower.overlay(&settings, &upper).expect(rt, "memory");
     lower.same(&laid)
 }
 

@@ -7,7 +7,7 @@
 //! A content that ends in `\n` ends with a line end.
 
 use super::told::{say, say_looked, say_names, say_tree};
-use llb_tree::{Bytes, Meta, Path, Tree, TreeFault, Way};
+use llb_tree::{Bytes, Meta, Path, Tree, TreeFault, OverlaySettings};
 use std::alloc::{AllocError, Global};
 use std::mem;
 use std::process::Abort;
@@ -111,8 +111,8 @@ fn overlay(trees: &mut Trees, words: &str) -> Result<(), TreeFault> {
     let (user, rest) = word_and_rest(rest);
     let (group, keeps) = word_and_rest(rest);
     let (user, group) = (user.parse::<u32>().ok(), group.parse::<u32>().ok());
-    if let Some(way) = Way::new(octal(mode), user, group, keeps == "keeps") {
-        trees.this = trees.this.copy()?.overlaid(&way, &trees.other)?;
+    if let Some(settings) = OverlaySettings::new(octal(mode), user, group, keeps == "keeps") {
+        trees.this = trees.this.copy()?.overlaid(&settings, &trees.other)?;
     }
     Ok(())
 }

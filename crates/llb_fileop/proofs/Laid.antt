@@ -8,7 +8,7 @@ use Rattle.llb_tree.specs.PathOrder.{path_cmp-IsTotalOrder, path_cmp-IsAntisymme
 use Rattle.llb_tree.specs.Meta.{MetaValue}
 use Rattle.llb_tree.specs.Tree.{TreeMap, Entry, Dir, File, Look, parents, all_dirs, IsTree}
 use Rattle.llb_tree.specs.Overlay as lay
-use Rattle.llb_tree.specs.Overlay.{WayValue, is_file, below_file, over, over_at}
+use Rattle.llb_tree.specs.Overlay.{SettingsValue, is_file, below_file, over, over_at}
 use Rattle.llb_tree.specs.declared.fault.TreeFault.{TreeFault}
 use Rattle.llb_tree.specs.declared.fault.TreeFault.TheVariants.{Conflict}
 use Rattle.llb_fileop.specs.Copying.{meets, landed, landed_on, laid_on}
@@ -52,9 +52,10 @@ walked_free f g (p ∷ ps) free walks = by_dir (f p) refl walks (walked_free f g
     by_dir (Some (File m b)) is walks rest = absurd cc
     by_dir (Some (Dir m)) is walks rest = ap (λ x. x || list_any is_file (map g ps)) (free p m is) ∙ rest walks
 
-module _ (way : WayValue) (given : MetaValue → MetaValue) (gives : (m : MetaValue) → lay.laid_meta way m ≡ given m) (keeps : way.keeps ≡ true) where
-  over_lands : (there : Option Entry) (e : Entry) → over way there e ≡ landed given there e
-  over_lands (Some (Dir m)) (Dir k) = ap (λ b. Dir (cond b m (lay.laid_meta way k))) keeps
+module _ (settings : SettingsValue) (given : MetaValue → MetaValue) (gives : (m : MetaValue) → lay.laid_meta settings m ≡ given m)
+    (keeps : settings.keeps ≡ true) where
+  over_lands : (there : Option Entry) (e : Entry) → over settings there e ≡ landed given there e
+  over_lands (Some (Dir m)) (Dir k) = ap (λ b. Dir (cond b m (lay.laid_meta settings k))) keeps
   over_lands (Some (File m b)) (Dir k) = ap Dir (gives k)
   over_lands None (Dir k) = ap Dir (gives k)
   over_lands (Some (Dir m)) (File k c) = ap (λ x. File x c) (gives k)
@@ -72,10 +73,10 @@ module _ (way : WayValue) (given : MetaValue → MetaValue) (gives : (m : MetaVa
             let no : ◌≡◌ {A = Result (Unit {0}) TreeFault} (Err Conflict) (Ok tt) = sym (ap (λ o. meets o (File n b)) is) ∙ agree r (File n b) own in
             absurd cc
 
-    over_is_laid : (q : List (List ℕ)) → over_at way (finite.get here) (finite.get source) q ≡ laid given (finite.get here q) (finite.get source q)
+    over_is_laid : (q : List (List ℕ)) → over_at settings (finite.get here) (finite.get source) q ≡ laid given (finite.get here q) (finite.get source q)
     over_is_laid q = by_own (finite.get source q) (finite.get here q) refl
       where
-        by_own : (o there : Option Entry) → finite.get here q ≡ there → lay.laid_over way there o (below_file (finite.get source) q) ≡ laid given there o
+        by_own : (o there : Option Entry) → finite.get here q ≡ there → lay.laid_over settings there o (below_file (finite.get source) q) ≡ laid given there o
         by_own (Some e) there is = ap Some (over_lands there e)
         by_own None None is = either (below_file (finite.get source) q)
           where
@@ -86,7 +87,7 @@ module _ (way : WayValue) (given : MetaValue → MetaValue) (gives : (m : MetaVa
             ap (λ b. cond b None (Some d)) (walked_free (finite.get here) (finite.get source) (parents q) free (tree.closed q (ap is_some is)))
 
     -- if a source agrees with a tree, laying it over the tree has the same result as landing its entries on the tree
-    pub overlaid_is : (merged : TreeMap) → ((q : List (List ℕ)) → finite.get merged q ≡ over_at way (finite.get here) (finite.get source) q)
+    pub overlaid_is : (merged : TreeMap) → ((q : List (List ℕ)) → finite.get merged q ≡ over_at settings (finite.get here) (finite.get source) q)
         → laid_on given here (finite.entries source) ≡ merged
     overlaid_is merged is =
         finite.same_map path_cmp-IsTotalOrder path_cmp-IsAntisymmetric (laid_on given here (finite.entries source)) merged

@@ -9,7 +9,7 @@ ghost use Rattle.llb_fileop.specs.Owners.{copied};
 ghost use Rattle.llb_fileop.specs.Copying.{landed, land, meets, at_target};
 ghost use Rattle.llb_fileop.specs.Parts.{put, put_some, laid, all_below, all_meet, land_at};
 
-use crate::owner::{copied, way};
+use crate::owner::{copied, settings};
 use crate::parts::is_there;
 use llb_ops::CopyFile;
 use llb_tree::{Content, Entry, Path, Tree, TreeFault};
@@ -105,7 +105,7 @@ fn merge_at(action: &CopyFile, source: &Tree, goal: &Path, tree: &mut Tree) -> R
 {
     let here = tree.subtree(goal)?;
     may_land(&here, source, goal)?;
-    let merged = here.overlaid(&way(action), source)?;
+    let merged = here.overlaid(&settings(action), source)?;
     tree.graft(goal, &merged)
 }
 

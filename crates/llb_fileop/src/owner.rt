@@ -6,7 +6,7 @@ ghost use Rattle.llb_tree.specs.Overlay.{is_mode, laid_meta};
 ghost use Rattle.llb_fileop.specs.Owners.{mode_of, mode_from, number_in, id_in, user_in, group_in, made, copied};
 
 use llb_ops::{ChownOpt, CopyFile, User, UserOpt};
-use llb_tree::{Meta, Way};
+use llb_tree::{Meta, OverlaySettings};
 use llb_wire::Boxed;
 
 /// Returns the mode and the owner of what an action makes: user or group 0 if none is given.
@@ -28,14 +28,14 @@ pub fn copied(action: &CopyFile, own: Meta) -> Meta
     Meta::new(mode_from(action.mode, own.mode()), uid, gid).unwrap()
 }
 
-/// Returns the `Way` by which what is copied is laid over a tree: a directory that is there stays as it is.
-pub fn way(action: &CopyFile) -> Way
+/// Returns the `OverlaySettings` by which what is copied is laid over a tree: a directory that is there stays as it is.
+pub fn settings(action: &CopyFile) -> OverlaySettings
     ensures given { (m : MetaValue) → laid_meta result m ≡ copied action.now.mode action.now.owner m }
     ensures keeps { result.keeps ≡ true }
 {
     let uid = user_in(&action.owner);
     let gid = group_in(&action.owner);
-    Way::new(mode_given(action.mode), uid, gid, true).unwrap()
+    OverlaySettings::new(mode_given(action.mode), uid, gid, true).unwrap()
 }
 
 // Returns the low 12 bits of the mode that is given, or the entry's own mode if the mode that is given is -1.

@@ -10,7 +10,7 @@ use Rattle.llb_tree.specs.Meta.{new_dir_meta}
 use Rattle.llb_tree.specs.Path.{path_cmp}
 use Rattle.llb_tree.specs.PathOrder.{path_cmp-IsTotalOrder, path_cmp-IsAntisymmetric}
 use Rattle.llb_tree.specs.Tree.{Entry, Dir, File, TreeMap, Look, parents, all_dirs, walk, IsDirAt, IsAllowedAt, IsTree, empty_tree}
-use Rattle.llb_tree.specs.Overlay.{WayValue, way_of, laid_over, over_at}
+use Rattle.llb_tree.specs.Overlay.{SettingsValue, settings_of, laid_over, over_at}
 use Rattle.llb_tree.proofs.Inside.{map-map, walk-cons}
 use Rattle.llb_tree.proofs.Closed.{walk_more}
 use Rattle.llb_merge.specs.Laying.{is_file, below_file, or_else, lay_at, lay}
@@ -49,13 +49,13 @@ pub lay_only : (a b t : TreeMap) → ((q : List (List ℕ)) → finite.get t q �
 lay_only a b t is = finite.same_map path_cmp-IsTotalOrder path_cmp-IsAntisymmetric t (lay a b) (λ q. is q ∙ sym (get-lay a b q))
 
 -- the overlay of llb_tree that changes no mode and no owner, and keeps no directory of the lower tree, is this laying
-abbrev plain_way : WayValue
-plain_way = record { mode = None; uid = None; gid = None; keeps = false }
+abbrev plain_settings : SettingsValue
+plain_settings = record { mode = None; uid = None; gid = None; keeps = false }
 
-over_plain : (f g : Look) (q : List (List ℕ)) → over_at plain_way f g q ≡ lay_at f g q
+over_plain : (f g : Look) (q : List (List ℕ)) → over_at plain_settings f g q ≡ lay_at f g q
 over_plain f g q = by_upper (g q) (f q)
   where
-    by_upper : (o there : Option Entry) → laid_over plain_way there o (below_file g q) ≡ or_else o (cond (below_file g q) None there)
+    by_upper : (o there : Option Entry) → laid_over plain_settings there o (below_file g q) ≡ or_else o (cond (below_file g q) None there)
     by_upper None there = refl
     by_upper (Some (File m b)) None = refl
     by_upper (Some (File m b)) (Some (File k c)) = refl
@@ -64,7 +64,7 @@ over_plain f g q = by_upper (g q) (f q)
     by_upper (Some (Dir m)) (Some (File k c)) = refl
     by_upper (Some (Dir m)) (Some (Dir k)) = refl
 
-pub over_is_lay : (w : WayValue) → way_of None None None false ≡ Some w → (a b t : TreeMap)
+pub over_is_lay : (w : SettingsValue) → settings_of None None None false ≡ Some w → (a b t : TreeMap)
     → ((q : List (List ℕ)) → finite.get t q ≡ over_at w (finite.get a) (finite.get b) q) → t ≡ lay a b
 over_is_lay w is a b t over = lay_only a b t (λ q.
     over q

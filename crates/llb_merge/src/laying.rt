@@ -2,18 +2,18 @@
 //! tree is above the path.
 
 ghost use Rattle.std.specs.Prelude.{◌≡◌, IfOk, OnOk, OnErr, Some, None, false};
-ghost use Rattle.llb_tree.specs.Overlay.{way_of};
+ghost use Rattle.llb_tree.specs.Overlay.{settings_of};
 ghost use Rattle.llb_merge.specs.Laying.{lay};
 
 use crate::fault::Memory;
-use llb_tree::{Tree, Way};
+use llb_tree::{Tree, OverlaySettings};
 use std::alloc::Global;
 
-// Returns the `Way` by which each upper entry keeps its mode and owner, also if both trees have a directory at its path.
-fn plain() -> Way
-    ensures { way_of None None None false ≡ Some result }
+// Returns the `OverlaySettings` by which each upper entry keeps its mode and owner, also if both trees have a directory at its path.
+fn plain() -> OverlaySettings
+    ensures { settings_of None None None false ≡ Some result }
 {
-    Way::new(None, None, None, false).unwrap()
+    OverlaySettings::new(None, None, None, false).unwrap()
 }
 
 /// Lays the upper tree over the lower one, and returns the result. At a path it has what the upper tree has there; if that is nothing, what the lower one has,
@@ -29,8 +29,8 @@ pub fn lay(_: Global, lower: &Tree, upper: &Tree) -> Result<Tree, Memory>
 pub fn lay_onto(lower: Tree, upper: &Tree) -> Result<Tree, Memory>
     ensures { IfOk result (λ t. t ≡ lay lower upper.now) }
 {
-    let way = plain();
-    Ok(lower.overlaid(&way, upper)?)
+    let settings = plain();
+    Ok(lower.overlaid(&settings, upper)?)
 }
 
 /// Lays the upper tree over the lower one as `lay` does, and replaces the lower tree by the result. Fails with 55 `Memory` alone; then the lower tree is
@@ -39,6 +39,6 @@ pub fn lay_over(lower: &mut Tree, upper: &Tree) -> Result<(), Memory>
     ensures ok { OnOk result (lower.new ≡ lay lower.old upper.now) }
     ensures err { OnErr result (lower.new ≡ lower.old) }
 {
-    let way = plain();
-    Ok(lower.overlay(&way, upper)?)
+    let settings = plain();
+    Ok(lower.overlay(&settings, upper)?)
 }

@@ -12,7 +12,7 @@ use Rattle.llb_tree.specs.PathOrder.{name_cmp-IsAntisymmetric}
 use Rattle.llb_tree.specs.Tree.{TreeMap, Dir}
 use Rattle.llb_tree.specs.Meta.{MetaValue}
 use Rattle.llb_tree.specs.Nodes.{Pairs, name_of, pair_of, AreSorted, child, look_in}
-use Rattle.llb_tree.specs.Overlay.{WayValue, below_file, over, over_at}
+use Rattle.llb_tree.specs.Overlay.{SettingsValue, below_file, over, over_at}
 use Rattle.llb_tree.specs.Laying.{Lays, IsOver, AreLaid, TakesWhole, Covers, HasLater, written}
 use Rattle.llb_tree.specs.declared.node.Child.{Child}
 use Rattle.llb_tree.proofs.Dressing.{worn_all}
@@ -62,26 +62,26 @@ found_here n kids rest more kid is same so_far =
 -- ---- upper children that stay as they are, or are written anew
 
 -- the first i children are laid over others, and those after them are the upper ones
-abbrev pub HasLaid : WayValue → List Child → ℕ → List Child → Pairs → Type 0
+abbrev pub HasLaid : SettingsValue → List Child → ℕ → List Child → Pairs → Type 0
 HasLaid w old i [] [] = Unit {0}
 HasLaid w old i [] (e ∷ es) = ⊥
 HasLaid w old i (u ∷ us) [] = ⊥
 HasLaid w old zero (u ∷ us) (e ∷ es) = (e ≡ pair_of u) × HasLaid w old zero us es
 HasLaid w old (suc i) (u ∷ us) (e ∷ es) = ((e.0 ≡ name_of u) × IsOver w old u e.1) × HasLaid w old i us es
 
-pub none_yet : (w : WayValue) (old us : List Child) → HasLaid w old 0 us (map pair_of us)
+pub none_yet : (w : SettingsValue) (old us : List Child) → HasLaid w old 0 us (map pair_of us)
 none_yet w old [] = tt
 none_yet w old (u ∷ us) = (refl, none_yet w old us)
 
 -- there are as many as upper ones
-pub same_length : (w : WayValue) (old : List Child) (i : ℕ) (us ks : List Child) → HasLaid w old i us (map pair_of ks) → length ks ≡ length us
+pub same_length : (w : SettingsValue) (old : List Child) (i : ℕ) (us ks : List Child) → HasLaid w old i us (map pair_of ks) → length ks ≡ length us
 same_length w old i [] [] h = refl
 same_length w old i [] (k ∷ ks) h = absurd h
 same_length w old i (u ∷ us) [] h = absurd h
 same_length w old zero (u ∷ us) (k ∷ ks) h = ap suc (same_length w old zero us ks h.1)
 same_length w old (suc i) (u ∷ us) (k ∷ ks) h = ap suc (same_length w old i us ks h.1)
 
-module _ (w : WayValue) (old : List Child) where
+module _ (w : SettingsValue) (old : List Child) where
   stays : (i : ℕ) (us : List Child) (es : Pairs) (d : Child) → i < length us → HasLaid w old i us es → IsOver w old (get_or us i d) (get_or us i d).node
       → HasLaid w old (suc i) us es
   stays i [] es d lt h over = absurd (omega arith)
@@ -123,7 +123,7 @@ node_written (k ∷ ks) (suc i) there new is same = ap (λ es. pair_of k ∷ es)
 
 -- ---- one upper child
 
-module _ (w : WayValue) (takes : TakesWhole w) where
+module _ (w : SettingsValue) (takes : TakesWhole w) where
   -- a file stays as it is over anything
   pub file_stays : (old : List Child) (kid : Child) → IsLone (finite.get kid.node) → IsOver w old kid kid.node
   file_stays old kid lone q = sym (over_file w (look_in (child (name_of kid) old)) (finite.get kid.node) q lone
@@ -140,7 +140,7 @@ module _ (w : WayValue) (takes : TakesWhole w) where
 
 -- ---- all of them
 
-none_made : (w : WayValue) (old upper made : List Child) (m : List ℕ) → AreLaid w old upper made → is_some (child m made) ≡ is_some (child m upper)
+none_made : (w : SettingsValue) (old upper made : List Child) (m : List ℕ) → AreLaid w old upper made → is_some (child m made) ≡ is_some (child m upper)
 none_made w old [] [] m laid = refl
 none_made w old [] (k ∷ made) m laid = absurd laid
 none_made w old (u ∷ upper) [] m laid = absurd laid
@@ -152,7 +152,7 @@ none_made w old (u ∷ upper) (k ∷ made) m laid =
     ]
 
 -- laid children that have every name of the lower ones are all that is left of both
-pub lays_all : (w : WayValue) (old upper made : List Child) → AreSorted upper → Covers upper old → AreLaid w old upper made → Lays w upper old made
+pub lays_all : (w : SettingsValue) (old upper made : List Child) → AreSorted upper → Covers upper old → AreLaid w old upper made → Lays w upper old made
 lays_all w old upper made above covers laid = record {
   sorted = subst T (sym (sorted_made w old upper made laid)) above;
   children = λ m q. ap (λ o. look_in o q) (sym (alone (child m made) (child m old) (λ is. none_made w old upper made m laid ∙ covers m is)))

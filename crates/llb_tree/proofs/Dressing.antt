@@ -11,7 +11,7 @@ use Rattle.llb_tree.specs.Path.{name_cmp, path_cmp}
 use Rattle.llb_tree.specs.PathOrder.{path_cmp-IsTotalOrder, path_cmp-IsAntisymmetric}
 use Rattle.llb_tree.specs.Tree.{TreeMap, Entry, Dir, File}
 use Rattle.llb_tree.specs.Nodes.{own_entry, kids_of, map_of, pair_of, AreSorted, child, look_in}
-use Rattle.llb_tree.specs.Overlay.{WayValue, laid_meta, over}
+use Rattle.llb_tree.specs.Overlay.{SettingsValue, laid_meta, over}
 use Rattle.llb_tree.specs.Laying.{dress, dress_pair}
 use Rattle.llb_tree.specs.Looks.{get-root}
 use Rattle.llb_tree.specs.declared.node.Kind.{Kind}
@@ -21,7 +21,7 @@ use Rattle.llb_tree.proofs.ByName.{get-child, node_is}
 abbrev Pair : Type 0
 Pair = List (List ℕ) × Entry
 
-abbrev worn : WayValue → Entry → Entry
+abbrev worn : SettingsValue → Entry → Entry
 worn w = over w None
 
 -- a value for each of a list's, found by the same keys
@@ -35,47 +35,47 @@ find_mapped {X = X} R f q (e ∷ es) = ap (cond (eq_by_cmp R q e.0) (Some (f e.1
     moved false rest = refl
 
 -- a dressed tree has at each path the entry that was there, in the mode and the owner that are given
-pub get-dress : (w : WayValue) (t : TreeMap) (q : List (List ℕ)) → finite.get (dress w t) q ≡ option_map (worn w) (finite.get t q)
+pub get-dress : (w : SettingsValue) (t : TreeMap) (q : List (List ℕ)) → finite.get (dress w t) q ≡ option_map (worn w) (finite.get t q)
 get-dress w t q =
     finite.get-from_entries path_cmp-IsTotalOrder (map (λ (e : Pair). (e.0, worn w e.1)) (finite.entries t)) q
     ∙ find_mapped path_cmp (worn w) q (finite.entries t) ∙ ap (option_map (worn w)) (sym (finite.get-entries t q))
 
 -- a way without modes and owners changes nothing
-worn_same : (w : WayValue) (e : Entry) → ((m : MetaValue) → laid_meta w m ≡ m) → worn w e ≡ e
+worn_same : (w : SettingsValue) (e : Entry) → ((m : MetaValue) → laid_meta w m ≡ m) → worn w e ≡ e
 worn_same w (Dir m) same = ap Dir (same m)
 worn_same w (File m b) same = ap (λ x. File x b) (same m)
 
 -- and none of what is there, if anything is
-pub worn_all : (w : WayValue) (o : Option Entry) → ((m : MetaValue) → laid_meta w m ≡ m) → option_map (worn w) o ≡ o
+pub worn_all : (w : SettingsValue) (o : Option Entry) → ((m : MetaValue) → laid_meta w m ≡ m) → option_map (worn w) o ≡ o
 worn_all w None same = refl
 worn_all w (Some e) same = ap (λ x. Some x) (worn_same w e same)
 
 -- where each mode and owner would be given as it is, dressing changes nothing
-pub dress_same : (w : WayValue) (t : TreeMap) → ((m : MetaValue) → laid_meta w m ≡ m) → dress w t ≡ t
+pub dress_same : (w : SettingsValue) (t : TreeMap) → ((m : MetaValue) → laid_meta w m ≡ m) → dress w t ≡ t
 dress_same w t same = finite.same_map path_cmp-IsTotalOrder path_cmp-IsAntisymmetric (dress w t) t (λ q. get-dress w t q ∙ worn_all w (finite.get t q) same)
 
 -- ---- children
 
-below_dressed : (w : WayValue) (n : List ℕ) (es : List (List ℕ × TreeMap)) → below_all name_cmp n (map (dress_pair w) es) ≡ below_all name_cmp n es
+below_dressed : (w : SettingsValue) (n : List ℕ) (es : List (List ℕ × TreeMap)) → below_all name_cmp n (map (dress_pair w) es) ≡ below_all name_cmp n es
 below_dressed w n [] = refl
 below_dressed w n (e ∷ es) = ap (λ b. is_lt (name_cmp n e.0) && b) (below_dressed w n es)
 
-sorted_dressed : (w : WayValue) (es : List (List ℕ × TreeMap)) → is_sorted name_cmp (map (dress_pair w) es) ≡ is_sorted name_cmp es
+sorted_dressed : (w : SettingsValue) (es : List (List ℕ × TreeMap)) → is_sorted name_cmp (map (dress_pair w) es) ≡ is_sorted name_cmp es
 sorted_dressed w [] = refl
 sorted_dressed w (e ∷ es) = λ i. below_dressed w e.0 es i && sorted_dressed w es i
 
-look_dressed : (w : WayValue) (o : Option TreeMap) (q : List (List ℕ)) → look_in (option_map (dress w) o) q ≡ option_map (worn w) (look_in o q)
+look_dressed : (w : SettingsValue) (o : Option TreeMap) (q : List (List ℕ)) → look_in (option_map (dress w) o) q ≡ option_map (worn w) (look_in o q)
 look_dressed w None q = refl
 look_dressed w (Some t) q = get-dress w t q
 
 -- dressed children keep their names, so they stay in order
-pub AreSorted-dressed : (w : WayValue) (old new : List Child) → map pair_of new ≡ map (dress_pair w) (map pair_of old) → AreSorted old → AreSorted new
+pub AreSorted-dressed : (w : SettingsValue) (old new : List Child) → map pair_of new ≡ map (dress_pair w) (map pair_of old) → AreSorted old → AreSorted new
 AreSorted-dressed w old new is h = subst T (sym (ap (is_sorted name_cmp) is ∙ sorted_dressed w (map pair_of old))) h
 
 -- ---- a node
 
 -- a node whose own entry and whose children are dressed represents the dressed tree
-pub node_dressed : (w : WayValue) (k j : Kind) → AreSorted (kids_of k) → own_entry j ≡ worn w (own_entry k)
+pub node_dressed : (w : SettingsValue) (k j : Kind) → AreSorted (kids_of k) → own_entry j ≡ worn w (own_entry k)
     → map pair_of (kids_of j) ≡ map (dress_pair w) (map pair_of (kids_of k)) → map_of j ≡ dress w (map_of k)
 node_dressed w k j h own kids = node_is j (dress w (map_of k)) (AreSorted-dressed w (kids_of k) (kids_of j) kids h)
     (get-dress w (map_of k) [] ∙ ap (option_map (worn w)) (get-root k) ∙ ap (λ e. Some e) (sym own))
@@ -85,7 +85,7 @@ node_dressed w k j h own kids = node_is j (dress w (map_of k)) (AreSorted-dresse
 
 -- ---- one child after another
 
-module _ (w : WayValue) where
+module _ (w : SettingsValue) where
   abbrev worn_pairs : List Child → List (List ℕ × TreeMap)
   worn_pairs ks = map (dress_pair w) (map pair_of ks)
 

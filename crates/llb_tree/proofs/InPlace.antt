@@ -10,7 +10,7 @@ use Rattle.std.specs.FinMap.Entries.{find, put, find-put, is_sorted, is_sorted-p
 use Rattle.llb_tree.specs.Path.{name_cmp}
 use Rattle.llb_tree.specs.PathOrder.{name_cmp-IsAntisymmetric}
 use Rattle.llb_tree.specs.Nodes.{Pairs, name_of, pair_of, AreSorted, child, look_in}
-use Rattle.llb_tree.specs.Overlay.{WayValue, over_at}
+use Rattle.llb_tree.specs.Overlay.{SettingsValue, over_at}
 use Rattle.llb_tree.specs.Laying.{Lays, IsLaid, AreLaid, puts}
 use Rattle.llb_tree.specs.declared.node.Child.{Child}
 use Rattle.llb_tree.proofs.Orders.{find_below, and_first, and_second}
@@ -18,7 +18,7 @@ use Rattle.llb_tree.proofs.Laying.{none_over}
 
 -- ---- one made child after another
 
-pub laid_more : (w : WayValue) (old upper made : List Child) (i : ℕ) (d k : Child) → i < length upper → AreLaid w old (take i upper) made
+pub laid_more : (w : SettingsValue) (old upper made : List Child) (i : ℕ) (d k : Child) → i < length upper → AreLaid w old (take i upper) made
     → IsLaid w old (get_or upper i d) k → AreLaid w old (take (suc i) upper) (made ++ k ∷ [])
 laid_more w old [] made i d k lt so_far laid = absurd (omega arith)
 laid_more w old (u ∷ upper) [] zero d k lt so_far laid = (laid, tt)
@@ -27,7 +27,8 @@ laid_more w old (u ∷ upper) [] (suc i) d k lt so_far laid = absurd so_far
 laid_more w old (u ∷ upper) (m ∷ made) (suc i) d k lt so_far laid = (so_far.0, laid_more w old upper made i d k (omega arith) so_far.1 laid)
 
 -- pushing the next upper child, laid, after the first i of them makes the first i + 1 laid
-pub laid_pushed : (w : WayValue) (old upper made new : List Child) (i : ℕ) (kid k : Child) → i < length upper → kid ≡ get_or upper i kid → new ≡ made ++ k ∷ []
+pub laid_pushed : (w : SettingsValue) (old upper made new : List Child) (i : ℕ) (kid k : Child) → i < length upper
+    → kid ≡ get_or upper i kid → new ≡ made ++ k ∷ []
     → AreLaid w old (take i upper) made → IsLaid w old kid k → AreLaid w old (take (i + 1) upper) new
 laid_pushed w old upper made new i kid k lt is pushed so_far laid =
     subst (λ ks. AreLaid w old (take (i + 1) upper) ks) (sym pushed)
@@ -35,7 +36,7 @@ laid_pushed w old upper made new i kid k lt is pushed so_far laid =
     (laid_more w old upper made i kid k lt so_far (subst (λ u. IsLaid w old u k) is laid)))
 
 -- the names of what is made are the upper ones
-below_made : (w : WayValue) (old upper made : List Child) (n : List ℕ) → AreLaid w old upper made
+below_made : (w : SettingsValue) (old upper made : List Child) (n : List ℕ) → AreLaid w old upper made
     → below_all name_cmp n (map pair_of made) ≡ below_all name_cmp n (map pair_of upper)
 below_made w old [] [] n laid = refl
 below_made w old [] (k ∷ made) n laid = absurd laid
@@ -43,7 +44,7 @@ below_made w old (u ∷ upper) [] n laid = absurd laid
 below_made w old (u ∷ upper) (k ∷ made) n laid = λ i. is_lt (name_cmp n (laid.0.named i)) && below_made w old upper made n laid.1 i
 
 -- laid children have the names of the upper ones, so they are in order where those are
-pub sorted_made : (w : WayValue) (old upper made : List Child) → AreLaid w old upper made
+pub sorted_made : (w : SettingsValue) (old upper made : List Child) → AreLaid w old upper made
     → is_sorted name_cmp (map pair_of made) ≡ is_sorted name_cmp (map pair_of upper)
 sorted_made w old [] [] laid = refl
 sorted_made w old [] (k ∷ made) laid = absurd laid
@@ -74,7 +75,7 @@ find_puts m (k ∷ ks) es h =
     ] refl
 
 -- what is found after the made ones are put in
-pub found_made : (w : WayValue) (old upper made : List Child) (m : List ℕ) (q : List (List ℕ)) → AreLaid w old upper made
+pub found_made : (w : SettingsValue) (old upper made : List Child) (m : List ℕ) (q : List (List ℕ)) → AreLaid w old upper made
     → look_in (option_or (child m made) (child m old)) q ≡ over_at w (look_in (child m old)) (look_in (child m upper)) q
 found_made w old [] [] m q laid = sym (none_over w (look_in (child m old)) (look_in None) q (λ r. refl))
 found_made w old [] (k ∷ made) m q laid = absurd laid
@@ -90,7 +91,7 @@ found_made w old (u ∷ upper) (k ∷ made) m q laid =
     ] refl
 
 -- putting the laid children among the old ones lays all upper children over them
-pub lays_puts : (w : WayValue) (old upper made new : List Child) → AreSorted old → AreSorted upper → AreLaid w old upper made
+pub lays_puts : (w : SettingsValue) (old upper made new : List Child) → AreSorted old → AreSorted upper → AreLaid w old upper made
     → map pair_of new ≡ puts (map pair_of made) (map pair_of old) → Lays w upper old new
 lays_puts w old upper made new h above laid is = record {
   sorted = subst (λ es. T (is_sorted name_cmp es)) (sym is) (sorted_puts (map pair_of made) (map pair_of old) h);

@@ -4,7 +4,7 @@ use Rattle.std.proofs.Common.{refl, sym, ap, subst, ◌∙◌, arith, add-one}
 use Rattle.std.proofs.lemmas.List.{length-map}
 use Rattle.llb_tree.specs.Nodes.{Pairs, pair_of, rows_in, kids_in}
 use Rattle.llb_tree.specs.Pieces.{row_pairs, pairs_of, AllFull, ArePieced}
-use Rattle.llb_tree.specs.Overlay.{WayValue}
+use Rattle.llb_tree.specs.Overlay.{SettingsValue}
 use Rattle.llb_tree.specs.Laying.{Lays, AreLaid, PiecesLaid, Covers, puts}
 use Rattle.llb_tree.specs.declared.node.Child.{Child}
 use Rattle.llb_tree.specs.declared.node.Piece.{Piece}
@@ -13,7 +13,7 @@ use Rattle.llb_tree.proofs.InPlace.{lays_puts}
 use Rattle.llb_tree.proofs.Keyed.{InOrder}
 use Rattle.llb_tree.proofs.Pieced.{pairs_kids, sorted_kids}
 
-module _ (w : WayValue) (old : List Child) where
+module _ (w : SettingsValue) (old : List Child) where
   laid_append : (us ks vs ls : List Child) → AreLaid w old us ks → AreLaid w old vs ls → AreLaid w old (us ++ vs) (ks ++ ls)
   laid_append [] [] vs ls h g = g
   laid_append [] (k ∷ ks) vs ls h g = absurd h
@@ -126,7 +126,7 @@ map_set (q ∷ ps) zero p = refl
 map_set (q ∷ ps) (suc i) p = ap (λ es. row_pairs q ∷ es) (map_set ps i p)
 
 -- putting the laid children among the old ones lays all upper children over them
-pub lays_put : (w : WayValue) (old us new : List Piece) (made : List Child) → ArePieced old → ArePieced us → AreLaid w (kids_in old) (kids_in us) made
+pub lays_put : (w : SettingsValue) (old us new : List Piece) (made : List Child) → ArePieced old → ArePieced us → AreLaid w (kids_in old) (kids_in us) made
     → pairs_of new ≡ puts (map pair_of made) (pairs_of old) → Lays w (kids_in us) (kids_in old) (kids_in new)
 lays_put w old us new made h above laid is = lays_puts w (kids_in old) (kids_in us) made (kids_in new) (sorted_kids old h) (sorted_kids us above) laid
     (pairs_kids new ∙ is ∙ ap (puts (map pair_of made)) (sym (pairs_kids old)))

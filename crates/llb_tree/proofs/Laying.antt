@@ -8,7 +8,7 @@ use Rattle.llb_tree.specs.Meta.{MetaValue}
 use Rattle.llb_tree.specs.Path.{name_cmp}
 use Rattle.llb_tree.specs.Tree.{TreeMap, Entry, Dir, File, Look, parents}
 use Rattle.llb_tree.specs.Nodes.{name_of, own_entry, kids_of, map_of, pair_of, place, AreSorted, child, look_in}
-use Rattle.llb_tree.specs.Overlay.{is_file, below_file, WayValue, laid_meta, over, laid_over, over_at}
+use Rattle.llb_tree.specs.Overlay.{is_file, below_file, SettingsValue, laid_meta, over, laid_over, over_at}
 use Rattle.llb_tree.specs.Laying.{Lays}
 use Rattle.llb_tree.specs.Looks.{look_kids, get-below, get-root}
 use Rattle.std.specs.Arc.{arc_value}
@@ -26,11 +26,11 @@ below_none g [] none = refl
 below_none g (p ∷ ps) none = (λ i. is_file (none p i) || below_none g ps none i)
 
 -- nothing over a tree
-pub none_over : (w : WayValue) (f g : Look) (q : List (List ℕ)) → ((r : List (List ℕ)) → g r ≡ None) → over_at w f g q ≡ f q
+pub none_over : (w : SettingsValue) (f g : Look) (q : List (List ℕ)) → ((r : List (List ℕ)) → g r ≡ None) → over_at w f g q ≡ f q
 none_over w f g q none = λ i. laid_over w (f q) (none q i) (below_none g (parents q) none i)
 
 -- a tree over nothing
-pub over_none : (w : WayValue) (o : Option Entry) (b : Bool) → laid_over w None o b ≡ option_map (over w None) o
+pub over_none : (w : SettingsValue) (o : Option Entry) (b : Bool) → laid_over w None o b ≡ option_map (over w None) o
 over_none w (Some e) b = refl
 over_none w None true = refl
 over_none w None false = refl
@@ -43,7 +43,7 @@ pub record IsLone (f : Look) : Type 0 where
   pub below : (n : List ℕ) (q : List (List ℕ)) → f (n ∷ q) ≡ None
 
 -- all that is left of a lone file over any tree is the file, in the mode and the owner that are given
-pub over_file : (w : WayValue) (f g : Look) (q : List (List ℕ)) → IsLone g → over_at w f g q ≡ option_map (over w None) (g q)
+pub over_file : (w : SettingsValue) (f g : Look) (q : List (List ℕ)) → IsLone g → over_at w f g q ≡ option_map (over w None) (g q)
 over_file w f g [] lone = let at = lone.at in ap (λ o. laid_over w (f []) o false) at.2 ∙ go (f []) at.0 at.1 ∙ ap (option_map (over w None)) (sym at.2)
   where
     go : (o : Option Entry) (m : MetaValue) (b : List ℕ) → ◌≡◌ {A = Option Entry} (Some (over w o (File m b))) (Some (File (laid_meta w m) b))
@@ -57,7 +57,7 @@ over_file w f g (n ∷ q) lone =
     ∙ ap (option_map (over w None)) (sym (lone.below n q))
 
 -- all that is left of a tree over a lone file is the tree, in the mode and the owner that are given
-pub under_file : (w : WayValue) (f g : Look) (q : List (List ℕ)) (e : Entry) → IsLone f → g [] ≡ Some e → over_at w f g q ≡ option_map (over w None) (g q)
+pub under_file : (w : SettingsValue) (f g : Look) (q : List (List ℕ)) (e : Entry) → IsLone f → g [] ≡ Some e → over_at w f g q ≡ option_map (over w None) (g q)
 under_file w f g [] e lone is = (λ i. laid_over w (lone.at.2 i) (is i) false) ∙ go lone.at.0 lone.at.1 e ∙ ap (option_map (over w None)) (sym is)
   where
     go : (m : MetaValue) (b : List ℕ) (e : Entry) → ◌≡◌ {A = Option Entry} (Some (over w (Some (File m b)) e)) (Some (over w None e))
@@ -79,7 +79,7 @@ pub root_there : (k : Kind) (t : TreeMap) → map_of k ≡ t → finite.get t []
 root_there k t view = ap (λ x. finite.get x []) (sym view) ∙ get-root k
 
 -- a directory with its entry over another's and its children laid over the other's represents one tree over the other
-pub node_laid : (w : WayValue) (k u j : Kind) (m l : MetaValue) → AreSorted (kids_of k) → AreSorted (kids_of u) → own_entry k ≡ Dir m → own_entry u ≡ Dir l
+pub node_laid : (w : SettingsValue) (k u j : Kind) (m l : MetaValue) → AreSorted (kids_of k) → AreSorted (kids_of u) → own_entry k ≡ Dir m → own_entry u ≡ Dir l
     → own_entry j ≡ over w (Some (Dir m)) (Dir l) → Lays w (kids_of u) (kids_of k) (kids_of j)
     → (q : List (List ℕ)) → finite.get (map_of j) q ≡ over_at w (finite.get (map_of k)) (finite.get (map_of u)) q
 node_laid w k u j m l sk su ek eu ej lays [] =

@@ -7,8 +7,8 @@ use Rattle.std.specs.FinMap as finite
 use Rattle.llb_tree.specs.Meta.{MetaValue, IsMeta}
 use Rattle.llb_tree.specs.Tree.{Entry, Dir, File, TreeMap, Look, meta_in, parents, all_dirs, walk, height, IsDirAt, HasBytes, IsAllowedAt, IsTree}
 use Rattle.llb_tree.specs.Falls.{height_le, le_height}
-use Rattle.llb_tree.specs.Overlay.{is_file, below_file, WayValue, is_mode, laid_meta, over, laid_over, over_at}
-use Rattle.llb_tree.specs.Laying.{IsWay, owner_fits}
+use Rattle.llb_tree.specs.Overlay.{is_file, below_file, SettingsValue, is_mode, laid_meta, over, laid_over, over_at}
+use Rattle.llb_tree.specs.Laying.{AreSettings, owner_fits}
 use Rattle.llb_tree.proofs.Inside.{map-map, walk-cons}
 use Rattle.llb_tree.proofs.Closed.{walk_more}
 
@@ -19,13 +19,13 @@ below_file-cons look n p = ap (λ ys. list_any is_file (look [] ∷ ys)) (map-ma
 -- ---- what is laid
 
 -- the entry of the lower tree decides nothing where it is no directory
-dir_at : (w : WayValue) (there : Option Entry) (k : MetaValue) → (m : MetaValue) × (over w there (Dir k) ≡ Dir m)
+dir_at : (w : SettingsValue) (there : Option Entry) (k : MetaValue) → (m : MetaValue) × (over w there (Dir k) ≡ Dir m)
 dir_at w None k = (laid_meta w k, refl)
 dir_at w (Some (File m b)) k = (laid_meta w k, refl)
 dir_at w (Some (Dir m)) k = (cond w.keeps m (laid_meta w k), refl)
 
 -- an entry of the whole is the upper tree's over what the lower one has there, or is the lower one's that nothing hides
-laid_cases : (C : Type 0) (w : WayValue) (f g : Look) (q : List (List ℕ)) (e : Entry) → ((d : Entry) → g q ≡ Some d → over w (f q) d ≡ e → C)
+laid_cases : (C : Type 0) (w : SettingsValue) (f g : Look) (q : List (List ℕ)) (e : Entry) → ((d : Entry) → g q ≡ Some d → over w (f q) d ≡ e → C)
     → (g q ≡ None → below_file g q ≡ false → f q ≡ Some e → C) → over_at w f g q ≡ Some e → C
 laid_cases C w f g q e up low is = by_upper (g q) refl is
   where
@@ -39,11 +39,11 @@ laid_cases C w f g q e up low is = by_upper (g q) refl is
 
 -- ---- walks
 
-dir_over : (w : WayValue) (f g : Look) (r : List (List ℕ)) → IsDirAt g r → IsDirAt (over_at w f g) r
+dir_over : (w : SettingsValue) (f g : Look) (r : List (List ℕ)) → IsDirAt g r → IsDirAt (over_at w f g) r
 dir_over w f g r is = let dir = dir_at w (f r) is.0 in (dir.0, ap (λ o. laid_over w (f r) o (below_file g r)) is.1 ∙ ap (λ e. Some e) dir.1)
 
 -- what can be walked to in the lower tree can be walked to in both, where no file of the upper one is above it
-walk_both : (w : WayValue) (f g : Look) (p : List (List ℕ)) → walk f p ≡ Ok tt → below_file g p ≡ false → walk (over_at w f g) p ≡ Ok tt
+walk_both : (w : SettingsValue) (f g : Look) (p : List (List ℕ)) → walk f p ≡ Ok tt → below_file g p ≡ false → walk (over_at w f g) p ≡ Ok tt
 walk_both w f g [] walks clear = refl
 walk_both w f g (n ∷ p) walks clear =
     walk-cons (over_at w f g) n p
@@ -73,24 +73,24 @@ small_owner : (o : Option ℕ) (m : ℕ) → owner_fits o → m < 2 ^ 32 → unw
 small_owner None m fits lt = lt
 small_owner (Some x) m fits lt = fits
 
-given_meta : (w : WayValue) (m : MetaValue) → IsWay w → IsMeta m → IsMeta (laid_meta w m)
-given_meta w m way is = record {
-  mode = small_mode w.mode m.mode way.mode is.mode;
-  uid = small_owner w.uid m.uid way.uid is.uid;
-  gid = small_owner w.gid m.gid way.gid is.gid;
+given_meta : (w : SettingsValue) (m : MetaValue) → AreSettings w → IsMeta m → IsMeta (laid_meta w m)
+given_meta w m settings is = record {
+  mode = small_mode w.mode m.mode settings.mode is.mode;
+  uid = small_owner w.uid m.uid settings.uid is.uid;
+  gid = small_owner w.gid m.gid settings.gid is.gid;
 }
 
-over_meta : (w : WayValue) (there : Option Entry) (d : Entry) → IsWay w → ((m : MetaValue) → there ≡ Some (Dir m) → IsMeta m) → IsMeta (meta_in d)
+over_meta : (w : SettingsValue) (there : Option Entry) (d : Entry) → AreSettings w → ((m : MetaValue) → there ≡ Some (Dir m) → IsMeta m) → IsMeta (meta_in d)
     → IsMeta (meta_in (over w there d))
-over_meta w None (Dir k) way lower is = given_meta w k way is
-over_meta w None (File k c) way lower is = given_meta w k way is
-over_meta w (Some (File m b)) (Dir k) way lower is = given_meta w k way is
-over_meta w (Some (File m b)) (File k c) way lower is = given_meta w k way is
-over_meta w (Some (Dir m)) (File k c) way lower is = given_meta w k way is
-over_meta w (Some (Dir m)) (Dir k) way lower is = elim w.keeps as
-    (λ b. IsMeta (cond b m (laid_meta w k))) [ true ↦ lower m refl | false ↦ given_meta w k way is ]
+over_meta w None (Dir k) settings lower is = given_meta w k settings is
+over_meta w None (File k c) settings lower is = given_meta w k settings is
+over_meta w (Some (File m b)) (Dir k) settings lower is = given_meta w k settings is
+over_meta w (Some (File m b)) (File k c) settings lower is = given_meta w k settings is
+over_meta w (Some (Dir m)) (File k c) settings lower is = given_meta w k settings is
+over_meta w (Some (Dir m)) (Dir k) settings lower is = elim w.keeps as
+    (λ b. IsMeta (cond b m (laid_meta w k))) [ true ↦ lower m refl | false ↦ given_meta w k settings is ]
 
-over_bytes : (w : WayValue) (there : Option Entry) (d : Entry) → HasBytes d → HasBytes (over w there d)
+over_bytes : (w : SettingsValue) (there : Option Entry) (d : Entry) → HasBytes d → HasBytes (over w there d)
 over_bytes w None (Dir k) bytes = tt
 over_bytes w None (File k c) bytes = bytes
 over_bytes w (Some (File m b)) (Dir k) bytes = tt
@@ -104,7 +104,7 @@ some_is : (o : Option Entry) → IsSome o → (e : Entry) × (o ≡ Some e)
 some_is None there = absurd (true≢false (sym there))
 some_is (Some e) there = (e, refl)
 
-module _ (w : WayValue) (a b t : TreeMap) (is : (q : List (List ℕ)) → finite.get t q ≡ over_at w (finite.get a) (finite.get b) q) where
+module _ (w : SettingsValue) (a b t : TreeMap) (is : (q : List (List ℕ)) → finite.get t q ≡ over_at w (finite.get a) (finite.get b) q) where
   looks : (p : List (List ℕ)) → walk (finite.get t) p ≡ walk (over_at w (finite.get a) (finite.get b)) p
   looks p = ap (λ look. walk look p) (λ i r. is r i)
 
@@ -113,9 +113,9 @@ module _ (w : WayValue) (a b t : TreeMap) (is : (q : List (List ℕ)) → finite
   by_entry C p e up low there = laid_cases C w (finite.get a) (finite.get b) p e up low (sym (is p) ∙ there)
 
   -- a map that has at each path what one tree laid over another has is a tree
-  pub IsTree-overlaid : IsWay w → IsTree a → IsTree b → IsTree t
+  pub IsTree-overlaid : AreSettings w → IsTree a → IsTree b → IsTree t
   unfolding dir_over
-  IsTree-overlaid way lower upper =
+  IsTree-overlaid settings lower upper =
       let root = dir_over w (finite.get a) (finite.get b) [] upper.root in
       record {
         root = (root.0, is [] ∙ root.1);
@@ -127,7 +127,7 @@ module _ (w : WayValue) (a b t : TreeMap) (is : (q : List (List ℕ)) → finite
         allowed = λ p e. by_entry (IsAllowedAt p e) p e
             (λ d up same.
             let can = upper.allowed p d up in
-            let own = over_meta w (finite.get a p) d way (λ m low. (lower.allowed p (Dir m) low).meta) can.meta in
+            let own = over_meta w (finite.get a p) d settings (λ m low. (lower.allowed p (Dir m) low).meta) can.meta in
             let bytes = over_bytes w (finite.get a p) d can.bytes in
             record { path = can.path; meta = subst (λ x. IsMeta (meta_in x)) same own; bytes = subst HasBytes same bytes })
             (λ none clear low. lower.allowed p e low);

@@ -6,54 +6,54 @@ use Rattle.llb_tree.specs.Path.{name_cmp}
 use Rattle.llb_tree.specs.Tree.{TreeMap, Entry}
 use Rattle.llb_tree.specs.Nodes.{AreSorted, Pairs, child, look_in, name_of, pair_of, rows_in}
 use Rattle.llb_tree.specs.Meta.{MetaValue}
-use Rattle.llb_tree.specs.Overlay.{WayValue, is_mode, laid_meta, over, over_at}
+use Rattle.llb_tree.specs.Overlay.{SettingsValue, is_mode, laid_meta, over, over_at}
 use Rattle.llb_tree.specs.declared.node.Child.{Child}
 use Rattle.llb_tree.specs.declared.node.Piece.{Piece}
 
 -- the tree with the mode, the user and the group of `w` at each entry; what `w` does not give stays as it is
-abbrev pub dress : WayValue → TreeMap → TreeMap
+abbrev pub dress : SettingsValue → TreeMap → TreeMap
 dress w t = finite.from_entries (map (λ (e : List (List ℕ) × Entry). (e.0, over w None e.1)) (finite.entries t))
 
 -- a child whose tree gets the given mode and owner at each entry; its name stays
-abbrev pub dress_pair : WayValue → List ℕ × TreeMap → List ℕ × TreeMap
+abbrev pub dress_pair : SettingsValue → List ℕ × TreeMap → List ℕ × TreeMap
 dress_pair w k = (k.0, dress w k.1)
 
 -- the new children are the old ones after the upper ones are laid over them
-pub record Lays (w : WayValue) (upper old new : List Child) : Type 0 where
+pub record Lays (w : SettingsValue) (upper old new : List Child) : Type 0 where
   pub sorted : AreSorted new
   pub children : (m : List ℕ) (q : List (List ℕ)) → look_in (child m new) q ≡ over_at w (look_in (child m old)) (look_in (child m upper)) q
 
 -- t is the tree of an upper child laid over the lower child of the same name, if there is one
-abbrev pub IsOver : WayValue → List Child → Child → TreeMap → Type 0
+abbrev pub IsOver : SettingsValue → List Child → Child → TreeMap → Type 0
 IsOver w old upper t = (q : List (List ℕ)) → finite.get t q ≡ over_at w (look_in (child (name_of upper) old)) (finite.get upper.node) q
 
 -- `made` is the upper child laid over the lower child of the same name, if there is one
-pub record IsLaid (w : WayValue) (old : List Child) (upper made : Child) : Type 0 where
+pub record IsLaid (w : SettingsValue) (old : List Child) (upper made : Child) : Type 0 where
   pub named : name_of made ≡ name_of upper
   pub laid : (q : List (List ℕ)) → finite.get made.node q ≡ over_at w (look_in (child (name_of upper) old)) (finite.get upper.node) q
 
 -- for each upper child there is one made child, in the same order: the upper child laid over the lower one of its name
-abbrev pub AreLaid : WayValue → List Child → List Child → List Child → Type 0
+abbrev pub AreLaid : SettingsValue → List Child → List Child → List Child → Type 0
 AreLaid w old [] [] = Unit {0}
 AreLaid w old [] (k ∷ made) = ⊥
 AreLaid w old (u ∷ upper) [] = ⊥
 AreLaid w old (u ∷ upper) (k ∷ made) = IsLaid w old u k × AreLaid w old upper made
 
 -- for each upper piece there is one new piece, with the children of the upper one laid as `AreLaid` says
-abbrev pub PiecesLaid : WayValue → List Child → List Piece → List Piece → Type 0
+abbrev pub PiecesLaid : SettingsValue → List Child → List Piece → List Piece → Type 0
 PiecesLaid w old [] [] = Unit {0}
 PiecesLaid w old [] (p ∷ made) = ⊥
 PiecesLaid w old (u ∷ upper) [] = ⊥
 PiecesLaid w old (u ∷ upper) (p ∷ made) = AreLaid w old (rows_in u) (rows_in p) × PiecesLaid w old upper made
 
 -- each upper entry is laid with its own mode and owner, whatever was at its path before
-pub record TakesWhole (w : WayValue) : Type 0 where
+pub record TakesWhole (w : SettingsValue) : Type 0 where
   pub own : (m : MetaValue) → laid_meta w m ≡ m
   pub upper : w.keeps ≡ false
 
 -- the upper children are laid without change: they are the new children
-pub record StandWhole (w : WayValue) (upper new : List Child) : Type 0 where
-  pub way : TakesWhole w
+pub record StandWhole (w : SettingsValue) (upper new : List Child) : Type 0 where
+  pub settings : TakesWhole w
   pub same : map pair_of new ≡ map pair_of upper
 
 -- each name of the lower children is also a name of an upper child
@@ -92,7 +92,7 @@ owner_fits None = Unit {0}
 owner_fits (Some owner) = owner < 2 ^ 32
 
 -- the mode, if given, is at most 4095, and each owner, if given, has at most 32 bits
-pub record IsWay (w : WayValue) : Type 0 where
+pub record AreSettings (w : SettingsValue) : Type 0 where
   pub mode : is_mode w.mode ≡ true
   pub uid : owner_fits w.uid
   pub gid : owner_fits w.gid

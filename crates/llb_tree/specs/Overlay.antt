@@ -16,7 +16,7 @@ abbrev pub below_file : Look → List (List ℕ) → Bool
 below_file look p = list_any is_file (map look (parents p))
 
 -- how one tree is laid over another: the mode and owners to be set, if any, and whether a directory that both trees have stays as in the lower tree
-pub record WayValue : Type 0 where
+pub record SettingsValue : Type 0 where
   pub mode : Option ℕ
   pub uid : Option ℕ
   pub gid : Option ℕ
@@ -27,26 +27,26 @@ abbrev pub is_mode : Option ℕ → Bool
 is_mode None = true
 is_mode (Some mode) = if nat_lt 4095 mode then false else true
 
--- a `WayValue` with this mode, user and group, each of them optional, and this `keeps`; nothing if the mode is above 4095
-abbrev pub way_of : Option ℕ → Option ℕ → Option ℕ → Bool → Option WayValue
-way_of mode uid gid keeps = if is_mode mode then Some (record { mode = mode; uid = uid; gid = gid; keeps = keeps }) else None
+-- a `SettingsValue` with this mode, user and group, each of them optional, and this `keeps`; nothing if the mode is above 4095
+abbrev pub settings_of : Option ℕ → Option ℕ → Option ℕ → Bool → Option SettingsValue
+settings_of mode uid gid keeps = if is_mode mode then Some (record { mode = mode; uid = uid; gid = gid; keeps = keeps }) else None
 
 -- the mode and the owner of an upper entry: those that are given, else those that the entry has
-abbrev pub laid_meta : WayValue → MetaValue → MetaValue
+abbrev pub laid_meta : SettingsValue → MetaValue → MetaValue
 laid_meta w m = record { mode = unwrap_or w.mode m.mode; uid = unwrap_or w.uid m.uid; gid = unwrap_or w.gid m.gid }
 
 -- an entry of the upper tree, laid over what the lower one has at its path
-abbrev pub over : WayValue → Option Entry → Entry → Entry
+abbrev pub over : SettingsValue → Option Entry → Entry → Entry
 over w (Some (Dir m)) (Dir k) = Dir (if w.keeps then m else laid_meta w k)
 over w (Some (File m b)) (Dir k) = Dir (laid_meta w k)
 over w None (Dir k) = Dir (laid_meta w k)
 over w there (File k c) = File (laid_meta w k) c
 
 -- the entry at a path, by what each tree has there, and by whether a file of the upper tree is above it
-abbrev pub laid_over : WayValue → Option Entry → Option Entry → Bool → Option Entry
+abbrev pub laid_over : SettingsValue → Option Entry → Option Entry → Bool → Option Entry
 laid_over w there (Some e) hidden = Some (over w there e)
 laid_over w there None hidden = if hidden then None else there
 
 -- the entry at a path when the upper tree, given last, is laid over the lower one
-abbrev pub over_at : WayValue → Look → Look → Look
+abbrev pub over_at : SettingsValue → Look → Look → Look
 over_at w lower upper p = laid_over w (lower p) (upper p) (below_file upper p)

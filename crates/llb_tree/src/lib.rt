@@ -36,7 +36,7 @@ mod putting;
 mod tested;
 mod tree;
 mod walk;
-mod way;
+mod settings;
 mod writing;
 
 pub use children::Children;
@@ -52,4 +52,4 @@ pub use path::Path;
 pub use tested::NameTest;
 pub use tree::Tree;
 pub use walk::Walk;
-pub use way::Way;
+pub use settings::OverlaySettings;

@@ -20,39 +20,39 @@ use crate::node::{Child, Kind, Node, Piece};
 use crate::pieces::{child_near, child_of, in_pieces};
 use crate::putting::put_all;
 use crate::tree::Tree;
-use crate::way::Way;
+use crate::settings::OverlaySettings;
 use crate::writing::{with_node, with_rows};
 use std::alloc::{AllocError, Global};
 use std::sync::Arc;
 
-// Returns the node, and all that is below it, with the mode and the owner of the `Way`. Contents are shared; so is
-// the whole node if the `Way` has neither mode nor owner.
+// Returns the node, and all that is below it, with the mode and the owner of the `OverlaySettings`. Contents are shared; so is
+// the whole node if the `OverlaySettings` has neither mode nor owner.
 #[cycle(dress)]
-fn dressed(node: &Node, alloc: Global, way: &Way) -> Result<Node, AllocError>
-    ensures { IfOk result (λ n. n ≡ dress way.now node.now) }
+fn dressed(node: &Node, alloc: Global, settings: &OverlaySettings) -> Result<Node, AllocError>
+    ensures { IfOk result (λ n. n ≡ dress settings.now node.now) }
 {
-    if way.gives_nothing() {
+    if settings.gives_nothing() {
         return node.copy();
     }
     let kind = match &node.kind {
-        Kind::File(meta, content) => Kind::File(way.laid_meta(*meta), Arc::try_clone(content)?),
+        Kind::File(meta, content) => Kind::File(settings.laid_meta(*meta), Arc::try_clone(content)?),
         Kind::Dir(meta, kids) => {
-            let list = all_dressed(Children::of(kids.as_slice()), alloc, way)?;
-            Kind::Dir(way.laid_meta(*meta), in_pieces(alloc, list)?)
+            let list = all_dressed(Children::of(kids.as_slice()), alloc, settings)?;
+            Kind::Dir(settings.laid_meta(*meta), in_pieces(alloc, list)?)
         }
     };
     Ok(Node { kind })
 }
 
 #[cycle(dress)]
-fn all_dressed(kids: Children<'_>, alloc: Global, way: &Way) -> Result<Vec<Child>, AllocError>
-    ensures { IfOk result (λ v. map pair_of v.items ≡ map (dress_pair way.now) (map pair_of (left_in kids.entry))) }
+fn all_dressed(kids: Children<'_>, alloc: Global, settings: &OverlaySettings) -> Result<Vec<Child>, AllocError>
+    ensures { IfOk result (λ v. map pair_of v.items ≡ map (dress_pair settings.now) (map pair_of (left_in kids.entry))) }
 {
     let mut list = Vec::new(alloc);
     let mut left = kids;
     while let Some((kid, rest)) = left.split_first() {
         let name = Arc::try_clone(&kid.name)?;
-        let node = dressed(&kid.node, alloc, way)?;
+        let node = dressed(&kid.node, alloc, settings)?;
         list.push(Child { name, node })?;
         left = rest;
     }
@@ -62,20 +62,20 @@ fn all_dressed(kids: Children<'_>, alloc: Global, way: &Way) -> Result<Vec<Child
 // Lays a node over another, which it changes; a refusal leaves that as it was. Returns whether the upper node is
 // there unchanged.
 #[cycle(lay)]
-fn lay_node(lower: &mut Node, alloc: Global, way: &Way, upper: &Node) -> Result<bool, AllocError>
-    ensures ok { OnOk result ((q : List (List ℕ)) → finite.get lower.new q ≡ over_at way.now (finite.get lower.old) (finite.get upper.now) q) }
+fn lay_node(lower: &mut Node, alloc: Global, settings: &OverlaySettings, upper: &Node) -> Result<bool, AllocError>
+    ensures ok { OnOk result ((q : List (List ℕ)) → finite.get lower.new q ≡ over_at settings.now (finite.get lower.old) (finite.get upper.now) q) }
     ensures whole { IfOk result (λ whole. whole ≡ true → lower.new ≡ upper.now) }
     ensures err { OnErr result (lower.new ≡ lower.old) }
 {
     match (&mut lower.kind, &upper.kind) {
         (Kind::Dir(meta, kids), Kind::Dir(laid, list)) => {
-            let whole = lay_children(kids, alloc, way, list)?;
-            *meta = way.met(*meta, *laid);
+            let whole = lay_children(kids, alloc, settings, list)?;
+            *meta = settings.met(*meta, *laid);
             Ok(whole)
         }
         _ => {
-            *lower = dressed(upper, alloc, way)?;
-            Ok(way.gives_nothing())
+            *lower = dressed(upper, alloc, settings)?;
+            Ok(settings.gives_nothing())
         }
     }
 }
@@ -86,21 +86,23 @@ fn lay_node(lower: &mut Node, alloc: Global, way: &Way, upper: &Node) -> Result<
 fn lay_children(
     kids: &mut Arc<Vec<Piece>>,
     alloc: Global,
-    way: &Way,
+    settings: &OverlaySettings,
     upper: &Arc<Vec<Piece>>,
 ) -> Result<bool, AllocError>
     requires lower { ArePieced (arc_value kids.old).items }
     requires upper { ArePieced (arc_value upper.now).items }
-    ensures ok { OnOk result (Lays way.now (kids_in (arc_value upper.now).items) (kids_in (arc_value kids.old).items) (kids_in (arc_value kids.new).items)) }
+    ensures ok {
+        OnOk result (Lays settings.now (kids_in (arc_value upper.now).items) (kids_in (arc_value kids.old).items) (kids_in (arc_value kids.new).items))
+    }
     ensures pieced { ArePieced (arc_value kids.new).items }
-    ensures whole { IfOk result (λ whole. whole ≡ true → StandWhole way.now (kids_in (arc_value upper.now).items) (kids_in (arc_value kids.new).items)) }
+    ensures whole { IfOk result (λ whole. whole ≡ true → StandWhole settings.now (kids_in (arc_value upper.now).items) (kids_in (arc_value kids.new).items)) }
     ensures err { OnErr result (pairs_of (arc_value kids.new).items ≡ pairs_of (arc_value kids.old).items) }
 {
     let above = upper.as_slice();
-    if way.takes_whole() && covers(above, kids.as_slice()) {
-        return lay_all(kids, alloc, way, upper);
+    if settings.takes_whole() && covers(above, kids.as_slice()) {
+        return lay_all(kids, alloc, settings, upper);
     }
-    lay_each(kids, alloc, way, above)?;
+    lay_each(kids, alloc, settings, above)?;
     Ok(false)
 }
 
@@ -109,19 +111,21 @@ fn lay_children(
 fn lay_all(
     kids: &mut Arc<Vec<Piece>>,
     alloc: Global,
-    way: &Way,
+    settings: &OverlaySettings,
     upper: &Arc<Vec<Piece>>,
 ) -> Result<bool, AllocError>
     requires lower { ArePieced (arc_value kids.old).items }
     requires upper { ArePieced (arc_value upper.now).items }
-    requires way { TakesWhole way.now }
+    requires settings { TakesWhole settings.now }
     requires covers { Covers (kids_in (arc_value upper.now).items) (kids_in (arc_value kids.old).items) }
-    ensures ok { OnOk result (Lays way.now (kids_in (arc_value upper.now).items) (kids_in (arc_value kids.old).items) (kids_in (arc_value kids.new).items)) }
+    ensures ok {
+        OnOk result (Lays settings.now (kids_in (arc_value upper.now).items) (kids_in (arc_value kids.old).items) (kids_in (arc_value kids.new).items))
+    }
     ensures pieced { ArePieced (arc_value kids.new).items }
-    ensures whole { IfOk result (λ whole. whole ≡ true → StandWhole way.now (kids_in (arc_value upper.now).items) (kids_in (arc_value kids.new).items)) }
+    ensures whole { IfOk result (λ whole. whole ≡ true → StandWhole settings.now (kids_in (arc_value upper.now).items) (kids_in (arc_value kids.new).items)) }
     ensures err { OnErr result (pairs_of (arc_value kids.new).items ≡ pairs_of (arc_value kids.old).items) }
 {
-    match laid_all(kids.as_slice(), alloc, way, upper.as_slice())? {
+    match laid_all(kids.as_slice(), alloc, settings, upper.as_slice())? {
         None => {
             *kids = Arc::try_clone(upper)?;
             Ok(true)
@@ -138,16 +142,16 @@ fn lay_all(
 fn laid_all(
     kids: &[Piece],
     alloc: Global,
-    way: &Way,
+    settings: &OverlaySettings,
     upper: &[Piece],
 ) -> Result<Option<Vec<Piece>>, AllocError>
     requires lower { ArePieced kids.now }
-    requires way { TakesWhole way.now }
-    ensures { IfOk result (λ made. PiecesLaid way.now (kids_in kids.now) upper.now (those_pieces made upper.now)) }
+    requires settings { TakesWhole settings.now }
+    ensures { IfOk result (λ made. PiecesLaid settings.now (kids_in kids.now) upper.now (those_pieces made upper.now)) }
 {
     let mut made = None;
     for (i, piece) in upper.iter().enumerate() {
-        if let Some(rows) = laid_rows(kids, alloc, way, i, piece.rows.as_slice())? {
+        if let Some(rows) = laid_rows(kids, alloc, settings, i, piece.rows.as_slice())? {
             made = Some(with_rows(made, alloc, upper, i, rows)?);
         }
     }
@@ -160,19 +164,19 @@ fn laid_all(
 fn laid_rows(
     kids: &[Piece],
     alloc: Global,
-    way: &Way,
+    settings: &OverlaySettings,
     at: usize,
     upper: &[Child],
 ) -> Result<Option<Vec<Child>>, AllocError>
     requires lower { ArePieced kids.now }
-    requires way { TakesWhole way.now }
-    ensures { IfOk result (λ made. AreLaid way.now (kids_in kids.now) upper.now (those made upper.now)) }
+    requires settings { TakesWhole settings.now }
+    ensures { IfOk result (λ made. AreLaid settings.now (kids_in kids.now) upper.now (those made upper.now)) }
 {
     let mut made = None;
     for (i, kid) in upper.iter().enumerate() {
         if let Kind::Dir(..) = &kid.node.kind {
             let lower = child_near(kids, at, i, &kid.name);
-            if let Some(node) = laid_over(lower, alloc, way, kid)? {
+            if let Some(node) = laid_over(lower, alloc, settings, kid)? {
                 made = Some(with_node(made, alloc, upper, i, node)?);
             }
         }
@@ -185,18 +189,18 @@ fn laid_rows(
 fn laid_over(
     lower: Option<&Child>,
     alloc: Global,
-    way: &Way,
+    settings: &OverlaySettings,
     upper: &Child,
 ) -> Result<Option<Node>, AllocError>
-    requires way { TakesWhole way.now }
+    requires settings { TakesWhole settings.now }
     ensures { (old : List Child) → option_map (λ k. k.now.node) lower.entry ≡ child (name_of upper.now) old
-        → IfOk result (λ made. IsOver way.now old upper.now (unwrap_or made upper.now.node)) }
+        → IfOk result (λ made. IsOver settings.now old upper.now (unwrap_or made upper.now.node)) }
 {
     let Some(lower) = lower else {
         return Ok(None);
     };
     let mut node = lower.node.copy()?;
-    if lay_node(&mut node, alloc, way, &upper.node)? {
+    if lay_node(&mut node, alloc, settings, &upper.node)? {
         return Ok(None);
     }
     Ok(Some(node))
@@ -207,16 +211,16 @@ fn laid_over(
 fn lay_each(
     kids: &mut Arc<Vec<Piece>>,
     alloc: Global,
-    way: &Way,
+    settings: &OverlaySettings,
     upper: &[Piece],
 ) -> Result<(), AllocError>
     requires lower { ArePieced (arc_value kids.old).items }
     requires upper { ArePieced upper.now }
-    ensures ok { OnOk result (Lays way.now (kids_in upper.now) (kids_in (arc_value kids.old).items) (kids_in (arc_value kids.new).items)) }
+    ensures ok { OnOk result (Lays settings.now (kids_in upper.now) (kids_in (arc_value kids.old).items) (kids_in (arc_value kids.new).items)) }
     ensures pieced { ArePieced (arc_value kids.new).items }
     ensures err { OnErr result (pairs_of (arc_value kids.new).items ≡ pairs_of (arc_value kids.old).items) }
 {
-    let ready = laid_children(kids.as_slice(), alloc, way, Children::of(upper))?;
+    let ready = laid_children(kids.as_slice(), alloc, settings, Children::of(upper))?;
     put_all(kids, alloc, ready)
 }
 
@@ -224,66 +228,67 @@ fn lay_each(
 fn laid_children(
     kids: &[Piece],
     alloc: Global,
-    way: &Way,
+    settings: &OverlaySettings,
     upper: Children<'_>,
 ) -> Result<Vec<Child>, AllocError>
     requires { ArePieced kids.now }
-    ensures { IfOk result (λ v. AreLaid way.now (kids_in kids.now) (left_in upper.entry) v.items) }
+    ensures { IfOk result (λ v. AreLaid settings.now (kids_in kids.now) (left_in upper.entry) v.items) }
 {
     let mut ready = Vec::new(alloc);
     let mut left = upper;
     while let Some((kid, rest)) = left.split_first() {
-        ready.push(laid_child(kids, alloc, way, kid)?)?;
+        ready.push(laid_child(kids, alloc, settings, kid)?)?;
         left = rest;
     }
     Ok(ready)
 }
 
-// Lays an upper child over a copy of the lower child of the same name; if there is none, returns the upper child with the mode and the owner of the `Way`.
+// Lays an upper child over a copy of the lower child of the same name; if there is none, returns the upper child with the mode and the owner of
+// the settings.
 #[cycle(lay)]
-fn laid_child(kids: &[Piece], alloc: Global, way: &Way, upper: &Child) -> Result<Child, AllocError>
+fn laid_child(kids: &[Piece], alloc: Global, settings: &OverlaySettings, upper: &Child) -> Result<Child, AllocError>
     requires { ArePieced kids.now }
-    ensures { IfOk result (λ k. IsLaid way.now (kids_in kids.now) upper.now k) }
+    ensures { IfOk result (λ k. IsLaid settings.now (kids_in kids.now) upper.now k) }
 {
     let name = Arc::try_clone(&upper.name)?;
     match child_of(kids, &upper.name) {
         Some(lower) => {
             let mut node = lower.node.copy()?;
-            lay_node(&mut node, alloc, way, &upper.node)?;
+            lay_node(&mut node, alloc, settings, &upper.node)?;
             Ok(Child { name, node })
         }
         None => {
-            let node = dressed(&upper.node, alloc, way)?;
+            let node = dressed(&upper.node, alloc, settings)?;
             Ok(Child { name, node })
         }
     }
 }
 
 impl Tree {
-    /// Lays another tree over this one, and returns the result: at a path it has what the other tree has there, with the mode and the owner of `way`; if that
-    /// is nothing, what this tree has there, unless a file of the other is above the path. A directory that both have is as in the other tree, or as in this
-    /// one if `way` keeps it. Fails with 27 `Memory` alone. It goes down both trees at once and visits only what both have; what only one has is shared, not
-    /// copied. Only if `way` has a mode or an owner are there new nodes for all that is laid, and even then contents are shared.
-    pub fn overlaid(self, way: &Way, upper: &Tree) -> Result<Tree, TreeFault>
-        ensures paths { IfOk result (λ t. (q : List (List ℕ)) → finite.get t q ≡ over_at way.now (finite.get self) (finite.get upper.now) q) }
+    /// Lays another tree over this one, and returns the result. At a path it has what the other tree has there, with the mode and the owner of `settings`; if
+    /// that is nothing, it has what this tree has there, unless a file of the other tree is above the path. A directory that both have is as in the other tree,
+    /// or as in this one if `settings` keeps it. Fails with 27 `Memory` alone. It goes down both trees at once and visits only what both have; what only one
+    /// has is shared, not copied. Only if `settings` has a mode or an owner are there new nodes for all that is laid, and even then contents are shared.
+    pub fn overlaid(self, settings: &OverlaySettings, upper: &Tree) -> Result<Tree, TreeFault>
+        ensures paths { IfOk result (λ t. (q : List (List ℕ)) → finite.get t q ≡ over_at settings.now (finite.get self) (finite.get upper.now) q) }
         ensures memory { IfErr result (λ e. is_memory e ≡ true) }
     {
         let mut laid = self;
-        laid.overlay(way, upper)?;
+        laid.overlay(settings, upper)?;
         Ok(laid)
     }
 
     /// Lays another tree over this one, as `overlaid` does. Fails with 27 `Memory` alone; then the tree is unchanged. The children
     /// of the root are replaced in place; below them, what both trees have is laid on copies, which share what only one
     /// of them has.
-    pub fn overlay(&mut self, way: &Way, upper: &Tree) -> Result<(), TreeFault>
-        ensures paths { OnOk result ((q : List (List ℕ)) → finite.get self.new q ≡ over_at way.now (finite.get self.old) (finite.get upper.now) q) }
+    pub fn overlay(&mut self, settings: &OverlaySettings, upper: &Tree) -> Result<(), TreeFault>
+        ensures paths { OnOk result ((q : List (List ℕ)) → finite.get self.new q ≡ over_at settings.now (finite.get self.old) (finite.get upper.now) q) }
         ensures memory { IfErr result (λ e. is_memory e ≡ true) }
         ensures err { OnErr result (self.new ≡ self.old) }
     {
-        way.is_way();
+        settings.are_settings();
         let depth = self.depth.max(upper.depth);
-        lay_node(&mut self.root, self.alloc, way, &upper.root)?;
+        lay_node(&mut self.root, self.alloc, settings, &upper.root)?;
         self.depth = depth;
         Ok(())
     }

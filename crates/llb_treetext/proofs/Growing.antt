@@ -24,7 +24,7 @@ use Rattle.llb_treetext.specs.Growing.{HasBelow, IsGrownIfAny, Follows}
 use Rattle.llb_treetext.specs.declared.parts.Parts.{Parts}
 use Rattle.llb_treetext.specs.declared.grow.Growing.{Growing}
 use Rattle.llb_treetext.proofs.Trails.{names_more, names_front, names_split, no_names_left}
-use Rattle.llb_treetext.proofs.Written.{content_is}
+use Rattle.llb_wire.proofs.HexTexts.{content_is}
 
 module _ (above : TreeMap) (at : List (List ℕ)) where
   -- a directory is opened where nothing is

@@ -19,6 +19,7 @@ use Rattle.hex.specs.Hex.{encode_with, encode_lower, lower_digits, hex_digit_val
 use Rattle.hex.proofs.HexLemmas.{length-encode_with, decode_of-encode_lower, IsAscii-encode_with, IsDigits-lower_digits}
 use Rattle.llb_wire.specs.Spelling.{AreBytes}
 use Rattle.llb_wire.specs.Hexadecimal.{hex_text, is_lower, is_hex, bytes_in}
+use Rattle.llb_wire.proofs.HexTexts.{content_is, is_content_text}
 use Rattle.llb_tree.specs.Path.{is_name, is_name_byte, IsPath, joined, path_of}
 use Rattle.llb_tree.specs.Meta.{MetaValue, IsMeta, meta_of}
 use Rattle.llb_tree.specs.Modes.{is_octal_digit, octal}
@@ -169,12 +170,6 @@ digit_solid c d is = by_cases (nat_lt c 33) refl
     by_cases true t = let e : ◌≡◌ {A = Option ℕ} (Some d) None = sym is ∙ none (ltb-true c 33 t) in absurd cc
     by_cases false t = ltb-false c 33 t
 
--- bytes as `hex` says it: at each place a number below 256, 0 past the end
-byte_at : (content : List ℕ) → AreBytes content → IsBytes content
-byte_at [] bytes k = omega arith
-byte_at (b ∷ content) bytes zero = bytes.0
-byte_at (b ∷ content) bytes (suc k) = byte_at content bytes.1 k
-
 encode_solid : (content : List ℕ) → AreBytes content → Solid (encode_with lower_digits content)
 unfolding encode_with
 encode_solid [] bytes = All-nil (λ b. 33 ≤ b)
@@ -189,19 +184,6 @@ encode_solid (b ∷ content) bytes =
 content_solid : (content : List ℕ) → AreBytes content → Solid (hex_text content)
 content_solid [] bytes = All-cons (λ b. 33 ≤ b) 45 [] (omega arith) (All-nil (λ b. 33 ≤ b))
 content_solid (b ∷ content) bytes = encode_solid (b ∷ content) bytes
-
-no_dash : (b : ℕ) (content : List ℕ) → pointwise nat_eq (encode_lower (b ∷ content)) (codes "-") ≡ false
-unfolding encode_with
-no_dash b content = and_false (nat_eq (get_or lower_digits (b / 16) 0) 45)
-  where
-    and_false : (t : Bool) → (t && false) ≡ false
-    and_false true = refl
-    and_false false = refl
-
-pub content_is : (content : List ℕ) → AreBytes content → bytes_in (hex_text content) ≡ Some content
-content_is [] bytes = refl
-content_is (b ∷ content) bytes = ap (λ t. cond t (Some []) (result_ok (decode_of (encode_lower (b ∷ content))))) (no_dash b content)
-    ∙ ap result_ok (decode_of-encode_lower (b ∷ content) (byte_at (b ∷ content) bytes))
 
 -- ---- the path
 
@@ -223,34 +205,7 @@ by_kind k = on (fields.meta_in k.1) (λ m.
     cond (pointwise nat_eq k.0 (codes "d")) (dir_parts m.0 m.1)
     (cond (pointwise nat_eq k.0 (codes "f")) (on (cut_at 32 m.1) (λ c. file_parts m.0 c.0 c.1)) None))
 
-abbrev all_lower : ℕ → Bool
-all_lower zero = true
-all_lower (suc n) = is_lower (get_or lower_digits n 0) && all_lower n
-
 -- ---- the tests of the content and of the path
-
-digit_lower : (n k : ℕ) → all_lower n ≡ true → k < n → is_lower (get_or lower_digits k 0) ≡ true
-digit_lower zero k all lt = absurd (omega arith)
-digit_lower (suc n) k all lt =
-    let both = and_parts (is_lower (get_or lower_digits n 0)) (all_lower n) all in
-    elim (cases_lt k n) [
-      | inl below ↦ digit_lower n k both.1 below
-      | inr top ↦ let e : k ≡ n = omega arith in ap (λ j. is_lower (get_or lower_digits j 0)) e ∙ both.0
-    ]
-
-encode_lower_all : (content : List ℕ) → AreBytes content → list_all is_lower (encode_with lower_digits content) ≡ true
-unfolding encode_with
-encode_lower_all [] bytes = refl
-encode_lower_all (b ∷ content) bytes =
-    let small : b < 256 = bytes.0 in
-    λ i. digit_lower 16 (b / 16) refl (omega arith) i && (digit_lower 16 (b % 16) refl (omega arith) i && encode_lower_all content bytes.1 i)
-
-is_content_text : (content : List ℕ) → AreBytes content → is_hex (hex_text content) ≡ true
-is_content_text [] bytes = refl
-is_content_text (b ∷ content) bytes =
-    let long = length-encode_with lower_digits (b ∷ content) in
-    (λ i. no_dash b content i || (not (ne_eqb (length (encode_lower (b ∷ content))) 0 (λ e. omega (arith, e, long)) i)
-    && eq-eqb (length (encode_lower (b ∷ content)) % 2) 0 (omega (arith, long)) i && encode_lower_all (b ∷ content) bytes i))
 
 are_names_joined : (name : List ℕ) (names : List (List ℕ)) → IsPath (name ∷ names) → are_names (joined (name ∷ names)) ≡ true
 are_names_joined name names path =

@@ -10,3 +10,4 @@ pub mod Faults
 pub mod RecordGrammar
 pub mod Written
 pub mod Digits
+pub mod HexTexts

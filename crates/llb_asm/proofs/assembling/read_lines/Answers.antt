@@ -5,7 +5,7 @@ use Rattle.std.proofs.lemmas.List.{length_push}
 use Rattle.std.specs.Slice.Iter.{split_rest, split_done, split_callee}
 use Rattle.llb_asm.specs.declared.fault.AsmFault.{AsmFault}
 use Rattle.llb_asm.specs.Lines.{is_dropped, stripped, kept}
-use Rattle.llb_asm.specs.Running.{run_from, between, progress_of, step_of, progresses, Gives}
+use Rattle.llb_asm.specs.Running.{run_from, between, progress_of, step_of, progresses, GivesEntries}
 use Rattle.llb_asm.proofs.KeptLines.{IsNext, pieces, kept_behind, all_kept, is_left_out, is_taken, none_left, goes_on, stops, ends, finish_open, finish_whole}
 use Rattle.llb_asm.proofs.KeptLines.{gives_fault}
 use Rattle.llb_asm.proofs.assembling.read_lines.Goals as goal
@@ -73,7 +73,7 @@ returns-in-Err c =
     ap (step_of p) (sym c.stripped-line.ensures) ∙ sym c.in_ok-refusal.ensures ∙ ap (progresses c.step.new.earlier) c.in-Err.is in
     let n = length c.loop-line.yielded in
     let count = ap (λ k. k + 1) c.loop-line.invariant.0 in
-    subst (λ (f : AsmFault). Gives (Err f) (run_from 0 (between c.args.earlier.now) (kept c.args.text.now))) (sym c.at.ensures)
+    subst (λ (f : AsmFault). GivesEntries (Err f) (run_from 0 (between c.args.earlier.now) (kept c.args.text.now))) (sym c.at.ensures)
     (gives_fault (c.loop-line.number + 1) c.in-Err.refusal (run_from 0 (between c.args.earlier.now) (kept c.args.text.now))
     (ap (run_from 0 (between c.args.earlier.now)) (all_kept c.args.text.now) ∙ c.loop-line.invariant.1
     ∙ ap (run_from c.loop-line.last p) (is_taken c.args.text.now n c.in-Some.line.now is in_it)

@@ -30,7 +30,7 @@ returns c =
     let all = sym (lands_below here t c.args.goal.now same (finite.entries source)) ∙ c.in_ok-may_land.ensures in
     let agree = agrees given here source t c.args.goal.now c.requires.tree same all in
     let tree = IsTree-subtree t c.args.goal.now here c.requires.tree c.in_ok-here.ensures.gives in
-    let both = overlaid_is c.way.result given c.way.ensures.given c.way.ensures.keeps here source tree agree
+    let both = overlaid_is c.settings.result given c.settings.ensures.given c.settings.ensures.keeps here source tree agree
     c.in_ok-merged.merged c.in_ok-merged.ensures.paths in
     let lands = ap (λ u. graft t c.args.goal.now u) (sym both) ∙ graft_lands given here source t c.args.goal.now c.requires.tree same all c.requires.dir in
     subst (λ r. Gives (λ _. c.graft.new.self) c.graft.result r) lands c.graft.ensures.gives

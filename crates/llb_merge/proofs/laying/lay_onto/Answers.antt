@@ -3,4 +3,4 @@ use Rattle.llb_merge.proofs.Laid.{over_is_lay}
 use Rattle.llb_merge.proofs.laying.lay_onto.Goals as goal
 
 pub returns : goal.returns
-returns c = over_is_lay c.plain-way.result c.plain-way.ensures c.args.lower c.args.upper.now c.in_ok-overlaid.field-0 c.in_ok-overlaid.ensures.paths
+returns c = over_is_lay c.plain-settings.result c.plain-settings.ensures c.args.lower c.args.upper.now c.in_ok-overlaid.field-0 c.in_ok-overlaid.ensures.paths

@@ -15,7 +15,7 @@ decreases-all_dressed l = 2 * most deep-Child (left_in l.kids)
 
 abbrev pub invariant-all_dressed-loop-kid : goal.invariant-all_dressed-loop-kid
 invariant-all_dressed-loop-kid l = (i : ℕ) × IsAt (left_in l.kids) (left_in l.left) i
-    × (map pair_of l.list.items ≡ take i (map (dress_pair l.way) (map pair_of (left_in l.kids))))
+    × (map pair_of l.list.items ≡ take i (map (dress_pair l.settings) (map pair_of (left_in l.kids))))
 
 abbrev pub decreases-all_dressed-loop-kid : goal.decreases-all_dressed-loop-kid
 decreases-all_dressed-loop-kid l = length (left_in l.left)

@@ -36,7 +36,7 @@ laid_child-returns-in_ok-lay_node-in-Some t c =
     let kids = kids_in c.args.kids.now in
     record {
       named = c.in_ok-name.ensures;
-      laid = λ q. c.in_ok-lay_node-in-Some.ensures.ok q ∙ ap (λ o. over_at c.args.way.now (look_in o) (finite.get kid.node) q)
+      laid = λ q. c.in_ok-lay_node-in-Some.ensures.ok q ∙ ap (λ o. over_at c.args.settings.now (look_in o) (finite.get kid.node) q)
           (ap (λ t. Some t) c.in_ok-node-in-Some.ensures ∙ c.in-Some.ensures ∙ ap (λ n. child n kids) c.deref.ensures);
     }
 
@@ -44,48 +44,48 @@ pub laid_child-returns-in_ok-node-in-None : goal.laid_child-returns-in_ok-node-i
 laid_child-returns-in_ok-node-in-None t c =
     let kid = c.args.upper.now in
     let kids = kids_in c.args.kids.now in
-    let way = c.args.way.now in
+    let settings = c.args.settings.now in
     record {
       named = c.in_ok-name.ensures;
-      laid = λ q. ap (λ t. finite.get t q) c.in_ok-node-in-None.ensures ∙ get-dress way kid.node q
-          ∙ sym (over_none way (finite.get kid.node q) (below_file (finite.get kid.node) q))
-          ∙ ap (λ o. over_at way (look_in o) (finite.get kid.node) q) (c.in-None.ensures ∙ ap (λ n. child n kids) c.deref.ensures);
+      laid = λ q. ap (λ t. finite.get t q) c.in_ok-node-in-None.ensures ∙ get-dress settings kid.node q
+          ∙ sym (over_none settings (finite.get kid.node q) (below_file (finite.get kid.node) q))
+          ∙ ap (λ o. over_at settings (look_in o) (finite.get kid.node) q) (c.in-None.ensures ∙ ap (λ n. child n kids) c.deref.ensures);
     }
 
 pub laid_over-returns-in_default : goal.laid_over-returns-in_default
 laid_over-returns-in_default t c old there =
-    new_stays c.args.way.now c.requires.way old c.args.upper.now (sym there ∙ ap (option_map (λ k. k.now.node)) c.in_default.is)
+    new_stays c.args.settings.now c.requires.settings old c.args.upper.now (sym there ∙ ap (option_map (λ k. k.now.node)) c.in_default.is)
 
 pub laid_over-returns-then-branch : goal.laid_over-returns-then-branch
 laid_over-returns-then-branch t c old there q =
     let kid = c.args.upper.now in
     let laid = c.in_ok-lay_node.ensures in
     ap (λ s. finite.get s q) (sym (laid.whole c.if-branch.true)) ∙ laid.ok q
-    ∙ ap (λ o. over_at c.args.way.now (look_in o) (finite.get kid.node) q)
+    ∙ ap (λ o. over_at c.args.settings.now (look_in o) (finite.get kid.node) q)
     (ap (λ t. Some t) c.in_ok-node.ensures ∙ sym (ap (option_map (λ k. k.now.node)) c.in-Some.is) ∙ there)
 
 pub laid_over-returns : goal.laid_over-returns
 laid_over-returns t c old there q =
     let kid = c.args.upper.now in
     c.in_ok-lay_node.ensures.ok q
-    ∙ ap (λ o. over_at c.args.way.now (look_in o) (finite.get kid.node) q)
+    ∙ ap (λ o. over_at c.args.settings.now (look_in o) (finite.get kid.node) q)
     (ap (λ t. Some t) c.in_ok-node.ensures ∙ sym (ap (option_map (λ k. k.now.node)) c.in-Some.is) ∙ there)
 
 -- ---- upper children over those whose names they have
 
 pub laid_rows-loop-i-init : goal.laid_rows-loop-i-init
-laid_rows-loop-i-init t c = none_yet c.args.way.now (kids_in c.args.kids.now) c.args.upper.now
+laid_rows-loop-i-init t c = none_yet c.args.settings.now (kids_in c.args.kids.now) c.args.upper.now
 
 pub laid_rows-with_node-requires : goal.laid_rows-with_node-requires
 laid_rows-with_node-requires t c = omega (
   arith,
   c.loop-i-test.true,
-  same_length c.args.way.now (kids_in c.args.kids.now) c.loop-i.i c.args.upper.now (those c.loop-i.made c.args.upper.now) c.loop-i.invariant,
+  same_length c.args.settings.now (kids_in c.args.kids.now) c.loop-i.i c.args.upper.now (those c.loop-i.made c.args.upper.now) c.loop-i.invariant,
 )
 
 pub laid_rows-loop-i-preserved : goal.laid_rows-loop-i-preserved
 laid_rows-loop-i-preserved t c =
-    let w = c.args.way.now in
+    let w = c.args.settings.now in
     let old = kids_in c.args.kids.now in
     let upper = c.args.upper.now in
     let kid = c.index-upper-i.result in
@@ -102,17 +102,18 @@ laid_rows-loop-i-preserved t c =
           let there = x.child_near-lower.ensures ∙ ap (λ n. child n old) (x.deref.ensures ∙ ap name_of c.kid.view_is) in
           subst kept (sym x.made-is)
           (stays (subst (λ o. IsOver w old kid (unwrap_or o kid.node)) x.in_default-2.is (x.in_ok-node.ensures old there)))
-      | laid_rows-in_default x ↦ subst kept (sym x.made-is) (stays (file_stays w c.requires.way old kid
+      | laid_rows-in_default x ↦ subst kept (sym x.made-is) (stays (file_stays w c.requires.settings old kid
           (lone_file _ x.in_default.field-0 x.in_default.field-1 kid.node (ap (λ (k : Child). k.node) c.kid.view_is) x.in_default.is)))
     ]
 
 pub laid_rows-returns : goal.laid_rows-returns
 laid_rows-returns t c =
-    all_laid c.args.way.now (kids_in c.args.kids.now) c.loop-i.i c.args.upper.now (those c.loop-i.made c.args.upper.now) c.loop-i-test.false c.loop-i.invariant
+    all_laid c.args.settings.now (kids_in c.args.kids.now) c.loop-i.i c.args.upper.now (those c.loop-i.made c.args.upper.now)
+    c.loop-i-test.false c.loop-i.invariant
 
 pub lay_all-returns-in_ok-kids-in-None-clause-ok : goal.lay_all-returns-in_ok-kids-in-None-clause-ok
 lay_all-returns-in_ok-kids-in-None-clause-ok t c =
-    let w = c.args.way.now in
+    let w = c.args.settings.now in
     let old = (arc_value c.args.kids.now).items in
     let upper = (arc_value c.args.upper.now).items in
     let laid : PiecesLaid w (kids_in old) upper (those_pieces c.in_ok-laid_all.field-0 upper) =
@@ -126,7 +127,7 @@ lay_all-returns-in_ok-kids-in-None-clause-ok t c =
 
 pub lay_all-returns-in_ok-kids-in-Some-clause-ok : goal.lay_all-returns-in_ok-kids-in-Some-clause-ok
 lay_all-returns-in_ok-kids-in-Some-clause-ok t c =
-    let w = c.args.way.now in
+    let w = c.args.settings.now in
     let old = (arc_value c.args.kids.now).items in
     let upper = (arc_value c.args.upper.now).items in
     let laid : PiecesLaid w (kids_in old) upper (those_pieces c.in_ok-laid_all.field-0 upper) =
@@ -141,7 +142,7 @@ lay_all-returns-in_ok-kids-in-Some-clause-ok t c =
 
 pub lay_all-returns-in_ok-kids-in-Some-clause-pieced : goal.lay_all-returns-in_ok-kids-in-Some-clause-pieced
 lay_all-returns-in_ok-kids-in-Some-clause-pieced t c =
-    let w = c.args.way.now in
+    let w = c.args.settings.now in
     let old = (arc_value c.args.kids.now).items in
     let upper = (arc_value c.args.upper.now).items in
     let laid : PiecesLaid w (kids_in old) upper (those_pieces c.in_ok-laid_all.field-0 upper) =
@@ -154,18 +155,18 @@ lay_all-returns-in_ok-kids-in-Some-clause-pieced t c =
     (subst (λ o. PiecesLaid w (kids_in old) upper (those_pieces o upper)) c.in-Some.is laid))
 
 pub laid_all-loop-i-init : goal.laid_all-loop-i-init
-laid_all-loop-i-init t c = no_piece_yet c.args.way.now (kids_in c.args.kids.now) c.args.upper.now
+laid_all-loop-i-init t c = no_piece_yet c.args.settings.now (kids_in c.args.kids.now) c.args.upper.now
 
 pub laid_all-with_rows-requires : goal.laid_all-with_rows-requires
 laid_all-with_rows-requires t c = omega (
   arith,
   c.loop-i-test.true,
-  as_many c.args.way.now (kids_in c.args.kids.now) c.loop-i.i c.args.upper.now (those_pieces c.loop-i.made c.args.upper.now) c.loop-i.invariant,
+  as_many c.args.settings.now (kids_in c.args.kids.now) c.loop-i.i c.args.upper.now (those_pieces c.loop-i.made c.args.upper.now) c.loop-i.invariant,
 )
 
 pub laid_all-loop-i-preserved : goal.laid_all-loop-i-preserved
 laid_all-loop-i-preserved t c =
-    let w = c.args.way.now in
+    let w = c.args.settings.now in
     let old = kids_in c.args.kids.now in
     let us = c.args.upper.now in
     let piece = c.index-upper-i.result in
@@ -184,7 +185,7 @@ laid_all-loop-i-preserved t c =
 
 pub laid_all-returns : goal.laid_all-returns
 laid_all-returns t c =
-    all_pieces c.args.way.now (kids_in c.args.kids.now) c.loop-i.i c.args.upper.now (those_pieces c.loop-i.made c.args.upper.now) c.loop-i-test.false
+    all_pieces c.args.settings.now (kids_in c.args.kids.now) c.loop-i.i c.args.upper.now (those_pieces c.loop-i.made c.args.upper.now) c.loop-i-test.false
     c.loop-i.invariant
 
 -- ---- children over children
@@ -193,7 +194,7 @@ pub laid_children-loop-kid-init : goal.laid_children-loop-kid-init
 laid_children-loop-kid-init t c = (
   0,
   at_start (left_in c.args.upper),
-  subst (AreLaid c.args.way.now (kids_in c.args.kids.now) []) (sym c.new-ready.ensures.items) tt,
+  subst (AreLaid c.args.settings.now (kids_in c.args.kids.now) []) (sym c.new-ready.ensures.items) tt,
 )
 
 pub laid_children-loop-kid-smaller : goal.laid_children-loop-kid-smaller
@@ -216,7 +217,7 @@ laid_children-loop-kid-preserved t c =
     let next = at_next all (left_in c.loop-kid.left) (left_in c.in-Some.rest) kid so_far.0 so_far.1 c.in-Some.ensures in (
       so_far.0 + 1,
       next.at,
-      laid_pushed c.args.way.now (kids_in c.args.kids.now) all c.loop-kid.ready.items c.push.new.self.items so_far.0 kid _
+      laid_pushed c.args.settings.now (kids_in c.args.kids.now) all c.loop-kid.ready.items c.push.new.self.items so_far.0 kid _
           next.within next.here c.in_ok-push.ensures.items so_far.2 c.in_ok-laid_child.ensures,
     )
 
@@ -224,7 +225,7 @@ pub laid_children-returns : goal.laid_children-returns
 laid_children-returns t c =
     let all = left_in c.args.upper in
     let so_far = c.loop-kid.invariant in
-    subst (λ us. AreLaid c.args.way.now (kids_in c.args.kids.now) us c.loop-kid.ready.items)
+    subst (λ us. AreLaid c.args.settings.now (kids_in c.args.kids.now) us c.loop-kid.ready.items)
     (take_all so_far.0 all (at_end all (left_in c.loop-kid.left) so_far.0 so_far.1 c.in_default.ensures)) so_far.2
 
 pub lay_each-laid_children-requires : goal.lay_each-laid_children-requires
@@ -237,13 +238,14 @@ lay_each-laid_children-requires t c =
 
 pub lay_each-returns-clause-ok : goal.lay_each-returns-clause-ok
 lay_each-returns-clause-ok t c =
-    let way = c.args.way.now in
+    let settings = c.args.settings.now in
     let upper = c.args.upper.now in
     let old = (arc_value c.args.kids.now).items in
     let ready = c.in_ok-ready.ready.items in
-    let laid : AreLaid way (kids_in old) (kids_in upper) ready = subst (λ us. AreLaid way (kids_in old) us ready) c.of.ensures
-    (subst (λ ks. AreLaid way (kids_in ks) (left_in c.of.result) ready) (c.as_slice.ensures.value ∙ ap (λ v. v.items) c.deref.ensures) c.in_ok-ready.ensures) in
-    on_ok c.put_all.result (lays_put way old upper (arc_value c.put_all.new.kids).items ready c.requires.lower c.requires.upper laid) c.put_all.ensures.ok
+    let laid : AreLaid settings (kids_in old) (kids_in upper) ready = subst (λ us. AreLaid settings (kids_in old) us ready) c.of.ensures
+    (subst (λ ks. AreLaid settings (kids_in ks) (left_in c.of.result) ready) (c.as_slice.ensures.value ∙ ap (λ v. v.items) c.deref.ensures)
+      c.in_ok-ready.ensures) in
+    on_ok c.put_all.result (lays_put settings old upper (arc_value c.put_all.new.kids).items ready c.requires.lower c.requires.upper laid) c.put_all.ensures.ok
 
 -- ---- a node over a node
 
@@ -256,7 +258,7 @@ lay_node-returns-in_err-whole-in-Dir-Dir-clause-err t c =
 
 pub lay_node-returns-in_ok-whole-in-Dir-Dir-clause-ok : goal.lay_node-returns-in_ok-whole-in-Dir-Dir-clause-ok
 lay_node-returns-in_ok-whole-in-Dir-Dir-clause-ok t c q =
-    let w = c.args.way.now in
+    let w = c.args.settings.now in
     let at = c.in-Dir-Dir in
     let lower_is = ap map_of (sym at.is-0) ∙ c.lower.view_is in
     let upper_is = ap map_of (sym at.is-1) ∙ c.upper.view_is in
@@ -272,27 +274,27 @@ lay_node-returns-in_ok-whole-in-Dir-Dir-clause-whole t c is =
     let at = c.in-Dir-Dir in
     let stand = c.in_ok-whole-in-Dir-Dir.ensures.whole is in
     same_dir (kind.Dir at.laid at.list) (kind.Dir c.met.result c.lay_children.new.kids)
-    (c.met.ensures ∙ dir_stays c.args.way.now stand.way at.meta at.laid) stand.same
+    (c.met.ensures ∙ dir_stays c.args.settings.now stand.settings at.meta at.laid) stand.same
     ∙ ap map_of (sym at.is-1) ∙ c.upper.view_is
 
 pub lay_node-returns-in_ok-lower-inside-in_default-clause-ok : goal.lay_node-returns-in_ok-lower-inside-in_default-clause-ok
 lay_node-returns-in_ok-lower-inside-in_default-clause-ok t c q =
-    let way = c.args.way.now in
+    let settings = c.args.settings.now in
     let below = c.args.lower.now in
     let above = c.args.upper.now in
     let lower = finite.get below in
     let upper = finite.get above in
-    ap (λ x. finite.get x q) (c.branch.view_is ∙ c.in_ok-lower-inside-in_default.ensures) ∙ get-dress way above q
-    ∙ elim c.in_default.branch as (λ _. option_map (over way None) (upper q) ≡ over_at way lower upper q) [
+    ap (λ x. finite.get x q) (c.branch.view_is ∙ c.in_ok-lower-inside-in_default.ensures) ∙ get-dress settings above q
+    ∙ elim c.in_default.branch as (λ _. option_map (over settings None) (upper q) ≡ over_at settings lower upper q) [
       | lay_node-in_default-via-in-Dir+in_default w ↦
           let file = w.in_default in
-          sym (over_file way lower upper q (lone_file c.upper.inside.kind file.field-0-1 file.field-1-1 above c.upper.view_is file.is-1))
+          sym (over_file settings lower upper q (lone_file c.upper.inside.kind file.field-0-1 file.field-1-1 above c.upper.view_is file.is-1))
       | lay_node-in_default-via-in_default w ↦
           let file = w.in_default in
           let lone = lone_file c.lower.inside.kind file.field-0-0 file.field-1-0 below c.lower.view_is file.is-0 in
-          sym (under_file way lower upper q _ lone (root_there c.upper.inside.kind above c.upper.view_is))
+          sym (under_file settings lower upper q _ lone (root_there c.upper.inside.kind above c.upper.view_is))
     ]
 
 pub lay_node-returns-in_ok-lower-inside-in_default-clause-whole : goal.lay_node-returns-in_ok-lower-inside-in_default-clause-whole
 lay_node-returns-in_ok-lower-inside-in_default-clause-whole t c is =
-    c.branch.view_is ∙ c.in_ok-lower-inside-in_default.ensures ∙ dress_same c.args.way.now c.args.upper.now (c.gives_nothing.ensures is)
+    c.branch.view_is ∙ c.in_ok-lower-inside-in_default.ensures ∙ dress_same c.args.settings.now c.args.upper.now (c.gives_nothing.ensures is)

@@ -39,14 +39,14 @@ abbrev pub decreases-laid_child : goal.decreases-laid_child
 decreases-laid_child l = 7 * height l.upper.now.node + 8
 
 abbrev pub invariant-laid_all-loop-i : goal.invariant-laid_all-loop-i
-invariant-laid_all-loop-i l = HaveLaid l.way (kids_in l.kids) l.i l.upper (map row_pairs (those_pieces l.made l.upper))
+invariant-laid_all-loop-i l = HaveLaid l.settings (kids_in l.kids) l.i l.upper (map row_pairs (those_pieces l.made l.upper))
 
 abbrev pub invariant-laid_rows-loop-i : goal.invariant-laid_rows-loop-i
-invariant-laid_rows-loop-i l = HasLaid l.way (kids_in l.kids) l.i l.upper (map pair_of (those l.made l.upper))
+invariant-laid_rows-loop-i l = HasLaid l.settings (kids_in l.kids) l.i l.upper (map pair_of (those l.made l.upper))
 
 abbrev pub invariant-laid_children-loop-kid : goal.invariant-laid_children-loop-kid
 invariant-laid_children-loop-kid l = (i : ℕ) × IsAt (left_in l.upper) (left_in l.left) i
-    × AreLaid l.way (kids_in l.kids) (take i (left_in l.upper)) l.ready.items
+    × AreLaid l.settings (kids_in l.kids) (take i (left_in l.upper)) l.ready.items
 
 abbrev pub decreases-laid_children-loop-kid : goal.decreases-laid_children-loop-kid
 decreases-laid_children-loop-kid l = length (left_in l.left)

@@ -3,8 +3,8 @@
 ghost use Rattle.std.specs.Prelude.{◌≡◌, IsTrue, Some};
 ghost use Rattle.llb_tree.specs.Tree.{Dir};
 ghost use Rattle.llb_tree.specs.Meta.{MetaValue};
-ghost use Rattle.llb_tree.specs.Overlay.{way_of, laid_meta, over};
-ghost use Rattle.llb_tree.specs.Laying.{IsWay, TakesWhole, owner_fits};
+ghost use Rattle.llb_tree.specs.Overlay.{settings_of, laid_meta, over};
+ghost use Rattle.llb_tree.specs.Laying.{AreSettings, TakesWhole, owner_fits};
 
 use crate::meta::Meta;
 use std::marker::Model;
@@ -12,18 +12,18 @@ use std::marker::Model;
 /// The mode and the owner that an overlay sets, each optional: what is not set stays the entry's own; and whether a
 /// directory that both trees have stays as the lower tree has it.
 #[derive(Clone, Copy)]
-pub struct Way {
+pub struct OverlaySettings {
     mode: Option<u16>,
     uid: Option<u32>,
     gid: Option<u32>,
     keeps: bool,
 }
 
-impl Model for Way {
+impl Model for OverlaySettings {
     ghost use Rattle.std.specs.Prelude.{◌≡◌, true};
-    ghost use Rattle.llb_tree.specs.Overlay.{WayValue, is_mode};
+    ghost use Rattle.llb_tree.specs.Overlay.{SettingsValue, is_mode};
 
-    ghost Value = { WayValue };
+    ghost Value = { SettingsValue };
 
     ghost view = { λ w. record { mode = w.mode; uid = w.uid; gid = w.gid; keeps = w.keeps } };
 
@@ -32,18 +32,18 @@ impl Model for Way {
     ghost inverse = { λ w. record { mode = w.mode; uid = w.uid; gid = w.gid; keeps = w.keeps } };
 }
 
-impl Way {
-    /// Makes a `Way` of a mode, a user and a group, each optional, and of whether a directory that both trees have stays as in the
+impl OverlaySettings {
+    /// Makes a `OverlaySettings` of a mode, a user and a group, each optional, and of whether a directory that both trees have stays as in the
     /// lower one; `None` exactly if the mode is above 4095.
-    pub fn new(mode: Option<u16>, uid: Option<u32>, gid: Option<u32>, keeps: bool) -> Option<Way>
-        ensures { result ≡ way_of mode uid gid keeps }
+    pub fn new(mode: Option<u16>, uid: Option<u32>, gid: Option<u32>, keeps: bool) -> Option<OverlaySettings>
+        ensures { result ≡ settings_of mode uid gid keeps }
     {
         if let Some(mode) = mode {
             if mode > 4095 {
                 return None;
             }
         }
-        Some(Way {
+        Some(OverlaySettings {
             mode,
             uid,
             gid,
@@ -87,8 +87,8 @@ impl Way {
     }
 
     // Proves that the mode is at most 4095, and that the owners are numbers of 32 bits.
-    pub(crate) fn is_way(&self)
-        ensures { IsWay self.now }
+    pub(crate) fn are_settings(&self)
+        ensures { AreSettings self.now }
     {
         fits(self.uid);
         fits(self.gid);
