@@ -1,6 +1,6 @@
 //! Scripts that are run on views, with one mount and with more.
 
-use super::stage::are_told;
+use super::stage::are_transcripts;
 
 const ON_ONE_TREE: &str = r#"
     # Directories are made.
@@ -200,7 +200,7 @@ const ON_ONE_TREE: &str = r#"
 
 #[test]
 fn applets_do_what_they_say_on_one_tree(rt: HostRuntime) {
-    are_told(&rt, rt.alloc(), ON_ONE_TREE);
+    are_transcripts(&rt, rt.alloc(), ON_ONE_TREE);
 }
 
 // Commands on more than one mount: from one mount to another, below read-only mounts, and with selectors.
@@ -282,5 +282,5 @@ const ON_MORE_MOUNTS: &str = r#"
 
 #[test]
 fn scripts_run_on_views_of_more_than_one_mount(rt: HostRuntime) {
-    are_told(&rt, rt.alloc(), ON_MORE_MOUNTS);
+    are_transcripts(&rt, rt.alloc(), ON_MORE_MOUNTS);
 }

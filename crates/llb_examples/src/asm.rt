@@ -1,7 +1,7 @@
 //! Each call of the assembler once, on the two entries of one definition: what texts are read as and how entries are written is tested by the program's tests
 //! of `asm` and `dis` (in `llbm`).
 
-use super::told::is_so;
+use super::printed::is_so;
 use llb_asm::{assemble, disassemble, one_answer, reads_back};
 use llb_ops::{Entries, read_definition, write_definition};
 use llb_wire::Over;

@@ -1,8 +1,8 @@
 //! Leases of caches, as transcripts (`leases`), and comparisons of caches.
 
 use super::leases::{is_copy, transcript};
-use super::stage::is_told_as;
-use super::told::row_holds;
+use super::printed::row_holds;
+use super::stage::is_story_of;
 
 const STORIES: &str = "
     # A held key refuses all needs.
@@ -144,7 +144,7 @@ const STORIES: &str = "
 
 #[test]
 fn leases_exclude_one_another(rt: HostRuntime) {
-    is_told_as(&rt, transcript(&rt, rt.alloc(), STORIES).as_str(), STORIES);
+    is_story_of(&rt, transcript(&rt, rt.alloc(), STORIES).as_str(), STORIES);
 }
 
 const FOUND: &str = "
@@ -203,7 +203,7 @@ const FOUND: &str = "
 
 #[test]
 fn a_key_is_found_whichever_row_is_tried_first(rt: HostRuntime) {
-    is_told_as(&rt, transcript(&rt, rt.alloc(), FOUND).as_str(), FOUND);
+    is_story_of(&rt, transcript(&rt, rt.alloc(), FOUND).as_str(), FOUND);
 }
 
 const LEASED: &str = "lease a locked -, p private 0 f\nlease s shared -";

@@ -1,7 +1,7 @@
 //! What faults print, after the word `fault` in a refusal. Faults of records and messages, the loader's other refusals, each feature
 //! and each rule are printed in `loader` and by the program (`show`, `taken_ops`, `taken_executions` and `taken_caches` in `llbm`).
 
-use super::told::prints;
+use super::printed::prints;
 use llb_applet::ScriptFault;
 use llb_glob::PatternFault;
 use llb_loader::LoadFault;

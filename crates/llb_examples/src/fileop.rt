@@ -1,7 +1,7 @@
 //! Calls for file actions. The trees after them, and the faults with which they fail, are tested by the program (`file_actions` in `llbm`).
 
 use super::ops::{COPY, MAKES_A};
-use super::told::{is_same, say, say_fault, say_path, say_tree};
+use super::printed::{is_same, say, say_fault, say_path, say_tree};
 use llb_fileop::{ActFault, act, resolve};
 use llb_ops::{Action, Kind, Op, read_op};
 use llb_tree::Tree;
@@ -11,10 +11,10 @@ use std::process::Abort;
 // Returns the path that a text reads as, and whether the text ends in a slash.
 fn resolved(rt: &impl Abort, alloc: Global, text: &str) -> String {
     let (path, ends) = resolve(alloc, text).expect(rt, "a path");
-    let mut told = String::new(alloc);
-    say_path(rt, &mut told, &path);
-    say(rt, &mut told, if ends { " true" } else { " false" });
-    told
+    let mut printed = String::new(alloc);
+    say_path(rt, &mut printed, &path);
+    say(rt, &mut printed, if ends { " true" } else { " false" });
+    printed
 }
 
 // Texts, their paths, and whether they end in a slash.
@@ -50,12 +50,12 @@ fn acted(rt: &impl Abort, alloc: Global, entry: &[u8]) -> String {
     let op = read_op(alloc, entry).expect(rt, "an op");
     let action = action_in(&op).expect(rt, "an action");
     let empty = Tree::empty(alloc).expect(rt, "memory");
-    let mut told = String::new(alloc);
+    let mut printed = String::new(alloc);
     match act_alone(alloc, action, &empty) {
-        Ok(tree) => say_tree(rt, &mut told, &tree),
-        Err(fault) => say_fault(rt, &mut told, &fault),
+        Ok(tree) => say_tree(rt, &mut printed, &tree),
+        Err(fault) => say_fault(rt, &mut printed, &fault),
     }
-    told
+    printed
 }
 
 #[test]

@@ -1,6 +1,6 @@
 //! Patterns. A case is the text of a pattern, the text of a path, and whether they match.
 
-use super::told::{holds, repeated, row_holds};
+use super::printed::{holds, repeated, row_holds};
 use llb_glob::{Pattern, PatternFault};
 use llb_tree::Path;
 use std::alloc::Global;

@@ -1,7 +1,7 @@
 //! Keys of caches: which keys are the same, and what faults print for a key.
 
 use super::leases::{Row, key_of};
-use super::told::{prints, row_holds};
+use super::printed::{prints, row_holds};
 use llb_cache::{Key, KeyRef, LeaseFault, Memory, Mode};
 use std::alloc::Global;
 use std::process::Abort;

@@ -7,7 +7,7 @@
 //! row, `held` or `free`, the number of the instance that a lease would take, and that instance's file, if it exists; `near ROW NEED, ..`
 //! leases as `lease` does, and tries that row first for each key; `grow NEED` what a lease would add. There are no caches after `new`.
 
-use super::told::{file, made, row_holds, say, say_fault, say_number};
+use super::printed::{file, made, row_holds, say, say_fault, say_number};
 use super::trees::word_and_rest;
 use llb_cache::{Caches, Found, Growth, Key, Lease, LeaseFault, Many, Mode, Need, Seed};
 use llb_tree::{Path, Text, Tree};
@@ -322,10 +322,10 @@ fn say_line(rt: &impl Abort, alloc: Global, text: &mut String, stage: &mut Stage
     }
 }
 
-pub(crate) fn transcript(rt: &impl Abort, alloc: Global, told: &str) -> String {
+pub(crate) fn transcript(rt: &impl Abort, alloc: Global, story: &str) -> String {
     let mut text = String::new(alloc);
     let mut stage = empty_stage(alloc);
-    for line in told.lines() {
+    for line in story.lines() {
         say_line(rt, alloc, &mut text, &mut stage, line.trim());
     }
     text

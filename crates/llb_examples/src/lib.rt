@@ -35,11 +35,11 @@ mod ops;
 #[cfg(test)]
 mod overlay;
 #[cfg(test)]
+mod printed;
+#[cfg(test)]
 mod sharing;
 #[cfg(test)]
 mod stage;
-#[cfg(test)]
-mod told;
 #[cfg(test)]
 mod tree;
 #[cfg(test)]

@@ -1,7 +1,7 @@
 //! Rows with digest texts of any kind: the graph that they make, or why they are refused. Rows are written as `DIGEST = NAME`, with `; ` between them; NAME is
 //! the name of an entry of `llb_samples`.
 
-use super::told::{is_same, prints, say};
+use super::printed::{is_same, prints, say};
 use llb_loader::{Graph, LoadFault, Row, link};
 use llb_ops::Entries;
 use llb_samples as samples;
@@ -82,7 +82,7 @@ fn rows_are_refused_by_their_first_fault(rt: HostRuntime) {
 }
 
 // Returns how many vertices there are, the digest text of the first, and the vertex of the result.
-fn ends_told(rt: &impl Abort, alloc: Global, graph: &Graph) -> String {
+fn printed_ends(rt: &impl Abort, alloc: Global, graph: &Graph) -> String {
     graph.is_graph();
     let (count, last) = (graph.vertices().len(), graph.result().vertex);
     let vertex = graph.vertices().first().expect(rt, "a vertex");
@@ -98,15 +98,15 @@ const GRAPHS: &[(&str, &str)] = &[
     ("A = LOCKS_ON_B; B = LOCKS; T = NAMES_A", "2 B 1"),
 ];
 
-fn graph_told(rt: &impl Abort, alloc: Global, given: &str) -> String {
+fn printed_graph(rt: &impl Abort, alloc: Global, given: &str) -> String {
     let graph = graph_of(rt, alloc, given).expect(rt, "a graph");
-    ends_told(rt, alloc, &graph)
+    printed_ends(rt, alloc, &graph)
 }
 
 #[test]
 fn rows_are_graphs(rt: HostRuntime) {
     for (given, wanted) in GRAPHS {
-        is_same(&rt, graph_told(&rt, rt.alloc(), given).as_str(), wanted);
+        is_same(&rt, printed_graph(&rt, rt.alloc(), given).as_str(), wanted);
     }
 }
 
@@ -150,6 +150,6 @@ fn linked(rt: &impl Abort, alloc: Global, rows: &[Row]) -> Graph {
 #[test]
 fn a_long_chain_is_numbered_from_its_end(rt: HostRuntime) {
     let graph = linked(&rt, rt.alloc(), &chain(&rt, rt.alloc(), 4_000));
-    let told = ends_told(&rt, rt.alloc(), &graph);
-    is_same(&rt, told.as_str(), "4000 3999 3999");
+    let printed = printed_ends(&rt, rt.alloc(), &graph);
+    is_same(&rt, printed.as_str(), "4000 3999 3999");
 }

@@ -1,7 +1,7 @@
 //! A tree of a thousand files and its copies: a change in one is not seen in the others. Trees are compared by their whole texts.
 
 use super::overlay::copied;
-use super::told::{dir, file, is_so, made, put, say};
+use super::printed::{dir, file, is_so, made, put, say};
 use super::treetext::printed;
 use llb_tree::{Tree, TreeFault};
 use std::alloc::Global;

@@ -2,7 +2,7 @@
 //! (`layers` in `llbm`).
 
 use super::overlay::lent;
-use super::told::{Row, is_same, made, prints, tree_text};
+use super::printed::{Row, is_same, made, prints, tree_text};
 use llb_merge::{Memory, at_each_path, over_itself, over_the_empty_tree, under_the_empty_tree};
 use llb_tree::Tree;
 use std::alloc::Global;
@@ -48,10 +48,10 @@ fn lower_two_first(rt: &impl Abort, alloc: Global) -> Tree {
 #[test]
 fn which_two_of_three_are_laid_first_makes_a_difference(rt: HostRuntime) {
     let alloc = rt.alloc();
-    let told = tree_text(&rt, alloc, &lower_two_first(&rt, alloc));
-    is_same(&rt, told.as_str(), " d d/p f/p/r=3");
-    let told = tree_text(&rt, alloc, &upper_two_first(&rt, alloc));
-    is_same(&rt, told.as_str(), " d d/p f/p/q=1 f/p/r=3");
+    let printed = tree_text(&rt, alloc, &lower_two_first(&rt, alloc));
+    is_same(&rt, printed.as_str(), " d d/p f/p/r=3");
+    let printed = tree_text(&rt, alloc, &upper_two_first(&rt, alloc));
+    is_same(&rt, printed.as_str(), " d d/p f/p/q=1 f/p/r=3");
 }
 
 #[test]

@@ -1,7 +1,7 @@
 //! Views. A mount is a row: its dest, its selector, whether it is read-only, and the name of the one file in its tree. A
 //! story is a line of text: the result of each step, and then the mounts.
 
-use super::told::{file, holds, is_same, made, prints, row_holds, say, say_names, say_path};
+use super::printed::{file, holds, is_same, made, prints, row_holds, say, say_names, say_path};
 use super::tree::path_of;
 use llb_mount::{Many, Memory, Path, ReadOnly, Shown, Tree, View};
 use std::alloc::Global;

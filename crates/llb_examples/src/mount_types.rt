@@ -1,6 +1,6 @@
 //! The types of mounts, by their numbers in a definition.
 
-use super::told::is_so;
+use super::printed::is_so;
 use llb_loader::MountType;
 
 #[test]

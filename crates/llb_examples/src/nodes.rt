@@ -1,6 +1,6 @@
 //! The nodes of a tree, walks through it, and the paths below which it fits.
 
-use super::told::{Row, is_same, made, row_holds, say, say_node, say_path, say_tree};
+use super::printed::{Row, is_same, made, row_holds, say, say_node, say_path, say_tree};
 use super::tree::{deep_tree, path_with};
 use llb_tree::{Node, Path, Tree, TreeFault, Walk};
 use std::alloc::Global;
@@ -57,7 +57,7 @@ fn say_nodes(rt: &impl Abort, alloc: Global, text: &mut String, root: &Node) {
 }
 
 // Returns the text of a tree as read from its nodes and, after a bar, as read by a walk.
-fn told(rt: &impl Abort, alloc: Global, rows: &[Row<'_>]) -> String {
+fn printed(rt: &impl Abort, alloc: Global, rows: &[Row<'_>]) -> String {
     let tree = made(rt, alloc, rows);
     let mut text = String::new(alloc);
     say_nodes(rt, alloc, &mut text, tree.root());
@@ -80,7 +80,7 @@ const TOLD: &[(&[Row<'static>], &str)] = &[
 #[test]
 fn nodes_and_a_walk_tell_the_same_entries(rt: HostRuntime) {
     for (rows, wanted) in TOLD {
-        is_same(&rt, told(&rt, rt.alloc(), rows).as_str(), wanted);
+        is_same(&rt, printed(&rt, rt.alloc(), rows).as_str(), wanted);
     }
 }
 

@@ -1,6 +1,6 @@
 //! Entries and definitions. The canonical bytes of an op show what it was read as; the program prints the fields of each message (`messages` in `llbm`).
 
-use super::told::{holds, is_so, row_holds};
+use super::printed::{holds, is_so, row_holds};
 use llb_ops::{
     Entries, FileOp, Kind, MessageName, Op, OpFault, definition_is_read_again, entry_has_fields,
     field_named, field_numbered, fields_of, op_is_read_again, read_definition, read_op,

@@ -1,9 +1,9 @@
 //! One tree laid over another, with the modes and owners that a `OverlaySettings` sets; the entries of the result are shown.
 
-use super::stage::are_told;
-use super::told::{Row, is_so, made, row_holds};
+use super::printed::{Row, is_so, made, row_holds};
+use super::stage::are_transcripts;
 use llb_merge::{lay, lay_onto, lay_over};
-use llb_tree::{Tree, OverlaySettings};
+use llb_tree::{OverlaySettings, Tree};
 use llb_wire::Same;
 use std::alloc::Global;
 use std::process::Abort;
@@ -195,7 +195,7 @@ const LAID: &str = "
 
 #[test]
 fn files_hide_directories_are_one_and_a_way_keeps_and_gives(rt: HostRuntime) {
-    are_told(&rt, rt.alloc(), LAID);
+    are_transcripts(&rt, rt.alloc(), LAID);
 }
 
 pub(crate) fn copied(rt: &impl Abort, tree: &Tree) -> Tree {

@@ -1,7 +1,7 @@
 //! Trees that share what they have in common: an edit of one, done or refused, does not change the other.
 
-use super::stage::are_told;
-use super::told::{Row, is_so, tree_of};
+use super::printed::{Row, is_so, tree_of};
+use super::stage::are_transcripts;
 use super::trees::edit;
 use llb_tree::TreeFault;
 use llb_wire::Same;
@@ -172,12 +172,12 @@ const TREE_IS_EDITED: &str = "
 
 #[test]
 fn what_was_taken_is_edited_and_the_tree_stays(rt: HostRuntime) {
-    are_told(&rt, rt.alloc(), TAKEN_IS_EDITED);
+    are_transcripts(&rt, rt.alloc(), TAKEN_IS_EDITED);
 }
 
 #[test]
 fn the_tree_is_edited_and_what_was_taken_stays(rt: HostRuntime) {
-    are_told(&rt, rt.alloc(), TREE_IS_EDITED);
+    are_transcripts(&rt, rt.alloc(), TREE_IS_EDITED);
 }
 
 // Returns whether a copy equals its tree, an edit changes the tree if it is done and leaves it if memory is refused, and the

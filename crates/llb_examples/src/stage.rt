@@ -2,7 +2,7 @@
 //! that begins with `# ` describes the next calls. The calls work on two trees (`trees`) and on the mounts of a view (`views`); after
 //! `new` there are no mounts and the trees are empty.
 
-use super::told::{is_same, is_so, say, say_fault};
+use super::printed::{is_same, is_so, say, say_fault};
 use super::trees::{Trees, answer, word_and_rest};
 use super::views::{put_mount, say_run};
 use llb_mount::Shown;
@@ -51,19 +51,19 @@ fn say_line(rt: &impl Abort, alloc: Global, text: &mut String, stage: &mut Stage
     }
 }
 
-fn transcript(rt: &impl Abort, alloc: Global, told: &str) -> String {
+fn transcript(rt: &impl Abort, alloc: Global, story: &str) -> String {
     let mut text = String::new(alloc);
     let mut stage = empty_stage(rt, alloc);
-    for line in told.lines() {
+    for line in story.lines() {
         say_line(rt, alloc, &mut text, &mut stage, line.trim());
     }
     text
 }
 
 // Ends the test at the first line of a text that differs from the transcript.
-pub(crate) fn is_told_as(rt: &impl Abort, text: &str, told: &str) {
+pub(crate) fn is_story_of(rt: &impl Abort, text: &str, story: &str) {
     let mut lines = text.lines();
-    for line in told.lines() {
+    for line in story.lines() {
         let line = line.trim();
         if !line.is_empty() && !line.starts_with("# ") {
             is_same(rt, lines.next().unwrap_or("nothing").trim(), line);
@@ -73,6 +73,6 @@ pub(crate) fn is_told_as(rt: &impl Abort, text: &str, told: &str) {
 }
 
 // Ends the test at the first line of a transcript that differs.
-pub(crate) fn are_told(rt: &impl Abort, alloc: Global, told: &str) {
-    is_told_as(rt, transcript(rt, alloc, told).as_str(), told);
+pub(crate) fn are_transcripts(rt: &impl Abort, alloc: Global, story: &str) {
+    is_story_of(rt, transcript(rt, alloc, story).as_str(), story);
 }

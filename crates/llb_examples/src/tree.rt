@@ -1,7 +1,7 @@
 //! Names, paths and trees.
 
-use super::stage::are_told;
-use super::told::{Row, file, holds, is_same, is_so, made, repeated, row_holds, say_path};
+use super::printed::{Row, file, holds, is_same, is_so, made, repeated, row_holds, say_path};
+use super::stage::are_transcripts;
 use llb_tree::{Meta, Name, Path, Tree, TreeFault};
 use llb_wire::Same;
 use std::alloc::Global;
@@ -322,7 +322,7 @@ const STORIES: &str = "
 
 #[test]
 fn a_tree_is_changed_call_by_call(rt: HostRuntime) {
-    are_told(&rt, rt.alloc(), STORIES);
+    are_transcripts(&rt, rt.alloc(), STORIES);
 }
 
 // Returns a tree with a directory at a path of this many names, and those above it.

@@ -6,8 +6,8 @@
 //! replace the other tree by one made from this, `below PATH` by an empty tree with this one at the path, and `swap` exchanges the two.
 //! A content that ends in `\n` ends with a line end.
 
-use super::told::{say, say_looked, say_names, say_tree};
-use llb_tree::{Bytes, Meta, Path, Tree, TreeFault, OverlaySettings};
+use super::printed::{say, say_looked, say_names, say_tree};
+use llb_tree::{Bytes, Meta, OverlaySettings, Path, Tree, TreeFault};
 use std::alloc::{AllocError, Global};
 use std::mem;
 use std::process::Abort;

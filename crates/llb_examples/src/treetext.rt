@@ -1,6 +1,6 @@
 //! The text of a tree: written, hashed to its digest, and read. A text is read and written again, or its fault is printed.
 
-use super::told::{file, holds, is_same, is_so, made, prints, say};
+use super::printed::{file, holds, is_same, is_so, made, prints, say};
 use llb_tree::Tree;
 use llb_treetext::{TextFault, one_answer, print_tree, read_tree, reads_back, tree_digest};
 use llb_wire::{Over, Same, Text};
@@ -20,19 +20,19 @@ pub(crate) fn printed(alloc: Global, tree: &Tree) -> Result<Vec<u8>, AllocError>
 // Returns the tree that a text is read as, printed again; or the fault.
 fn answer(rt: &impl Abort, alloc: Global, text: &str) -> String {
     one_answer(text.as_bytes());
-    let mut told = String::new(alloc);
+    let mut printed = String::new(alloc);
     match read_tree(alloc, text.as_bytes()) {
-        Err(fault) => write!(told, "{fault}").expect(rt, "memory"),
+        Err(fault) => write!(printed, "{fault}").expect(rt, "memory"),
         Ok(tree) => {
             let again = printed(alloc, &tree).expect(rt, "memory");
             say(
                 rt,
-                &mut told,
+                &mut printed,
                 str::from_utf8(again.as_slice()).unwrap_or(""),
             );
         }
     }
-    told
+    printed
 }
 
 // Texts of trees.
@@ -177,8 +177,8 @@ const MISSPELLED: &[&str] = &[
 #[test]
 fn only_the_written_spelling_is_read(rt: HostRuntime) {
     for line in MISSPELLED {
-        let told = second_line(&rt, rt.alloc(), line);
-        holds(&rt, line, told.as_str() == "31 2");
+        let printed = second_line(&rt, rt.alloc(), line);
+        holds(&rt, line, printed.as_str() == "31 2");
     }
 }
 

@@ -3,7 +3,7 @@
 //! one that is skipped, and then each mount's tree after a bar; the mounts themselves are unchanged. If the text is no script, it prints
 //! the fault.
 
-use super::told::{say, say_fault, say_number, say_tree};
+use super::printed::{say, say_fault, say_number, say_tree};
 use super::trees::{Trees, word_and_rest};
 use llb_applet::{
     Join, Joined, Many, Path, Script, ScriptFault, Setting, Text, View, read_script, run_command,

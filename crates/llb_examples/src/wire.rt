@@ -1,6 +1,6 @@
 //! The wire: numbers, records, texts and lists, and writers that fail.
 
-use super::told::{holds, is_same, is_so, prints, row_holds};
+use super::printed::{holds, is_same, is_so, prints, row_holds};
 use llb_wire::{
     Bytes, Failed, Field, Many, Over, Same, Sink, Text, Wire, WireFault, is_hex, magnitude,
     next_record, push_hex, read_hex, text_of_digest, varint, write_all, write_record, write_varint,
@@ -173,8 +173,8 @@ fn keeps_bytes(rt: &impl Abort, alloc: Global, bytes: &[u8], other: &[u8]) -> bo
     kept.is_bytes();
     let copied = kept.copy().expect(rt, "memory");
     let apart = Bytes::new(vec_of(rt, alloc, other));
-    let told = kept.same(&copied) && !kept.same(&apart) && kept.as_slice() == bytes;
-    told && copied.into_vec().as_slice() == bytes
+    let holds = kept.same(&copied) && !kept.same(&apart) && kept.as_slice() == bytes;
+    holds && copied.into_vec().as_slice() == bytes
 }
 
 // Returns whether the copy of a text and the string that it is turned into are this text.
@@ -182,15 +182,15 @@ fn keeps_text(rt: &impl Abort, alloc: Global, text: &str, other: &str) -> bool {
     let kept = text_of(rt, alloc, text);
     let copied = kept.copy().expect(rt, "memory");
     let apart = Text::new(String::from_str(alloc, other).expect(rt, "memory"));
-    let told = kept.same(&copied) && !kept.same(&apart) && kept.as_str() == text;
-    told && copied.into_string().as_str() == text
+    let holds = kept.same(&copied) && !kept.same(&apart) && kept.as_str() == text;
+    holds && copied.into_string().as_str() == text
 }
 
 fn keeps_items(rt: &impl Abort, alloc: Global, items: &[u8]) -> bool {
     let many = Many::new(vec_of(rt, alloc, items));
-    let told = many.len() == items.len() && many.is_empty() == items.is_empty();
+    let holds = many.len() == items.len() && many.is_empty() == items.is_empty();
     let seen = many.as_slice() == items;
-    told && seen && many.into_vec().as_slice() == items
+    holds && seen && many.into_vec().as_slice() == items
 }
 
 #[test]

@@ -2,7 +2,7 @@
 //! the same steps.
 
 use super::growths::{Row, Trial, are_refused};
-use super::told::{fault_told, text_told, tree_or_fault, tree_told};
+use super::printed::{printed_fault, printed_text, printed_tree, tree_or_fault};
 use super::written::{entries_of, tree_and_twin, tree_named};
 use llb_fileop::{ActFault, act};
 use llb_merge::{Memory, lay, lay_onto, lay_over};
@@ -132,13 +132,13 @@ impl Trial for OnTrees {
         self.answer = self.answered(alloc);
     }
 
-    fn told(&self, rt: &impl Abort, alloc: Global) -> String {
+    fn printed(&self, rt: &impl Abort, alloc: Global) -> String {
         match &self.answer {
-            Answer::None => text_told(rt, alloc, "nothing"),
+            Answer::None => printed_text(rt, alloc, "nothing"),
             Answer::Acted(acted) => tree_or_fault(rt, alloc, acted),
             Answer::Laid(laid) => tree_or_fault(rt, alloc, laid),
-            Answer::LaidOver(Ok(())) => tree_told(rt, alloc, &self.base),
-            Answer::LaidOver(Err(fault)) => fault_told(rt, alloc, fault),
+            Answer::LaidOver(Ok(())) => printed_tree(rt, alloc, &self.base),
+            Answer::LaidOver(Err(fault)) => printed_fault(rt, alloc, fault),
         }
     }
 

@@ -2,8 +2,8 @@
 
 use super::boards::copy_of;
 use super::growths::{Row, Trial, are_refused};
-use super::runs::alone_told;
-use super::told::{fault_told, say, text_told};
+use super::printed::{printed_fault, printed_text, say};
+use super::runs::printed_alone;
 use super::written::{definition_of, entries_of, entries_text};
 use llb_board::Board;
 use llb_commands::ProgramFault;
@@ -41,8 +41,8 @@ fn met(
     aim_is_met(alloc, text.as_bytes(), definition, entries, board, stepper)
 }
 
-fn copy_told(rt: &impl Abort, alloc: Global, board: &Board) -> String {
-    alone_told(rt, alloc, copy_of(rt, board))
+fn printed_copy(rt: &impl Abort, alloc: Global, board: &Board) -> String {
+    printed_alone(rt, alloc, copy_of(rt, board))
 }
 
 fn board_in(stepper: &Stepper) -> &Board {
@@ -50,9 +50,9 @@ fn board_in(stepper: &Stepper) -> &Board {
 }
 
 // Returns the trees of the results, after each board is run to its end.
-fn results_told(rt: &impl Abort, alloc: Global, board: &Board, stepper: &Stepper) -> String {
-    let mut text = copy_told(rt, alloc, board);
-    let other = copy_told(rt, alloc, board_in(stepper));
+fn printed_results(rt: &impl Abort, alloc: Global, board: &Board, stepper: &Stepper) -> String {
+    let mut text = printed_copy(rt, alloc, board);
+    let other = printed_copy(rt, alloc, board_in(stepper));
     say(rt, &mut text, other.as_str());
     text
 }
@@ -72,11 +72,11 @@ impl Trial for OnDefinition {
         self.answer = Some(met(alloc, text, &self.definition, &self.entries));
     }
 
-    fn told(&self, rt: &impl Abort, alloc: Global) -> String {
+    fn printed(&self, rt: &impl Abort, alloc: Global) -> String {
         match &self.answer {
-            None => text_told(rt, alloc, "nothing"),
-            Some(Ok((board, stepper))) => results_told(rt, alloc, board, stepper),
-            Some(Err(fault)) => fault_told(rt, alloc, fault),
+            None => printed_text(rt, alloc, "nothing"),
+            Some(Ok((board, stepper))) => printed_results(rt, alloc, board, stepper),
+            Some(Err(fault)) => printed_fault(rt, alloc, fault),
         }
     }
 

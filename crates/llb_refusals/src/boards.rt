@@ -3,7 +3,7 @@
 
 use super::board_rows::ROWS;
 use super::growths::{Row, Trial, are_refused};
-use super::told::{fault_told, text_told};
+use super::printed::{printed_fault, printed_text};
 use super::written::{graph_of, locals_of};
 use llb_board::{
     Board, ClaimFault, Event, Events, Gate, Job, Memory, OpenFault, Outcome, Status, StepFault,
@@ -207,11 +207,11 @@ impl Trial for OnParts {
         }
     }
 
-    fn told(&self, rt: &impl Abort, alloc: Global) -> String {
+    fn printed(&self, rt: &impl Abort, alloc: Global) -> String {
         match &self.answer {
-            Answer::Opened(Ok(board)) => fault_told(rt, alloc, &board.graph().vertices().len()),
-            Answer::Opened(Err(fault)) => fault_told(rt, alloc, fault),
-            _ => text_told(rt, alloc, "nothing"),
+            Answer::Opened(Ok(board)) => printed_fault(rt, alloc, &board.graph().vertices().len()),
+            Answer::Opened(Err(fault)) => printed_fault(rt, alloc, fault),
+            _ => printed_text(rt, alloc, "nothing"),
         }
     }
 
@@ -314,12 +314,12 @@ fn board_called(board: &mut Board, call: &str) -> Answer {
 }
 
 // Returns which worker works at which vertex, and whether the board is as it should be then.
-fn work_told(rt: &impl Abort, alloc: Global, w: u32, v: u32, name: &str) -> String {
+fn printed_work(rt: &impl Abort, alloc: Global, w: u32, v: u32, name: &str) -> String {
     format!(in alloc; "{w} at {v}, {name}").expect(rt, "memory")
 }
 
 // Returns in words what a micro-step did, and then the name that is given.
-fn stepped_told(rt: &impl Abort, alloc: Global, stepped: Stepped, name: &str) -> String {
+fn printed_stepped(rt: &impl Abort, alloc: Global, stepped: Stepped, name: &str) -> String {
     format!(in alloc; "{stepped:?}, {name}").expect(rt, "memory")
 }
 
@@ -333,15 +333,15 @@ impl OnBoard {
         name_of(self.board.same(&self.goal))
     }
 
-    fn claim_told(&self, rt: &impl Abort, alloc: Global, job: &Job) -> String {
-        work_told(rt, alloc, job.worker(), job.vertex(), self.behind())
+    fn printed_claim(&self, rt: &impl Abort, alloc: Global, job: &Job) -> String {
+        printed_work(rt, alloc, job.worker(), job.vertex(), self.behind())
     }
 
-    fn step_told(&self, rt: &impl Abort, alloc: Global, stepped: Stepped) -> String {
-        stepped_told(rt, alloc, stepped, self.behind())
+    fn printed_step(&self, rt: &impl Abort, alloc: Global, stepped: Stepped) -> String {
+        printed_stepped(rt, alloc, stepped, self.behind())
     }
 
-    fn events_told(&self, events: &Events) -> &'static str {
+    fn printed_events(&self, events: &Events) -> &'static str {
         let are_same = events.as_slice() == self.twin.events().as_slice();
         if are_same { "the events" } else { "others" }
     }
@@ -355,7 +355,7 @@ impl OnBoard {
     }
 }
 
-fn outcome_told(rt: &impl Abort, alloc: Global, outcome: &Outcome) -> String {
+fn printed_outcome(rt: &impl Abort, alloc: Global, outcome: &Outcome) -> String {
     let (count, is_failed) = (outcome.count(), outcome.fault().is_some());
     format!(in alloc; "{count} done, {is_failed}").expect(rt, "memory")
 }
@@ -408,19 +408,21 @@ impl Trial for OnBoard {
         self.answer = self.answered(alloc);
     }
 
-    fn told(&self, rt: &impl Abort, alloc: Global) -> String {
+    fn printed(&self, rt: &impl Abort, alloc: Global) -> String {
         match &self.answer {
-            Answer::Claimed(Ok(job)) => self.claim_told(rt, alloc, job),
-            Answer::Stepped(Ok(stepped)) => self.step_told(rt, alloc, *stepped),
-            Answer::Copied(Ok(copy)) => text_told(rt, alloc, name_of(copy.same(&self.twin))),
-            Answer::Events(Ok(events)) => text_told(rt, alloc, self.events_told(events)),
-            Answer::Worked(Ok(outcome)) => outcome_told(rt, alloc, outcome),
-            Answer::Looked(true) => text_told(rt, alloc, "a tree"),
-            Answer::Claimed(Err(fault)) => fault_told(rt, alloc, fault),
-            Answer::Stepped(Err(fault)) => fault_told(rt, alloc, fault),
-            Answer::Worked(Err(fault)) => fault_told(rt, alloc, fault),
-            Answer::Copied(Err(fault)) | Answer::Events(Err(fault)) => fault_told(rt, alloc, fault),
-            _ => text_told(rt, alloc, "nothing"),
+            Answer::Claimed(Ok(job)) => self.printed_claim(rt, alloc, job),
+            Answer::Stepped(Ok(stepped)) => self.printed_step(rt, alloc, *stepped),
+            Answer::Copied(Ok(copy)) => printed_text(rt, alloc, name_of(copy.same(&self.twin))),
+            Answer::Events(Ok(events)) => printed_text(rt, alloc, self.printed_events(events)),
+            Answer::Worked(Ok(outcome)) => printed_outcome(rt, alloc, outcome),
+            Answer::Looked(true) => printed_text(rt, alloc, "a tree"),
+            Answer::Claimed(Err(fault)) => printed_fault(rt, alloc, fault),
+            Answer::Stepped(Err(fault)) => printed_fault(rt, alloc, fault),
+            Answer::Worked(Err(fault)) => printed_fault(rt, alloc, fault),
+            Answer::Copied(Err(fault)) | Answer::Events(Err(fault)) => printed_fault(
+                rt, alloc, fault,
+            ),
+            _ => printed_text(rt, alloc, "nothing"),
         }
     }
 

@@ -1,7 +1,7 @@
 //! Leases of caches. A need is the ID and the mode of its key, with the tree that a new instance begins with; there is a comma between two needs.
 
 use super::growths::{Row, Trial, are_refused};
-use super::told::{fault_told, text_of, text_told};
+use super::printed::{printed_fault, printed_text, text_of};
 use super::written::tree_named;
 use llb_cache::{Caches, Instance, Key, Lease, LeaseFault, Lent, Many, Memory, Mode, Need, Seed};
 use std::alloc::Global;
@@ -120,7 +120,7 @@ fn instances_of(rt: &impl Abort, alloc: Global, written: &'static str) -> Vec<In
 
 impl OnCaches {
     // Returns the number of the lease, the number of the instance for the lease's first need, and how many leases are current.
-    fn lease_told(&self, rt: &impl Abort, alloc: Global, lease: Lease) -> String {
+    fn printed_lease(&self, rt: &impl Abort, alloc: Global, lease: Lease) -> String {
         let number = lease.number();
         let mut instance = u32::MAX;
         if self.caches.needs(lease) > 0 {
@@ -130,7 +130,7 @@ impl OnCaches {
         format!(in alloc; "lease {number} of instance {instance}, {out} out").expect(rt, "memory")
     }
 
-    fn copy_told(&self, copy: &Caches) -> &'static str {
+    fn printed_copy(&self, copy: &Caches) -> &'static str {
         if copy.same(&self.twin) {
             "the caches"
         } else {
@@ -168,14 +168,16 @@ impl Trial for OnCaches {
         self.answer = self.answered(alloc);
     }
 
-    fn told(&self, rt: &impl Abort, alloc: Global) -> String {
+    fn printed(&self, rt: &impl Abort, alloc: Global) -> String {
         match &self.answer {
-            Answer::None => text_told(rt, alloc, "nothing"),
-            Answer::Lease(Ok(lease)) => self.lease_told(rt, alloc, *lease),
-            Answer::Copied(Ok(copy)) => text_told(rt, alloc, self.copy_told(copy)),
-            Answer::Ready(Ok(_)) => text_told(rt, alloc, "a lease that is ready"),
-            Answer::Lease(Err(fault)) => fault_told(rt, alloc, fault),
-            Answer::Copied(Err(fault)) | Answer::Ready(Err(fault)) => fault_told(rt, alloc, fault),
+            Answer::None => printed_text(rt, alloc, "nothing"),
+            Answer::Lease(Ok(lease)) => self.printed_lease(rt, alloc, *lease),
+            Answer::Copied(Ok(copy)) => printed_text(rt, alloc, self.printed_copy(copy)),
+            Answer::Ready(Ok(_)) => printed_text(rt, alloc, "a lease that is ready"),
+            Answer::Lease(Err(fault)) => printed_fault(rt, alloc, fault),
+            Answer::Copied(Err(fault)) | Answer::Ready(Err(fault)) => printed_fault(
+                rt, alloc, fault,
+            ),
         }
     }
 

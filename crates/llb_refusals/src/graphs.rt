@@ -1,7 +1,7 @@
 //! Definitions as graphs, local trees, and plain outcomes.
 
 use super::growths::{Row, Trial, are_refused};
-use super::told::{fault_told, numbers_told, say, text_of, text_told, tree_told};
+use super::printed::{printed_fault, printed_numbers, printed_text, printed_tree, say, text_of};
 use super::written::{definition_of, entries_of, graph_of, locals_of, tree_named};
 use llb_loader::{Graph, LoadFault, Locals, Memory, Row as Linked, link, load};
 use llb_plain::{Outcomes, PlainFault, evaluate};
@@ -76,34 +76,34 @@ fn linked(alloc: Global, rows: &[Linked]) -> Answer {
 }
 
 // Returns how many vertices there are, and the vertex of the result.
-fn graph_told(rt: &impl Abort, alloc: Global, graph: &Graph) -> String {
-    numbers_told(rt, alloc, graph.vertices().len(), graph.result().vertex)
+fn printed_graph(rt: &impl Abort, alloc: Global, graph: &Graph) -> String {
+    printed_numbers(rt, alloc, graph.vertices().len(), graph.result().vertex)
 }
 
-fn local_told(rt: &impl Abort, text: &mut String, locals: &Locals, name: &str) {
+fn printed_local(rt: &impl Abort, text: &mut String, locals: &Locals, name: &str) {
     if let Some(tree) = locals.get(name) {
-        let tree = tree_told(rt, *text.allocator(), tree);
+        let tree = printed_tree(rt, *text.allocator(), tree);
         say(rt, text, name);
         say(rt, text, "|");
         say(rt, text, tree.as_str());
     }
 }
 
-fn locals_told(rt: &impl Abort, alloc: Global, locals: &Locals) -> String {
+fn printed_locals(rt: &impl Abort, alloc: Global, locals: &Locals) -> String {
     let mut text = String::new(alloc);
-    local_told(rt, &mut text, locals, "p");
-    local_told(rt, &mut text, locals, "q");
+    printed_local(rt, &mut text, locals, "p");
+    printed_local(rt, &mut text, locals, "q");
     text
 }
 
 // Returns the first output of the last vertex.
-fn outcomes_told(rt: &impl Abort, alloc: Global, outcomes: &Outcomes) -> String {
+fn printed_outcomes(rt: &impl Abort, alloc: Global, outcomes: &Outcomes) -> String {
     match outcomes.as_slice().last() {
         Some(outcome) => match outcome.output(0) {
-            Some(tree) => tree_told(rt, alloc, tree),
-            None => text_told(rt, alloc, "no output"),
+            Some(tree) => printed_tree(rt, alloc, tree),
+            None => printed_text(rt, alloc, "no output"),
         },
-        None => text_told(rt, alloc, "no vertex"),
+        None => printed_text(rt, alloc, "no vertex"),
     }
 }
 
@@ -156,17 +156,17 @@ impl Trial for OnGraph {
         self.answer = self.answered(alloc);
     }
 
-    fn told(&self, rt: &impl Abort, alloc: Global) -> String {
+    fn printed(&self, rt: &impl Abort, alloc: Global) -> String {
         match &self.answer {
-            Answer::None => text_told(rt, alloc, "nothing"),
-            Answer::Graph(Ok(graph)) | Answer::Copied(Ok(graph)) => graph_told(rt, alloc, graph),
-            Answer::Locals(Ok(locals)) => locals_told(rt, alloc, locals),
-            Answer::Added(Ok(())) => locals_told(rt, alloc, &self.locals),
-            Answer::Outcomes(Ok(outcomes)) => outcomes_told(rt, alloc, outcomes),
-            Answer::Graph(Err(fault)) => fault_told(rt, alloc, fault),
-            Answer::Outcomes(Err(fault)) => fault_told(rt, alloc, fault),
+            Answer::None => printed_text(rt, alloc, "nothing"),
+            Answer::Graph(Ok(graph)) | Answer::Copied(Ok(graph)) => printed_graph(rt, alloc, graph),
+            Answer::Locals(Ok(locals)) => printed_locals(rt, alloc, locals),
+            Answer::Added(Ok(())) => printed_locals(rt, alloc, &self.locals),
+            Answer::Outcomes(Ok(outcomes)) => printed_outcomes(rt, alloc, outcomes),
+            Answer::Graph(Err(fault)) => printed_fault(rt, alloc, fault),
+            Answer::Outcomes(Err(fault)) => printed_fault(rt, alloc, fault),
             Answer::Copied(Err(fault)) | Answer::Locals(Err(fault)) | Answer::Added(Err(fault)) => {
-                fault_told(rt, alloc, fault)
+                printed_fault(rt, alloc, fault)
             }
         }
     }

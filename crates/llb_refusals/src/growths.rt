@@ -1,7 +1,7 @@
 //! Refuses each growth (each request for memory) of a call in turn. This is done by `tools/llbm_tools/refuse.c`, a library between the test and its allocator.
 //! The test says what to refuse by requests of sizes that no allocator grants.
 
-use super::told::is_same;
+use super::printed::is_same;
 use llb_samples::tree_text;
 use std::alloc::Global;
 use std::process::Abort;
@@ -20,7 +20,7 @@ pub(crate) trait Trial: Sized + Drop {
     fn call(&mut self, alloc: Global);
 
     /// Returns the result of the call in words.
-    fn told(&self, rt: &impl Abort, alloc: Global) -> String;
+    fn printed(&self, rt: &impl Abort, alloc: Global) -> String;
 
     /// Returns whether what the call was made on is unchanged, by comparing it with another that was made in the same steps.
     fn is_as_before(&mut self, rt: &impl Abort, alloc: Global) -> bool;
@@ -51,14 +51,14 @@ pub(crate) fn was_refused(alloc: Global) -> bool {
 }
 
 /// Returns whether a result in words is one of the faults that may come if memory is refused.
-pub(crate) fn is_lack(told: &str, lacks: &str) -> bool {
+pub(crate) fn is_lack(printed: &str, lacks: &str) -> bool {
     for lack in lacks.split(" and ") {
-        if lack == told {
+        if lack == printed {
             return true;
         }
     }
     for lack in lacks.split(" or ") {
-        if lack == told {
+        if lack == printed {
             return true;
         }
     }
@@ -72,26 +72,26 @@ fn told_at<T: Trial>(rt: &impl Abort, alloc: Global, row: &Row, k: usize) -> Opt
     refuse(alloc, k);
     trial.call(alloc);
     if !was_refused(alloc) {
-        is_same(rt, trial.told(rt, alloc).as_str(), tree_text(wanted));
+        is_same(rt, trial.printed(rt, alloc).as_str(), tree_text(wanted));
         return None;
     }
-    let told = trial.told(rt, alloc);
+    let printed = trial.printed(rt, alloc);
     assert!(rt;
-        is_lack(told.as_str(), lacks),
-        "growth {k} of {call} on {on}: {told}"
+        is_lack(printed.as_str(), lacks),
+        "growth {k} of {call} on {on}: {printed}"
     );
     assert!(rt;
         trial.is_as_before(rt, alloc),
         "growth {k} of {call} on {on}"
     );
     trial.call(alloc);
-    is_same(rt, trial.told(rt, alloc).as_str(), tree_text(wanted));
-    Some(told)
+    is_same(rt, trial.printed(rt, alloc).as_str(), tree_text(wanted));
+    Some(printed)
 }
 
 fn is_among(lack: &str, came: &[String]) -> bool {
-    for told in came {
-        if told.as_str() == lack {
+    for printed in came {
+        if printed.as_str() == lack {
             return true;
         }
     }
@@ -113,7 +113,7 @@ fn growths<T: Trial>(rt: &impl Abort, alloc: Global, row: &Row) -> Vec<String> {
     let mut came = Vec::new(alloc);
     for k in 1..MOST {
         match told_at::<T>(rt, alloc, row, k) {
-            Some(told) => came.push(told).expect(rt, "memory"),
+            Some(printed) => came.push(printed).expect(rt, "memory"),
             None => return came,
         }
     }

@@ -19,6 +19,8 @@ mod growths;
 #[cfg(test)]
 mod ops;
 #[cfg(test)]
+mod printed;
+#[cfg(test)]
 mod programs;
 #[cfg(test)]
 mod runs;
@@ -28,8 +30,6 @@ mod scripts;
 mod steppers;
 #[cfg(test)]
 mod texts;
-#[cfg(test)]
-mod told;
 #[cfg(test)]
 mod trees;
 #[cfg(test)]

@@ -1,8 +1,8 @@
 //! Entries and definitions, read and written. What was read can't be changed by these calls.
 
 use super::growths::{Row, Trial, are_refused};
-use super::told::{bytes_told, fault_told, text_told};
-use super::written::{definition_of, entries_of, entries_told};
+use super::printed::{printed_bytes, printed_fault, printed_text};
+use super::written::{definition_of, entries_of, printed_entries};
 use llb_ops::{
     Actions, Entries, FileOp, Kind, Op, OpFault, read_definition, read_op, write_definition,
     write_op,
@@ -67,9 +67,9 @@ fn copy_actions(op: &Op) -> Answer {
 }
 
 // Returns the canonical bytes of an op in words.
-fn op_told(rt: &impl Abort, alloc: Global, op: &Op) -> String {
+fn printed_op(rt: &impl Abort, alloc: Global, op: &Op) -> String {
     let bytes = write_op(alloc, op).expect(rt, "memory");
-    bytes_told(rt, alloc, bytes.as_slice())
+    printed_bytes(rt, alloc, bytes.as_slice())
 }
 
 impl OnEntries {
@@ -107,19 +107,19 @@ impl Trial for OnEntries {
         self.answer = self.answered(alloc);
     }
 
-    fn told(&self, rt: &impl Abort, alloc: Global) -> String {
+    fn printed(&self, rt: &impl Abort, alloc: Global) -> String {
         match &self.answer {
-            Answer::None => text_told(rt, alloc, "nothing"),
-            Answer::Op(Ok(op)) => op_told(rt, alloc, op),
-            Answer::Entries(Ok(entries)) => entries_told(rt, alloc, entries),
-            Answer::Bytes(Ok(bytes)) => bytes_told(rt, alloc, bytes.as_slice()),
-            Answer::File(Ok(file)) => fault_told(rt, alloc, &file.actions.len()),
-            Answer::Actions(Ok(actions)) => fault_told(rt, alloc, &actions.len()),
+            Answer::None => printed_text(rt, alloc, "nothing"),
+            Answer::Op(Ok(op)) => printed_op(rt, alloc, op),
+            Answer::Entries(Ok(entries)) => printed_entries(rt, alloc, entries),
+            Answer::Bytes(Ok(bytes)) => printed_bytes(rt, alloc, bytes.as_slice()),
+            Answer::File(Ok(file)) => printed_fault(rt, alloc, &file.actions.len()),
+            Answer::Actions(Ok(actions)) => printed_fault(rt, alloc, &actions.len()),
             Answer::Op(Err(fault))
             | Answer::Entries(Err(fault))
             | Answer::Bytes(Err(fault))
-            | Answer::File(Err(fault)) => fault_told(rt, alloc, fault),
-            Answer::Actions(Err(fault)) => fault_told(rt, alloc, fault),
+            | Answer::File(Err(fault)) => printed_fault(rt, alloc, fault),
+            Answer::Actions(Err(fault)) => printed_fault(rt, alloc, fault),
         }
     }
 

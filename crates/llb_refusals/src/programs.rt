@@ -1,7 +1,7 @@
 //! The program's commands, over readers and writers in memory that have room for all that is written.
 
 use super::growths::{MOST, Row, Trial, are_refused, is_lack, print_count, refuse, was_refused};
-use super::told::{bytes_told, is_same, say, text_told};
+use super::printed::{is_same, printed_bytes, printed_text, say};
 use super::written::{definition_of, entries_text, locals_of};
 use llb_commands::{
     ReadFault, WordsFault, asm_over, command_of, dis_over, read_bounded, run_many_over, run_over,
@@ -56,7 +56,7 @@ impl Ran {
     }
 
     // Returns a status other than 0 with what is on `err`, else the first refusal that is written, else all that is written.
-    fn told(&self, rt: &impl Abort, alloc: Global, is_text: bool) -> String {
+    fn printed(&self, rt: &impl Abort, alloc: Global, is_text: bool) -> String {
         let (status, err) = (
             self.status,
             str::from_utf8(self.err.as_slice()).unwrap_or(""),
@@ -65,9 +65,9 @@ impl Ran {
             return format!(in alloc; "{status} {}", err.trim()).expect(rt, "memory");
         }
         match (self.refusal(), str::from_utf8(self.out.as_slice())) {
-            (Some(fault), _) => text_told(rt, alloc, fault),
-            (None, Ok(out)) if is_text => text_told(rt, alloc, out),
-            _ => bytes_told(rt, alloc, self.out.as_slice()),
+            (Some(fault), _) => printed_text(rt, alloc, fault),
+            (None, Ok(out)) if is_text => printed_text(rt, alloc, out),
+            _ => printed_bytes(rt, alloc, self.out.as_slice()),
         }
     }
 }
@@ -162,8 +162,8 @@ impl Trial for OnInput {
         }
     }
 
-    fn told(&self, rt: &impl Abort, alloc: Global) -> String {
-        self.ran.told(rt, alloc, self.call != "asm_over")
+    fn printed(&self, rt: &impl Abort, alloc: Global) -> String {
+        self.ran.printed(rt, alloc, self.call != "asm_over")
     }
 
     // Returns whether what is written is the beginning of what should be written; `asm` has written nothing then, and a session may go on after a refusal.
@@ -374,7 +374,7 @@ struct OnWords {
 
 const NO_WORDS: [&str; 0] = [];
 
-fn words_told(alloc: Global, words: &[&str]) -> &'static str {
+fn printed_words(alloc: Global, words: &[&str]) -> &'static str {
     match command_of(alloc, words) {
         Ok(_) => "granted",
         Err(WordsFault::Memory) => "184",
@@ -382,7 +382,7 @@ fn words_told(alloc: Global, words: &[&str]) -> &'static str {
     }
 }
 
-fn read_told(alloc: Global) -> &'static str {
+fn printed_read(alloc: Global) -> &'static str {
     let mut input = b"hello".as_slice();
     match read_bounded(alloc, &mut input, 5, 10) {
         Ok(bytes) if bytes.as_slice() == b"hello".as_slice() => "granted",
@@ -401,16 +401,16 @@ impl Trial for OnWords {
 
     fn call(&mut self, alloc: Global) {
         self.came = match self.call {
-            "hello" => read_told(alloc),
-            "no words" => words_told(alloc, &NO_WORDS),
-            "show" => words_told(alloc, &["show"]),
-            "show x" => words_told(alloc, &["show", "x"]),
-            _ => words_told(alloc, &["run", "--workers", "3", "p=a"]),
+            "hello" => printed_read(alloc),
+            "no words" => printed_words(alloc, &NO_WORDS),
+            "show" => printed_words(alloc, &["show"]),
+            "show x" => printed_words(alloc, &["show", "x"]),
+            _ => printed_words(alloc, &["run", "--workers", "3", "p=a"]),
         };
     }
 
-    fn told(&self, rt: &impl Abort, alloc: Global) -> String {
-        text_told(rt, alloc, self.came)
+    fn printed(&self, rt: &impl Abort, alloc: Global) -> String {
+        printed_text(rt, alloc, self.came)
     }
 
     fn is_as_before(&mut self, _rt: &impl Abort, _alloc: Global) -> bool {
@@ -451,15 +451,15 @@ fn is_growth<R: Abort + Threads + Wait + Sync>(rt: &R, alloc: Global, row: &Row,
     refuse(alloc, k);
     run_many(rt, alloc, input.as_slice(), &mut ran, Locals::new(alloc), 2);
     let is_refused = was_refused(alloc);
-    let told = ran.told(rt, alloc, true);
-    if is_refused && is_lack(told.as_str(), lacks) {
+    let printed = ran.printed(rt, alloc, true);
+    if is_refused && is_lack(printed.as_str(), lacks) {
         assert!(rt;
             wanted.as_bytes().starts_with(ran.out.as_slice()),
             "growth {k}"
         );
         return true;
     }
-    is_same(rt, told.as_str(), wanted);
+    is_same(rt, printed.as_str(), wanted);
     is_refused
 }
 

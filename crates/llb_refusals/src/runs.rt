@@ -4,7 +4,7 @@ use super::boards::{Open, TWO_FILES, are_same, board_in, board_of, board_on};
 use super::growths::{
     MOST, Row, Trial, are_refused, is_lack, print_count, refuse, refuse_thread, was_refused,
 };
-use super::told::{fault_told, is_same, text_told, tree_told};
+use super::printed::{is_same, printed_fault, printed_text, printed_tree};
 use llb_board::{Board, Status, WorkerStatus};
 use llb_ready::{ReadyFault, ReadyQueue};
 use llb_samples::tree_text;
@@ -37,12 +37,12 @@ fn is_replayed(alloc: Global, end: &RunEnd, opened: Board, before: usize) -> boo
 }
 
 // Returns the tree of the result of a run, or its fault.
-fn end_told(rt: &impl Abort, alloc: Global, end: &RunEnd) -> String {
+fn printed_end(rt: &impl Abort, alloc: Global, end: &RunEnd) -> String {
     let edge = end.board.graph().result();
     match (&end.fault, end.board.output(edge.vertex, edge.index)) {
-        (Some(fault), _) => fault_told(rt, alloc, fault),
-        (None, Some(tree)) if end.board.is_complete() => tree_told(rt, alloc, tree),
-        _ => text_told(rt, alloc, "no result"),
+        (Some(fault), _) => printed_fault(rt, alloc, fault),
+        (None, Some(tree)) if end.board.is_complete() => printed_tree(rt, alloc, tree),
+        _ => printed_text(rt, alloc, "no result"),
     }
 }
 
@@ -85,10 +85,10 @@ impl Trial for OnRun {
         }
     }
 
-    fn told(&self, rt: &impl Abort, alloc: Global) -> String {
+    fn printed(&self, rt: &impl Abort, alloc: Global) -> String {
         match &self.end {
-            Some(end) => end_told(rt, alloc, end),
-            None => text_told(rt, alloc, "nothing"),
+            Some(end) => printed_end(rt, alloc, end),
+            None => printed_text(rt, alloc, "nothing"),
         }
     }
 
@@ -142,8 +142,8 @@ fn are_idle(board: &Board) -> bool {
     board.caches().leases() == 0
 }
 
-pub(crate) fn alone_told(rt: &impl Abort, alloc: Global, board: Board) -> String {
-    end_told(rt, alloc, &alone(board))
+pub(crate) fn printed_alone(rt: &impl Abort, alloc: Global, board: Board) -> String {
+    printed_end(rt, alloc, &alone(board))
 }
 
 // Returns whether growth `k` of a run in threads was refused. Such a run ends because of that, or can do without the memory; its record is right, and one
@@ -155,11 +155,11 @@ fn is_growth<R: Abort + Threads + Wait + Sync>(rt: &R, alloc: Global, row: &Row,
     refuse(alloc, k);
     let end = crew(rt, alloc, board);
     let is_refused = was_refused(alloc);
-    let told = end_told(rt, alloc, &end);
-    let is_done = told.as_str() == tree_text(wanted);
+    let printed = printed_end(rt, alloc, &end);
+    let is_done = printed.as_str() == tree_text(wanted);
     assert!(rt;
-        is_done || is_refused && is_lack(told.as_str(), lacks),
-        "growth {k}: {told}"
+        is_done || is_refused && is_lack(printed.as_str(), lacks),
+        "growth {k}: {printed}"
     );
     assert!(rt; is_replayed(alloc, &end, opened, 0), "growth {k}");
     assert!(rt; are_idle(&end.board), "growth {k}");
@@ -168,7 +168,11 @@ fn is_growth<R: Abort + Threads + Wait + Sync>(rt: &R, alloc: Global, row: &Row,
         made: _,
         fault: _,
     } = end;
-    is_same(rt, alone_told(rt, alloc, board).as_str(), tree_text(wanted));
+    is_same(
+        rt,
+        printed_alone(rt, alloc, board).as_str(),
+        tree_text(wanted),
+    );
     is_refused
 }
 
@@ -246,8 +250,12 @@ fn is_thread<R: Abort + Threads + Wait + Sync>(rt: &R, alloc: Global, row: &Row,
     refuse_thread(alloc, k);
     let end = crew(rt, alloc, board);
     let is_refused = was_refused(alloc);
-    let told = end_told(rt, alloc, &end);
-    is_same(rt, told.as_str(), if is_refused { fault } else { wanted });
+    let printed = printed_end(rt, alloc, &end);
+    is_same(
+        rt,
+        printed.as_str(),
+        if is_refused { fault } else { wanted },
+    );
     let opened = board_on(rt, alloc, &written);
     assert!(rt; is_replayed(alloc, &end, opened, before), "thread {k}");
     assert!(rt; is_done(&end.board, part), "thread {k}");
@@ -257,7 +265,7 @@ fn is_thread<R: Abort + Threads + Wait + Sync>(rt: &R, alloc: Global, row: &Row,
         made: _,
         fault: _,
     } = end;
-    is_same(rt, alone_told(rt, alloc, board).as_str(), wanted);
+    is_same(rt, printed_alone(rt, alloc, board).as_str(), wanted);
     is_refused
 }
 
@@ -321,11 +329,11 @@ impl Trial for OnQueue {
         });
     }
 
-    fn told(&self, rt: &impl Abort, alloc: Global) -> String {
+    fn printed(&self, rt: &impl Abort, alloc: Global) -> String {
         match &self.answer {
-            Some(Ok(())) => text_told(rt, alloc, "a queue"),
-            Some(Err(fault)) => fault_told(rt, alloc, fault),
-            None => text_told(rt, alloc, "nothing"),
+            Some(Ok(())) => printed_text(rt, alloc, "a queue"),
+            Some(Err(fault)) => printed_fault(rt, alloc, fault),
+            None => printed_text(rt, alloc, "nothing"),
         }
     }
 

@@ -1,7 +1,7 @@
 //! Views, scripts, and commands on views.
 
 use super::growths::{Row, Trial, are_refused};
-use super::told::{fault_told, path_of, say, text_of, text_told, tree_told};
+use super::printed::{path_of, printed_fault, printed_text, printed_tree, say, text_of};
 use super::written::tree_named;
 use llb_applet::{Command, Joined, Script, ScriptFault, Setting, View, read_script, run_command};
 use llb_mount::Shown;
@@ -152,18 +152,18 @@ fn ran(alloc: Global, script: &Script, setting: &Setting, view: &mut View) -> An
 }
 
 // Returns the trees of a view, each after a bar.
-fn view_told(rt: &impl Abort, alloc: Global, view: &View) -> String {
+fn printed_view(rt: &impl Abort, alloc: Global, view: &View) -> String {
     let mut text = String::new(alloc);
     for shown in view.mounts() {
         say(rt, &mut text, "|");
-        say(rt, &mut text, tree_told(rt, alloc, &shown.tree).as_str());
+        say(rt, &mut text, printed_tree(rt, alloc, &shown.tree).as_str());
     }
     text
 }
 
-fn ran_told(rt: &impl Abort, alloc: Global, status: u8, view: &View) -> String {
-    let mut text = fault_told(rt, alloc, &status);
-    say(rt, &mut text, view_told(rt, alloc, view).as_str());
+fn printed_ran(rt: &impl Abort, alloc: Global, status: u8, view: &View) -> String {
+    let mut text = printed_fault(rt, alloc, &status);
+    say(rt, &mut text, printed_view(rt, alloc, view).as_str());
     text
 }
 
@@ -230,20 +230,22 @@ impl Trial for OnView {
         self.answer = self.answered(alloc);
     }
 
-    fn told(&self, rt: &impl Abort, alloc: Global) -> String {
+    fn printed(&self, rt: &impl Abort, alloc: Global) -> String {
         match &self.answer {
-            Answer::None => text_told(rt, alloc, "nothing"),
-            Answer::View(Ok(view)) => view_told(rt, alloc, view),
-            Answer::Shown(Ok(shown)) => tree_told(rt, alloc, &shown.tree),
-            Answer::Setting(Ok(setting)) => fault_told(rt, alloc, &setting.env.len()),
-            Answer::Script(Ok(script)) => text_told(rt, alloc, self.is_same_script(script)),
-            Answer::Command(Ok(command)) => text_told(rt, alloc, self.is_same_command(command)),
-            Answer::Ran(Ok(status)) => ran_told(rt, alloc, *status, &self.view),
-            Answer::View(Err(fault)) | Answer::Shown(Err(fault)) => fault_told(rt, alloc, fault),
+            Answer::None => printed_text(rt, alloc, "nothing"),
+            Answer::View(Ok(view)) => printed_view(rt, alloc, view),
+            Answer::Shown(Ok(shown)) => printed_tree(rt, alloc, &shown.tree),
+            Answer::Setting(Ok(setting)) => printed_fault(rt, alloc, &setting.env.len()),
+            Answer::Script(Ok(script)) => printed_text(rt, alloc, self.is_same_script(script)),
+            Answer::Command(Ok(command)) => printed_text(rt, alloc, self.is_same_command(command)),
+            Answer::Ran(Ok(status)) => printed_ran(rt, alloc, *status, &self.view),
+            Answer::View(Err(fault)) | Answer::Shown(Err(fault)) => printed_fault(rt, alloc, fault),
             Answer::Script(Err(fault)) | Answer::Command(Err(fault)) => {
-                fault_told(rt, alloc, fault)
+                printed_fault(rt, alloc, fault)
             }
-            Answer::Setting(Err(fault)) | Answer::Ran(Err(fault)) => fault_told(rt, alloc, fault),
+            Answer::Setting(Err(fault)) | Answer::Ran(Err(fault)) => printed_fault(
+                rt, alloc, fault,
+            ),
         }
     }
 

@@ -2,7 +2,7 @@
 
 use super::boards::{are_same, board_in, board_of};
 use super::growths::{Row, Trial, are_refused};
-use super::told::{fault_told, text_told};
+use super::printed::{printed_fault, printed_text};
 use llb_board::Event;
 use llb_session::{Request, request_in};
 use llb_stepper::{Break, Stepper, StepperFault, Stop};
@@ -82,20 +82,20 @@ fn back_many(stepper: &mut Stepper, count: u64) {
     stepper.back_many(count as usize);
 }
 
-fn line_told(rt: &impl Abort, alloc: Global, line: &Option<Text>) -> String {
+fn printed_line(rt: &impl Abort, alloc: Global, line: &Option<Text>) -> String {
     match line {
-        Some(line) => text_told(rt, alloc, line.as_str()),
-        None => text_told(rt, alloc, "no line"),
+        Some(line) => printed_text(rt, alloc, line.as_str()),
+        None => printed_text(rt, alloc, "no line"),
     }
 }
 
 impl OnStepper {
     // Returns the last line of the record, or the fault.
-    fn last_told(&self, rt: &impl Abort, alloc: Global) -> String {
+    fn printed_last(&self, rt: &impl Abort, alloc: Global) -> String {
         let count = self.stepper.board().events().len();
         match self.stepper.record_line(count as u64) {
-            Ok(line) => line_told(rt, alloc, &line),
-            Err(fault) => fault_told(rt, alloc, &fault),
+            Ok(line) => printed_line(rt, alloc, &line),
+            Err(fault) => printed_fault(rt, alloc, &fault),
         }
     }
 
@@ -140,13 +140,13 @@ impl Trial for OnStepper {
         self.answer = self.answered(alloc);
     }
 
-    fn told(&self, rt: &impl Abort, alloc: Global) -> String {
+    fn printed(&self, rt: &impl Abort, alloc: Global) -> String {
         match &self.answer {
-            Answer::None => text_told(rt, alloc, "nothing"),
-            Answer::Done(Ok(())) | Answer::Gone(Ok(_)) => self.last_told(rt, alloc),
-            Answer::Line(Ok(line)) => line_told(rt, alloc, line),
+            Answer::None => printed_text(rt, alloc, "nothing"),
+            Answer::Done(Ok(())) | Answer::Gone(Ok(_)) => self.printed_last(rt, alloc),
+            Answer::Line(Ok(line)) => printed_line(rt, alloc, line),
             Answer::Done(Err(fault)) | Answer::Gone(Err(fault)) | Answer::Line(Err(fault)) => {
-                fault_told(rt, alloc, fault)
+                printed_fault(rt, alloc, fault)
             }
         }
     }
@@ -154,7 +154,7 @@ impl Trial for OnStepper {
     fn is_as_before(&mut self, rt: &impl Abort, alloc: Global) -> bool {
         let is_same_line = match (self.stepper.record_line(1), self.twin.record_line(1)) {
             (Ok(line), Ok(other)) => {
-                line_told(rt, alloc, &line).as_str() == line_told(rt, alloc, &other).as_str()
+                printed_line(rt, alloc, &line).as_str() == printed_line(rt, alloc, &other).as_str()
             }
             _ => false,
         };

@@ -1,8 +1,8 @@
 //! Texts that are read and written: trees, patterns, the paths of actions, and entries.
 
 use super::growths::{Row, Trial, are_refused};
-use super::told::{fault_told, path_of, path_told, say, text_told, tree_told};
-use super::written::{entries_of, entries_text, entries_told, tree_named};
+use super::printed::{path_of, printed_fault, printed_path, printed_text, printed_tree, say};
+use super::written::{entries_of, entries_text, printed_entries, tree_named};
 use llb_asm::{AsmFault, assemble, disassemble};
 use llb_fileop::{ActFault, resolve};
 use llb_glob::{Pattern, PatternFault};
@@ -41,7 +41,7 @@ struct OnText {
 }
 
 // Returns which of three paths a pattern matches, in words.
-fn matches_told(rt: &impl Abort, alloc: Global, pattern: &Pattern) -> String {
+fn printed_matches(rt: &impl Abort, alloc: Global, pattern: &Pattern) -> String {
     let mut text = String::new(alloc);
     for path in ["/abc", "/*", "/d"] {
         if pattern.matches(&path_of(rt, alloc, path)) {
@@ -51,14 +51,14 @@ fn matches_told(rt: &impl Abort, alloc: Global, pattern: &Pattern) -> String {
     text
 }
 
-fn resolved_told(rt: &impl Abort, alloc: Global, path: &Path, ends: bool) -> String {
-    let mut text = path_told(rt, alloc, path);
+fn printed_resolved(rt: &impl Abort, alloc: Global, path: &Path, ends: bool) -> String {
+    let mut text = printed_path(rt, alloc, path);
     say(rt, &mut text, if ends { " ends" } else { " does not end" });
     text
 }
 
-fn out_told(rt: &impl Abort, alloc: Global, out: &[u8]) -> String {
-    text_told(rt, alloc, str::from_utf8(out).unwrap_or("no text"))
+fn printed_out(rt: &impl Abort, alloc: Global, out: &[u8]) -> String {
+    printed_text(rt, alloc, str::from_utf8(out).unwrap_or("no text"))
 }
 
 fn print(alloc: Global, tree: &Tree, out: &mut Vec<u8>) -> Answer {
@@ -72,30 +72,32 @@ fn write(alloc: Global, entries: &Entries, out: &mut Vec<u8>) -> Answer {
 }
 
 impl OnText {
-    fn value_told(&self, rt: &impl Abort, alloc: Global) -> Option<String> {
+    fn printed_value(&self, rt: &impl Abort, alloc: Global) -> Option<String> {
         match &self.answer {
             Answer::Printed(Ok(())) | Answer::Disassembled(Ok(())) => {
-                Some(out_told(rt, alloc, &self.out))
+                Some(printed_out(rt, alloc, &self.out))
             }
-            Answer::Tree(Ok(tree)) => Some(tree_told(rt, alloc, tree)),
-            Answer::Digest(Ok(digest)) => Some(text_told(rt, alloc, digest.as_str())),
-            Answer::Pattern(Ok(pattern)) => Some(matches_told(rt, alloc, pattern)),
-            Answer::Path(Ok((path, ends))) => Some(resolved_told(rt, alloc, path, *ends)),
-            Answer::Entries(Ok(entries)) => Some(entries_told(rt, alloc, entries)),
+            Answer::Tree(Ok(tree)) => Some(printed_tree(rt, alloc, tree)),
+            Answer::Digest(Ok(digest)) => Some(printed_text(rt, alloc, digest.as_str())),
+            Answer::Pattern(Ok(pattern)) => Some(printed_matches(rt, alloc, pattern)),
+            Answer::Path(Ok((path, ends))) => Some(printed_resolved(rt, alloc, path, *ends)),
+            Answer::Entries(Ok(entries)) => Some(printed_entries(rt, alloc, entries)),
             _ => None,
         }
     }
 
-    fn refusal_told(&self, rt: &impl Abort, alloc: Global) -> String {
+    fn printed_refusal(&self, rt: &impl Abort, alloc: Global) -> String {
         match &self.answer {
-            Answer::Printed(Err(fault)) => fault_told(rt, alloc, fault),
-            Answer::Tree(Err(fault)) | Answer::Digest(Err(fault)) => fault_told(rt, alloc, fault),
-            Answer::Pattern(Err(fault)) => fault_told(rt, alloc, fault),
-            Answer::Path(Err(fault)) => fault_told(rt, alloc, fault),
+            Answer::Printed(Err(fault)) => printed_fault(rt, alloc, fault),
+            Answer::Tree(Err(fault)) | Answer::Digest(Err(fault)) => printed_fault(
+                rt, alloc, fault,
+            ),
+            Answer::Pattern(Err(fault)) => printed_fault(rt, alloc, fault),
+            Answer::Path(Err(fault)) => printed_fault(rt, alloc, fault),
             Answer::Entries(Err(fault)) | Answer::Disassembled(Err(fault)) => {
-                fault_told(rt, alloc, fault)
+                printed_fault(rt, alloc, fault)
             }
-            _ => text_told(rt, alloc, "nothing"),
+            _ => printed_text(rt, alloc, "nothing"),
         }
     }
 }
@@ -129,7 +131,7 @@ impl Trial for OnText {
         };
         let text = match call {
             "assemble" => entries_text(rt, alloc, on),
-            _ => text_told(rt, alloc, tree_text(on)),
+            _ => printed_text(rt, alloc, tree_text(on)),
         };
         OnText {
             call,
@@ -148,10 +150,10 @@ impl Trial for OnText {
         self.answer = self.answered(alloc);
     }
 
-    fn told(&self, rt: &impl Abort, alloc: Global) -> String {
-        match self.value_told(rt, alloc) {
-            Some(told) => told,
-            None => self.refusal_told(rt, alloc),
+    fn printed(&self, rt: &impl Abort, alloc: Global) -> String {
+        match self.printed_value(rt, alloc) {
+            Some(printed) => printed,
+            None => self.printed_refusal(rt, alloc),
         }
     }
 

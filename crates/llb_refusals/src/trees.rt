@@ -1,7 +1,9 @@
 //! Paths and trees; trees are named as in `written`.
 
 use super::growths::{Row, Trial, are_refused};
-use super::told::{fault_told, path_of, path_told, say, text_told, tree_or_fault, tree_told};
+use super::printed::{
+    path_of, printed_fault, printed_path, printed_text, printed_tree, say, tree_or_fault,
+};
 use super::written::{tree_and_twin, tree_named};
 use llb_tree::{Bytes, Meta, Names, Path, Tree, TreeFault};
 use llb_wire::Same;
@@ -40,7 +42,7 @@ fn two_contents(rt: &impl Abort, alloc: Global) -> Vec<Bytes> {
     contents
 }
 
-fn names_told(rt: &impl Abort, alloc: Global, names: &Names) -> String {
+fn printed_names(rt: &impl Abort, alloc: Global, names: &Names) -> String {
     let mut text = String::new(alloc);
     for name in names.as_slice() {
         say(rt, &mut text, " ");
@@ -64,10 +66,15 @@ fn put_file(tree: &mut Tree, path: &Path, contents: &mut Vec<Bytes>, meta: Meta)
 }
 
 impl OnTree {
-    fn tree_told(&self, rt: &impl Abort, alloc: Global, answer: &Result<(), TreeFault>) -> String {
+    fn printed_tree(
+        &self,
+        rt: &impl Abort,
+        alloc: Global,
+        answer: &Result<(), TreeFault>,
+    ) -> String {
         match answer {
-            Ok(()) => tree_told(rt, alloc, &self.tree),
-            Err(fault) => fault_told(rt, alloc, fault),
+            Ok(()) => printed_tree(rt, alloc, &self.tree),
+            Err(fault) => printed_fault(rt, alloc, fault),
         }
     }
 }
@@ -113,14 +120,16 @@ impl Trial for OnTree {
         self.answer = self.answered(alloc);
     }
 
-    fn told(&self, rt: &impl Abort, alloc: Global) -> String {
+    fn printed(&self, rt: &impl Abort, alloc: Global) -> String {
         match &self.answer {
-            Answer::None => text_told(rt, alloc, "nothing"),
-            Answer::Done(done) => self.tree_told(rt, alloc, done),
+            Answer::None => printed_text(rt, alloc, "nothing"),
+            Answer::Done(done) => self.printed_tree(rt, alloc, done),
             Answer::Made(made) => tree_or_fault(rt, alloc, made),
-            Answer::Listed(Ok(names)) => names_told(rt, alloc, names),
-            Answer::Walked(Ok(path)) => path_told(rt, alloc, path),
-            Answer::Listed(Err(fault)) | Answer::Walked(Err(fault)) => fault_told(rt, alloc, fault),
+            Answer::Listed(Ok(names)) => printed_names(rt, alloc, names),
+            Answer::Walked(Ok(path)) => printed_path(rt, alloc, path),
+            Answer::Listed(Err(fault)) | Answer::Walked(Err(fault)) => printed_fault(
+                rt, alloc, fault,
+            ),
         }
     }
 

@@ -1,7 +1,7 @@
 //! Refused memory while records are written.
 
 use super::growths::{Row, Trial, are_refused};
-use super::told::{bytes_told, fault_told, text_told};
+use super::printed::{printed_bytes, printed_fault, printed_text};
 use llb_wire::{Memory, Wire, write_record, write_varint};
 use std::alloc::Global;
 use std::process::Abort;
@@ -37,11 +37,11 @@ impl Trial for OnBytes {
         });
     }
 
-    fn told(&self, rt: &impl Abort, alloc: Global) -> String {
+    fn printed(&self, rt: &impl Abort, alloc: Global) -> String {
         match &self.answer {
-            None => text_told(rt, alloc, "nothing"),
-            Some(Ok(())) => bytes_told(rt, alloc, &self.out),
-            Some(Err(fault)) => fault_told(rt, alloc, fault),
+            None => printed_text(rt, alloc, "nothing"),
+            Some(Ok(())) => printed_bytes(rt, alloc, &self.out),
+            Some(Err(fault)) => printed_fault(rt, alloc, fault),
         }
     }
 

@@ -1,6 +1,6 @@
 //! What calls are made on, from short texts: trees by their names, definitions by their entries (`llb_samples`), and local trees.
 
-use super::told::{bytes_told, text_of};
+use super::printed::{printed_bytes, text_of};
 use llb_loader::{Graph, Locals};
 use llb_ops::{Entries, write_definition};
 use llb_samples as samples;
@@ -41,9 +41,9 @@ pub(crate) fn definition_of(rt: &impl Abort, alloc: Global, written: &str) -> By
 }
 
 /// Returns the bytes of the definition of entries, in hexadecimal.
-pub(crate) fn entries_told(rt: &impl Abort, alloc: Global, entries: &Entries) -> String {
+pub(crate) fn printed_entries(rt: &impl Abort, alloc: Global, entries: &Entries) -> String {
     let bytes = write_definition(alloc, entries).expect(rt, "memory");
-    bytes_told(rt, alloc, bytes.as_slice())
+    printed_bytes(rt, alloc, bytes.as_slice())
 }
 
 pub(crate) fn graph_of(rt: &impl Abort, alloc: Global, written: &str) -> Graph {

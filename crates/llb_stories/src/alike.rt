@@ -1,8 +1,8 @@
 //! Boards that are equal by value, boards that differ in one thing, and copies.
 
 use super::calls::{are_done, are_same, copy_of};
+use super::checks::row_holds;
 use super::runs::{IN_A_ROW, TWO_FILES};
-use super::told::row_holds;
 use super::written::board_of;
 use llb_board::Board;
 use std::alloc::Global;

@@ -1,6 +1,6 @@
 //! Stories of runs whose executions mount a cache: who may hold it at which time, and what they see in it.
 
-use super::sessions::{Way, are_stories};
+use super::sessions::{StoryKind, are_stories};
 
 pub(crate) const WRITES_AND_FAILS: &str = "locked: write /c/a x && false; RESULT_0";
 
@@ -85,7 +85,7 @@ const CANCELLED: &str = "
 
 #[test]
 fn an_execution_that_is_given_up_leaves_its_cache(rt: HostRuntime) {
-    are_stories(&rt, rt.alloc(), Way::Session, CANCELLED);
+    are_stories(&rt, rt.alloc(), StoryKind::Session, CANCELLED);
 }
 
 const JOINED: &str = "
@@ -163,7 +163,7 @@ const JOINED: &str = "
 
 #[test]
 fn commands_run_by_their_joins_and_the_last_status(rt: HostRuntime) {
-    are_stories(&rt, rt.alloc(), Way::Session, JOINED);
+    are_stories(&rt, rt.alloc(), StoryKind::Session, JOINED);
 }
 
 const LOCKED: &str = "
@@ -441,15 +441,15 @@ const FAILED: &str = "
 
 #[test]
 fn a_failed_execution_leaves_its_cache_and_blocks_its_users(rt: HostRuntime) {
-    are_stories(&rt, rt.alloc(), Way::Session, FAILED);
+    are_stories(&rt, rt.alloc(), StoryKind::Session, FAILED);
 }
 
 #[test]
 fn a_locked_cache_is_had_by_one_at_a_time(rt: HostRuntime) {
-    are_stories(&rt, rt.alloc(), Way::Session, LOCKED);
+    are_stories(&rt, rt.alloc(), StoryKind::Session, LOCKED);
 }
 
 #[test]
 fn private_and_shared_caches_are_had_by_many(rt: HostRuntime) {
-    are_stories(&rt, rt.alloc(), Way::Session, NOT_LOCKED);
+    are_stories(&rt, rt.alloc(), StoryKind::Session, NOT_LOCKED);
 }

@@ -1,9 +1,9 @@
 //! Sessions as conversations: which lines are commands and which are not, the end of a session, its bounds, and that each line
 //! gets its reply before the next one is read.
 
+use super::checks::{is_so, row_holds};
 use super::runs::ONE_FILE;
 use super::sessions::{LIMIT, READS};
-use super::told::{is_so, row_holds};
 use super::written::board_of;
 use llb_session::{SessionFault, converse};
 use llb_stepper::Stepper;

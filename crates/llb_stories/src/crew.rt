@@ -1,8 +1,8 @@
 //! Two workers, each in a thread of its own, with a gate that holds each until the other has arrived.
 
 use super::calls::{breaks_at, goes_back, replayed};
+use super::checks::{is_so, row_holds};
 use super::runs::TWO_FILES;
-use super::told::{is_so, row_holds};
 use super::written::board_of;
 use llb_board::{Board, Event, Gate, Status, Stopped, WorkerStatus};
 use llb_stepper::{Break, Stepper, Stop};
@@ -81,7 +81,7 @@ fn claims_let_pass(events: &[Event], gate: &Meet) -> Option<u32> {
 
 // Returns the fewest and the most events that one of two workers made, and how many claims there are, all of which the gate let pass; nothing if
 // there is a fault, or the board is not complete.
-fn told(end: &RunEnd, gate: &Meet) -> Option<(u64, u64, u32)> {
+fn figures(end: &RunEnd, gate: &Meet) -> Option<(u64, u64, u32)> {
     let [first, second, ..] = end.made;
     let claims = claims_let_pass(end.board.events().as_slice(), gate)?;
     if end.fault.is_some() || !end.board.is_complete() {
@@ -128,7 +128,7 @@ fn two_workers_are_at_work_together_and_their_record_is_walked(rt: HostRuntime) 
     let gate = Meet::new();
     let board = board_of(&rt, alloc, TWO_FILES, "", 2);
     let end = run_workers(&rt, alloc, board, &gate);
-    is_so(&rt, told(&end, &gate) == Some((3, 7, 3)));
+    is_so(&rt, figures(&end, &gate) == Some((3, 7, 3)));
     let board = board_of(&rt, alloc, TWO_FILES, "", 2);
     let events = end.board.events().as_slice();
     is_so(

@@ -1,8 +1,8 @@
 //! Runs with more workers than there is work for, so that most of them sleep: each run ends, in many repetitions, with all its events.
 
 use super::calls::{are_same, is_event_done, replayed};
+use super::checks::row_holds;
 use super::farm::{counts, have_one_tree, push_merge};
-use super::told::row_holds;
 use super::written::board_from;
 use llb_board::{Board, Event, Gate, Status, Stopped, WorkerStatus};
 use llb_stepper::Stepper;

@@ -1,6 +1,6 @@
 //! Stories of runs on local trees: sources, merges, file operations and executions.
 
-use super::sessions::{Way, are_stories};
+use super::sessions::{StoryKind, are_stories};
 
 const LOCALS_ARE_READ: &str = "
     # A source is read, and a merge lays one input a step.
@@ -217,10 +217,10 @@ const COMMANDS_ARE_RUN: &str = "
 
 #[test]
 fn sources_merges_and_file_operations_go_step_by_step(rt: HostRuntime) {
-    are_stories(&rt, rt.alloc(), Way::Session, LOCALS_ARE_READ);
+    are_stories(&rt, rt.alloc(), StoryKind::Session, LOCALS_ARE_READ);
 }
 
 #[test]
 fn executions_run_a_command_a_step(rt: HostRuntime) {
-    are_stories(&rt, rt.alloc(), Way::Session, COMMANDS_ARE_RUN);
+    are_stories(&rt, rt.alloc(), StoryKind::Session, COMMANDS_ARE_RUN);
 }

@@ -1,8 +1,8 @@
 //! What calls on a board print if memory is refused. The other refusals of claims, steps, settles and cancels are printed by sessions (`runs`, `caches`), and
 //! the refusals of an opening by the program (`run` in `llbm`).
 
+use super::checks::prints;
 use super::runs::IN_A_ROW;
-use super::told::prints;
 use super::written::graph_from;
 use llb_board::{ClaimFault, OpenFault, StepFault};
 use llb_cache::Caches;

@@ -1,6 +1,6 @@
 //! Stories of calls on boards: what each worker does, and which instances caches have, with their trees.
 
-use super::sessions::{Way, are_stories};
+use super::sessions::{StoryKind, are_stories};
 use super::written::CacheRow;
 use llb_cache::Mode;
 
@@ -64,7 +64,7 @@ const GIVEN_UP: &str = "
 
 #[test]
 fn what_is_given_up_leaves_its_caches_as_it_wrote_them(rt: HostRuntime) {
-    are_stories(&rt, rt.alloc(), Way::Calls, GIVEN_UP);
+    are_stories(&rt, rt.alloc(), StoryKind::Calls, GIVEN_UP);
 }
 
 const WORKERS: &str = "
@@ -143,7 +143,7 @@ const WORKERS: &str = "
     > worker 0
     runs 2, 2 done, true
 
-    # Two workers are told by themselves.
+    # What two workers do, each by itself.
     @ 2: MAKES_A; MAKES_B; MERGES_0_1; RESULT_2
     > claim 0 0
     > step 0
@@ -349,15 +349,15 @@ const NOT_LOCKED: &str = "
 
 #[test]
 fn a_worker_is_told_by_its_vertex_and_its_steps(rt: HostRuntime) {
-    are_stories(&rt, rt.alloc(), Way::Calls, WORKERS);
+    are_stories(&rt, rt.alloc(), StoryKind::Calls, WORKERS);
 }
 
 #[test]
 fn a_locked_key_has_one_instance(rt: HostRuntime) {
-    are_stories(&rt, rt.alloc(), Way::Calls, LOCKED);
+    are_stories(&rt, rt.alloc(), StoryKind::Calls, LOCKED);
 }
 
 #[test]
 fn private_keys_have_many_instances_and_shared_ones_one(rt: HostRuntime) {
-    are_stories(&rt, rt.alloc(), Way::Calls, NOT_LOCKED);
+    are_stories(&rt, rt.alloc(), StoryKind::Calls, NOT_LOCKED);
 }

@@ -1,8 +1,8 @@
 //! The work of jobs away from the board: the outcome, gates that stop it, and on which boards the outcome lands.
 
 use super::calls::{are_done, claimed, copy_of, landed, opened, say_events, worked, worked_out};
+use super::checks::{is_answered, is_same, is_so, row_holds};
 use super::runs::TWO_FILES;
-use super::told::{is_answered, is_same, is_so, row_holds};
 use super::written::{board_of, graph_from};
 use llb_board::{Board, Event, Gate, OpenFault, Outcome, Status, Stopped};
 use llb_cache::Caches;
@@ -187,23 +187,23 @@ fn an_outcome_does_not_land_once_a_step_was_done(rt: HostRuntime) {
 }
 
 // Events, a line each, and what they print.
-type Told = (&'static str, &'static str);
+type Expected = (&'static str, &'static str);
 
-const IDLE: Told = (
+const IDLE: Expected = (
     "claim 5 0\nclaim 0 9\nclaim 0 2\nstep 0",
     "131\n133\n134\n136\n",
 );
 
-const RUNNING: Told = ("claim 0 1\nsettle 0", "132\n138\n");
+const RUNNING: Expected = ("claim 0 1\nsettle 0", "132\n138\n");
 
-const STEPPED: Told = ("step 0\nstep 0", "done\n137\n");
+const STEPPED: Expected = ("step 0\nstep 0", "done\n137\n");
 
-const SETTLED: Told = ("settle 0", "done\n");
+const SETTLED: Expected = ("settle 0", "done\n");
 
-fn are_told(rt: &impl Abort, alloc: Global, board: &mut Board, told: Told) {
+fn are_expected(rt: &impl Abort, alloc: Global, board: &mut Board, expected: Expected) {
     let mut text = String::new(alloc);
-    say_events(rt, &mut text, board, told.0);
-    is_same(rt, text.as_str(), told.1);
+    say_events(rt, &mut text, board, expected.0);
+    is_same(rt, text.as_str(), expected.1);
 }
 
 // Returns whether no board with this number of workers is opened.
@@ -236,16 +236,16 @@ fn a_vertex_is_claimed_worked_on_and_settled_with_each_refusal_on_the_way(rt: Ho
     let other = outcome_from(&rt, alloc, OTHER_FILES, 0, &Passes);
     let other = other.ok().expect(&rt, "an outcome");
     let mut board = board_of(&rt, alloc, TWO_FILES, "", 2);
-    are_told(&rt, alloc, &mut board, IDLE);
+    are_expected(&rt, alloc, &mut board, IDLE);
     let mut copy = copy_of(&board).expect(&rt, "memory");
     let job = claimed(&mut board, 0, 0).expect(&rt, "a job");
-    are_told(&rt, alloc, &mut board, RUNNING);
+    are_expected(&rt, alloc, &mut board, RUNNING);
     let outcome = worked_out(alloc, job, &Passes);
     let outcome = outcome.ok().expect(&rt, "an outcome");
     is_so(&rt, landed(&mut board, 0, other) == 139);
-    are_told(&rt, alloc, &mut board, STEPPED);
+    are_expected(&rt, alloc, &mut board, STEPPED);
     is_so(&rt, landed(&mut board, 0, outcome) == 139);
-    are_told(&rt, alloc, &mut board, SETTLED);
+    are_expected(&rt, alloc, &mut board, SETTLED);
     is_so(&rt, is_opening(&copy));
     is_so(
         &rt,
@@ -255,12 +255,12 @@ fn a_vertex_is_claimed_worked_on_and_settled_with_each_refusal_on_the_way(rt: Ho
 
 // The outcome of a cancelled job does not land for the worker that claims the vertex next: it is of another worker, and the cache
 // has changed.
-const GIVEN_UP: Told = (
+const GIVEN_UP: Expected = (
     "step 0\ncancel 0\ncancel 0\ncancel 9\nclaim 1 0",
     "done\ndone\n136\n131\ndone\n",
 );
 
-const BEGUN_ANEW: Told = ("step 1\nstep 1\nsettle 1", "done\ndone\ndone\n");
+const BEGUN_ANEW: Expected = ("step 1\nstep 1\nsettle 1", "done\ndone\ndone\n");
 
 const WRITTEN: &str =
     "> instance locked 0\nd 0755 0 0 /\nf 0644 0 0 610a610a620a /l\n> leases\n0\n";
@@ -272,9 +272,9 @@ fn the_outcome_of_a_job_that_was_given_up_does_not_land(rt: HostRuntime) {
     let job = claimed(&mut board, 0, 0).expect(&rt, "a job");
     let outcome = worked_out(alloc, job, &Passes);
     let outcome = outcome.ok().expect(&rt, "an outcome");
-    are_told(&rt, alloc, &mut board, GIVEN_UP);
+    are_expected(&rt, alloc, &mut board, GIVEN_UP);
     is_so(&rt, landed(&mut board, 1, outcome) == 139);
-    are_told(&rt, alloc, &mut board, BEGUN_ANEW);
+    are_expected(&rt, alloc, &mut board, BEGUN_ANEW);
     is_so(&rt, is_answered(&rt, alloc, &mut board, WRITTEN));
     is_so(&rt, board.events().len() == 7);
 }

@@ -13,6 +13,8 @@ mod calls;
 #[cfg(test)]
 mod chain;
 #[cfg(test)]
+mod checks;
+#[cfg(test)]
 mod conversations;
 #[cfg(test)]
 mod crew;
@@ -48,8 +50,6 @@ mod runs;
 mod sessions;
 #[cfg(test)]
 mod sharing;
-#[cfg(test)]
-mod told;
 #[cfg(test)]
 mod walks;
 #[cfg(test)]

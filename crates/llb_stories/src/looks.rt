@@ -1,6 +1,6 @@
 //! Stories of calls that only read: the trees that a worker works on, and what caches have. They change nothing.
 
-use super::sessions::{Way, are_stories};
+use super::sessions::{StoryKind, are_stories};
 
 const FILES: &str = "
     # An idle worker works on nothing, nor does one that is not there. A source is one tree, before it is read too.
@@ -117,8 +117,8 @@ const MERGES: &str = "
 
 #[test]
 fn the_trees_of_files_and_merges_are_shown_as_they_are_made(rt: HostRuntime) {
-    are_stories(&rt, rt.alloc(), Way::Session, FILES);
-    are_stories(&rt, rt.alloc(), Way::Session, MERGES);
+    are_stories(&rt, rt.alloc(), StoryKind::Session, FILES);
+    are_stories(&rt, rt.alloc(), StoryKind::Session, MERGES);
 }
 
 const EXECUTIONS: &str = "
@@ -264,6 +264,6 @@ const KEYS: &str = "
 
 #[test]
 fn the_trees_of_mounts_and_of_caches_are_shown_as_they_are_now(rt: HostRuntime) {
-    are_stories(&rt, rt.alloc(), Way::Session, EXECUTIONS);
-    are_stories(&rt, rt.alloc(), Way::Session, KEYS);
+    are_stories(&rt, rt.alloc(), StoryKind::Session, EXECUTIONS);
+    are_stories(&rt, rt.alloc(), StoryKind::Session, KEYS);
 }

@@ -1,9 +1,9 @@
 //! Workers on a board that is given in the middle of a run: each first ends the vertex that it runs.
 
 use super::calls::is_event_done;
+use super::checks::{is_so, row_holds};
 use super::farm::{counts, have_one_tree};
 use super::gates::Open;
-use super::told::{is_so, row_holds};
 use super::written::board_of;
 use llb_board::{Board, Event};
 use llb_work::{RunEnd, run_alone, run_workers};

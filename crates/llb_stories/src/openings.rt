@@ -2,9 +2,9 @@
 //! missing (`run` in `llbm`).
 
 use super::calls::{are_done, opened};
+use super::checks::{is_answered, is_so, row_holds};
 use super::instances::{K_LOCKED, K_SHARED};
 use super::runs::D_ON_SECOND;
-use super::told::{is_answered, is_so, row_holds};
 use super::written::{CacheRow, board_of, graph_from, needs_of};
 use llb_board::{Board, OpenFault};
 use llb_cache::{Caches, Many};

@@ -2,8 +2,8 @@
 //! definition (`written`); the lines after it are the result: for each vertex how it ended, and for one that is done the trees of its
 //! outputs; or the refusal.
 
-use super::sessions::{Way, are_stories, wanted};
-use super::told::{is_so, prints, say_tree};
+use super::checks::{is_so, prints, say_tree};
+use super::sessions::{StoryKind, are_stories, wanted};
 use super::written::{graph_from, locals_of};
 use llb_contents::laws::contents_are_handed_on;
 use llb_loader::Graph;
@@ -174,7 +174,7 @@ fn say_outcomes(rt: &impl Abort, text: &mut String, outcomes: &Outcomes) {
     }
 }
 
-fn told(rt: &impl Abort, alloc: Global, head: &str) -> String {
+fn printed(rt: &impl Abort, alloc: Global, head: &str) -> String {
     let mut text = String::new(alloc);
     match evaluated(rt, alloc, head) {
         Ok(outcomes) => say_outcomes(rt, &mut text, &outcomes),
@@ -185,12 +185,12 @@ fn told(rt: &impl Abort, alloc: Global, head: &str) -> String {
 
 // Returns whether the local trees and the definition of a story's first line have the result that the lines after it say.
 pub(crate) fn are_outcomes(rt: &impl Abort, alloc: Global, head: &str, lines: &str) -> bool {
-    told(rt, alloc, head).as_str() == wanted(rt, alloc, lines).as_str()
+    printed(rt, alloc, head).as_str() == wanted(rt, alloc, lines).as_str()
 }
 
 #[test]
 fn a_graph_has_the_outcomes_of_its_vertices_or_is_refused(rt: HostRuntime) {
-    are_stories(&rt, rt.alloc(), Way::Outcomes, EVALUATED);
+    are_stories(&rt, rt.alloc(), StoryKind::Outcomes, EVALUATED);
 }
 
 #[test]

@@ -3,7 +3,7 @@
 ghost use Rattle.llb_ready.specs.Hands.{SamePart};
 ghost use Rattle.llb_ready.specs.Passes.{IsReadyPassOf, hand_of};
 
-use super::told::{is_same, is_so};
+use super::checks::{is_same, is_so};
 use llb_ready::{Full, ReadyFault, ReadyPass, ReadyQueue};
 use std::sync::Wait;
 

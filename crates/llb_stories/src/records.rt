@@ -2,9 +2,9 @@
 //! and one worker that takes the vertices in the order of its claims leaves the same trees.
 
 use super::calls::{are_same, is_event_done, replayed};
+use super::checks::row_holds;
 use super::farm::{have_one_tree, merge_on};
 use super::gates::Open;
-use super::told::row_holds;
 use llb_board::{Board, Event, WorkerStatus};
 use llb_stepper::{Stepper, Stop};
 use llb_work::run_workers;
@@ -146,11 +146,11 @@ fn a_record_of_threads_is_replayed_and_is_that_of_its_claims(rt: HostRuntime) {
     let alloc = rt.alloc();
     for workers in [2, 3, 64] {
         let end = run_workers(&rt, alloc, board_by(&rt, alloc, workers), &Open);
-        let told = is_record(&rt, alloc, &end.board, workers);
+        let holds = is_record(&rt, alloc, &end.board, workers);
         row_holds(
             &rt,
             workers as usize,
-            end.fault.is_none() && told == [true; 5],
+            end.fault.is_none() && holds == [true; 5],
         );
     }
 }

@@ -1,6 +1,6 @@
 //! Stories of runs without local trees and caches: how they go, what is refused of them, what a failure stops, and how they are taken back.
 
-use super::sessions::{Way, are_stories};
+use super::sessions::{StoryKind, are_stories};
 
 pub(crate) const ONE_FILE: &str = "MAKES_A; RESULT_0";
 
@@ -301,15 +301,15 @@ const FAILED: &str = "
 
 #[test]
 fn events_are_done_or_refused_by_their_first_cause(rt: HostRuntime) {
-    are_stories(&rt, rt.alloc(), Way::Session, REFUSED);
+    are_stories(&rt, rt.alloc(), StoryKind::Session, REFUSED);
 }
 
 #[test]
 fn runs_go_to_their_ends_and_back(rt: HostRuntime) {
-    are_stories(&rt, rt.alloc(), Way::Session, DONE);
+    are_stories(&rt, rt.alloc(), StoryKind::Session, DONE);
 }
 
 #[test]
 fn a_failure_stops_what_stands_on_it(rt: HostRuntime) {
-    are_stories(&rt, rt.alloc(), Way::Session, FAILED);
+    are_stories(&rt, rt.alloc(), StoryKind::Session, FAILED);
 }

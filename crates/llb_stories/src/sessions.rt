@@ -1,10 +1,10 @@
 //! Stories as transcripts, most of them of sessions on boards. A line that begins with `@ ` opens a board (`written`); one that begins with `> ` is a
 //! command, and the lines after it are what it prints; one that begins with `# ` describes the story. Spaces before and after a line are not
-//! read. Stories of calls (`told`), of plain outcomes (`plain`) and of shared vertices (`sharing`) have the same form.
+//! read. Stories of calls (`checks`), of plain outcomes (`plain`) and of shared vertices (`sharing`) have the same form.
 
+use super::checks::is_answered;
 use super::plain::are_outcomes;
 use super::sharing::are_shared;
-use super::told::is_answered;
 use super::written::board_in;
 use llb_session::converse;
 use llb_stepper::Stepper;
@@ -16,9 +16,9 @@ pub(crate) const LIMIT: usize = 1 << 20;
 pub(crate) const READS: u64 = 1 << 20;
 
 // Returns the expected lines of a transcript, without the spaces before and after each.
-pub(crate) fn wanted(rt: &impl Abort, alloc: Global, told: &str) -> String {
+pub(crate) fn wanted(rt: &impl Abort, alloc: Global, story: &str) -> String {
     let mut text = String::new(alloc);
-    for line in told.lines() {
+    for line in story.lines() {
         let line = line.trim();
         if !line.is_empty() && !line.starts_with("# ") {
             text.push_str(line).expect(rt, "memory");
@@ -39,17 +39,22 @@ fn say(rt: &impl Abort, alloc: Global, stepper: &mut Stepper, line: &str, out: &
 }
 
 // Returns whether the commands of a transcript print the lines that follow them.
-pub(crate) fn is_told(rt: &impl Abort, alloc: Global, stepper: &mut Stepper, told: &str) -> bool {
+pub(crate) fn is_transcript(
+    rt: &impl Abort,
+    alloc: Global,
+    stepper: &mut Stepper,
+    story: &str,
+) -> bool {
     let mut out = Vec::new(alloc);
-    for line in told.lines() {
+    for line in story.lines() {
         say(rt, alloc, stepper, line.trim(), &mut out);
     }
-    out.as_slice() == wanted(rt, alloc, told).as_bytes()
+    out.as_slice() == wanted(rt, alloc, story).as_bytes()
 }
 
 // What a story is made of: the commands of a session, calls on a board, plain outcomes, or the vertices that two definitions share.
 #[derive(Clone, Copy)]
-pub(crate) enum Way {
+pub(crate) enum StoryKind {
     Session,
     Calls,
     Outcomes,
@@ -58,7 +63,7 @@ pub(crate) enum Way {
 
 fn is_session(rt: &impl Abort, alloc: Global, head: &str, lines: &str) -> bool {
     let mut stepper = Stepper::new(alloc, board_in(rt, alloc, head));
-    is_told(rt, alloc, &mut stepper, lines)
+    is_transcript(rt, alloc, &mut stepper, lines)
 }
 
 fn are_calls(rt: &impl Abort, alloc: Global, head: &str, lines: &str) -> bool {
@@ -66,20 +71,20 @@ fn are_calls(rt: &impl Abort, alloc: Global, head: &str, lines: &str) -> bool {
     is_answered(rt, alloc, &mut board, lines)
 }
 
-fn is_story(rt: &impl Abort, alloc: Global, way: Way, head: &str, lines: &str) -> bool {
-    match way {
-        Way::Session => is_session(rt, alloc, head, lines),
-        Way::Calls => are_calls(rt, alloc, head, lines),
-        Way::Outcomes => are_outcomes(rt, alloc, head, lines),
-        Way::Sharing => are_shared(rt, alloc, head, lines),
+fn is_story(rt: &impl Abort, alloc: Global, kind: StoryKind, head: &str, lines: &str) -> bool {
+    match kind {
+        StoryKind::Session => is_session(rt, alloc, head, lines),
+        StoryKind::Calls => are_calls(rt, alloc, head, lines),
+        StoryKind::Outcomes => are_outcomes(rt, alloc, head, lines),
+        StoryKind::Sharing => are_shared(rt, alloc, head, lines),
     }
 }
 
 // Ends the test at the first story that does not go as it is written.
-pub(crate) fn are_stories(rt: &impl Abort, alloc: Global, way: Way, told: &str) {
-    let (_, stories) = told.split_once("@ ").expect(rt, "a story");
+pub(crate) fn are_stories(rt: &impl Abort, alloc: Global, kind: StoryKind, story: &str) {
+    let (_, stories) = story.split_once("@ ").expect(rt, "a story");
     for story in stories.split("@ ") {
         let (head, lines) = story.split_once('\n').expect(rt, "a line");
-        assert!(rt; is_story(rt, alloc, way, head, lines), "{head}");
+        assert!(rt; is_story(rt, alloc, kind, head, lines), "{head}");
     }
 }

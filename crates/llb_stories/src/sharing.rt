@@ -1,7 +1,7 @@
 //! Vertices that two definitions share. A line that begins with `@ ` has the entries of both definitions, with ` AND ` between them (`written`). The lines
 //! after it have each pair of vertices with the same digest: the number in the first graph, and the number in the second.
 
-use super::sessions::{Way, are_stories, wanted};
+use super::sessions::{StoryKind, are_stories, wanted};
 use super::written::definition_from;
 use llb_loader::{Graph, Vertex};
 use llb_sharing::load_both;
@@ -53,5 +53,5 @@ pub(crate) fn are_shared(rt: &impl Abort, alloc: Global, head: &str, lines: &str
 
 #[test]
 fn definitions_share_the_vertices_with_one_digest(rt: HostRuntime) {
-    are_stories(&rt, rt.alloc(), Way::Sharing, SHARED);
+    are_stories(&rt, rt.alloc(), StoryKind::Sharing, SHARED);
 }

@@ -4,8 +4,8 @@ ghost use Rattle.std.specs.Prelude.{◌≡◌};
 
 use super::caches::WRITES_AND_FAILS;
 use super::calls::{are_done, are_same, breaks_at, copy_of, goes_back, is_event_done, replayed};
+use super::checks::{is_answered, is_so, row_holds};
 use super::runs::{FAILS_FIRST, IN_A_ROW, TWO_FILES};
-use super::told::{is_answered, is_so, row_holds};
 use super::written::board_of;
 use llb_board::{Board, Event, Status, WorkerStatus};
 use llb_stepper::{Break, Stepper, Stop};

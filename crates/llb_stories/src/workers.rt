@@ -1,8 +1,8 @@
 //! All orders of the events of two workers.
 
+use super::checks::is_so;
 use super::runs::TWO_FILES;
-use super::sessions::is_told;
-use super::told::is_so;
+use super::sessions::is_transcript;
 use super::written::board_of;
 use llb_board::Event;
 use llb_stepper::Stepper;
@@ -107,7 +107,7 @@ fn ends(rt: &impl Abort, alloc: Global, stepper: &mut Stepper, most: u32) -> [u3
     if goes_on {
         return [all, right];
     }
-    [1, u32::from(is_told(rt, alloc, stepper, END))]
+    [1, u32::from(is_transcript(rt, alloc, stepper, END))]
 }
 
 // One worker does both vertices (2 workers, 2 orders), or each does one (2 ways, 20 interleavings of their events); then either of them does the merge:

@@ -23,6 +23,6 @@ mod stepping;
 mod taken_caches;
 mod taken_executions;
 mod taken_ops;
-mod told;
+mod transcripts;
 mod words;
 mod written;

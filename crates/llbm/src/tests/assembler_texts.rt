@@ -1,6 +1,6 @@
 //! `asm` and `dis` on texts that are written in the call itself: `$` and the text, in which `|` ends a line.
 
-use super::told::is_told;
+use super::transcripts::is_transcript;
 
 const ASSEMBLED: &str = "
     # No entry.
@@ -42,7 +42,7 @@ const ASSEMBLED: &str = "
 
 #[test]
 fn a_text_is_assembled_to_canonical_bytes(rt: HostRuntime) {
-    is_told(&rt, rt.alloc(), ASSEMBLED);
+    is_transcript(&rt, rt.alloc(), ASSEMBLED);
 }
 
 const FAULTY: &str = "
@@ -146,7 +146,7 @@ const FAULTY: &str = "
 
 #[test]
 fn the_first_faulty_line_is_told_with_its_first_rule(rt: HostRuntime) {
-    is_told(&rt, rt.alloc(), FAULTY);
+    is_transcript(&rt, rt.alloc(), FAULTY);
 }
 
 const LABELS: &str = "
@@ -167,7 +167,7 @@ const LABELS: &str = "
 
 #[test]
 fn a_label_is_the_digest_of_an_earlier_entry(rt: HostRuntime) {
-    is_told(&rt, rt.alloc(), LABELS);
+    is_transcript(&rt, rt.alloc(), LABELS);
 }
 
 const WRITTEN: &str = "
@@ -220,5 +220,5 @@ const WRITTEN: &str = "
 
 #[test]
 fn entries_are_written_as_the_one_text_that_is_assembled_to_them(rt: HostRuntime) {
-    is_told(&rt, rt.alloc(), WRITTEN);
+    is_transcript(&rt, rt.alloc(), WRITTEN);
 }

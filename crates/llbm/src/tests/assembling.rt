@@ -1,6 +1,6 @@
 //! `asm` and `dis`: texts and the definitions of their entries, and refusals.
 
-use super::told::is_told;
+use super::transcripts::is_transcript;
 
 /// Texts, each with its name.
 pub(crate) const TEXTS: &str = "
@@ -96,7 +96,7 @@ const WRITTEN: &str = "
 
 #[test]
 fn texts_and_definitions_stand_for_each_other(rt: HostRuntime) {
-    is_told(&rt, rt.alloc(), WRITTEN);
+    is_transcript(&rt, rt.alloc(), WRITTEN);
 }
 
 const REFUSED: &str = "
@@ -134,5 +134,5 @@ const REFUSED: &str = "
 
 #[test]
 fn the_first_refused_line_or_record_is_told(rt: HostRuntime) {
-    is_told(&rt, rt.alloc(), REFUSED);
+    is_transcript(&rt, rt.alloc(), REFUSED);
 }

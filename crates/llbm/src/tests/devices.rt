@@ -21,14 +21,14 @@ impl Ran {
 
     /// Returns whether the run ended with status 3 and this line on standard error, after the first `length` bytes of the text.
     pub(crate) fn is_cut(&self, text: &str, length: usize, line: &str) -> bool {
-        let told = self.out.len() == length && self.err.as_slice() == line.as_bytes();
-        self.status == 3 && told && text.as_bytes().starts_with(self.out.as_slice())
+        let printed = self.out.len() == length && self.err.as_slice() == line.as_bytes();
+        self.status == 3 && printed && text.as_bytes().starts_with(self.out.as_slice())
     }
 
     /// Returns whether the run ended with status 3 and wrote only the first `length` bytes of the line, to standard error.
     pub(crate) fn is_cut_line(&self, line: &str, length: usize) -> bool {
-        let told = self.out.is_empty() && self.err.len() == length;
-        self.status == 3 && told && line.as_bytes().starts_with(self.err.as_slice())
+        let printed = self.out.is_empty() && self.err.len() == length;
+        self.status == 3 && printed && line.as_bytes().starts_with(self.err.as_slice())
     }
 }
 

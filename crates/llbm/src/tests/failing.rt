@@ -1,7 +1,7 @@
 //! Devices that fail: for each call the first read, write or flush fails, then the second, and so on, up to the last one that the call needs.
 
 use super::devices::{AMPLE, Ran, Rooms};
-use super::told::tried;
+use super::transcripts::tried;
 use std::alloc::Global;
 use std::process::Abort;
 use std::sync::Wait;

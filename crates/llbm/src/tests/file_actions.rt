@@ -1,6 +1,6 @@
 //! File actions: the tree after each, or the fault with which it fails. A copy takes its sources from the local tree `p`.
 
-use super::told::is_told;
+use super::transcripts::is_transcript;
 
 const COPIES: &str = r#"
     # No match is a fault or is let be.
@@ -141,7 +141,7 @@ const COPIES: &str = r#"
 
 #[test]
 fn a_copy_takes_what_its_source_names(rt: HostRuntime) {
-    is_told(&rt, rt.alloc(), COPIES);
+    is_transcript(&rt, rt.alloc(), COPIES);
 }
 
 const MADE_AND_REMOVED: &str = r#"
@@ -212,7 +212,7 @@ const MADE_AND_REMOVED: &str = r#"
 
 #[test]
 fn files_and_directories_are_made_and_removed(rt: HostRuntime) {
-    is_told(&rt, rt.alloc(), MADE_AND_REMOVED);
+    is_transcript(&rt, rt.alloc(), MADE_AND_REMOVED);
 }
 
 // A path of 128 names, and one of 129.
@@ -235,5 +235,5 @@ const DEEP: &str = "
 
 #[test]
 fn a_path_of_129_names_is_no_place(rt: HostRuntime) {
-    is_told(&rt, rt.alloc(), DEEP);
+    is_transcript(&rt, rt.alloc(), DEEP);
 }

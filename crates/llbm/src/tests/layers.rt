@@ -1,6 +1,6 @@
 //! Merges: each input is laid over those before it.
 
-use super::told::is_told;
+use super::transcripts::is_transcript;
 
 const LAYERS: &str = "
     # A file hides what was below its path for good.
@@ -49,5 +49,5 @@ const LAYERS: &str = "
 
 #[test]
 fn a_merge_lays_one_input_over_another(rt: HostRuntime) {
-    is_told(&rt, rt.alloc(), LAYERS);
+    is_transcript(&rt, rt.alloc(), LAYERS);
 }

@@ -1,7 +1,7 @@
 //! Definitions that are cut off, and definitions at a limit and past it.
 
 use super::devices::Ran;
-use super::told::definition_of;
+use super::transcripts::definition_of;
 use llb_asm::assemble;
 use llb_commands::{asm_over, dis_over, run_over};
 use llb_loader::Locals;

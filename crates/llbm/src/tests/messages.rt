@@ -1,6 +1,6 @@
 //! Messages field by field: the text that is written for entries given as bytes.
 
-use super::told::is_told;
+use super::transcripts::is_transcript;
 
 const MESSAGES: &str = "
     # A file `/a` of mode 0644 with the content `hi`, made on the empty tree.
@@ -137,5 +137,5 @@ const MESSAGES: &str = "
 
 #[test]
 fn messages_are_read_field_by_field(rt: HostRuntime) {
-    is_told(&rt, rt.alloc(), MESSAGES);
+    is_transcript(&rt, rt.alloc(), MESSAGES);
 }

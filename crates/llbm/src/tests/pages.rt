@@ -1,20 +1,20 @@
 //! The pages of help and of the version, compared with the text that `clap` renders for the same words.
 
 use super::failing::{Device, rooms_of};
-use super::told::{ran_words, tried};
+use super::transcripts::{ran_words, tried};
 use llb_commands::llbm_command;
 use std::alloc::Global;
 use std::process::Abort;
 
 // Returns what is to be printed for words that `clap` refuses: the fault, and the text that `clap` renders for its refusal.
-fn told_by_clap(rt: &impl Abort, alloc: Global, words: &str) -> String {
-    let mut told = String::new(alloc);
+fn printed_by_clap(rt: &impl Abort, alloc: Global, words: &str) -> String {
+    let mut printed = String::new(alloc);
     let given: Vec<&str> = words.split(' ').collect(alloc).expect(rt, "memory");
     let command = llbm_command(alloc).expect(rt, "memory");
     if let Err(error) = command.try_get_matches_from(given.as_slice()) {
-        write!(told, "fault 183\n{error}").expect(rt, "memory");
+        write!(printed, "fault 183\n{error}").expect(rt, "memory");
     }
-    told
+    printed
 }
 
 const REQUESTS: &[&str] = &[
@@ -44,9 +44,9 @@ const REQUESTS: &[&str] = &[
 #[test]
 fn what_is_asked_for_follows_the_refusal(rt: HostRuntime) {
     for words in REQUESTS {
-        let told = told_by_clap(&rt, rt.alloc(), words);
+        let printed = printed_by_clap(&rt, rt.alloc(), words);
         assert!(rt;
-            ran_words(&rt, rt.alloc(), words).is(2, "", told.as_str()),
+            ran_words(&rt, rt.alloc(), words).is(2, "", printed.as_str()),
             "{words}"
         );
     }
@@ -94,8 +94,8 @@ const NARROW: &[(&str, &str)] = &[
 
 #[test]
 fn a_page_that_cannot_be_written_ends_with_three(rt: HostRuntime) {
-    for (words, told) in NARROW {
-        let ran = tried(&rt, rt.alloc(), words, rooms_of(Device::Err, told.len()));
-        assert!(rt; ran.is(3, "", told), "{words}");
+    for (words, printed) in NARROW {
+        let ran = tried(&rt, rt.alloc(), words, rooms_of(Device::Err, printed.len()));
+        assert!(rt; ran.is(3, "", printed), "{words}");
     }
 }

@@ -1,7 +1,7 @@
 //! `run`: the worked examples, refusals, and several workers.
 
 use super::devices::Ran;
-use super::told::{definition_of, is_told};
+use super::transcripts::{definition_of, is_transcript};
 use llb_commands::run_over;
 use llb_loader::Locals;
 
@@ -91,7 +91,7 @@ const RUNS: &str = "
 
 #[test]
 fn definitions_are_run_or_refused(rt: HostRuntime) {
-    is_told(&rt, rt.alloc(), RUNS);
+    is_transcript(&rt, rt.alloc(), RUNS);
 }
 
 const LOCALS: &str = "
@@ -134,7 +134,7 @@ const LOCALS: &str = "
 
 #[test]
 fn local_sources_have_the_trees_of_their_files(rt: HostRuntime) {
-    is_told(&rt, rt.alloc(), LOCALS);
+    is_transcript(&rt, rt.alloc(), LOCALS);
 }
 
 const EXECUTED: &str = "
@@ -177,7 +177,7 @@ const EXECUTED: &str = "
 
 #[test]
 fn executions_are_run_or_refused(rt: HostRuntime) {
-    is_told(&rt, rt.alloc(), EXECUTED);
+    is_transcript(&rt, rt.alloc(), EXECUTED);
 }
 
 const MANY: &str = "
@@ -220,7 +220,7 @@ const MANY: &str = "
 
 #[test]
 fn many_workers_print_what_one_prints(rt: HostRuntime) {
-    is_told(&rt, rt.alloc(), MANY);
+    is_transcript(&rt, rt.alloc(), MANY);
 }
 
 const NO_WORKERS: &str = "
@@ -259,7 +259,7 @@ const NO_WORKERS: &str = "
 
 #[test]
 fn a_number_of_workers_that_is_none_is_told_after_the_definition(rt: HostRuntime) {
-    is_told(&rt, rt.alloc(), NO_WORKERS);
+    is_transcript(&rt, rt.alloc(), NO_WORKERS);
 }
 
 #[test]

@@ -1,6 +1,6 @@
 //! Scripts: how many commands a script has, or its first fault.
 
-use super::told::is_told;
+use super::transcripts::is_transcript;
 
 const TEXTS: &str = r#"
     # A text is calls with two ampersands between.
@@ -206,7 +206,7 @@ const TEXTS: &str = r#"
 
 #[test]
 fn a_text_is_calls_of_applets_with_two_ampersands_between(rt: HostRuntime) {
-    is_told(&rt, rt.alloc(), TEXTS);
+    is_transcript(&rt, rt.alloc(), TEXTS);
 }
 
 const WORDS: &str = r#"
@@ -250,5 +250,5 @@ const WORDS: &str = r#"
 
 #[test]
 fn other_arguments_are_one_call_of_any_words(rt: HostRuntime) {
-    is_told(&rt, rt.alloc(), WORDS);
+    is_transcript(&rt, rt.alloc(), WORDS);
 }

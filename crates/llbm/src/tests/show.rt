@@ -1,6 +1,6 @@
 //! `show`: the text of a graph, and refusals.
 
-use super::told::is_told;
+use super::transcripts::is_transcript;
 
 const GRAPHS: &str = "
     # Both orders of entries show one graph.
@@ -80,5 +80,5 @@ const GRAPHS: &str = "
 
 #[test]
 fn graphs_are_shown_or_refused(rt: HostRuntime) {
-    is_told(&rt, rt.alloc(), GRAPHS);
+    is_transcript(&rt, rt.alloc(), GRAPHS);
 }

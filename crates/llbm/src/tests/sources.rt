@@ -16,7 +16,7 @@ const REFUSALS: &[(SourceFault, u8, &str)] = &[
     (SourceFault::Adding, 3, "fault 92\n"),
 ];
 
-fn told(alloc: Global, fault: &SourceFault) -> Ran {
+fn printed(alloc: Global, fault: &SourceFault) -> Ran {
     let mut err = Vec::new(alloc);
     let status = source_refusal(fault, &mut err);
     let out = Vec::new(alloc);
@@ -26,6 +26,6 @@ fn told(alloc: Global, fault: &SourceFault) -> Ran {
 #[test]
 fn a_source_without_a_tree_is_told_in_a_line(rt: HostRuntime) {
     for (fault, status, line) in REFUSALS {
-        assert!(rt; told(rt.alloc(), fault).is(*status, "", line));
+        assert!(rt; printed(rt.alloc(), fault).is(*status, "", line));
     }
 }

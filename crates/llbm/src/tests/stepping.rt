@@ -1,7 +1,7 @@
 //! `step`: sessions over a definition, and refusals.
 
 use super::devices::Ran;
-use super::told::{definition_of, is_told};
+use super::transcripts::{definition_of, is_transcript};
 use llb_commands::step_over;
 use llb_loader::Locals;
 
@@ -20,7 +20,7 @@ const SESSION: &str = "
 
 #[test]
 fn a_session_goes_to_a_breakpoint_and_back(rt: HostRuntime) {
-    is_told(&rt, rt.alloc(), SESSION);
+    is_transcript(&rt, rt.alloc(), SESSION);
 }
 
 const REFUSED: &str = "
@@ -51,7 +51,7 @@ const REFUSED: &str = "
 
 #[test]
 fn a_definition_that_is_refused_has_no_session(rt: HostRuntime) {
-    is_told(&rt, rt.alloc(), REFUSED);
+    is_transcript(&rt, rt.alloc(), REFUSED);
 }
 
 #[test]

@@ -1,6 +1,6 @@
 //! Cache mounts: which ones the loader accepts, and the rule by which it refuses any other.
 
-use super::told::is_told;
+use super::transcripts::is_transcript;
 
 // The root, and caches at `/c` and `/d`.
 const MOUNTS: &str = r#"
@@ -104,7 +104,7 @@ const MOUNTS: &str = r#"
 
 #[test]
 fn caches_are_taken_one_key_once_and_judged_in_order(rt: HostRuntime) {
-    is_told(&rt, rt.alloc(), MOUNTS);
+    is_transcript(&rt, rt.alloc(), MOUNTS);
 }
 
 // The inputs with which the locked cache `a` begins at `/c` and at `/d`.
@@ -140,5 +140,5 @@ const SEEDS: &str = r#"
 
 #[test]
 fn caches_that_begin_with_different_outputs_are_different(rt: HostRuntime) {
-    is_told(&rt, rt.alloc(), SEEDS);
+    is_transcript(&rt, rt.alloc(), SEEDS);
 }

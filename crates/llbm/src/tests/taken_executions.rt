@@ -1,6 +1,6 @@
 //! Executions: which ones the loader accepts, and the feature or rule by which it refuses any other.
 
-use super::told::is_told;
+use super::transcripts::is_transcript;
 
 const CASES: &str = r#"
     # An exec is refused by its feature; a feature comes before a rule.
@@ -51,7 +51,7 @@ const CASES: &str = r#"
 
 #[test]
 fn an_exec_is_taken_or_refused_by_its_feature_or_its_rule(rt: HostRuntime) {
-    is_told(&rt, rt.alloc(), CASES);
+    is_transcript(&rt, rt.alloc(), CASES);
 }
 
 // The mounts of an exec that runs `true`.
@@ -132,7 +132,7 @@ const MOUNTS: &str = r#"
 
 #[test]
 fn the_mounts_of_an_exec_are_judged_in_order(rt: HostRuntime) {
-    is_told(&rt, rt.alloc(), MOUNTS);
+    is_transcript(&rt, rt.alloc(), MOUNTS);
 }
 
 // A script on three mounts: an input at the root; `/out`, an empty tree, whose output is the result; and a tmpfs.
@@ -148,5 +148,5 @@ const OUTPUTS: &str = r#"
 
 #[test]
 fn an_exec_gives_what_its_mounts_hold(rt: HostRuntime) {
-    is_told(&rt, rt.alloc(), OUTPUTS);
+    is_transcript(&rt, rt.alloc(), OUTPUTS);
 }

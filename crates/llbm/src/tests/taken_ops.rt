@@ -1,6 +1,6 @@
 //! Single ops: which ones the loader accepts, and the feature or rule by which it refuses any other.
 
-use super::told::is_told;
+use super::transcripts::is_transcript;
 
 const OPS: &str = r#"
     # What is refused by itself.
@@ -107,7 +107,7 @@ const OPS: &str = r#"
 
 #[test]
 fn an_op_is_taken_or_refused_by_its_feature_or_its_rule(rt: HostRuntime) {
-    is_told(&rt, rt.alloc(), OPS);
+    is_transcript(&rt, rt.alloc(), OPS);
 }
 
 // A copy from the empty tree to the empty tree, by its fields.
@@ -143,7 +143,7 @@ const COPIES: &str = r#"
 
 #[test]
 fn a_copy_is_taken_without_what_is_refused_of_it(rt: HostRuntime) {
-    is_told(&rt, rt.alloc(), COPIES);
+    is_transcript(&rt, rt.alloc(), COPIES);
 }
 
 // The loader looks at what a message means and not at how it is spelled.
@@ -164,5 +164,5 @@ const SPELLINGS: &str = r#"
 
 #[test]
 fn an_entry_says_the_same_in_any_spelling(rt: HostRuntime) {
-    is_told(&rt, rt.alloc(), SPELLINGS);
+    is_transcript(&rt, rt.alloc(), SPELLINGS);
 }

@@ -47,9 +47,9 @@ fn said(rt: &impl Abort, alloc: Global, words: &str) -> String {
     text
 }
 
-fn say_so(rt: &impl Abort, alloc: Global, told: &str) {
-    let mut lines = told.lines();
-    for _ in 0..told.len() {
+fn say_so(rt: &impl Abort, alloc: Global, printed: &str) {
+    let mut lines = printed.lines();
+    for _ in 0..printed.len() {
         let Some(line) = lines.next() else {
             return;
         };
@@ -257,7 +257,7 @@ const REFUSALS: &[(WordsFault<'static>, u8, &str)] = &[
 ];
 
 // Returns what is printed to a writer that takes `room` bytes.
-fn told(alloc: Global, fault: &WordsFault<'_>, room: usize) -> Ran {
+fn printed(alloc: Global, fault: &WordsFault<'_>, room: usize) -> Ran {
     let mut err = Narrow::new(alloc, room);
     let status = words_refusal(fault, &mut err);
     let (out, err) = (Vec::new(alloc), err.into_held());
@@ -267,7 +267,7 @@ fn told(alloc: Global, fault: &WordsFault<'_>, room: usize) -> Ran {
 #[test]
 fn refused_words_are_told_in_a_line(rt: HostRuntime) {
     for (fault, status, line) in REFUSALS {
-        assert!(rt; told(rt.alloc(), fault, 100).is(*status, "", line));
-        assert!(rt; told(rt.alloc(), fault, 3).is(3, "", "fau"));
+        assert!(rt; printed(rt.alloc(), fault, 100).is(*status, "", line));
+        assert!(rt; printed(rt.alloc(), fault, 3).is(3, "", "fau"));
     }
 }

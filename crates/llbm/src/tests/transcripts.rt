@@ -226,19 +226,19 @@ fn say_line<R: Abort + Threads + Wait + Sync>(
     }
 }
 
-fn transcript<R: Abort + Threads + Wait + Sync>(rt: &R, alloc: Global, told: &str) -> String {
+fn transcript<R: Abort + Threads + Wait + Sync>(rt: &R, alloc: Global, story: &str) -> String {
     let mut text = String::new(alloc);
-    for line in told.lines() {
+    for line in story.lines() {
         say_line(rt, alloc, &mut text, line.trim());
     }
     text
 }
 
 /// Ends the test at the first line of a transcript that differs. The lines of a transcript are indented by four spaces.
-pub(crate) fn is_told<R: Abort + Threads + Wait + Sync>(rt: &R, alloc: Global, told: &str) {
-    let text = transcript(rt, alloc, told);
+pub(crate) fn is_transcript<R: Abort + Threads + Wait + Sync>(rt: &R, alloc: Global, story: &str) {
+    let text = transcript(rt, alloc, story);
     let mut lines = text.lines();
-    for line in told.lines() {
+    for line in story.lines() {
         let line = line.strip_prefix("    ").unwrap_or(line);
         if !line.is_empty() && !line.starts_with("# ") {
             assert_eq!(rt; lines.next().unwrap_or("nothing").trim_end(), line);

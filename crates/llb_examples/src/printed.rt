@@ -48,8 +48,8 @@ pub(crate) fn made(rt: &impl Abort, alloc: Global, rows: &[Row<'_>]) -> Tree {
 }
 
 // Ends the test if a text is not the expected one; the failure shows both.
-pub(crate) fn is_same(rt: &impl Abort, told: &str, wanted: &str) {
-    assert_eq!(rt; told, wanted);
+pub(crate) fn is_same(rt: &impl Abort, printed: &str, wanted: &str) {
+    assert_eq!(rt; printed, wanted);
 }
 
 // Ends the test if a fault, or another value, prints something else.

@@ -9,8 +9,8 @@ use std::fmt::Display;
 use std::process::Abort;
 
 // Ends the test if a text is not the expected one; the failure shows both.
-pub(crate) fn is_same(rt: &impl Abort, told: &str, wanted: &str) {
-    assert_eq!(rt; told, wanted);
+pub(crate) fn is_same(rt: &impl Abort, printed: &str, wanted: &str) {
+    assert_eq!(rt; printed, wanted);
 }
 
 pub(crate) fn say(rt: &impl Abort, text: &mut String, more: &str) {
@@ -18,37 +18,37 @@ pub(crate) fn say(rt: &impl Abort, text: &mut String, more: &str) {
 }
 
 // Returns what a fault prints.
-pub(crate) fn fault_told<E: Display>(rt: &impl Abort, alloc: Global, fault: &E) -> String {
+pub(crate) fn printed_fault<E: Display>(rt: &impl Abort, alloc: Global, fault: &E) -> String {
     format!(in alloc; "{fault}").expect(rt, "memory")
 }
 
-pub(crate) fn text_told(rt: &impl Abort, alloc: Global, text: &str) -> String {
+pub(crate) fn printed_text(rt: &impl Abort, alloc: Global, text: &str) -> String {
     String::from_str(alloc, text).expect(rt, "memory")
 }
 
-pub(crate) fn bytes_told(rt: &impl Abort, alloc: Global, bytes: &[u8]) -> String {
+pub(crate) fn printed_bytes(rt: &impl Abort, alloc: Global, bytes: &[u8]) -> String {
     let mut text = String::new(alloc);
     push_hex(alloc, &mut text, bytes).expect(rt, "memory");
     text
 }
 
 // Returns a path, as its names with `/` before each.
-pub(crate) fn path_told(rt: &impl Abort, alloc: Global, path: &Path) -> String {
+pub(crate) fn printed_path(rt: &impl Abort, alloc: Global, path: &Path) -> String {
     let mut text = String::new(alloc);
     push_path(&mut text, path).expect(rt, "memory");
     text
 }
 
-fn digest_told(rt: &impl Abort, alloc: Global, tree: &Tree) -> String {
+fn printed_digest(rt: &impl Abort, alloc: Global, tree: &Tree) -> String {
     let digest = tree_digest(alloc, tree).expect(rt, "memory");
-    text_told(rt, alloc, digest.as_str())
+    printed_text(rt, alloc, digest.as_str())
 }
 
 // Returns the text of a tree, or its digest if the text is long.
-pub(crate) fn tree_told(rt: &impl Abort, alloc: Global, tree: &Tree) -> String {
+pub(crate) fn printed_tree(rt: &impl Abort, alloc: Global, tree: &Tree) -> String {
     let text = text_of_tree(alloc, tree).expect(rt, "a text");
     if text.len() > 1000 {
-        return digest_told(rt, alloc, tree);
+        return printed_digest(rt, alloc, tree);
     }
     text
 }
@@ -60,13 +60,13 @@ pub(crate) fn tree_or_fault<E: Display>(
     made: &Result<Tree, E>,
 ) -> String {
     match made {
-        Ok(tree) => tree_told(rt, alloc, tree),
-        Err(fault) => fault_told(rt, alloc, fault),
+        Ok(tree) => printed_tree(rt, alloc, tree),
+        Err(fault) => printed_fault(rt, alloc, fault),
     }
 }
 
 // Returns two numbers, with a space between them.
-pub(crate) fn numbers_told(rt: &impl Abort, alloc: Global, one: usize, other: u32) -> String {
+pub(crate) fn printed_numbers(rt: &impl Abort, alloc: Global, one: usize, other: u32) -> String {
     format!(in alloc; "{one} {other}").expect(rt, "memory")
 }
 

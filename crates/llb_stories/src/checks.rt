@@ -75,8 +75,8 @@ fn say_begun(rt: &impl Abort, text: &mut String, board: &mut Board, w: u32, v: u
     }
 }
 
-fn cache_of(way: &str) -> CacheRow {
-    match way {
+fn cache_of(mode: &str) -> CacheRow {
+    match mode {
         "shared" => K_SHARED,
         "private" => K_PRIVATE,
         "seeded" => K_SEEDED,
@@ -85,8 +85,8 @@ fn cache_of(way: &str) -> CacheRow {
 }
 
 // Appends the text of the tree that an instance of a cache has.
-fn say_instance(rt: &impl Abort, text: &mut String, board: &Board, way: &str, number: u32) {
-    let key = key_of(rt, *text.allocator(), &cache_of(way));
+fn say_instance(rt: &impl Abort, text: &mut String, board: &Board, mode: &str, number: u32) {
+    let key = key_of(rt, *text.allocator(), &cache_of(mode));
     match board.caches().instance(&key, number) {
         Some(tree) => say_tree(rt, text, tree),
         None => say(rt, text, "none\n"),
@@ -121,9 +121,9 @@ fn say_line(rt: &impl Abort, text: &mut String, board: &mut Board, line: &str) {
     }
 }
 
-fn transcript(rt: &impl Abort, alloc: Global, board: &mut Board, told: &str) -> String {
+fn transcript(rt: &impl Abort, alloc: Global, board: &mut Board, story: &str) -> String {
     let mut text = String::new(alloc);
-    for line in told.lines() {
+    for line in story.lines() {
         say_line(rt, &mut text, board, line.trim());
     }
     text
@@ -140,8 +140,8 @@ pub(crate) fn row_holds(rt: &impl Abort, row: usize, is_so: bool) {
 }
 
 // Ends the test if a text is not the expected one; the failure shows both.
-pub(crate) fn is_same(rt: &impl Abort, told: &str, wanted: &str) {
-    assert_eq!(rt; told, wanted);
+pub(crate) fn is_same(rt: &impl Abort, printed: &str, wanted: &str) {
+    assert_eq!(rt; printed, wanted);
 }
 
 // Ends the test if a fault prints something else.
@@ -152,7 +152,7 @@ pub(crate) fn prints<E: Display>(rt: &impl Abort, alloc: Global, fault: &E, want
 }
 
 // Returns whether the calls of a transcript on a board have the results that come after them.
-pub(crate) fn is_answered(rt: &impl Abort, alloc: Global, board: &mut Board, told: &str) -> bool {
-    let text = transcript(rt, alloc, board, told);
-    text.as_str() == wanted(rt, alloc, told).as_str()
+pub(crate) fn is_answered(rt: &impl Abort, alloc: Global, board: &mut Board, story: &str) -> bool {
+    let text = transcript(rt, alloc, board, story);
+    text.as_str() == wanted(rt, alloc, story).as_str()
 }
