@@ -6,7 +6,7 @@ ghost use Rattle.llb_tree.specs.Overlay.{settings_of};
 ghost use Rattle.llb_merge.specs.Laying.{lay};
 
 use crate::fault::Memory;
-use llb_tree::{Tree, OverlaySettings};
+use llb_tree::{OverlaySettings, Tree};
 use std::alloc::Global;
 
 // Returns the `OverlaySettings` by which each upper entry keeps its mode and owner, also if both trees have a directory at its path.

@@ -19,8 +19,8 @@ use crate::fault::TreeFault;
 use crate::node::{Child, Kind, Node, Piece};
 use crate::pieces::{child_near, child_of, in_pieces};
 use crate::putting::put_all;
-use crate::tree::Tree;
 use crate::settings::OverlaySettings;
+use crate::tree::Tree;
 use crate::writing::{with_node, with_rows};
 use std::alloc::{AllocError, Global};
 use std::sync::Arc;
@@ -35,7 +35,10 @@ fn dressed(node: &Node, alloc: Global, settings: &OverlaySettings) -> Result<Nod
         return node.copy();
     }
     let kind = match &node.kind {
-        Kind::File(meta, content) => Kind::File(settings.laid_meta(*meta), Arc::try_clone(content)?),
+        Kind::File(meta, content) => Kind::File(
+            settings.laid_meta(*meta),
+            Arc::try_clone(content)?,
+        ),
         Kind::Dir(meta, kids) => {
             let list = all_dressed(Children::of(kids.as_slice()), alloc, settings)?;
             Kind::Dir(settings.laid_meta(*meta), in_pieces(alloc, list)?)
@@ -45,7 +48,11 @@ fn dressed(node: &Node, alloc: Global, settings: &OverlaySettings) -> Result<Nod
 }
 
 #[cycle(dress)]
-fn all_dressed(kids: Children<'_>, alloc: Global, settings: &OverlaySettings) -> Result<Vec<Child>, AllocError>
+fn all_dressed(
+    kids: Children<'_>,
+    alloc: Global,
+    settings: &OverlaySettings,
+) -> Result<Vec<Child>, AllocError>
     ensures { IfOk result (λ v. map pair_of v.items ≡ map (dress_pair settings.now) (map pair_of (left_in kids.entry))) }
 {
     let mut list = Vec::new(alloc);
@@ -62,7 +69,12 @@ fn all_dressed(kids: Children<'_>, alloc: Global, settings: &OverlaySettings) ->
 // Lays a node over another, which it changes; a refusal leaves that as it was. Returns whether the upper node is
 // there unchanged.
 #[cycle(lay)]
-fn lay_node(lower: &mut Node, alloc: Global, settings: &OverlaySettings, upper: &Node) -> Result<bool, AllocError>
+fn lay_node(
+    lower: &mut Node,
+    alloc: Global,
+    settings: &OverlaySettings,
+    upper: &Node,
+) -> Result<bool, AllocError>
     ensures ok { OnOk result ((q : List (List ℕ)) → finite.get lower.new q ≡ over_at settings.now (finite.get lower.old) (finite.get upper.now) q) }
     ensures whole { IfOk result (λ whole. whole ≡ true → lower.new ≡ upper.now) }
     ensures err { OnErr result (lower.new ≡ lower.old) }
@@ -91,9 +103,7 @@ fn lay_children(
 ) -> Result<bool, AllocError>
     requires lower { ArePieced (arc_value kids.old).items }
     requires upper { ArePieced (arc_value upper.now).items }
-    ensures ok {
-        OnOk result (Lays settings.now (kids_in (arc_value upper.now).items) (kids_in (arc_value kids.old).items) (kids_in (arc_value kids.new).items))
-    }
+    ensures ok { OnOk result (Lays settings.now (kids_in (arc_value upper.now).items) (kids_in (arc_value kids.old).items) (kids_in (arc_value kids.new).items)) }
     ensures pieced { ArePieced (arc_value kids.new).items }
     ensures whole { IfOk result (λ whole. whole ≡ true → StandWhole settings.now (kids_in (arc_value upper.now).items) (kids_in (arc_value kids.new).items)) }
     ensures err { OnErr result (pairs_of (arc_value kids.new).items ≡ pairs_of (arc_value kids.old).items) }
@@ -118,9 +128,7 @@ fn lay_all(
     requires upper { ArePieced (arc_value upper.now).items }
     requires settings { TakesWhole settings.now }
     requires covers { Covers (kids_in (arc_value upper.now).items) (kids_in (arc_value kids.old).items) }
-    ensures ok {
-        OnOk result (Lays settings.now (kids_in (arc_value upper.now).items) (kids_in (arc_value kids.old).items) (kids_in (arc_value kids.new).items))
-    }
+    ensures ok { OnOk result (Lays settings.now (kids_in (arc_value upper.now).items) (kids_in (arc_value kids.old).items) (kids_in (arc_value kids.new).items)) }
     ensures pieced { ArePieced (arc_value kids.new).items }
     ensures whole { IfOk result (λ whole. whole ≡ true → StandWhole settings.now (kids_in (arc_value upper.now).items) (kids_in (arc_value kids.new).items)) }
     ensures err { OnErr result (pairs_of (arc_value kids.new).items ≡ pairs_of (arc_value kids.old).items) }
@@ -246,7 +254,12 @@ fn laid_children(
 // Lays an upper child over a copy of the lower child of the same name; if there is none, returns the upper child with the mode and the owner of
 // the settings.
 #[cycle(lay)]
-fn laid_child(kids: &[Piece], alloc: Global, settings: &OverlaySettings, upper: &Child) -> Result<Child, AllocError>
+fn laid_child(
+    kids: &[Piece],
+    alloc: Global,
+    settings: &OverlaySettings,
+    upper: &Child,
+) -> Result<Child, AllocError>
     requires { ArePieced kids.now }
     ensures { IfOk result (λ k. IsLaid settings.now (kids_in kids.now) upper.now k) }
 {

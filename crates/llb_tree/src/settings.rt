@@ -35,7 +35,12 @@ impl Model for OverlaySettings {
 impl OverlaySettings {
     /// Makes a `OverlaySettings` of a mode, a user and a group, each optional, and of whether a directory that both trees have stays as in the
     /// lower one; `None` exactly if the mode is above 4095.
-    pub fn new(mode: Option<u16>, uid: Option<u32>, gid: Option<u32>, keeps: bool) -> Option<OverlaySettings>
+    pub fn new(
+        mode: Option<u16>,
+        uid: Option<u32>,
+        gid: Option<u32>,
+        keeps: bool,
+    ) -> Option<OverlaySettings>
         ensures { result ≡ settings_of mode uid gid keeps }
     {
         if let Some(mode) = mode {

@@ -244,7 +244,7 @@ lay_each-returns-clause-ok t c =
     let ready = c.in_ok-ready.ready.items in
     let laid : AreLaid settings (kids_in old) (kids_in upper) ready = subst (λ us. AreLaid settings (kids_in old) us ready) c.of.ensures
     (subst (λ ks. AreLaid settings (kids_in ks) (left_in c.of.result) ready) (c.as_slice.ensures.value ∙ ap (λ v. v.items) c.deref.ensures)
-      c.in_ok-ready.ensures) in
+    c.in_ok-ready.ensures) in
     on_ok c.put_all.result (lays_put settings old upper (arc_value c.put_all.new.kids).items ready c.requires.lower c.requires.upper laid) c.put_all.ensures.ok
 
 -- ---- a node over a node
