@@ -1,4 +1,4 @@
--- The results of a lease's calls: the result of the call's rule, or the fault `Memory`.
+-- The result of a call on leases: the result of its rule (for `lease`, the definition `lease_of`), or `Memory`.
 use Rattle.std.specs.Prelude.{Bool, true, false, Result}
 use Rattle.llb_wire.specs.Answer as answer
 use Rattle.llb_cache.specs.declared.fault.LeaseFault.{LeaseFault}
