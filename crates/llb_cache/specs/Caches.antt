@@ -19,8 +19,7 @@ use Rattle.llb_cache.specs.declared.fault.LeaseFault.TheVariants.{Held}
 abbrev pub Row : Type 0
 Row = Key × List TreeMap
 
--- the list of leases, each at the position of its number: a current lease is the list of its instances, in the order of its needs;
--- a lease that was given back is `None`
+-- the list of leases by number: a current lease is the list of its instances, in the order of its needs; a lease that was given back is `None`
 abbrev pub Leases : Type 0
 Leases = List (Option (List Instance))
 
@@ -94,8 +93,7 @@ unfoldable pub first_free : Leases → Key → ℕ → ℕ → ℕ
 first_free out key n zero = n
 first_free out key n (suc more) = if is_held out (place key n) then first_free out key (n + 1) more else n
 
--- the number of the instance that a new lease takes for a key of this mode: 0 if the mode is shared or locked; if it is private, the least number whose
--- instance no lease has (at most the number of leases)
+-- the number of the instance that a new lease takes: 0 for a shared or a locked key; for a private key the least that is free, which is at most `leases out`
 abbrev pub number_for : Leases → Key → Mode → ℕ
 number_for out key Shared = 0
 number_for out key Locked = 0
@@ -123,7 +121,7 @@ is_locked Locked = true
 is_locked Shared = false
 is_locked Private = false
 
--- whether the key of a need is locked and a lease has instance 0 of this key, the only one
+-- whether the key of a need is locked and a lease has the only instance of this key, number 0
 abbrev pub is_locked_and_held : Leases → Need → Bool
 is_locked_and_held out n = is_locked n.key.mode && is_held out (place n.key 0)
 
@@ -145,12 +143,12 @@ granted c needs = (
   },
 )
 
--- the result of a lease of these needs: if a need is passed too, the lease is refused with the key of that need; otherwise the lease is granted
+-- the result of a lease of these needs: if one of them is refused (`Some`), the lease is refused with its key; otherwise the lease is granted
 abbrev pub lease_by : CachesValue → List Need → Option Need → Result (ℕ × CachesValue) LeaseFault
 lease_by c needs None = Ok (granted c needs)
 lease_by c needs (Some n) = Err (Held n.key)
 
--- the result of a lease of these needs: the lease is refused with the first locked key that another lease has; if there is none, it is granted
+-- the result of a lease of these needs: it is refused with the first locked key whose instance a lease has; if there is none, it is granted
 abbrev pub lease_of : CachesValue → List Need → Result (ℕ × CachesValue) LeaseFault
 lease_of c needs = lease_by c needs (find (is_locked_and_held c.out) needs)
 

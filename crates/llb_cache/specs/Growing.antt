@@ -17,7 +17,7 @@ pub record FitsIn (r : Ready) : Type 0 where
   pub mark : r.place.number < length r.marks
   pub clear : (k : ℕ) → slice_index_or r.marks k false ≡ false
 
--- a need is passed, and the fault e is `Held` with the key of that need
+-- there is a refused need (`Some`), and the fault e is `Held` with the key of this need
 abbrev pub IsRefusal : Option Need → LeaseFault → Type 0
 IsRefusal None e = ⊥
 IsRefusal (Some n) e = e ≡ Held n.key

@@ -59,8 +59,7 @@ pub record LentValue : Type 0 where
 abbrev pub lent_again : CachesValue → List Instance → CachesValue
 lent_again c ps = record c { out = with_lease c.out (free_lease c.out) ps }
 
--- the instances exist and have distinct keys; those of private and locked keys are in no lease; one more lease is allowed, and the prepared
--- list has room for this lease
+-- the instances exist and have distinct keys, those of private and locked keys are free, one more lease is allowed, and the list has room for this lease
 pub record CanLend (c : CachesValue) (l : LentValue) : Type 0 where
   pub free : All (λ p. IsExclusive p.key.mode → is_held c.out p ≡ false) l.places
   pub apart : AllPairs (λ p q. p.key ≢ q.key) l.places

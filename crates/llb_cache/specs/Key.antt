@@ -22,7 +22,7 @@ same_mode Locked Locked = true
 abbrev pub same_seed : Seed → Seed → Bool
 same_seed s t = (s.index == t.index) && pointwise nat_eq s.digest t.digest
 
--- whether both seeds are missing, or there are two and they are the same
+-- whether both seeds are missing, or neither is missing and they are the same
 abbrev pub same_seeds : Option Seed → Option Seed → Bool
 same_seeds None None = true
 same_seeds None (Some t) = false

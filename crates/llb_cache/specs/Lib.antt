@@ -1,7 +1,6 @@
 -- Read first Caches (keys with their instances, leases, and what each call does to them), Key (which keys are the same) and Faults (how calls fail). Growing
--- has what is prepared for a lease. Growth has what a lease adds to the rows, and how this is removed. Marks says which instances have the mark of a lease.
--- KeyOrder has the order of keys, RowOrder the rows in this order, and FirstRows the row of a key. LawsOfKeys shows that `same_key` is an equivalence, which
--- the `Eq` of `Key` cites.
+-- has what is prepared for a lease; Growth what a lease adds to the rows, and how this is removed; Marks the marks of leased instances; KeyOrder and RowOrder
+-- the order in which keys are searched; FirstRows the row of a key. LawsOfKeys shows that `same_key` is an equivalence, which the `Eq` of `Key` cites.
 pub mod Key
 pub mod LawsOfKeys
 pub mod KeyOrder

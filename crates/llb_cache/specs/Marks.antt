@@ -1,5 +1,4 @@
--- Marks of the instances that leases have. Each row has a list of marks, in which item n is the mark of instance n; an instance past the
--- end of the list has no mark.
+-- Marks of the instances that leases have. Item n of a row's list of marks is the mark of instance n; an instance past the end of the list has no mark.
 use Rattle.std.specs.Prelude.{◌≡◌, ◌⊎◌, Bool, false, List, [], ◌∷◌, length, slice_index_or, if◌then◌else◌}
 use Rattle.std.specs.List.{list_any}
 use Rattle.std.specs.Map.{keys_of}
@@ -18,7 +17,7 @@ marked (k ∷ keys) (m ∷ marks) p = if same_key p.key k then slice_index_or m 
 abbrev pub is_one_of : List Instance → Instance → Bool
 is_one_of ps p = list_any (same_place p) ps
 
--- after a change, each instance that passes the test has the mark b, and each other instance has the mark that it had before the change
+-- after a change, each instance that passes the test is marked exactly if b is true, and each other instance has the mark that it had before
 abbrev pub Remarks : List Key → List (List Bool) → List Key → List (List Bool) → (Instance → Bool) → Bool → Type 0
 Remarks keys marks keys' marks' test b = (p : Instance) → marked keys' marks' p ≡ (if test p then b else marked keys marks p)
 

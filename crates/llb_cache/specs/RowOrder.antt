@@ -37,8 +37,7 @@ pub record IsOrdered (rows : List Row) (order : List ℕ) : Type 0 where
   pub each : (i : ℕ) → i < length rows → (j : ℕ) × (j < length order) × (row_at order j ≡ i)
   pub rising : (j k : ℕ) → j < k → k < length order → is_before rows (row_at order j) (key_at rows (row_at order k)) ≡ true
 
--- `place` is the position of a key in the order: the keys of the rows before this position come before the key, and the
--- keys of the other rows do not
+-- `place` is the position of a key in the order: exactly the rows before this position have keys that come before the key
 pub record IsPlace (rows : List Row) (order : List ℕ) (key : Key) (place : ℕ) : Type 0 where
   pub within : place ≤ length order
   pub before : (j : ℕ) → j < place → is_before rows (row_at order j) key ≡ true

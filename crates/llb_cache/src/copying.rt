@@ -44,7 +44,7 @@ pub(crate) fn copied_places(alloc: Global, places: &[Instance]) -> Result<Many<I
     Ok(Many::new(copies))
 }
 
-// Copies the instances of a lease, if it is current.
+// Copies the instances of a lease, if the lease is current.
 fn copied_lease(
     alloc: Global,
     lease: &Option<Many<Instance>>,

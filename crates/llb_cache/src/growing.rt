@@ -82,7 +82,7 @@ fn make(rows: &mut Rows, marks: &mut Vec<Marks>, ready: Ready)
     }
 }
 
-// Makes each of the prepared instances that does not exist, and marks all of them. There is room for one more row for each.
+// Makes each of the prepared instances that does not exist, and marks all of them. There is room for one more row for each of them.
 pub(crate) fn make_all(rows: &mut Rows, marks: &mut Vec<Marks>, readies: Vec<Ready>)
     requires order { AreOrdered rows.old }
     requires spare { HasRoom rows.old (length readies.items) }

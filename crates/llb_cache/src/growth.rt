@@ -22,7 +22,7 @@ pub enum Growth {
     Nothing,
     /// The key has a row, which gets one more instance.
     NewInstance,
-    /// The key has no row, and gets one with one instance.
+    /// The key has no row, and gets a row with one instance.
     NewRow,
 }
 

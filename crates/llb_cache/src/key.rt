@@ -13,7 +13,7 @@ use std::fmt;
 pub enum Mode {
     /// One instance, which any number of leases hold at once.
     Shared,
-    /// An instance for each lease: the one with the least number that no other lease holds.
+    /// An instance for each lease: the instance with the least number that no other lease holds.
     Private,
     /// One instance, which one lease holds at a time.
     Locked,

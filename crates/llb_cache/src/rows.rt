@@ -124,7 +124,7 @@ pub(crate) fn key_at(rows: &Rows, row: usize) -> Option<&Key>
     }
 }
 
-// Returns the trees of a key, if it has a row.
+// Returns the trees of a key; `None` if the key has no row.
 pub(crate) fn trees_with<'a>(rows: &'a Rows, key: &Key) -> Option<&'a Trees>
     requires { AreOrdered rows.now }
     ensures { option_map (λ t. t.now) result ≡ lookup (same_key key.now) rows.now.entries.items }

@@ -90,7 +90,7 @@ impl Caches {
         None
     }
 
-    // Returns the needs unchanged, or fails with 111 `Held` and the first locked key of a need whose instance a lease has.
+    // Returns the needs unchanged, or fails with 111 `Held` and the first of their locked keys whose instance a lease has.
     pub(crate) fn admitted(
         &self,
         needs: Vec<Need>,

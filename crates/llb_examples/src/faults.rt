@@ -1,6 +1,6 @@
-//! What faults print; a refusal has the word `fault` before it. The faults of records and messages, the other refusals of the
-//! loader, each feature and each rule are tested in `loader` and by the program (`show`, `taken_ops`, `taken_executions` and
-//! `taken_caches` in `llbm`).
+//! What faults print, without the word `fault` that a refusal has in front. The faults of records and messages, the loader's
+//! other refusals, each feature and each rule are tested in `loader` and by the program (`show`, `taken_ops`,
+//! `taken_executions` and `taken_caches` in `llbm`).
 
 use super::told::prints;
 use llb_applet::ScriptFault;

@@ -23,7 +23,7 @@ type Case = (&'static str, &'static str, Result<bool, PatternFault>);
 
 // Texts of patterns, texts of paths, and whether the path matches.
 const CASES: &[Case] = &[
-    // A name matches a part, and a path matches part by part.
+    // Each name of the path has to match the part of the pattern at the same position.
     ("a*", "/ab", Ok(true)),
     ("a*", "/a", Ok(true)),
     ("*", "/a", Ok(true)),

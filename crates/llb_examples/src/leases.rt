@@ -2,13 +2,13 @@
 //! describes the next calls. A NEED is the ID and the mode of its key, the index of the key's seed (`-` if there is none), and the name of the one
 //! file in the need's tree (none for an empty tree). LEASE is the position of a lease among those granted, I the position of one of its needs.
 //!
-//! `lease NEED, ..` prints the number of the new lease and the number of each need's instance, or the fault, or `twice`
-//! if two needs have the same key. `near ROW NEED, ..` does the same, but tries row ROW first for each key. `see LEASE I` prints the name of the
-//! file in the instance of that need, and `set LEASE I NAME` replaces that file by one with this name.
-//! `back LEASE` gives a lease back. `count NEED` prints how many instances the key has, how many leases are current, and each instance's file.
-//! `next NEED` prints the number of the instance that a lease would take, or `shut` if the lease would be refused. `look ROW NEED` looks up the
-//! key, and tries row ROW first (`-` for none); it prints the key's row, `held` or `free`, the number of the instance that a lease would take,
-//! and the instance's file if the instance exists. `grow NEED` prints what a lease would add to the rows. `new` begins with empty caches.
+//! `lease NEED, ..` prints the number of the new lease and the number of each need's instance, or the fault, or `twice` if two needs have the same
+//! key. `near ROW NEED, ..` does the same, but tries row ROW first for each key. `see LEASE I` prints the name of the file in the instance of that
+//! need, and `set LEASE I NAME` replaces that file by one with this name. `back LEASE` gives a lease back. `count NEED` prints how many instances the
+//! key has, how many leases are current, and each instance's file. `next NEED` prints the number of the instance that a lease would take, or `shut`
+//! if the lease would be refused. `look ROW NEED` looks up the key, and tries row ROW first (`-` for none); it prints the key's row, `held` or
+//! `free`, the number of the instance that a lease would take, and the instance's file if the instance exists. `grow NEED` prints what a lease would
+//! add to the rows. `new` begins with empty caches.
 
 use super::told::{file, made, row_holds, say, say_fault, say_number};
 use super::trees::word_and_rest;
@@ -158,7 +158,7 @@ fn growth(caches: &Caches, key: &Key) -> Growth {
     caches.growth(&key.by_ref())
 }
 
-// Leases an instance for each need, and tries these rows first. Returns `None` if two needs have the same key.
+// Leases an instance for each need, and tries row `rows[i]` first for need `i`. Returns `None` if two needs have the same key.
 fn leased_near(
     caches: &mut Caches,
     needs: Vec<Need>,

@@ -1,5 +1,5 @@
-//! Rows as the loader reads them: the graph that they make, or why they are refused. The digest of a row may be any text here. Rows are written as
-//! `DIGEST = NAME`, with `; ` between them; NAME is the name of an entry of `llb_samples`.
+//! The graph that `link` makes of rows, or why it refuses them. Here the digest of a row may be any text. Rows are written as `DIGEST = NAME`, with
+//! `; ` between rows; NAME is the name of an entry of `llb_samples`.
 
 use super::told::{is_same, prints, say};
 use llb_loader::{Graph, LoadFault, Row, link};

@@ -1,4 +1,4 @@
-//! A tree of a thousand files and its copies: a change in one is not seen in the others. Trees are compared by their whole texts.
+//! A tree of a thousand files and its copies: a change of one of them does not change the others. Trees are compared by their whole texts.
 
 use super::overlay::copied;
 use super::told::{dir, file, is_so, made, put, say};

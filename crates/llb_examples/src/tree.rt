@@ -60,7 +60,7 @@ fn a_text_is_read_part_by_part_from_the_root_or_a_path(rt: HostRuntime) {
     }
 }
 
-// Returns how many names the path has that a text is read as.
+// Returns the number of names of the path that a text is read as.
 fn names_of(alloc: Global, text: &str) -> Result<usize, TreeFault> {
     let path = Path::read(alloc, text)?;
     Ok(path.names().len())
