@@ -1,5 +1,5 @@
--- Caches and the leases of them: for each key the list of its instances, and for each lease the instances that it has. What
--- a lease takes depends on what other leases hold exclusively, and on the modes of the keys.
+-- Caches: the instances of each key, and the instances that each lease has. For a shared or a locked key a new lease takes instance 0, for a private key
+-- the first instance that no lease has. If a lease has the instance of a locked key, no other lease gets it.
 use Rattle.std.specs.Prelude.{◌≡◌, ◌≢◌, ℕ, zero, suc, ◌+◌, ◌<◌, ◌≤◌, ◌==◌, Bool, true, false, not, ◌&&◌, nat_lt, if◌then◌else◌, List, []}
 use Rattle.std.specs.Prelude.{◌∷◌, ◌++◌, length, map, fold, count_by, slice_get, slice_set, slice_index_or, Option, Some, None, is_some}
 use Rattle.std.specs.Prelude.{unwrap_or, Result, Ok, Err}
@@ -15,15 +15,15 @@ use Rattle.llb_cache.specs.declared.need.Instance.{Instance}
 use Rattle.llb_cache.specs.declared.fault.LeaseFault.{LeaseFault}
 use Rattle.llb_cache.specs.declared.fault.LeaseFault.TheVariants.{Held}
 
--- a key, and the trees of its instances by number
+-- a row: a key, and the trees of the key's instances; the tree of instance n is item n
 abbrev pub Row : Type 0
 Row = Key × List TreeMap
 
--- the leases by number: for a current lease its instances, in the order of its needs; `None` for one that was given back
+-- the list of leases by number: a current lease is the list of its instances, in the order of its needs; a lease that was given back is `None`
 abbrev pub Leases : Type 0
 Leases = List (Option (List Instance))
 
--- the rows, whose keys are in the order in which they were first leased, and the leases
+-- the value of caches: the rows, in the order in which their keys were first leased, and the list of leases
 pub record CachesValue : Type 0 where
   pub rows : List Row
   pub out : Leases
@@ -38,7 +38,7 @@ place key number = record { key = key; number = number }
 abbrev pub trees_of : List Row → Key → List TreeMap
 trees_of rows key = unwrap_or (lookup (same_key key) rows) []
 
--- the rows after a key gets these trees, in place of those that it had; a new key comes last
+-- the rows after the trees of a key are replaced by these trees; if no row has the key, a new row is appended
 abbrev pub with_trees : List Row → Key → List TreeMap → List Row
 with_trees [] key trees = (key, trees) ∷ []
 with_trees (r ∷ rows) key trees = if same_key key r.0 then (r.0, trees) ∷ rows else r ∷ with_trees rows key trees
@@ -47,11 +47,11 @@ with_trees (r ∷ rows) key trees = if same_key key r.0 then (r.0, trees) ∷ ro
 abbrev pub tree_at : List Row → Instance → Option TreeMap
 tree_at rows p = slice_get (trees_of rows p.key) p.number
 
--- the rows with this tree in an instance
+-- the rows after the tree of an instance, which exists, is replaced by this tree
 abbrev pub put : List Row → Instance → TreeMap → List Row
 put rows p tree = with_trees rows p.key (slice_set (trees_of rows p.key) p.number tree)
 
--- the rows after an instance that does not exist is made with this tree, as the last one of its key; an instance that exists is left as it is
+-- the rows after an instance is made: if the instance does not exist, this tree is appended to the trees of its key; if it exists, nothing changes
 abbrev pub made : List Row → Instance → TreeMap → List Row
 made rows p tree = if nat_lt p.number (length (trees_of rows p.key)) then rows else with_trees rows p.key (trees_of rows p.key ++ tree ∷ [])
 
@@ -74,7 +74,7 @@ is_held out p = list_any (has p) out
 abbrev pub leases : Leases → ℕ
 leases out = count_by is_some out
 
--- the instances of a lease; none if it is not current
+-- the instances of a lease; none if the lease is not current
 abbrev pub places_of : Leases → ℕ → List Instance
 places_of out lease = unwrap_or (unwrap_or (slice_get out lease) None) []
 
@@ -88,12 +88,12 @@ place_at out lease i = slice_index_or (places_of out lease) i (place (record { i
 
 -- ---- what a lease takes
 
--- the least number at or after n whose instance no lease has, if it is one of the `more` numbers from n on; else n + more
+-- of the numbers n to n + more - 1, the least whose instance of this key no lease has; n + more if there is no such number
 unfoldable pub first_free : Leases → Key → ℕ → ℕ → ℕ
 first_free out key n zero = n
 first_free out key n (suc more) = if is_held out (place key n) then first_free out key (n + 1) more else n
 
--- the number of the instance for a key: for a private key the least whose instance no lease has, which is at most the number of leases; for other keys 0
+-- the number of the instance that a new lease takes: 0 for a shared or a locked key; for a private key the least that is free, which is at most `leases out`
 abbrev pub number_for : Leases → Key → Mode → ℕ
 number_for out key Shared = 0
 number_for out key Locked = 0
@@ -107,21 +107,21 @@ place_for out key = place key (number_for out key key.mode)
 abbrev pub Taken : Type 0
 Taken = Instance × TreeMap
 
--- what a lease takes for its needs
+-- for each need of a new lease, in order: the instance that the lease takes for the need, and the tree of the need
 abbrev pub taken : Leases → List Need → List Taken
 taken out needs = map (λ n. (place_for out n.key, n.tree)) needs
 
--- the rows after all instances that do not exist are made
+-- the rows after those of the taken instances that do not exist are made, each with its tree
 abbrev pub made_all : List Row → List Taken → List Row
 made_all rows ts = fold (λ rows t. made rows t.0 t.1) rows ts
 
--- whether a key is locked
+-- whether a mode is locked
 abbrev pub is_locked : Mode → Bool
 is_locked Locked = true
 is_locked Shared = false
 is_locked Private = false
 
--- whether a need's key is locked and a lease has its instance
+-- whether the key of a need is locked and a lease has the only instance of this key, number 0
 abbrev pub is_locked_and_held : Leases → Need → Bool
 is_locked_and_held out n = is_locked n.key.mode && is_held out (place n.key 0)
 
@@ -129,11 +129,11 @@ is_locked_and_held out n = is_locked n.key.mode && is_held out (place n.key 0)
 abbrev pub free_lease : Leases → ℕ
 free_lease out = position_or_len (λ o. not (is_some o)) out
 
--- the leases after one more, under the number of one that was given back, or under the next number
+-- the leases after a lease of these instances is added under this number: in the place of a lease that was given back, or at the end of the list
 abbrev pub with_lease : Leases → ℕ → List Instance → Leases
 with_lease out lease ps = if nat_lt lease (length out) then slice_set out lease (Some ps) else out ++ Some ps ∷ []
 
--- the number of a lease of these needs, and the caches after it is granted
+-- the number that a lease of these needs gets, and the caches after this lease is granted
 abbrev pub granted : CachesValue → List Need → ℕ × CachesValue
 granted c needs = (
   free_lease c.out,
@@ -143,27 +143,27 @@ granted c needs = (
   },
 )
 
--- the result of a lease of these needs, given the first need that is refused, if one is: then the whole lease is refused
+-- the result of a lease of these needs: if one of them is refused (`Some`), the lease is refused with its key; otherwise the lease is granted
 abbrev pub lease_by : CachesValue → List Need → Option Need → Result (ℕ × CachesValue) LeaseFault
 lease_by c needs None = Ok (granted c needs)
 lease_by c needs (Some n) = Err (Held n.key)
 
--- the result of a lease of these needs: it is refused for the first need with a locked key whose instance a lease has
+-- the result of a lease of these needs: it is refused with the first locked key whose instance a lease has; if there is none, it is granted
 abbrev pub lease_of : CachesValue → List Need → Result (ℕ × CachesValue) LeaseFault
 lease_of c needs = lease_by c needs (find (is_locked_and_held c.out) needs)
 
 -- ---- the other calls
 
--- the caches with this tree in the instance that a lease has for its need i
+-- the caches after this tree replaces the tree of one instance: the instance that the lease has for its need i
 abbrev pub with_content : CachesValue → ℕ → ℕ → TreeMap → CachesValue
 with_content c lease i tree = record c { rows = put c.rows (place_at c.out lease i) tree }
 
--- these leases with a number that has no lease put before them; an empty list stays empty
+-- a list of leases with `None` put before it; an empty list stays empty
 abbrev pub before : Leases → Leases
 before [] = []
 before (o ∷ out) = None ∷ o ∷ out
 
--- the list of leases cut off after the last current one
+-- the list of leases without the `None`s that follow the last current lease
 unfoldable pub trimmed : Leases → Leases
 trimmed [] = []
 trimmed (Some ps ∷ out) = Some ps ∷ trimmed out
@@ -175,7 +175,7 @@ given_back c lease = record c { out = trimmed (slice_set c.out lease None) }
 
 -- ---- what is true of all caches
 
--- a mode is exclusive: an instance of a key with this mode has at most one lease at a time
+-- a mode is private or locked: at most one lease at a time may have an instance of a key with this mode
 abbrev pub IsExclusive : Mode → Type 0
 IsExclusive Shared = ⊥
 IsExclusive Private = Unit {0}
@@ -194,15 +194,15 @@ AreExclusive out = (a b : ℕ) (ps qs : List Instance) (p : Instance) → Has ou
 abbrev pub AreApart : Leases → Type 0
 AreApart out = (a : ℕ) (ps : List Instance) → Has out a ps → AllPairs (λ p q. p.key ≢ q.key) ps
 
--- every instance of a lease exists
+-- every instance that a lease has exists
 abbrev pub AreThere : List Row → Leases → Type 0
 AreThere rows out = (a : ℕ) (ps : List Instance) → Has out a ps → All (λ p. p.number < length (trees_of rows p.key)) ps
 
--- no key has more than 65,536 instances, as many as there can be leases
+-- no key has more than 65,536 instances; the number of leases has the same limit
 abbrev pub AreFew : List Row → Type 0
 AreFew rows = (key : Key) → length (trees_of rows key) ≤ 65536
 
--- what holds of all caches
+-- what holds of all caches; `short` limits the length of the list of leases, and `ends` says that no `None` is at its end
 pub record IsCaches (c : CachesValue) : Type 0 where
   pub exclusive : AreExclusive c.out
   pub apart : AreApart c.out

@@ -1,4 +1,4 @@
--- When two keys of caches are the same: their IDs, their seeds and their modes are equal.
+-- Two keys of caches are the same if their IDs, their seeds and their modes are equal.
 use Rattle.std.specs.Prelude.{ℕ, Bool, true, false, not, ◌&&◌, ◌||◌, ◌==◌, List, length, Option, Some, None, nat_eq}
 use Rattle.std.specs.Cmp.Lexicographic.{pointwise}
 use Rattle.llb_cache.specs.declared.key.Key.{Key}
@@ -18,11 +18,11 @@ same_mode Locked Shared = false
 same_mode Locked Private = false
 same_mode Locked Locked = true
 
--- whether two seeds are the same output of the same entry
+-- whether two seeds have the same digest text and the same index
 abbrev pub same_seed : Seed → Seed → Bool
 same_seed s t = (s.index == t.index) && pointwise nat_eq s.digest t.digest
 
--- whether the two seeds are both missing, or are the same seed
+-- whether both seeds are missing, or neither is missing and they are the same
 abbrev pub same_seeds : Option Seed → Option Seed → Bool
 same_seeds None None = true
 same_seeds None (Some t) = false
@@ -38,7 +38,7 @@ abbrev pub has_digest : Option Seed → Bool
 has_digest (Some s) = not (length s.digest == 0)
 has_digest None = false
 
--- whether a key has a text that is not empty, so that a copy of the key takes memory
+-- whether the ID or the digest text of a key is not empty, so that a copy of the key takes memory
 abbrev pub has_text : Key → Bool
 has_text k = not (length k.id == 0) || has_digest k.seed
 

@@ -1,4 +1,4 @@
--- The order of keys, by which their rows are looked up.
+-- The order of keys, in which rows are searched for a key.
 use Rattle.std.specs.Prelude.{ℕ}
 use Rattle.std.specs.declared.cmp.Ordering.{Ordering}
 use Rattle.std.specs.Ordering.{ordering_then, nat_cmp}
@@ -9,7 +9,7 @@ use Rattle.llb_cache.specs.declared.key.Seed.{Seed}
 use Rattle.llb_cache.specs.declared.key.Mode.{Mode}
 use Rattle.llb_cache.specs.declared.key.Mode.TheVariants.{Shared, Private, Locked}
 
--- the position of a mode in the list of modes
+-- the position of a mode in the order shared, private, locked
 abbrev pub mode_place : Mode → ℕ
 mode_place Shared = 0
 mode_place Private = 1

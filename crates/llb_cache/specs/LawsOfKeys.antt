@@ -1,4 +1,4 @@
--- The test of two keys decides whether they are equal.
+-- `same_key` is true of two keys exactly if they are equal, so it is an equivalence.
 use Rattle.std.specs.Prelude.{◌≡◌, ◌↔◌, ℕ, true, ◌&&◌, ◌==◌, List, Option, Some, None, nat_eq}
 use Rattle.std.specs.Cmp.{IsEquivalence, both_ways}
 use Rattle.std.specs.Cmp.Lexicographic.{pointwise, bytes_decides}

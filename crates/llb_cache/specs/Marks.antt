@@ -1,4 +1,4 @@
--- Marks of the instances that leases have: for each row a list of marks, by the numbers of instances; a number past the list's end has no mark.
+-- Marks of the instances that leases have. Item n of a row's list of marks is the mark of instance n; an instance past the end of the list has no mark.
 use Rattle.std.specs.Prelude.{◌≡◌, ◌⊎◌, Bool, false, List, [], ◌∷◌, length, slice_index_or, if◌then◌else◌}
 use Rattle.std.specs.List.{list_any}
 use Rattle.std.specs.Map.{keys_of}
@@ -17,17 +17,17 @@ marked (k ∷ keys) (m ∷ marks) p = if same_key p.key k then slice_index_or m 
 abbrev pub is_one_of : List Instance → Instance → Bool
 is_one_of ps p = list_any (same_place p) ps
 
--- each instance that passes the test has the mark b, and each other one has the mark that it had
+-- after a change, each instance that passes the test is marked exactly if b is true, and each other instance has the mark that it had before
 abbrev pub Remarks : List Key → List (List Bool) → List Key → List (List Bool) → (Instance → Bool) → Bool → Type 0
 Remarks keys marks keys' marks' test b = (p : Instance) → marked keys' marks' p ≡ (if test p then b else marked keys marks p)
 
--- there is a list of marks for each row, and an instance of a locked or a private key is marked exactly if a lease has it
+-- `IsCaches` holds, there is one list of marks for each row, and an instance of a locked or a private key is marked exactly if a lease has it
 pub record IsMarked (c : CachesValue) (marks : List (List Bool)) : Type 0 where
   pub caches : IsCaches c
   pub each : length marks ≡ length c.rows
   pub exact : (p : Instance) → IsExclusive p.key.mode → marked (keys_of c.rows) marks p ≡ is_held c.out p
 
--- each mark is as it was, or the instance's key has no instances now and the mark is removed
+-- after a removal from the rows, each instance has the mark that it had before, or its key has no instances and the instance has no mark
 abbrev pub Unmarks : List Row → List (List Bool) → List Row → List (List Bool) → Type 0
 Unmarks rows marks rows' marks' = (p : Instance) → (marked (keys_of rows') marks' p ≡ marked (keys_of rows) marks p)
     ⊎ ((marked (keys_of rows') marks' p ≡ false) × (length (trees_of rows' p.key) ≡ 0))

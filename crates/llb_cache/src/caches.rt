@@ -1,6 +1,5 @@
-//! Caches with their leases. Contracts see the keys in the order in which they were first leased, each with the trees
-//! of its instances, and the instances that each lease has. A refusal changes nothing, and only a lease and a copy
-//! allocate.
+//! Caches with their leases. Contracts see the keys in the order in which they were first leased, each with the trees of its instances, and the instances
+//! that each lease has. A refusal changes nothing. Of these calls only `lease`, `lease_near` and `copy` allocate.
 
 ghost use Rattle.std.specs.Prelude.{◌≡◌, ◌≢◌, ◌↔◌, IsTrue, ◌<◌, ◌&&◌, length, map, slice_get, option_map, AllPairs, OnErr, IfOk, Some, []};
 ghost use Rattle.std.specs.Map.{keys_of};
@@ -22,7 +21,7 @@ use llb_wire::{Many, all_same};
 use std::alloc::Global;
 use std::marker::Model;
 
-/// A current lease, by its number.
+/// A lease, known by its number.
 #[derive(Clone, Copy)]
 pub struct Lease {
     pub(crate) number: u32,
@@ -39,7 +38,7 @@ impl Model for Lease {
 }
 
 impl Lease {
-    /// Returns the number: the least that no other lease had when this one was granted.
+    /// Returns the number of the lease: the least that no other lease had when this lease was granted.
     pub fn number(&self) -> u32
         ensures { result ≡ self.now }
     {
@@ -47,15 +46,15 @@ impl Lease {
     }
 }
 
-/// Caches, and their current leases. Contracts see a list of the keys with their trees, and a list of the leases.
+/// Caches and their leases. Contracts see a list of the keys with their trees, and a list of the leases.
 pub struct Caches {
     pub(crate) rows: Rows,
-    // For each row the marks of instances that leases have; for locked and private keys an instance is marked exactly if a lease has it.
+    // For each row, the marks of its instances. An instance of a locked or a private key is marked exactly if a lease has it.
     pub(crate) marks: Vec<Marks>,
     pub(crate) out: Vec<Option<Many<Instance>>>,
 }
 
-// Written by hand, so that it is proved once; a derived one is proved again in every function that drops such a value.
+// `Drop` is written by hand, so that it is proved once; a derived `Drop` is proved again in every function that drops such a value.
 impl Drop for Caches {
     fn drop(self) {
         let Caches {
@@ -94,8 +93,8 @@ impl Caches {
         }
     }
 
-    /// Returns whether a lease of these needs may be requested: their keys are distinct, and there are fewer than 65,536
-    /// leases. Does not allocate, and takes time in the square of the number of needs.
+    /// Returns whether a lease of these needs may be requested: the keys of the needs are distinct, and fewer than 65,536 leases are current. Does not
+    /// allocate, and takes time in the square of the number of needs.
     pub fn can_lease(&self, needs: &[Need]) -> bool
         ensures { IsTrue result ↔ (AllPairs (λ n m. n.key ≢ m.key) needs.now × (leases self.now.out < 65536)) }
     {
@@ -105,9 +104,10 @@ impl Caches {
         keys_differ(needs)
     }
 
-    /// Leases an instance for each need, or none at all: for a shared or a locked key instance 0, for a private key the least instance that no lease has. An
-    /// instance that does not exist is made with the tree of its need. The keys of the needs are distinct, and there are fewer than 65,536 leases. Fails with
-    /// 111 `Held` and the first locked key whose instance a lease has; else with 112 `Memory`. After a refusal the caches are unchanged.
+    /// Leases an instance for each need, or none at all: for a shared or a locked key instance 0, for a private key the instance with the least number that
+    /// no lease has. An instance that does not exist is made with the tree of its need. The keys of the needs have to be distinct, and fewer than 65,536
+    /// leases may be current. Fails with 111 `Held` and the first locked key whose instance a lease has; if there is no such key, only with 112 `Memory`.
+    /// After a refusal the caches are unchanged.
     pub fn lease(&mut self, needs: Many<Need>) -> Result<Lease, LeaseFault>
         requires differ { AllPairs (λ n m. n.key ≢ m.key) needs }
         requires few { leases self.old.out < 65536 }
@@ -119,8 +119,7 @@ impl Caches {
         self.lease_near(needs, &[])
     }
 
-    /// Leases as `lease` does, and fails as it does. For the key of need `i`, row `rows[i]`, if it is given,
-    /// is tried first.
+    /// Leases and fails as `lease` does. If `rows[i]` is the number of a row, this row is tried first when the rows are searched for the key of need `i`.
     pub fn lease_near(
         &mut self,
         needs: Many<Need>,
@@ -154,7 +153,7 @@ impl Caches {
         }
     }
 
-    /// Returns how many needs a lease has, 0 if it is not current. Does not allocate.
+    /// Returns how many needs a lease has; 0 if the lease is not current. Does not allocate.
     pub fn needs(&self, lease: Lease) -> usize
         ensures { result ≡ length (places_of self.now.out lease) }
     {
@@ -181,8 +180,7 @@ impl Caches {
         trees_at(&self.rows, &place.key).at(place.number)
     }
 
-    /// Replaces the tree of the instance that a need of a lease has; all leases that have the instance see the new
-    /// tree. Does not allocate.
+    /// Replaces the tree of the instance that a current lease has for a need; all leases that have this instance see the new tree. Does not allocate.
     pub fn set_content(&mut self, lease: &Lease, need: u32, tree: Tree)
         requires { need < length (places_of self.old.out lease.now) }
         ensures { self.new ≡ with_content self.old lease.now need tree }
@@ -191,7 +189,7 @@ impl Caches {
         set_at(&mut self.rows, place, tree);
     }
 
-    /// Frees the instances of a current lease. No tree changes. Does not allocate.
+    /// Gives a current lease back, so that other leases can have its instances. No tree changes. Does not allocate.
     pub fn give_back(&mut self, lease: Lease)
         requires { IsOut self.old.out lease }
         ensures { self.new ≡ given_back self.old lease }
@@ -204,7 +202,7 @@ impl Caches {
         take_back(&mut self.out, lease.number);
     }
 
-    /// Returns whether a lease of this key would be refused: it is locked, and a lease has its instance. Does not allocate.
+    /// Returns whether a lease of this key would be refused: the key is locked, and a lease has its instance. Does not allocate.
     pub fn is_locked_and_held(&self, key: &KeyRef<'_>) -> bool
         ensures { result ≡ (is_locked key.now.mode && is_held self.now.out (place key.now 0)) }
     {
@@ -225,7 +223,7 @@ impl Caches {
         count(&self.out)
     }
 
-    /// Returns how many keys there are. Does not allocate.
+    /// Returns how many keys have a row. Does not allocate.
     pub fn keys(&self) -> usize
         ensures { result ≡ length self.now.rows }
     {
@@ -256,7 +254,7 @@ impl Caches {
         trees_with(&self.rows, key)?.get(number)
     }
 
-    /// Copies the caches with their leases; the trees are shared. Fails with 112 `Memory` alone.
+    /// Copies the caches with their leases; the copy shares the trees. Fails with 112 `Memory` alone.
     pub fn copy(&self) -> Result<Caches, Memory>
         ensures { IfOk result (λ c. c ≡ self.now) }
     {
@@ -281,16 +279,16 @@ impl Caches {
         same_rows(&self.rows.entries, &other.rows.entries)
     }
 
-    /// Proves that no key occurs twice.
+    /// Proves that no two rows have the same key.
     pub fn keys_differ(&self)
         ensures { AllPairs (λ k l. k ≢ l) (keys_of self.now.rows) }
     {
         let _rows = &self.rows;
     }
 
-    /// Proves that no two leases have the same instance of a locked or a private key, nor have two needs of one lease; that
-    /// every instance of a lease exists; that no key has more than 65,536 instances; and that the list of leases ends with
-    /// a current lease, so that it is empty if there is none.
+    /// Proves that no two leases have the same instance of a locked or a private key; that the instances of one lease have distinct keys; that every instance
+    /// of a lease exists; that no key has more than 65,536 instances, and the list of leases no more than 65,536 items; and that the last item of this list,
+    /// if it has one, is a current lease.
     pub fn is_exclusive(&self)
         ensures { IsCaches self.now }
     {

@@ -1,4 +1,4 @@
-//! Copies the rows of caches and the instances of leases; the copies share the trees. Also compares two lists of rows.
+//! Copies the rows of caches and the instances of leases; the copies share the trees. Compares two lists of rows.
 
 ghost use Rattle.std.specs.Prelude.{◌≡◌, ◌↔◌, IsTrue, IfOk};
 ghost use Rattle.llb_cache.specs.RowOrder.{AreOrdered};
@@ -12,7 +12,7 @@ use crate::trees::Trees;
 use llb_wire::{Many, Same};
 use std::alloc::Global;
 
-// Copies the rows, which share the trees.
+// Copies the rows; the copy shares the trees.
 pub(crate) fn copied_rows(rows: &Rows) -> Result<Rows, Memory>
     requires { AreOrdered rows.now }
     ensures entries { IfOk result (λ r. r.entries.items ≡ rows.now.entries.items) }
@@ -44,7 +44,7 @@ pub(crate) fn copied_places(alloc: Global, places: &[Instance]) -> Result<Many<I
     Ok(Many::new(copies))
 }
 
-// Copies the instances of a lease, if it is current.
+// Copies the instances of a lease, if the lease is current.
 fn copied_lease(
     alloc: Global,
     lease: &Option<Many<Instance>>,
@@ -81,7 +81,7 @@ pub(crate) fn copied_marks(marks: &Vec<Marks>) -> Result<Vec<Marks>, Memory>
     Ok(copies)
 }
 
-// Returns whether two lists of rows have the same keys in the same order with the same trees. If they do, a key has the same row in both lists.
+// Returns whether two lists of rows have the same keys in the same order with the same trees.
 pub(crate) fn same_rows(rows: &[(Key, Trees)], others: &[(Key, Trees)]) -> bool
     ensures { IsTrue result ↔ (rows.now ≡ others.now) }
 {

@@ -1,5 +1,5 @@
-//! Why a lease is refused, and why a copy fails. A fault prints its number, and after it the ID of a key.
-//! Refusals of memory of any kind become `Memory` by `?`.
+//! The faults of leases and of copies. A fault prints its number; `Held` then prints the ID of its key. The operator
+//! `?` converts any refusal of memory to `Memory`.
 
 use crate::key::Key;
 use llb_tree::TreeFault;
@@ -62,7 +62,7 @@ impl From<llb_wire::Memory> for Memory {
     }
 }
 
-/// Converts the fault of a copy of a tree, which can only lack memory.
+/// Converts the fault of a copy of a tree; such a copy fails only if memory is refused.
 impl From<TreeFault> for Memory {
     fn from(_: TreeFault) -> Memory {
         Memory

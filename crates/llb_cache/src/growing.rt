@@ -1,4 +1,4 @@
-//! How a lease takes its instances: first everything that may be refused, and then the changes, which do not allocate.
+//! How a lease takes its instances: all that can fail is done first, and then the changes, which do not allocate.
 
 ghost use Rattle.std.specs.Prelude.{◌≡◌, ◌<◌, ◌≤◌, ◌+◌, ℕ, true, false, map, slice_set, length, vec_len, vec_capacity, IfOk, None};
 ghost use Rattle.std.specs.List.{All};
@@ -18,8 +18,8 @@ use llb_tree::Tree;
 use llb_wire::Many;
 use std::alloc::Global;
 
-// What is prepared for a need: an instance, the row that is tried first for its key, the tree with which it is made if it is new,
-// and room for it and for its mark.
+// What is prepared for a need: the instance, the row that is tried first for the key, the tree that a new instance begins with,
+// and room for this tree and for the instance's mark.
 #[derive(Drop)]
 pub(crate) struct Ready {
     pub(crate) place: Instance,
@@ -40,7 +40,7 @@ pub(crate) fn places_for(alloc: Global, readies: &[Ready]) -> Result<Many<Instan
     Ok(Many::new(places))
 }
 
-// Makes an instance that does not exist, and marks it. There is room for one more row.
+// Makes an instance, if it does not exist, and marks it. There is room for one more row.
 fn make(rows: &mut Rows, marks: &mut Vec<Marks>, ready: Ready)
     requires order { AreOrdered rows.old }
     requires spare { HasRoom rows.old 1 }
@@ -82,7 +82,7 @@ fn make(rows: &mut Rows, marks: &mut Vec<Marks>, ready: Ready)
     }
 }
 
-// Makes the instances that do not exist, and marks all. There is room for as many more rows.
+// Makes each of the prepared instances that does not exist, and marks all of them. There is room for one more row for each of them.
 pub(crate) fn make_all(rows: &mut Rows, marks: &mut Vec<Marks>, readies: Vec<Ready>)
     requires order { AreOrdered rows.old }
     requires spare { HasRoom rows.old (length readies.items) }
@@ -141,7 +141,7 @@ pub(crate) fn take_lease(out: &mut Vec<Option<Many<Instance>>>, places: Many<Ins
     number as u32
 }
 
-// Returns the instances of a lease; none if it is not current.
+// Returns the instances of a lease; none if the lease is not current.
 pub(crate) fn places_at(out: &[Option<Many<Instance>>], lease: u32) -> &[Instance]
     ensures { result.now ≡ places_of out.now lease }
 {
@@ -164,7 +164,7 @@ pub(crate) fn set_at(rows: &mut Rows, place: &Instance, tree: Tree)
     }
 }
 
-// Cuts the list of leases off after the last current one.
+// Removes each `None` after the last current lease from the list of leases.
 fn trim(out: &mut Vec<Option<Many<Instance>>>)
     ensures { out.new.items ≡ trimmed out.old.items }
 {
@@ -177,7 +177,7 @@ fn trim(out: &mut Vec<Option<Many<Instance>>>)
     out.truncate(kept);
 }
 
-// Removes a lease from the current ones.
+// Ends a lease, which is then no longer current, and trims the list of leases.
 pub(crate) fn take_back(out: &mut Vec<Option<Many<Instance>>>, lease: u32)
     requires { lease < length out.old.items }
     ensures { out.new.items ≡ trimmed (slice_set out.old.items lease None) }

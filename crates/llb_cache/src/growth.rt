@@ -1,4 +1,4 @@
-//! What a lease of a key adds to the rows, which is known before it is granted; and how a lease is taken back together with what it added.
+//! What a lease of a key would add to the rows, known before the lease is granted; and taking a lease back, which also removes what the lease added.
 
 ghost use Rattle.std.specs.Prelude.{◌≡◌, ◌≢◌, List, length, AllPairs};
 ghost use Rattle.std.specs.Map.{keys_of};
@@ -22,12 +22,12 @@ pub enum Growth {
     Nothing,
     /// The key has a row, which gets one more instance.
     NewInstance,
-    /// The key has no row, and gets one with one instance.
+    /// The key has no row, and gets a row with one instance.
     NewRow,
 }
 
 impl Caches {
-    /// Returns what a lease of this key would add now. Does not allocate.
+    /// Returns what a lease of this key would add to the rows now. Does not allocate.
     pub fn growth(&self, key: &KeyRef<'_>) -> Growth
         ensures { result ≡ growth_at self.now.rows (place_for self.now.out key.now) }
     {
@@ -45,8 +45,8 @@ impl Caches {
         }
     }
 
-    /// Takes a current lease back, and removes what it added: for each of its needs what `growth` returned before. No other lease may have
-    /// one of the instances that are removed. Does not allocate.
+    /// Takes a current lease back, and removes what the lease added to the rows. For each need of the lease, `growths` has what `growth` returned before the
+    /// lease was granted. No other lease may have an instance that is removed. Does not allocate.
     pub fn take_back(&mut self, lease: Lease, growths: &[Growth])
         requires out { IsOut self.old.out lease }
         requires there { AreThere (taken_back self.old lease growths.now).rows (taken_back self.old lease growths.now).out }
@@ -66,8 +66,8 @@ impl Caches {
         take_back(&mut self.out, lease.number);
     }
 
-    /// Proves that a lease of needs with distinct keys, taken back right after it was granted, leaves the caches exactly as they were before, if it is taken
-    /// back with what `growth` returned for each need before the lease.
+    /// Proves that granting a lease of needs with distinct keys and taking it back at once leaves the caches exactly as they were, if for each need
+    /// `take_back` is passed what `growth` returned before the lease.
     pub fn grants_come_back(&self)
         ensures { (needs : List asked.Need) → AllPairs (λ n m. n.key ≢ m.key) needs → taken_back (granted self.now needs).1 (granted self.now needs).0
             (growths self.now needs) ≡ self.now }
@@ -76,7 +76,7 @@ impl Caches {
     }
 }
 
-// Removes what was added for an instance: nothing, the last instance of its key, or the last row.
+// Removes what was added to the rows for an instance: nothing, the last instance of its key, or the last row.
 fn unmake(rows: &mut Rows, marks: &mut Vec<Marks>, place: &Instance, growth: Growth)
     requires order { AreOrdered rows.old }
     requires each { length marks.old.items ≡ length rows.old.entries.items }
@@ -95,7 +95,7 @@ fn unmake(rows: &mut Rows, marks: &mut Vec<Marks>, place: &Instance, growth: Gro
     }
 }
 
-// Removes what was added for instances, from the last of them to the first.
+// Removes what was added to the rows for each of these instances, for the last instance first.
 fn unmake_all(rows: &mut Rows, marks: &mut Vec<Marks>, places: &[Instance], growths: &[Growth])
     requires order { AreOrdered rows.old }
     requires each { length marks.old.items ≡ length rows.old.entries.items }

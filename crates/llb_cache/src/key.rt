@@ -1,5 +1,5 @@
-//! The key of a cache: its ID, the output that a new instance begins with, and how leases share it. Two keys are the same if
-//! all three are equal.
+//! The key of a cache: its ID, its seed (the output whose tree a new instance begins with), and its mode (how leases share
+//! the instances). Two keys are the same if all three are equal.
 
 ghost use Rattle.std.specs.Prelude.{◌≡◌, ◌↔◌, IsTrue, IfOk};
 ghost use Rattle.llb_cache.specs.Key.{same_key, same_seed, same_seeds, same_mode};
@@ -13,20 +13,20 @@ use std::fmt;
 pub enum Mode {
     /// One instance, which any number of leases hold at once.
     Shared,
-    /// An instance for each lease: the one with the least number that no other lease holds.
+    /// An instance for each lease: the instance with the least number that no other lease holds.
     Private,
     /// One instance, which one lease holds at a time.
     Locked,
 }
 
-/// An output that a new instance begins with: the digest text of an entry, and the output's index.
+/// The output whose tree a new instance begins with: the digest text of an entry, and the index of the output.
 #[derive(Debug)]
 pub struct Seed {
     pub digest: Text,
     pub index: u32,
 }
 
-// Written by hand, so that it is proved once; a derived one is proved again in every function that drops such a value.
+// `Drop` is written by hand, so that it is proved once; a derived `Drop` is proved again in every function that drops such a value.
 impl Drop for Seed {
     fn drop(self) {
         let Seed {
@@ -44,7 +44,7 @@ pub struct Key {
     pub mode: Mode,
 }
 
-// Written by hand, so that it is proved once; a derived one is proved again in every function that drops such a value.
+// `Drop` is written by hand, so that it is proved once; a derived `Drop` is proved again in every function that drops such a value.
 impl Drop for Key {
     fn drop(self) {
         let Key {
@@ -115,7 +115,7 @@ impl Key {
     }
 }
 
-/// A key is printed by its ID.
+/// Prints the ID of the key.
 impl fmt::Display for Key {
     ghost use Rattle.std.specs.Prelude.{Some};
 

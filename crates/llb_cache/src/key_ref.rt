@@ -1,4 +1,5 @@
-//! A key that borrows its texts from another value: caches are searched by such a key before a key that owns its texts is made.
+//! A key that borrows its texts from another value. Caches can be searched for such a key before a `Key` is made,
+//! which owns its texts.
 
 ghost use Rattle.std.specs.Prelude.{◌≡◌, ◌==◌, not, length, option_map, true, IfErr, IfOk};
 ghost use Rattle.std.specs.Option.{option_cmp};
@@ -13,7 +14,7 @@ use std::alloc::Global;
 use std::cmp::Ordering;
 use std::marker::Model;
 
-/// A key that borrows its texts. Contracts see the key.
+/// A key that borrows its texts. Contracts see it as a `Key`.
 #[derive(Drop)]
 pub struct KeyRef<'a> {
     id: &'a str,
@@ -32,15 +33,16 @@ impl<'a> Model for KeyRef<'a> {
 }
 
 impl<'a> KeyRef<'a> {
-    /// Returns the key of this ID, with the digest text and the index of its seed, if it has one. Does not allocate.
+    /// Returns the key with this ID, this mode and this seed (the digest text and the index of an output), if there is one.
+    /// Does not allocate.
     pub fn new(id: &'a str, seed: Option<(&'a str, u32)>, mode: Mode) -> KeyRef<'a>
         ensures { result ≡ record { id = id.now; seed = option_map (λ s. seed_by s.0.now s.1) seed.entry; mode = mode } }
     {
         KeyRef { id, seed, mode }
     }
 
-    /// Returns an equal key that owns its texts. Fails with 112 `Memory` alone; for a key without a byte of text it
-    /// does not allocate.
+    /// Returns an equal key that owns its texts. Fails with 112 `Memory` alone. If all texts of the key are empty, does not
+    /// allocate.
     pub fn to_key(&self, alloc: Global) -> Result<Key, Memory>
         ensures ok { IfOk result (λ k. k ≡ self.now) }
         ensures memory { IfErr result (λ _. has_text self.now ≡ true) }
@@ -51,7 +53,7 @@ impl<'a> KeyRef<'a> {
         Ok(Key { id, seed, mode })
     }
 
-    /// Returns whether the cache is locked. Does not allocate.
+    /// Returns whether the key is locked. Does not allocate.
     pub fn is_locked(&self) -> bool
         ensures { result ≡ is_locked self.now.mode }
     {
@@ -62,7 +64,7 @@ impl<'a> KeyRef<'a> {
         }
     }
 
-    // Returns how the cache is shared.
+    // Returns the mode of the key.
     pub(crate) fn mode(&self) -> Mode
         ensures { result ≡ self.now.mode }
     {
@@ -76,7 +78,7 @@ impl<'a> KeyRef<'a> {
         self.order(other).is_eq()
     }
 
-    // Compares keys by ID, then by mode, then by seed; no seed comes first.
+    // Compares keys by ID, then by mode, then by seed; a key without a seed comes before keys with one.
     #[tactic(auto, unfolding(crate::specs::KeyOrder::key_cmp))]
     pub(crate) fn order(&self, other: &KeyRef<'_>) -> Ordering
         ensures { result ≡ key_cmp self.now other.now }
@@ -104,7 +106,7 @@ impl Key {
     }
 }
 
-// Returns the number by which a mode is ordered.
+// Returns the position of a mode in the order of modes.
 fn place_of(mode: Mode) -> u8
     ensures { result ≡ mode_place mode }
 {
@@ -115,7 +117,7 @@ fn place_of(mode: Mode) -> u8
     }
 }
 
-// Compares seeds by digest text, then by index; no seed comes first.
+// Compares seeds by digest text, then by index; a missing seed comes before any other.
 fn order_of_seeds(parts: Option<(&str, u32)>, others: Option<(&str, u32)>) -> Ordering
     ensures { result ≡ option_cmp seed_cmp (option_map (λ s. seed_by s.0.now s.1) parts.entry) (option_map (λ s. seed_by s.0.now s.1) others.entry) }
 {
@@ -131,7 +133,7 @@ fn order_of_seeds(parts: Option<(&str, u32)>, others: Option<(&str, u32)>) -> Or
     }
 }
 
-// Copies a text. Allocates only if it has a byte.
+// Copies a text. Does not allocate if the text is empty.
 fn owned(alloc: Global, text: &str) -> Result<Text, Memory>
     ensures ok { IfOk result (λ t. t ≡ text.now) }
     ensures memory { IfErr result (λ _. not (length text.now == 0) ≡ true) }

@@ -1,5 +1,5 @@
-//! A lease that is prepared while memory may be refused, and granted later without allocating. Its instances
-//! exist by then, and no row changes.
+//! A lease that is prepared while memory may be refused (`Lent::new`), and granted later without allocating (`lend_again`). Its instances exist when it is
+//! granted, so no row changes.
 
 ghost use Rattle.std.specs.Prelude.{◌≡◌, ◌<◌, ◌≤◌, true, [], length, vec_capacity, IfOk};
 ghost use Rattle.std.specs.List.{All};
@@ -21,15 +21,15 @@ use llb_wire::Many;
 use std::alloc::Global;
 use std::marker::Model;
 
-/// What is needed to lease instances that exist without allocating: their keys, room for their marks, and a
-/// list with room for leases. Contracts see the instances, and how many leases there is room for.
+/// A prepared lease of instances that exist: copies of the instances, room for their marks, and a list with room for leases. So granting it does not allocate.
+/// Contracts see the instances, and for how many leases there is room.
 pub struct Lent {
     places: Many<Instance>,
     marks: Vec<Marks>,
     out: Vec<Option<Many<Instance>>>,
 }
 
-// Written by hand, so that it is proved once; a derived one is proved again in every function that drops such a value.
+// `Drop` is written by hand, so that it is proved once; a derived `Drop` is proved again in every function that drops such a value.
 impl Drop for Lent {
     fn drop(self) {
         let Lent {
@@ -53,8 +53,7 @@ impl Model for Lent {
 }
 
 impl Lent {
-    /// Makes what a lease of these instances needs, with a list that has room for `room` leases. Fails with 112
-    /// `Memory` alone.
+    /// Prepares a lease of these instances, with a list that has room for `room` leases. Fails with 112 `Memory` alone.
     pub fn new(alloc: Global, places: &[Instance], room: usize) -> Result<Lent, Memory>
         ensures { IfOk result (λ l. l ≡ record { places = places.now; room = room }) }
     {
@@ -76,7 +75,7 @@ impl Lent {
     }
 }
 
-// Makes room for a mark of each instance.
+// Makes room for the mark of each instance.
 fn rooms_for(alloc: Global, places: &[Instance]) -> Result<Vec<Marks>, Memory>
     ensures { IfOk result (λ ms. FitEach places.now ms.items) }
 {
@@ -88,8 +87,8 @@ fn rooms_for(alloc: Global, places: &[Instance]) -> Result<Vec<Marks>, Memory>
 }
 
 impl Caches {
-    /// Grants a lease of instances that exist and have distinct keys; if the key of one of them is private or locked, no current lease may have that instance.
-    /// There is room for one more lease, and fewer than 65,536 are current. Does not allocate.
+    /// Grants a prepared lease and returns it. Its instances have to exist and to have distinct keys, and no current lease may have one of them whose key is
+    /// private or locked. Fewer than 65,536 leases are current, and the prepared list has room for one more. Does not allocate.
     pub fn lend_again(&mut self, lent: Lent) -> Lease
         requires { CanLend self.old lent }
         ensures number { result ≡ free_lease self.old.out }
@@ -133,7 +132,7 @@ fn mark(rows: &Rows, marks: &mut Vec<Marks>, place: &Instance, room: Marks)
     }
 }
 
-// Adds a lease under the least free number, and returns the number. If no number in the list is free, the leases are first moved into the list that has room.
+// Adds a lease under the least free number, and returns the number. If no number in the list is free, the leases are first moved into the list `room`.
 fn put_lease(
     out: &mut Vec<Option<Many<Instance>>>,
     places: Many<Instance>,

@@ -1,11 +1,11 @@
-//! The instances of cache mounts, and leases of them. A key (an ID, a seed and a mode) has a list of trees, its instances; a lease takes one
-//! for each of its needs, or none at all. Trees stay when a lease is given back. It is built on `llb_tree`.
+//! The instances of cache mounts, and leases of them. A key (an ID, a seed and a mode) has a list of trees, its instances. A lease takes an instance for each
+//! of its needs; if one need is refused, it takes none. When a lease is given back, the trees stay. The crate is built on `llb_tree`.
 //!
 //! Types: `Caches`, `Key` with `Mode` (shared, private, locked), `Need` (a key, and the tree of a new instance), `Lease`, `Instance`,
 //! `LeaseFault` (111, 112).
-//! Promise: `Caches::lease` (`gives`, `has`, `last`, `err`) is refused (111) for the first locked key that a lease has; else it takes instance 0 of each shared
-//! or locked key, and of each private key the instance with the least number that no lease has. Law: `is_exclusive`, no two leases have one instance of a
-//! locked or a private key.
+//! Promise: `Caches::lease` (clauses `gives`, `has`, `last`, `err`) is refused (111) with the first locked key whose instance a lease has; otherwise it takes
+//! instance 0 of each shared or locked key, and of each private key the instance with the least number that no lease has. Law: `is_exclusive`: no two leases
+//! have the same instance of a locked or a private key.
 //!
 //! A caller:
 //!

@@ -1,4 +1,5 @@
-//! The marks of a locked or a private key: for each number of an instance, whether a lease has the instance. So a look-up visits no lease.
+//! The marks of the instances of a key. For a locked or a private key an instance is marked exactly if a lease has it, so a look-up does
+//! not search the leases.
 
 ghost use Rattle.std.specs.Prelude.{◌≡◌, ◌<◌, ◌==◌, ℕ, true, false, if◌then◌else◌, length, slice_index_or, IfOk, []};
 
@@ -6,12 +7,12 @@ use crate::fault::Memory;
 use std::alloc::Global;
 use std::marker::Model;
 
-// A mark for each instance of a key, by its number. A number past the last mark has none.
+// The marks of the instances of a key, each at the position of the instance's number. A number past the end of the list has no mark.
 pub(crate) struct Marks {
     items: Vec<bool>,
 }
 
-// Written by hand, so that it is proved once; a derived one is proved again in every function that drops such a value.
+// `Drop` is written by hand, so that it is proved once; a derived `Drop` is proved again in every function that drops such a value.
 impl Drop for Marks {
     fn drop(self) {
         let Marks { items: _ } = self;
@@ -35,7 +36,7 @@ impl Marks {
         }
     }
 
-    // Makes room for the marks up to this number, none of which is set.
+    // Makes a list with room for the marks of the numbers 0 to `number`, none of which is set.
     pub(crate) fn up_to(alloc: Global, number: u32) -> Result<Marks, Memory>
         ensures room { IfOk result (λ m. number < length m) }
         ensures clear { IfOk result (λ m. (k : ℕ) → slice_index_or m k false ≡ false) }
@@ -76,7 +77,7 @@ impl Marks {
         }
     }
 
-    // Sets the mark of a number; if the list is too short for it, the marks are first moved into the list `room`.
+    // Sets the mark of a number. If the list is too short for this number, all marks are first moved into the longer list `room`.
     pub(crate) fn set(&mut self, number: u32, room: Marks)
         requires room { number < length room }
         requires clear { (k : ℕ) → slice_index_or room k false ≡ false }
@@ -88,7 +89,7 @@ impl Marks {
         self.items[number as usize] = true;
     }
 
-    // Moves the marks into a longer list.
+    // Moves the marks into the longer list `room`.
     fn move_into(&mut self, room: Marks)
         requires room { length self.old < length room }
         requires clear { (k : ℕ) → slice_index_or room k false ≡ false }

@@ -1,4 +1,4 @@
-//! What a lease needs and has: an instance of a cache for each need; and what a look-up of a key finds.
+//! The needs of a lease, the instances that a lease has for them, and what a look-up of a key finds.
 
 ghost use Rattle.std.specs.Prelude.{◌≡◌, IfOk};
 
@@ -6,7 +6,8 @@ use crate::fault::Memory;
 use crate::key::Key;
 use llb_tree::Tree;
 
-/// What a lease needs: an instance of this key. A new instance begins with this tree: the seed's, or the empty one.
+/// One need of a lease: an instance of `key`. If the instance is new, it begins with `tree`, the tree of the key's seed
+/// or the empty tree.
 #[derive(Drop)]
 pub struct Need {
     pub key: Key,
@@ -23,13 +24,13 @@ pub struct Instance {
 /// What a look-up of a key finds in caches.
 #[derive(Drop)]
 pub struct Found<'a> {
-    /// The number of the key's row, `None` if it has none. A later look-up may try that row first.
+    /// The number of the key's row; `None` if the key has no row. A later look-up may try that row first.
     pub row: Option<usize>,
-    /// Whether a lease of the key would be refused: it is locked, and a lease has its instance.
+    /// Whether a lease of the key would be refused: the key is locked, and a lease has its instance.
     pub is_held: bool,
-    /// The number of the instance that a lease of the key would have.
+    /// The number of the instance that a lease of the key would take.
     pub number: u32,
-    /// The tree of that instance, `None` if the instance is not there.
+    /// The tree of that instance; `None` if the instance does not exist.
     pub tree: Option<&'a Tree>,
 }
 

@@ -1,5 +1,5 @@
-//! The keys with the trees of their instances, and the row of each key. A look-up searches the rows in the order of their keys, so it takes time in the
-//! logarithm of their number, whatever the keys are.
+//! The rows of caches: the keys with the trees of their instances. A look-up is a binary search of the rows in the order of their keys, so for any keys
+//! it takes time in the logarithm of the number of rows.
 
 ghost use Rattle.std.specs.Prelude.{◌≡◌, ◌<◌, ◌+◌, ℕ, false, [], length, IfSome, OnOk, IsSome, Some};
 ghost use Rattle.std.specs.Prelude.{is_some, option_map, position, slice_get};
@@ -15,14 +15,14 @@ use crate::key_ref::KeyRef;
 use crate::trees::Trees;
 use std::alloc::Global;
 
-// The keys in the order in which they were first leased, with the trees of their instances, and the numbers of these rows in the
-// order of their keys.
+// The rows, each a key with the trees of its instances, in the order in which the keys were first leased (`entries`), and the numbers of the rows in
+// the order of their keys (`order`).
 pub(crate) struct Rows {
     pub(crate) entries: Vec<(Key, Trees)>,
     pub(crate) order: Vec<usize>,
 }
 
-// Written by hand, so that it is proved once; a derived one is proved again in every function that drops such a value.
+// `Drop` is written by hand, so that it is proved once; a derived `Drop` is proved again in every function that drops such a value.
 impl Drop for Rows {
     fn drop(self) {
         let Rows {
@@ -42,7 +42,7 @@ pub(crate) fn no_rows(alloc: Global) -> Rows
     }
 }
 
-// Returns whether a row's key comes before a key.
+// Returns whether the key of a row comes before this key in the order of keys.
 fn comes_before(rows: &Rows, row: usize, key: &KeyRef<'_>) -> bool
     requires { row < length rows.now.entries.items }
     ensures { result ≡ is_before rows.now.entries.items row key.now }
@@ -50,7 +50,7 @@ fn comes_before(rows: &Rows, row: usize, key: &KeyRef<'_>) -> bool
     rows.entries[row].0.by_ref().order(key).is_lt()
 }
 
-// Returns how many rows come before a key.
+// Returns the position of a key in the order: how many rows have keys that come before it.
 fn place_of(rows: &Rows, key: &KeyRef<'_>) -> usize
     requires { AreOrdered rows.now }
     ensures { IsPlace rows.now.entries.items rows.now.order.items key.now result }
@@ -68,7 +68,7 @@ fn place_of(rows: &Rows, key: &KeyRef<'_>) -> usize
     low
 }
 
-// Returns the number of a key's row.
+// Returns the number of the row of a key; `None` if no row has the key.
 pub(crate) fn row_of(rows: &Rows, key: &KeyRef<'_>) -> Option<usize>
     requires { AreOrdered rows.now }
     ensures at { result ≡ position (same_key key.now) (keys_of rows.now.entries.items) }
@@ -88,7 +88,7 @@ pub(crate) fn row_of(rows: &Rows, key: &KeyRef<'_>) -> Option<usize>
     }
 }
 
-// Returns whether there is a row of this number, and its key is this one.
+// Returns whether the row with this number exists and has this key.
 fn has_key(rows: &Rows, row: usize, key: &KeyRef<'_>) -> bool
     ensures { result ≡ has_key rows.now.entries.items row key.now }
 {
@@ -98,7 +98,8 @@ fn has_key(rows: &Rows, row: usize, key: &KeyRef<'_>) -> bool
     }
 }
 
-// Returns the number of a key's row: `near` if that row has the key; else a search finds it.
+// Returns the number of the row of a key; `None` if no row has the key. Row `near` is tried first; only if it does not have the key
+// are the rows searched.
 pub(crate) fn row_near(rows: &Rows, key: &KeyRef<'_>, near: Option<usize>) -> Option<usize>
     requires { AreOrdered rows.now }
     ensures at { result ≡ position (same_key key.now) (keys_of rows.now.entries.items) }
@@ -123,7 +124,7 @@ pub(crate) fn key_at(rows: &Rows, row: usize) -> Option<&Key>
     }
 }
 
-// Returns the trees of a key, if it has a row.
+// Returns the trees of a key; `None` if the key has no row.
 pub(crate) fn trees_with<'a>(rows: &'a Rows, key: &Key) -> Option<&'a Trees>
     requires { AreOrdered rows.now }
     ensures { option_map (λ t. t.now) result ≡ lookup (same_key key.now) rows.now.entries.items }
@@ -144,7 +145,7 @@ pub(crate) fn trees_at<'a>(rows: &'a Rows, key: &Key) -> &'a Trees
     &rows.entries[i].1
 }
 
-// Reserves room for more rows.
+// Reserves room for `more` further rows.
 pub(crate) fn reserve(rows: &mut Rows, more: usize) -> Result<(), Memory>
     ensures entries { rows.new.entries.items ≡ rows.old.entries.items }
     ensures order { rows.new.order.items ≡ rows.old.order.items }
@@ -156,7 +157,7 @@ pub(crate) fn reserve(rows: &mut Rows, more: usize) -> Result<(), Memory>
     Ok(())
 }
 
-// Adds a row for a key that has none. There is room for one more.
+// Adds a row for a key that has none. There is room for one more row.
 pub(crate) fn add_row(rows: &mut Rows, key: Key, trees: Trees)
     requires order { AreOrdered rows.old }
     requires room { HasRoom rows.old 1 }
@@ -184,7 +185,7 @@ pub(crate) fn pop_row(rows: &mut Rows)
     }
 }
 
-// Removes the last instance of a key, if it has one.
+// Removes the last instance of a key, if the key has one.
 pub(crate) fn pop_instance(rows: &mut Rows, key: &Key)
     requires { AreOrdered rows.old }
     ensures rows { rows.new.entries.items ≡ shorter rows.old.entries.items key.now (lookup (same_key key.now) rows.old.entries.items) }

@@ -1,4 +1,5 @@
-//! Which instances leases have, and which numbers are free. A look-up of a key reads its row and the marks of that row, and no lease.
+//! Finds which instances leases have, and which numbers are free. A look-up of a key reads the key's row and the marks of this
+//! row, but no lease.
 
 ghost use Rattle.std.specs.Prelude.{◌≡◌, ◌≢◌, ◌↔◌, ◌<◌, ◌≤◌, ◌&&◌, false, IsTrue, AllPairs, List, length, map, slice_get, slice_index_or};
 ghost use Rattle.std.specs.Prelude.{IfOk, IfSome, MatchResult, Some, None, option_and_then, option_map, position};
@@ -54,7 +55,7 @@ impl Caches {
         }
     }
 
-    // Returns whether a key is locked, and a lease has its instance. Looks up only a locked key.
+    // Returns whether a key is locked and a lease has its instance. The rows are searched only for a locked key.
     pub(crate) fn holds_locked(&self, key: &KeyRef<'_>, near: Option<usize>) -> bool
         ensures { result ≡ (is_locked key.now.mode && is_held self.now.out (place key.now 0)) }
     {
@@ -65,7 +66,7 @@ impl Caches {
         }
     }
 
-    // Returns the number of the instance that is chosen for a key. Looks up only a private key.
+    // Returns the number of the instance that a new lease takes for a key. The rows are searched only for a private key.
     pub(crate) fn number_for(&self, key: &KeyRef<'_>, near: Option<usize>) -> u32
         ensures { result ≡ number_for self.now.out key.now key.now.mode }
     {
@@ -76,7 +77,7 @@ impl Caches {
         }
     }
 
-    // Returns the index of the first need whose locked key a lease has.
+    // Returns the index of the first need whose key is locked and whose instance a lease has; `None` if there is none.
     fn first_held(&self, needs: &[Need], rows: &[Option<usize>]) -> Option<usize>
         ensures found { find (is_locked_and_held self.now.out) needs.now ≡ option_and_then (slice_get needs.now) result }
         ensures within { IfSome result (λ i. i < length needs.now) }
@@ -89,7 +90,7 @@ impl Caches {
         None
     }
 
-    // Returns the needs if no lease has the locked key of one of them; else fails with 111 `Held` and the first such key.
+    // Returns the needs unchanged, or fails with 111 `Held` and the first of their locked keys whose instance a lease has.
     pub(crate) fn admitted(
         &self,
         needs: Vec<Need>,
@@ -108,7 +109,7 @@ impl Caches {
         }
     }
 
-    // Chooses an instance for each need, given the current leases, and makes room for it.
+    // Chooses an instance for each need by the current leases, and allocates room for the instance and its mark.
     pub(crate) fn readied(
         &self,
         needs: Vec<Need>,
@@ -155,7 +156,8 @@ fn nothing_found<'a>() -> Found<'a>
     }
 }
 
-// Returns the result of a look-up that found this row, if a lease would take the instance with this number.
+// Returns the result of a look-up that found this row: `number` is the instance that a lease would take, and `is_held` says whether a
+// lease would be refused.
 fn found_in(rows: &Rows, row: usize, number: u32, is_held: bool) -> Found<'_>
     requires { row < length rows.now.entries.items }
     ensures row { result.row ≡ Some row }
@@ -172,7 +174,7 @@ fn found_in(rows: &Rows, row: usize, number: u32, is_held: bool) -> Found<'_>
     }
 }
 
-// Returns the row that is tried first for the need with this number; `None` if none is given for it.
+// Returns the row that is tried first for the need with this number; `None` if no row is given for the need.
 fn row_for(rows: &[Option<usize>], need: usize) -> Option<usize>
     ensures { result ≡ slice_index_or rows.now need None }
 {
@@ -182,7 +184,7 @@ fn row_for(rows: &[Option<usize>], need: usize) -> Option<usize>
     }
 }
 
-// Returns the least number that no lease has.
+// Returns the least number that no current lease has.
 pub(crate) fn free_lease(out: &[Option<Many<Instance>>]) -> usize
     ensures { result ≡ free_lease out.now }
 {

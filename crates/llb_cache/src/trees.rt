@@ -1,5 +1,4 @@
-//! The trees of one key's instances, and the room for a new one, which is made before anything
-//! changes.
+//! The trees of a key's instances, and room for one more tree, which is allocated before the caches change.
 
 ghost use Rattle.std.specs.Prelude.{◌≡◌, ◌↔◌, IsTrue, ◌<◌, ◌++◌, List, [], ◌∷◌, length, slice_get, slice_set, option_map, IfOk, Some};
 ghost use Rattle.llb_cache.specs.Growth.{front};
@@ -15,7 +14,7 @@ pub(crate) struct Trees {
     items: Vec<Tree>,
 }
 
-// Written by hand, so that it is proved once; a derived one is proved again in every function that drops such a value.
+// `Drop` is written by hand, so that it is proved once; a derived `Drop` is proved again in every function that drops such a value.
 impl Drop for Trees {
     fn drop(self) {
         let Trees { items: _ } = self;
@@ -35,7 +34,7 @@ impl Model for Trees {
     ghost view = { λ t. t.items.items };
 }
 
-// An empty list with room. Contracts see how many trees fit.
+// An empty list with room for trees. Contracts see for how many trees it has room.
 #[derive(Drop)]
 pub(crate) struct Room {
     items: Vec<Tree>,
@@ -52,7 +51,7 @@ impl Model for Room {
 }
 
 impl Room {
-    // Makes room for the instance with this number and all before it.
+    // Makes room for the trees of the instances with the numbers 0 to `number`.
     pub(crate) fn up_to(alloc: Global, number: u32) -> Result<Room, Memory>
         ensures { IfOk result (λ r. number < r) }
     {
@@ -99,7 +98,7 @@ impl Trees {
         self.items[number as usize] = tree;
     }
 
-    // Appends a tree. All trees are moved into the list that has room for them.
+    // Appends a tree. All trees are moved into the list `room`, which is long enough for one more.
     pub(crate) fn push_into(&mut self, room: Room, tree: Tree)
         requires { length self.old < room }
         ensures { self.new ≡ self.old ++ tree ∷ [] }
@@ -110,14 +109,14 @@ impl Trees {
         self.items = items;
     }
 
-    // Drops the last tree, if there is one.
+    // Removes the last tree, if there is one.
     pub(crate) fn pop(&mut self)
         ensures { self.new ≡ front self.old }
     {
         self.items.pop();
     }
 
-    // Copies the list, which shares the trees.
+    // Copies the list; the copy shares the trees.
     pub(crate) fn copy(&self) -> Result<Trees, Memory>
         ensures { IfOk result (λ t. t ≡ self.now) }
     {
@@ -128,7 +127,7 @@ impl Trees {
         Ok(Trees { items })
     }
 
-    // Returns whether there are the same trees, in the same order.
+    // Returns whether both lists have the same trees in the same order.
     pub(crate) fn same(&self, other: &Trees) -> bool
         ensures { IsTrue result ↔ (self.now ≡ other.now) }
     {

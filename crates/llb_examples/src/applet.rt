@@ -1,4 +1,4 @@
-//! Scripts that are run on views, with one mount and with more.
+//! Scripts that are run on views with one mount, and on views with more.
 
 use super::stage::are_transcripts;
 

@@ -1,4 +1,4 @@
-//! Leases of caches, as transcripts (`leases`), and comparisons of caches.
+//! Leases of caches, as transcripts (module `leases`), and comparisons of caches.
 
 use super::leases::{is_copy, transcript};
 use super::printed::row_holds;
@@ -212,7 +212,7 @@ const SET: &str = "lease a locked -, p private 0 f\nlease s shared -\nset 0 1 g"
 
 const BACK: &str = "lease a locked -, p private 0 f\nlease s shared -\nset 0 1 g\nback 1";
 
-// What is done on the caches after they are copied, in each of the three cases.
+// The calls that change the caches after they were copied, one for each of the three cases.
 const MORE: [&str; 3] = ["set 0 1 h", "back 0", "lease s shared -"];
 
 #[test]

@@ -1,5 +1,6 @@
-//! What faults print, after the word `fault` in a refusal. Faults of records and messages, the loader's other refusals, each feature
-//! and each rule are printed in `loader` and by the program (`show`, `taken_ops`, `taken_executions` and `taken_caches` in `llbm`).
+//! What faults print, without the word `fault` that a refusal has in front. The faults of records and messages, the loader's
+//! other refusals, each feature and each rule are tested in `loader` and by the program (`show`, `taken_ops`,
+//! `taken_executions` and `taken_caches` in `llbm`).
 
 use super::printed::prints;
 use llb_applet::ScriptFault;
@@ -48,7 +49,7 @@ fn refusals_of_a_definition(rt: HostRuntime) {
     prints(&rt, alloc, &llb_loader::Memory, "92");
 }
 
-// Returns the fault of a word that names no applet.
+// Returns the fault of a script whose word `apk` names no applet.
 fn no_applet(rt: &impl Abort, alloc: Global) -> ScriptFault {
     ScriptFault::NoApplet(Text::from_str(alloc, "apk").expect(rt, "memory"))
 }

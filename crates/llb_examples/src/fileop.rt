@@ -1,4 +1,4 @@
-//! Calls for file actions. The trees after them, and the faults with which they fail, are tested by the program (`file_actions` in `llbm`).
+//! Calls of `llb_fileop`. The trees that file actions make, and their faults, are tested by the program (`file_actions` in `llbm`).
 
 use super::ops::{COPY, MAKES_A};
 use super::printed::{is_same, say, say_fault, say_path, say_tree};
@@ -8,7 +8,7 @@ use llb_tree::Tree;
 use std::alloc::Global;
 use std::process::Abort;
 
-// Returns the path that a text reads as, and whether the text ends in a slash.
+// Returns the path that a text is read as, and whether the text ends in a slash.
 fn resolved(rt: &impl Abort, alloc: Global, text: &str) -> String {
     let (path, ends) = resolve(alloc, text).expect(rt, "a path");
     let mut printed = String::new(alloc);
@@ -17,7 +17,7 @@ fn resolved(rt: &impl Abort, alloc: Global, text: &str) -> String {
     printed
 }
 
-// Texts, their paths, and whether they end in a slash.
+// Texts, the paths that they are read as, and whether they end in a slash.
 const TEXTS: &[(&str, &str)] = &[
     ("a//b/../", "/a true"),
     ("/a/b", "/a/b false"),
@@ -40,12 +40,12 @@ fn action_in(op: &Op) -> Option<&Action> {
     }
 }
 
-// Does an action on a tree, without a second tree.
+// Does an action on a tree, without a tree to copy from.
 fn act_alone(alloc: Global, action: &Action, tree: &Tree) -> Result<Tree, ActFault> {
     act(alloc, action, tree, None)
 }
 
-// Returns the tree after the action of an entry on the empty tree, or its fault.
+// Does the action of a file op's entry on the empty tree. Returns the text of the tree after it, or the fault.
 fn acted(rt: &impl Abort, alloc: Global, entry: &[u8]) -> String {
     let op = read_op(alloc, entry).expect(rt, "an op");
     let action = action_in(&op).expect(rt, "an action");

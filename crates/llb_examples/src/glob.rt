@@ -1,4 +1,4 @@
-//! Patterns. A case is the text of a pattern, the text of a path, and whether they match.
+//! Patterns. A case has the text of a pattern, the text of a path, and whether the path matches the pattern.
 
 use super::printed::{holds, repeated, row_holds};
 use llb_glob::{Pattern, PatternFault};
@@ -10,7 +10,7 @@ fn read(alloc: Global, pattern: &str) -> Result<Pattern, PatternFault> {
     Pattern::read(alloc, pattern)
 }
 
-// Returns whether the path of a text matches a pattern.
+// Returns whether a path matches a pattern, both given as texts, or the fault of the pattern.
 fn answer(rt: &impl Abort, alloc: Global, pattern: &str, path: &str) -> Result<bool, PatternFault> {
     let pattern = read(alloc, pattern)?;
     let path = Path::read(alloc, path).expect(rt, "a path");
@@ -21,9 +21,9 @@ const REFUSED: Result<bool, PatternFault> = Err(PatternFault::BadPattern);
 
 type Case = (&'static str, &'static str, Result<bool, PatternFault>);
 
-// Patterns, paths, and whether they match.
+// Texts of patterns, texts of paths, and whether the path matches.
 const CASES: &[Case] = &[
-    // A name matches a part, and a path matches part by part.
+    // Each name of the path has to match the part of the pattern at the same position.
     ("a*", "/ab", Ok(true)),
     ("a*", "/a", Ok(true)),
     ("*", "/a", Ok(true)),
@@ -56,7 +56,7 @@ const CASES: &[Case] = &[
     ("[a^]", "/^", Ok(true)),
     ("[^b-a]", "/a", Ok(true)),
     ("[a-c]/[x]", "/b/x", Ok(true)),
-    // These do not match.
+    // These paths do not match.
     ("a*", "/ba", Ok(false)),
     ("*ab", "/aba", Ok(false)),
     ("a*b*c", "/acb", Ok(false)),
@@ -77,7 +77,7 @@ const CASES: &[Case] = &[
     ("[^a-c]", "/b", Ok(false)),
     ("[^^]", "/^", Ok(false)),
     ("[*]", "/a", Ok(false)),
-    // These are no patterns.
+    // These texts are no patterns.
     ("a\\", "/a", REFUSED),
     ("[]", "/a", REFUSED),
     ("[^]", "/^", REFUSED),
@@ -102,7 +102,8 @@ fn a_path_matches_part_by_part_and_a_bad_pattern_is_refused(rt: HostRuntime) {
     }
 }
 
-// A part of the pattern's text, how often it is repeated, and the rest; the same three for the path's text; and whether they match.
+// For the pattern: a text, how often it is repeated, and the rest; for the path: a text, and how often it is repeated; and whether
+// the path matches the pattern.
 type Long = (
     &'static str,
     usize,

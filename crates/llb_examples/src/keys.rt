@@ -14,7 +14,7 @@ const P: Row<'static> = ("p", Mode::Private, Some(0), "f");
 
 const S: Row<'static> = ("s", Mode::Shared, None, "");
 
-// Returns the same key again, made from one that borrows its texts.
+// Returns the key of a row, made from a `KeyRef` that borrows its texts.
 fn again(rt: &impl Abort, alloc: Global, row: &Row<'_>) -> Key {
     let (id, mode, index, _) = *row;
     let seed = match index {
@@ -25,7 +25,7 @@ fn again(rt: &impl Abort, alloc: Global, row: &Row<'_>) -> Key {
     key.to_key(alloc).expect(rt, "memory")
 }
 
-// Returns whether a copy of a key is the same key, and whether it is the same as the other key.
+// Returns whether the copy of a key is the same as the key, and whether it is the same as the key of the row `other`.
 fn compared(rt: &impl Abort, alloc: Global, row: &Row<'_>, other: &Row<'_>) -> (bool, bool) {
     let (key, other) = (key_of(rt, alloc, row), again(rt, alloc, other));
     let copy = key.copy().expect(rt, "memory");

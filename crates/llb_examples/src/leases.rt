@@ -1,11 +1,14 @@
-//! Caches, as transcripts. A line that begins with `> ` is a call, and the lines after it are its result; one that begins with `# ` describes the
-//! next calls. A need is the ID and the mode of its key, the index of its seed or `-`, and the name of the one file in its tree, if it
-//! has one. `lease NEED, ..` prints the number of the lease and of the instance of each need, or the fault; `see LEASE NEED` the name of the
-//! file in the tree of that instance; `set LEASE NEED NAME` changes it, and `back LEASE` gives a lease back; leases are named by their position
-//! among those granted. `count NEED` prints how many instances a key has, how many leases are current, and each instance's file; `next NEED` the
-//! instance that a lease would take now, or `shut`; `look ROW NEED` what a look-up of a key finds that tries row ROW first (`-` for none): its
-//! row, `held` or `free`, the number of the instance that a lease would take, and that instance's file, if it exists; `near ROW NEED, ..`
-//! leases as `lease` does, and tries that row first for each key; `grow NEED` what a lease would add. There are no caches after `new`.
+//! Calls on caches as transcripts. A line that begins with `> ` is a call, and the lines after it are its result; a line that begins with `# `
+//! describes the next calls. A NEED is the ID and the mode of its key, the index of the key's seed (`-` if there is none), and the name of the one
+//! file in the need's tree (none for an empty tree). LEASE is the position of a lease among those granted, I the position of one of its needs.
+//!
+//! `lease NEED, ..` prints the number of the new lease and the number of each need's instance, or the fault, or `twice` if two needs have the same
+//! key. `near ROW NEED, ..` does the same, but tries row ROW first for each key. `see LEASE I` prints the name of the file in the instance of that
+//! need, and `set LEASE I NAME` replaces that file by one with this name. `back LEASE` gives a lease back. `count NEED` prints how many instances the
+//! key has, how many leases are current, and each instance's file. `next NEED` prints the number of the instance that a lease would take, or `shut`
+//! if the lease would be refused. `look ROW NEED` looks up the key, and tries row ROW first (`-` for none); it prints the key's row, `held` or
+//! `free`, the number of the instance that a lease would take, and the instance's file if the instance exists. `grow NEED` prints what a lease would
+//! add to the rows. `new` begins with empty caches.
 
 use super::printed::{file, made, row_holds, say, say_fault, say_number};
 use super::trees::word_and_rest;
@@ -44,7 +47,7 @@ fn row_of(need: &str) -> Row<'_> {
     (id, mode_of(way), seed.parse::<u32>().ok(), name)
 }
 
-// Returns the tree with one empty file with this name, or without files.
+// Returns a tree with one empty file of this name; for an empty name, a tree without files.
 fn marked(rt: &impl Abort, alloc: Global, name: &str) -> Tree {
     if name.is_empty() {
         return Tree::empty(alloc).expect(rt, "memory");
@@ -80,7 +83,7 @@ fn needs_of(rt: &impl Abort, alloc: Global, words: &str) -> Vec<Need> {
     needs
 }
 
-// Appends the names of a tree's files, or `-`.
+// Appends the names of the files in a tree's root, or `-` if there are none.
 fn say_files(rt: &impl Abort, alloc: Global, text: &mut String, tree: &Tree) {
     let names = tree.list(&Path::root(alloc)).expect(rt, "memory");
     for name in names.as_slice() {
@@ -91,9 +94,9 @@ fn say_files(rt: &impl Abort, alloc: Global, text: &mut String, tree: &Tree) {
     }
 }
 
-// ---- the calls, each in a function without clauses, since a test compares values and needs nothing else of what a call promises
+// ---- the calls, each in a function without clauses: a test compares values, and relies on no other promise of a call
 
-// Returns nothing if two needs have the same key.
+// Leases an instance for each need. Returns `None` if two needs have the same key.
 fn leased(caches: &mut Caches, needs: Vec<Need>) -> Option<Result<Lease, LeaseFault>> {
     if !caches.can_lease(&needs) {
         return None;
@@ -139,7 +142,7 @@ fn instances(caches: &Caches, key: &Key) -> u32 {
     caches.instances(key)
 }
 
-// Returns nothing if a lease of the key would be refused.
+// Returns the number of the instance that a lease of the key would take; `None` if the lease would be refused.
 fn next_instance(caches: &Caches, key: &Key) -> Option<u32> {
     if caches.is_locked_and_held(&key.by_ref()) {
         return None;
@@ -155,7 +158,7 @@ fn growth(caches: &Caches, key: &Key) -> Growth {
     caches.growth(&key.by_ref())
 }
 
-// Returns nothing if two needs have the same key.
+// Leases an instance for each need, and tries row `rows[i]` first for need `i`. Returns `None` if two needs have the same key.
 fn leased_near(
     caches: &mut Caches,
     needs: Vec<Need>,
@@ -167,9 +170,9 @@ fn leased_near(
     Some(caches.lease_near(Many::new(needs), rows))
 }
 
-// ---- their results
+// ---- the results of the calls as texts
 
-// Appends the number of a lease, and of the instance of each of its needs.
+// Appends the number of a lease, a colon, and for each of its needs the number of the instance.
 fn say_lease(rt: &impl Abort, text: &mut String, caches: &Caches, lease: Lease) {
     say_number(rt, text, lease.number());
     say(rt, text, ":");
@@ -186,7 +189,7 @@ fn ask(rt: &impl Abort, alloc: Global, text: &mut String, stage: &mut Stage, wor
     say_asked(rt, text, stage, asked);
 }
 
-// Asks for a lease as `ask` does, with this row tried first for each key.
+// Requests a lease as `ask` does, but tries the given row first for each key.
 fn ask_near(rt: &impl Abort, alloc: Global, text: &mut String, stage: &mut Stage, words: &str) {
     let (row, needs) = word_and_rest(words);
     let row = row.parse::<usize>().ok();
@@ -232,7 +235,7 @@ fn say_count(rt: &impl Abort, alloc: Global, text: &mut String, caches: &Caches,
     say(rt, text, "\n");
 }
 
-// Appends the number of the instance that a lease of the key would take, or `shut` if it would be refused.
+// Appends the number of the instance that a lease of the key would take, or `shut` if the lease would be refused.
 fn say_next(rt: &impl Abort, alloc: Global, text: &mut String, caches: &Caches, need: &str) {
     let key = key_of(rt, alloc, &row_of(need));
     match next_instance(caches, &key) {
@@ -242,7 +245,7 @@ fn say_next(rt: &impl Abort, alloc: Global, text: &mut String, caches: &Caches, 
     say(rt, text, "\n");
 }
 
-// Appends the row of a key, whether it is held, the instance that a lease would take, and its file.
+// Appends what a look-up of a key finds: the row of the key, `held` or `free`, the number of the instance that a lease would take, and its file.
 fn say_found(rt: &impl Abort, alloc: Global, text: &mut String, caches: &Caches, words: &str) {
     let (row, need) = word_and_rest(words);
     let key = key_of(rt, alloc, &row_of(need));
@@ -260,7 +263,7 @@ fn say_found(rt: &impl Abort, alloc: Global, text: &mut String, caches: &Caches,
     say(rt, text, "\n");
 }
 
-// Appends what a lease of the key would add.
+// Appends what a lease of the key would add to the rows.
 fn say_growth(rt: &impl Abort, alloc: Global, text: &mut String, caches: &Caches, need: &str) {
     let key = key_of(rt, alloc, &row_of(need));
     let word = match growth(caches, &key) {
@@ -271,7 +274,7 @@ fn say_growth(rt: &impl Abort, alloc: Global, text: &mut String, caches: &Caches
     say(rt, text, word);
 }
 
-// Returns the lease at a position, the number of a need, and the words after both.
+// Reads the position of a lease and the position of a need. Returns that lease, the position of the need, and the words that follow.
 fn lease_at<'a>(rt: &impl Abort, stage: &Stage, words: &'a str) -> (Lease, u32, &'a str) {
     let (place, rest) = word_and_rest(words);
     let (need, name) = word_and_rest(rest);
@@ -331,7 +334,7 @@ pub(crate) fn transcript(rt: &impl Abort, alloc: Global, story: &str) -> String 
     text
 }
 
-// Does some calls, a line each.
+// Does the calls of a text, which has one call on each line.
 fn go_on(rt: &impl Abort, alloc: Global, stage: &mut Stage, calls: &str) {
     let mut text = String::new(alloc);
     for call in calls.lines() {
@@ -345,7 +348,7 @@ fn stage_after(rt: &impl Abort, alloc: Global, calls: &str) -> Stage {
     stage
 }
 
-// Returns whether a copy of the caches that is made after `calls`, before `more` is done on the caches, equals the caches after `others`.
+// Does `calls` on empty caches, copies the caches, and does `more` on the original. Returns whether the copy equals the caches after `others`.
 pub(crate) fn is_copy(
     rt: &impl Abort,
     alloc: Global,

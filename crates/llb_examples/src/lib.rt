@@ -1,5 +1,5 @@
-//! Worked examples of the libraries below the board: tests of their calls, and nothing else. If the program prints what a library does, that is
-//! tested by the program's transcripts (`crates/llbm/src/tests`). The values are written out from the rules by hand.
+//! Tests of calls of the libraries below the board. What a library does that the program prints is tested by the program's transcripts instead
+//! (`crates/llbm/src/tests`). The expected values are written by hand from the rules.
 #![tactic(auto)]
 
 #[cfg(test)]

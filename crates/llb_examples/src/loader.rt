@@ -1,5 +1,5 @@
-//! Rows with digest texts of any kind: the graph that they make, or why they are refused. Rows are written as `DIGEST = NAME`, with `; ` between them; NAME is
-//! the name of an entry of `llb_samples`.
+//! The graph that `link` makes of rows, or why it refuses them. Here the digest of a row may be any text. Rows are written as `DIGEST = NAME`, with
+//! `; ` between rows; NAME is the name of an entry of `llb_samples`.
 
 use super::printed::{is_same, prints, say};
 use llb_loader::{Graph, LoadFault, Row, link};
@@ -42,15 +42,15 @@ fn refusal(rt: &impl Abort, alloc: Global, given: &str) -> LoadFault {
     graph_of(rt, alloc, given).err().expect(rt, "a refusal")
 }
 
-// Rows, and the refusal of each.
+// Rows, and the fault with which they are refused.
 const REFUSED: &[(&str, &str)] = &[
-    // Inputs lead from row to row in a cycle; in the next two cases there is no cycle.
+    // In the first case the inputs lead from row to row in a cycle. In the second case an input names no row, in the third the terminal.
     ("A = ON_B; B = ON_A; T = NAMES_A", "87"),
     ("A = ON_B; B = ON_C; T = NAMES_A", "86 1 0"),
     ("A = D_ON_T; T = NAMES_A", "86 0 0"),
     // An unsupported feature of a later row is reported before a broken rule of an earlier one.
     ("A = NAMES_B; B = DIFF; T = NAMES_A", "88 1 DiffOp"),
-    // Rows that repeat an earlier row count in the numbers of rows.
+    // A row that repeats an earlier row has a number too, so it counts in the numbers of later rows.
     (
         "T = NAMES_INDEX_ONE_OF_ROW_A; A = MAKES_A; A = MAKES_A; T = NAMES_INDEX_ONE_OF_ROW_A",
         "90 0 0",
@@ -59,11 +59,11 @@ const REFUSED: &[(&str, &str)] = &[
         "A = MAKES_A; A = MAKES_A; B = D_ON_C; T = NAMES_B",
         "86 2 0",
     ),
-    // Collisions, and rows that can't be read as ops, are reported first.
+    // Collisions (84), rows that are no ops (82) and a terminal without input (85) are reported before unsupported features.
     ("A = MAKES_A; A = DIFF; T = NAMES_A", "84 1"),
     ("A = MAKES_A; A = DIFF; B = FIELD_ZERO", "82 2 3"),
     ("A = MAKES_A; B = DIFF", "85"),
-    // Of two rows that break rules the one with the least number is named.
+    // If two rows break rules, the row with the lower number is reported.
     (
         "A = LOCKS_TWICE_ON_B; B = MOUNTS_BARE; T = NAMES_A",
         "89 0 CacheTwice",
@@ -81,7 +81,7 @@ fn rows_are_refused_by_their_first_fault(rt: HostRuntime) {
     }
 }
 
-// Returns how many vertices there are, the digest text of the first, and the vertex of the result.
+// Returns how many vertices a graph has, the digest text of the first vertex, and the number of the vertex of the result.
 fn printed_ends(rt: &impl Abort, alloc: Global, graph: &Graph) -> String {
     graph.is_graph();
     let (count, last) = (graph.vertices().len(), graph.result().vertex);
@@ -92,7 +92,7 @@ fn printed_ends(rt: &impl Abort, alloc: Global, graph: &Graph) -> String {
 
 // Rows, and the graph that they make.
 const GRAPHS: &[(&str, &str)] = &[
-    // A cycle that is not reached is no fault.
+    // A cycle among rows that the result does not depend on is no fault.
     ("B = ON_C; A = MAKES_A; C = ON_B; T = NAMES_A", "1 A 0"),
     // Two executions may mount the same cache.
     ("A = LOCKS_ON_B; B = LOCKS; T = NAMES_A", "2 B 1"),
@@ -110,7 +110,7 @@ fn rows_are_graphs(rt: HostRuntime) {
     }
 }
 
-// Appends an op of a chain, which reads the output of the op with this number.
+// Appends an op of a chain: a merge whose input is the row with this number as its digest text.
 fn push_op(rt: &impl Abort, text: &mut String, below: u32) {
     write!(
         text,
@@ -119,7 +119,8 @@ fn push_op(rt: &impl Abort, text: &mut String, below: u32) {
     .expect(rt, "memory");
 }
 
-// Returns the text of a chain of ops, the last of which makes `/a`, and the terminal that names the first.
+// Returns the text of a chain of `count` ops and its terminal. Each op has the next one as its input, the last op makes `/a`, and the
+// terminal names the first op.
 fn chain_text(rt: &impl Abort, alloc: Global, count: u32) -> String {
     let mut text = String::new(alloc);
     for at in 1..count {

@@ -1,4 +1,4 @@
-//! A tree of a thousand files and its copies: a change in one is not seen in the others. Trees are compared by their whole texts.
+//! A tree of a thousand files and its copies: a change of one of them does not change the others. Trees are compared by their whole texts.
 
 use super::overlay::copied;
 use super::printed::{dir, file, is_so, made, put, say};
@@ -16,7 +16,7 @@ fn put_file(alloc: Global, tree: &mut Tree, at: u16, content: &str) -> Result<()
     put(alloc, tree, &file(path.as_str(), content))
 }
 
-// Returns the tree after each of the files gets the content.
+// Puts the same content into each of the files. Returns the tree.
 fn filled(alloc: Global, mut tree: Tree, content: &str) -> Result<Tree, TreeFault> {
     for at in 0..FILES {
         put_file(alloc, &mut tree, at, content)?;
@@ -29,7 +29,7 @@ fn many(rt: &impl Abort, alloc: Global) -> Tree {
     filled(alloc, made(rt, alloc, &[dir("/d")]), "").expect(rt, "memory")
 }
 
-// Returns the text of such a tree, with these digits as the content of file 500 and of all others.
+// Returns the text of such a tree: file 500 has the content `of_500`, all other files have the content `others`, both in hexadecimal.
 fn wanted(rt: &impl Abort, alloc: Global, others: &str, of_500: &str) -> String {
     let mut text = String::new(alloc);
     say(rt, &mut text, "d 0755 0 0 /\nd 0755 0 0 /d\n");
@@ -40,14 +40,14 @@ fn wanted(rt: &impl Abort, alloc: Global, others: &str, of_500: &str) -> String 
     text
 }
 
-// Returns whether a tree has this text.
+// Returns whether the text of a tree is the one that `wanted` returns.
 fn prints(rt: &impl Abort, alloc: Global, tree: &Tree, others: &str, of_500: &str) -> bool {
     let text = printed(alloc, tree).expect(rt, "memory");
     text.as_slice() == wanted(rt, alloc, others, of_500).as_bytes()
 }
 
-// Puts one byte into file 500 of a tree, and drops the tree before its older copy or after it. Returns whether the texts are right: the copy has no changed
-// line, and the tree, if the copy is dropped first, has one changed line.
+// Copies a tree, puts one byte into file 500 of the tree, and drops the tree (if `first_goes`) or else the copy. Returns whether the copy's text is
+// unchanged and, if the copy was dropped, the tree's text has one changed line.
 fn one_byte(rt: &impl Abort, alloc: Global, mut first: Tree, first_goes: bool) -> bool {
     let copied = copied(rt, &first);
     put_file(alloc, &mut first, 500, "!").expect(rt, "memory");
@@ -68,7 +68,7 @@ fn one_byte_in_one_of_a_thousand_files_is_not_in_the_copy(rt: HostRuntime) {
     }
 }
 
-// Calls `one_byte` in two threads at once, each on its own copy of one tree; one drops its tree first, the other its copy.
+// Calls `one_byte` in two threads at once, each on a copy of the same tree. One thread drops its tree first, the other thread its copy.
 fn one_byte_each<R: Abort + Threads + Sync>(rt: &R, alloc: Global, tree: &Tree) -> (bool, bool) {
     let (one, other) = (copied(rt, tree), copied(rt, tree));
     thread::join(
@@ -86,7 +86,7 @@ fn two_threads_put_a_byte_each_into_copies_of_one_tree(rt: HostRuntime) {
     is_so(&rt, prints(&rt, rt.alloc(), &tree, "-", "-"));
 }
 
-// Returns a copy of the tree in which each file has `1`, and one in which each has `2`, made by two threads at once.
+// Copies a tree twice. Two threads at once put `1` into each file of one copy, and `2` into each file of the other. Returns both copies.
 fn filled_at_once(
     rt: &impl Threads,
     alloc: Global,
@@ -101,7 +101,7 @@ fn filled_at_once(
     Ok((one?, other?))
 }
 
-// Returns whether the tree and the two that the threads made have their texts.
+// Returns whether all files of the tree are empty, those of `one` have `1`, and those of `other` have `2`.
 fn all_print(rt: &impl Abort, alloc: Global, tree: &Tree, one: &Tree, other: &Tree) -> bool {
     prints(rt, alloc, tree, "-", "-")
         && prints(rt, alloc, one, "31", "31")

@@ -1,5 +1,5 @@
-//! One tree laid over another: examples with three trees, and the laws of laying on pairs of trees. The results of merges of inputs are tested by the program
-//! (`layers` in `llbm`).
+//! One tree laid over another: examples with three trees, and calls of the laws of laying on pairs of trees. What a merge op makes of its inputs is tested by
+//! the program (`layers` in `llbm`).
 
 use super::overlay::lent;
 use super::printed::{Row, is_same, made, prints, tree_text};
@@ -26,13 +26,13 @@ fn over(rt: &impl Abort, alloc: Global, lower: &Tree, upper: &Tree) -> Tree {
     lent(rt, alloc, lower, upper)
 }
 
-// Returns a tree with the tree of these rows laid over it.
+// Returns the tree `lower` with the tree of these rows laid over it.
 fn over_rows(rt: &impl Abort, alloc: Global, lower: &Tree, rows: &[Row<'_>]) -> Tree {
     let upper = made(rt, alloc, rows);
     over(rt, alloc, lower, &upper)
 }
 
-// Returns the third tree laid over the second, and the result laid over the first.
+// Lays the third tree over the second, and the result over the first. Returns the last result.
 fn upper_two_first(rt: &impl Abort, alloc: Global) -> Tree {
     let second = made(rt, alloc, FILE);
     let both = over_rows(rt, alloc, &second, R);

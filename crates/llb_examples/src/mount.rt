@@ -1,5 +1,6 @@
-//! Views. A mount is a row: its dest, its selector, whether it is read-only, and the name of the one file in its tree. A
-//! story is a line of text: the result of each step, and then the mounts.
+//! Views. A row describes a mount: its dest, its selector, whether it is read-only, and the name of the one file in its
+//! tree. A story is a line of text: the result of each step, the mounts after the steps, a bar, and the mounts of a copy
+//! that was made before the steps.
 
 use super::printed::{file, holds, is_same, made, prints, row_holds, say, say_names, say_path};
 use super::tree::path_of;
@@ -33,7 +34,7 @@ fn mounts_of(rt: &impl Abort, alloc: Global, rows: &[Row]) -> Vec<Shown> {
     mounts
 }
 
-// Returns the view of the mounts, if they make one.
+// Returns the view of these mounts; `None` if they can't be the mounts of a view.
 fn view_of(rt: &impl Abort, alloc: Global, rows: &[Row]) -> Option<View> {
     let mounts = mounts_of(rt, alloc, rows);
     if !View::can_make(&mounts) {
@@ -42,7 +43,7 @@ fn view_of(rt: &impl Abort, alloc: Global, rows: &[Row]) -> Option<View> {
     Some(View::make(Many::new(mounts)).expect(rt, "memory"))
 }
 
-// Mounts, and whether they make a view.
+// Mounts, and whether a view can have them.
 const VIEWS: &[(&[Row], bool)] = &[
     (THREE, true),
     (&[("//.", "/", true, "a")], true),
@@ -66,20 +67,20 @@ fn one_mount_is_at_the_root_and_no_two_at_one_dest(rt: HostRuntime) {
     }
 }
 
-// Returns the mount to which the path of a text leads on the view of these mounts.
+// Returns the number of the mount to which a path leads, and how many names its dest has; `None` if no view has these mounts.
 fn route(rt: &impl Abort, alloc: Global, rows: &[Row], text: &str) -> Option<(u32, u32)> {
     let view = view_of(rt, alloc, rows)?;
     Some(view.route(&path_of(rt, alloc, text)))
 }
 
-// The mounts of `THREE` with the root as the last one.
+// Mounts with the dests of `THREE`, the root last.
 const TURNED: &[Row] = &[
     ("/t/in", "/", false, "a"),
     ("/t", "/", false, "b"),
     ("/", "/", false, "c"),
 ];
 
-// More mounts than a view compares one by one.
+// More than eight mounts: such a view does not compare a path with the dest of each mount.
 const WIDE: &[Row] = &[
     ("/a/b/c/d/e", "/", false, "a"),
     ("/a", "/", false, "b"),
@@ -92,7 +93,7 @@ const WIDE: &[Row] = &[
     ("/b", "/", false, "i"),
 ];
 
-// Mounts, a path, and to which mount it leads, with the number of names that are dropped.
+// Mounts, a path, the number of the mount to which the path leads, and how many names the dest of this mount has.
 const ROUTES: &[(&[Row], &str, u32, u32)] = &[
     (THREE, "/t/in/f", 2, 2),
     (THREE, "/t", 1, 1),
@@ -123,21 +124,21 @@ fn a_path_is_routed_to_the_longest_dest(rt: HostRuntime) {
     }
 }
 
-// A step of a story: a tree is put into the mount with a number.
+// A step of a story: a tree with one file of this name is put into the mount with this number.
 #[derive(Clone, Copy)]
 enum Step {
     Set(u32, &'static str),
     Swap(u32, &'static str),
 }
 
-// Appends the names of a tree's files, and a space.
+// Appends the names of the files in a tree's root, and a space.
 fn say_files(rt: &impl Abort, alloc: Global, text: &mut String, tree: &Tree) {
     let names = tree.list(&Path::root(alloc)).expect(rt, "memory");
     say_names(rt, text, "", names.as_slice());
     say(rt, text, " ");
 }
 
-// Appends each mount: dest, `:` and selector, `!` if it is read-only, `=` and the files.
+// Appends for each mount its dest, `:`, its selector, `!` if it is read-only, `=`, and the names of its files.
 fn say_mounts(rt: &impl Abort, alloc: Global, text: &mut String, view: &View) {
     for i in 0..view.mounts().len() as u32 {
         say_path(rt, text, view.dest(i));
@@ -148,7 +149,7 @@ fn say_mounts(rt: &impl Abort, alloc: Global, text: &mut String, view: &View) {
     }
 }
 
-// Appends the result of setting a mount's tree, or the fault and the tree that is returned with it.
+// Appends `ok` if the tree of a mount was replaced; otherwise the fault, and the files of the tree that the fault has.
 fn say_set(rt: &impl Abort, alloc: Global, text: &mut String, answer: Result<(), ReadOnly>) {
     match answer {
         Ok(()) => say(rt, text, "ok "),
@@ -175,7 +176,8 @@ fn take_steps(rt: &impl Abort, alloc: Global, text: &mut String, view: &mut View
     }
 }
 
-// Returns the result of each step, and then the mounts of a copy of the view that was made before them.
+// Does the steps on the view of `THREE`. Returns the result of each step, the mounts after the steps and, after a bar,
+// the mounts of a copy that was made before the steps.
 fn story(rt: &impl Abort, alloc: Global, steps: &[Step]) -> String {
     let mut text = String::new(alloc);
     let mut view = view_of(rt, alloc, THREE).expect(rt, "a view");
@@ -189,7 +191,7 @@ fn story(rt: &impl Abort, alloc: Global, steps: &[Step]) -> String {
 }
 
 const STORIES: &[(&[Step], &str)] = &[
-    // A tree is set if the mount is not read-only.
+    // `set_tree` replaces the tree of a mount that is not read-only, and is refused for a read-only one.
     (
         &[Step::Set(1, "x"), Step::Set(0, "y"), Step::Set(1, "z")],
         "ok ok ok :=y /t:=z /t/in:/sub!=c | :=a /t:=b /t/in:/sub!=c ",
@@ -198,7 +200,7 @@ const STORIES: &[(&[Step], &str)] = &[
         &[Step::Set(2, "x")],
         "61x :=a /t:=b /t/in:/sub!=c | :=a /t:=b /t/in:/sub!=c ",
     ),
-    // A tree is swapped in any mount.
+    // `swap_tree` replaces the tree of any mount.
     (
         &[Step::Swap(2, "x"), Step::Swap(0, "y"), Step::Swap(2, "z")],
         "c a x :=y /t:=b /t/in:/sub!=z | :=a /t:=b /t/in:/sub!=c ",

@@ -1,4 +1,4 @@
-//! The nodes of a tree, walks through it, and the paths below which it fits.
+//! The nodes of a tree, walks through a tree, and how long a path may be so that a tree fits below it.
 
 use super::printed::{Row, is_same, made, row_holds, say, say_node, say_path, say_tree};
 use super::tree::{deep_tree, path_with};
@@ -17,7 +17,7 @@ const NESTED: &[Row<'static>] = &[
 
 const TWO: &[Row<'static>] = &[("/e", 0o755, 0, 0, None), ("/f", 0o644, 0, 0, Some("x"))];
 
-// Returns the path of a child.
+// Returns the text of a path with one more name.
 fn path_below(rt: &impl Abort, alloc: Global, names: &str, name: &str) -> String {
     let mut path = String::from_str(alloc, names).expect(rt, "memory");
     say(rt, &mut path, "/");
@@ -25,7 +25,7 @@ fn path_below(rt: &impl Abort, alloc: Global, names: &str, name: &str) -> String
     path
 }
 
-// Appends the children of a node with their paths, the last child first.
+// Appends the children of a node, each with the text of its path, to the list `left`, the last child first.
 fn leave_children<'a>(
     rt: &impl Abort,
     alloc: Global,
@@ -43,7 +43,7 @@ fn leave_children<'a>(
     }
 }
 
-// Appends the entry at each node, before the entries below it.
+// Appends the entry at each node; the entry at a node comes before the entries below it.
 fn say_nodes(rt: &impl Abort, alloc: Global, text: &mut String, root: &Node) {
     let mut left = Vec::new(alloc);
     left.push((String::new(alloc), root)).expect(rt, "memory");
@@ -84,7 +84,7 @@ fn nodes_and_a_walk_tell_the_same_entries(rt: HostRuntime) {
     }
 }
 
-// Appends the current path of a walk.
+// Appends the path at which a walk is (`end` after the last entry), and a bar.
 fn say_place(rt: &impl Abort, text: &mut String, walk: &Walk<'_>) {
     match walk.at() {
         None => say(rt, text, "end"),
@@ -93,7 +93,7 @@ fn say_place(rt: &impl Abort, text: &mut String, walk: &Walk<'_>) {
     say(rt, text, "|");
 }
 
-// Does a step of a walk: `a` goes to the next entry, and `s` past what is below the current one.
+// Does one step of a walk: `a` goes to the next entry, and `s` to the next entry that is not below the current one.
 fn go(rt: &impl Abort, walk: &mut Walk<'_>, step: char) {
     match step {
         'a' => walk.advance().expect(rt, "memory"),
@@ -101,7 +101,7 @@ fn go(rt: &impl Abort, walk: &mut Walk<'_>, step: char) {
     }
 }
 
-// Returns the path of the walk at first, and after each step.
+// Returns the paths at which a walk is: at its beginning, and after each step.
 fn walked(rt: &impl Abort, alloc: Global, rows: &[Row<'_>], steps: &str) -> String {
     let mut text = String::new(alloc);
     let tree = made(rt, alloc, rows);
@@ -114,7 +114,7 @@ fn walked(rt: &impl Abort, alloc: Global, rows: &[Row<'_>], steps: &str) -> Stri
     text
 }
 
-// Trees, the steps of a walk, and its path at first and after each step.
+// Trees, the steps of a walk, and the paths at which the walk is, at its beginning and after each step.
 const WALKED: &[(&[Row<'static>], &str, &str)] = &[
     (&[], "aa", "|end|end|"),
     (&[], "ss", "|end|end|"),
@@ -142,7 +142,8 @@ fn cut_at(rt: &impl Abort, tree: &mut Tree, path: &Path) {
     tree.remove(path).expect(rt, "what is there");
 }
 
-// Returns whether a tree of `levels` levels, whose levels from `cut` on are removed, fits below a path of `names` names.
+// Returns whether a tree fits below a path of `names` names. The tree has `levels` directories, each in the one before,
+// without those at depth `cut` or deeper.
 fn fits(
     rt: &impl Abort,
     alloc: Global,
@@ -157,7 +158,7 @@ fn fits(
     tree.fits(&path_with(rt, alloc, names))
 }
 
-// The number of levels, the level from which on they are removed, the number of names above, and whether the tree fits.
+// The numbers `levels`, `cut` and `names` of a call of `fits`, and its result.
 const DEPTHS: &[(usize, Option<usize>, usize, Result<(), TreeFault>)] = &[
     (0, None, 128, Ok(())),
     (1, None, 127, Ok(())),

@@ -1,4 +1,4 @@
-//! Entries and definitions. The canonical bytes of an op show what it was read as; the program prints the fields of each message (`messages` in `llbm`).
+//! Entries and definitions. An op that was read is compared by its canonical bytes; its fields are tested by the program (`messages` in `llbm`).
 
 use super::printed::{holds, is_so, row_holds};
 use llb_ops::{
@@ -9,17 +9,17 @@ use llb_ops::{
 use llb_wire::{Bytes, Memory, Same, WireFault};
 use std::alloc::Global;
 
-// A file `/a` of mode 0644 with the content `hi`, made on the empty tree.
+// The entry of a file op that makes the file `/a`, of mode 0644 and with the content `hi`, on the empty tree.
 pub(crate) const MAKES_A: &[u8] =
     b"\x22\x30\x12\x2E\x08\xFF\xFF\xFF\xFF\xFF\xFF\xFF\xFF\xFF\x01\x10\
     \xFF\xFF\xFF\xFF\xFF\xFF\xFF\xFF\xFF\x01\x2A\x16\x0A\x02/a\x10\xA4\x03\x1A\x02hi\x28\
     \xFF\xFF\xFF\xFF\xFF\xFF\xFF\xFF\xFF\x01";
 
-// The entry that names the first output of the entry above.
+// A terminal that names output 0 of the entry above.
 const NAMES_A: &[u8] = b"\x0A\x49\x0A\x47\
     sha256:e00d65597895790f7dc26dbf724a411bd83c8e15881ab3eea18ea75095782dab";
 
-// The definition of both entries.
+// The definition of these two entries.
 const BOTH: &[u8] = b"\x0A\x32\
     \x22\x30\x12\x2E\x08\xFF\xFF\xFF\xFF\xFF\xFF\xFF\xFF\xFF\x01\x10\
     \xFF\xFF\xFF\xFF\xFF\xFF\xFF\xFF\xFF\x01\x2A\x16\x0A\x02/a\x10\xA4\x03\x1A\x02hi\x28\
@@ -27,36 +27,36 @@ const BOTH: &[u8] = b"\x0A\x32\
     \x0A\x4B\x0A\x49\x0A\x47\
     sha256:e00d65597895790f7dc26dbf724a411bd83c8e15881ab3eea18ea75095782dab";
 
-// The source `local://a` with attributes for `k`, `j` and `k` again; the last has a field without a name.
+// The source `local://a` with attributes for `k`, `j` and `k` again; the last attribute has an unknown field.
 const SOURCE: &[u8] =
     b"\x1A\x25\x0A\x09local://a\x12\x06\x0A\x01k\x12\x01v\x12\x06\x0A\x01j\x12\x01w\
     \x12\x08\x0A\x01k\x12\x01x\x18\x07";
 
-// The source above with one attribute for each key: the later value, at the position of the first.
+// The canonical bytes of this source. It has one attribute for each key: for `k` the later value, at the position of the first.
 const SETTLED_SOURCE: &[u8] =
     b"\x1A\x1D\x0A\x09local://a\x12\x08\x0A\x01k\x12\x01x\x18\x07\x12\x06\x0A\x01j\x12\x01w";
 
-// An execution with one mount that has all of its fields, and two fields without names.
+// An execution with one mount. All fields of the mount are set, and it has two unknown fields.
 const MOUNT: &[u8] = b"\x12\x25\x12\x23\x08\x01\x12\x02/s\x1A\x02/d\x20\x02\x28\x01\x30\x03\
     \x9A\x01\x02\x08\x05\xA2\x01\x05\x0A\x01k\x10\x02\xAA\x01\x00\xB2\x01\x00";
 
-// A copy of `/f` to `/d/` with mode and timestamp -1 and a field 14.
+// A copy of `/f` to `/d/` with mode and timestamp -1 and an unknown field 14.
 pub(crate) const COPY: &[u8] = b"\x22\x27\x12\x25\x10\x01\x22\x21\x0A\x02/f\x12\x03/d/\x20\
     \xFF\xFF\xFF\xFF\xFF\xFF\xFF\xFF\xFF\x01\x58\xFF\xFF\xFF\xFF\xFF\xFF\xFF\xFF\xFF\x01\x70\x01";
 
-// `/bin/sh -c true` with one variable, the cwd `/`, and the output of the entry above at the root; then a platform and constraints.
+// The execution of `/bin/sh -c true` with one variable, the cwd `/`, and output 0 of `MAKES_A` mounted at `/`; then a platform and constraints.
 const RUNS_TRUE: &[u8] = b"\x0A\x49\x0A\x47\
     sha256:e00d65597895790f7dc26dbf724a411bd83c8e15881ab3eea18ea75095782dab\
     \x12\x28\x0A\x21\x0A\x07/bin/sh\x0A\x02-c\x0A\x04true\x12\x09PATH=/bin\x1A\x01/\x12\x03\x1A\x01/\
     \x52\x0E\x0A\x05amd64\x12\x05linux\x5A\x00";
 
-// Calls the laws of an op that was read, and of the bytes that it was read from.
+// Calls the laws of an op that was read, and of the entry that it was read from.
 fn laws(entry: &[u8], op: &Op) {
     entry_has_fields(entry);
     op_is_read_again(op);
 }
 
-// Returns what an entry becomes by being read and written.
+// Reads an entry as an op and writes the op. Returns the bytes, or the fault.
 fn rewritten(alloc: Global, entry: &[u8]) -> Result<Bytes, OpFault> {
     let op = read_op(alloc, entry)?;
     laws(entry, &op);
@@ -79,16 +79,16 @@ const ENTRIES: &[(&[u8], Result<&[u8], OpFault>)] = &[
     (MOUNT, Ok(MOUNT)),
     (COPY, Ok(COPY)),
     (RUNS_TRUE, Ok(RUNS_TRUE)),
-    // If an input has several indexes, the last one counts, in any spelling.
+    // If an input has several indexes, the last one counts, however its number is spelled.
     (b"\x0A\x04\x10\x01\x10\x02", Ok(b"\x0A\x02\x10\x02")),
     (b"\x0A\x04\x10\x82\x80\x00", Ok(b"\x0A\x02\x10\x02")),
-    // A message that is split is joined, also inside a record.
+    // If a message is split into several records, their payloads are joined; this holds inside another message too.
     (b"\x22\x01\x12\x22\x01\x00", Ok(b"\x22\x02\x12\x00")),
     (
         b"\x22\x0C\x12\x0A\x2A\x08\x22\x02\x0A\x00\x22\x02\x12\x00",
         Ok(b"\x22\x0A\x12\x08\x2A\x06\x22\x04\x0A\x00\x12\x00"),
     ),
-    // The member of the last record is set; of its records only those count that come after the last record of another member.
+    // Of a oneof the member whose record comes last is set. Of its records only those after the last record of another member count.
     (
         b"\x22\x02\x12\x00\x3A\x00\x22\x02\x12\x00",
         Ok(b"\x22\x02\x12\x00"),
@@ -98,7 +98,7 @@ const ENTRIES: &[(&[u8], Result<&[u8], OpFault>)] = &[
         b"\x22\x0C\x12\x0A\x32\x08\x22\x06\x0A\x04\x0A\x00\x10\x00",
         Ok(b"\x22\x0A\x12\x08\x32\x06\x22\x04\x0A\x02\x10\x00"),
     ),
-    // A merge in two payloads is joined, unless another member of the oneof is between them.
+    // Two payloads of a merge are joined, unless a record of another member of the oneof is between them.
     (
         b"\x32\x02\x0A\x00\x32\x0D\x0A\x0B\x08\xFF\xFF\xFF\xFF\xFF\xFF\xFF\xFF\xFF\x01",
         Ok(b"\x32\x0F\x0A\x00\x0A\x0B\x08\xFF\xFF\xFF\xFF\xFF\xFF\xFF\xFF\xFF\x01"),
@@ -107,7 +107,7 @@ const ENTRIES: &[(&[u8], Result<&[u8], OpFault>)] = &[
         b"\x32\x02\x0A\x00\x3A\x00\x32\x0D\x0A\x0B\x08\xFF\xFF\xFF\xFF\xFF\xFF\xFF\xFF\xFF\x01",
         Ok(b"\x32\x0D\x0A\x0B\x08\xFF\xFF\xFF\xFF\xFF\xFF\xFF\xFF\xFF\x01"),
     ),
-    // Fields without a name are kept after the others.
+    // Unknown fields are kept, after the others.
     (
         b"\x52\x01a\x0A\x02\x10\x02\x5A\x00",
         Ok(b"\x0A\x02\x10\x02\x52\x01a\x5A\x00"),
@@ -131,7 +131,7 @@ fn entries_are_written_in_their_canonical_bytes_or_the_first_fault_is_answered(r
     }
 }
 
-// Returns an entry with this many empty inputs.
+// Returns an entry with `count` empty inputs.
 fn inputs(alloc: Global, count: u32) -> Result<Vec<u8>, Memory> {
     let mut entry = Vec::new(alloc);
     for _ in 0..count {
@@ -140,7 +140,7 @@ fn inputs(alloc: Global, count: u32) -> Result<Vec<u8>, Memory> {
     Ok(entry)
 }
 
-// Returns whether an entry with this many inputs is written with the same bytes.
+// Returns whether an entry with `count` inputs is read and then written with the same bytes.
 fn is_kept(alloc: Global, count: u32) -> Result<bool, OpFault> {
     let entry = inputs(alloc, count)?;
     Ok(rewritten(alloc, &entry)?.as_slice() == entry.as_slice())
@@ -177,14 +177,14 @@ fn definition_law(entries: &Entries) {
     definition_is_read_again(entries);
 }
 
-// Returns what a definition becomes by being read and written.
+// Reads the entries of a definition and writes them. Returns the bytes, or the fault.
 fn definition_rewritten(alloc: Global, definition: &[u8]) -> Result<Bytes, OpFault> {
     let entries = read_definition(alloc, definition)?;
     definition_law(&entries);
     write_definition(alloc, &entries)
 }
 
-// Definitions, and what they become.
+// Definitions, and the bytes that are written after they are read, or the fault.
 const DEFINITIONS: &[(&[u8], Result<&[u8], OpFault>)] = &[
     (BOTH, Ok(BOTH)),
     (b"\x12\x01\xFF\x20\x07\x0A\x00", Ok(b"\x0A\x00")),

@@ -1,4 +1,4 @@
-//! One tree laid over another, with the modes and owners that a `OverlaySettings` sets; the entries of the result are shown.
+//! One tree laid over another, with the modes and owners that a `OverlaySettings` sets. The stories show the entries of the resulting tree.
 
 use super::printed::{Row, is_so, made, row_holds};
 use super::stage::are_transcripts;
@@ -206,7 +206,7 @@ fn overlaid(rt: &impl Abort, lower: Tree, settings: &OverlaySettings, upper: &Tr
     lower.overlaid(settings, upper).expect(rt, "memory")
 }
 
-// Returns whether the upper tree, and the lower tree of which a copy was used, are unchanged after a laying.
+// Lays an upper tree over a copy of a lower tree. Returns whether the upper tree and the lower tree are unchanged.
 fn both_stay(rt: &impl Abort, alloc: Global) -> bool {
     let (lower, upper) = (made(rt, alloc, LOWER), made(rt, alloc, UPPER));
     let settings = OverlaySettings::new(Some(0), Some(0), Some(0), false).expect(rt, "a settings");
@@ -232,7 +232,7 @@ fn in_place(rt: &impl Abort, mut lower: Tree, upper: &Tree) -> Tree {
     lower
 }
 
-// Returns whether `lay_over` and `lay_onto` lead to the same tree as `lay`.
+// Returns whether `lay_over` and `lay_onto` make the same tree as `lay`.
 fn lays_the_same(rt: &impl Abort, alloc: Global, lower: &[Row<'_>], upper: &[Row<'_>]) -> bool {
     let (first, second) = (made(rt, alloc, lower), made(rt, alloc, lower));
     let upper = made(rt, alloc, upper);
@@ -240,7 +240,7 @@ fn lays_the_same(rt: &impl Abort, alloc: Global, lower: &[Row<'_>], upper: &[Row
     in_place(rt, second, &upper).same(&wanted) && handed_over(rt, first, &upper).same(&wanted)
 }
 
-// Lower and upper trees.
+// Pairs of a lower and an upper tree.
 const PAIRS: &[(&[Row<'static>], &[Row<'static>])] = &[
     (LOWER, UPPER),
     (UPPER, LOWER),
@@ -255,7 +255,8 @@ fn a_lower_tree_is_lent_or_handed_over_or_laid_over_in_place(rt: HostRuntime) {
     }
 }
 
-// Returns whether laying in place, with a `OverlaySettings` that keeps directories and sets modes and owners, leads to the same tree as laying on a copy.
+// Returns whether `overlay`, which changes the lower tree, makes the same tree as `overlaid` on a copy. The `OverlaySettings` keeps directories, and sets
+// the mode and the group.
 fn way_in_place(rt: &impl Abort, alloc: Global) -> bool {
     let (mut lower, upper) = (made(rt, alloc, LOWER), made(rt, alloc, UPPER));
     let settings = OverlaySettings::new(Some(0o4640), None, Some(5), true).expect(rt, "a settings");

@@ -1,5 +1,5 @@
-//! Trees by their rows, and how they are written in a line of text: for each entry a `d` or an `f` and its path, its mode and owner if a new entry has others,
-//! and the content of a file after `=`.
+//! Makes trees from rows, and writes a tree on one line. Each entry is written as `d` or `f`, its path, its mode and owner in parentheses if they are not
+//! those of a new entry, and for a file `=` and the content.
 
 use llb_samples::push_path;
 use llb_tree::{Bytes, Entry, Meta, Name, Node, Path, Tree, TreeFault};
@@ -7,10 +7,10 @@ use std::alloc::Global;
 use std::fmt::Display;
 use std::process::Abort;
 
-// A path, the mode, the user and the group there, and the content of a file.
+// A row describes an entry of a tree: its path, mode, user and group, and the content if the entry is a file.
 pub(crate) type Row<'a> = (&'a str, u16, u32, u32, Option<&'a str>);
 
-// A directory and a file with the mode and owner of new ones.
+// `dir` and `file` return the row of a directory and of a file with the mode and owner of a new one.
 pub(crate) const fn dir(path: &str) -> Row<'_> {
     (path, 0o755, 0, 0, None)
 }
@@ -47,29 +47,29 @@ pub(crate) fn made(rt: &impl Abort, alloc: Global, rows: &[Row<'_>]) -> Tree {
     tree_of(alloc, rows).expect(rt, "memory")
 }
 
-// Ends the test if a text is not the expected one; the failure shows both.
+// Ends the test if a text is not the expected one; the failure shows both texts.
 pub(crate) fn is_same(rt: &impl Abort, printed: &str, wanted: &str) {
     assert_eq!(rt; printed, wanted);
 }
 
-// Ends the test if a fault, or another value, prints something else.
+// Ends the test if a fault, or another value, does not print the expected text.
 pub(crate) fn prints<E: Display>(rt: &impl Abort, alloc: Global, fault: &E, wanted: &str) {
     let mut text = String::new(alloc);
     write!(text, "{fault}").expect(rt, "memory");
     is_same(rt, text.as_str(), wanted);
 }
 
-// Ends the test if a row does not hold; the failure names it.
+// Ends the test if `is_so` is false; the failure shows the text `row`.
 pub(crate) fn holds(rt: &impl Abort, row: &str, is_so: bool) {
     assert!(rt; is_so, "{row}");
 }
 
-// Ends the test if the row with a number does not hold; the failure names it.
+// Ends the test if `is_so` is false; the failure shows the number `row`.
 pub(crate) fn row_holds(rt: &impl Abort, row: usize, is_so: bool) {
     assert!(rt; is_so, "row {row}");
 }
 
-// Ends the test if something does not hold.
+// Ends the test if `holds` is false.
 pub(crate) fn is_so(rt: &impl Abort, holds: bool) {
     assert!(rt; holds);
 }
@@ -87,7 +87,7 @@ pub(crate) fn say_fault<E: Display>(rt: &impl Abort, text: &mut String, fault: &
     write!(text, "{fault}\n").expect(rt, "memory");
 }
 
-// Returns the text `part` as often as `count` says, and then `rest`.
+// Returns the text `part`, `count` times, and then `rest`.
 pub(crate) fn repeated(
     rt: &impl Abort,
     alloc: Global,
@@ -103,7 +103,7 @@ pub(crate) fn repeated(
     text
 }
 
-// Appends a path, as its names with `/` before each.
+// Appends a path: each of its names with `/` before it.
 pub(crate) fn say_path(rt: &impl Abort, text: &mut String, path: &Path) {
     push_path(text, path).expect(rt, "memory");
 }
@@ -122,7 +122,7 @@ fn say_meta(rt: &impl Abort, text: &mut String, meta: Meta, new: u16) {
     }
 }
 
-// Appends a content in one line: a line end is written as `\n`.
+// Appends a content on one line; each line end is written as `\n`.
 fn say_content(rt: &impl Abort, text: &mut String, content: &str) {
     for (at, line) in content.split('\n').enumerate() {
         if at > 0 {
@@ -132,14 +132,14 @@ fn say_content(rt: &impl Abort, text: &mut String, content: &str) {
     }
 }
 
-// Appends what comes after the path of a file.
+// Appends what follows the path of a file: the mode and owner if they are not those of a new file, `=` and the content.
 fn say_file(rt: &impl Abort, text: &mut String, meta: Meta, content: &[u8]) {
     say_meta(rt, text, meta, 0o644);
     say(rt, text, "=");
     say_content(rt, text, str::from_utf8(content).unwrap_or("not UTF-8"));
 }
 
-// Appends what comes after the path of an entry.
+// Appends what follows the path of an entry: the mode and owner if they are not those of a new entry, and a file's content.
 pub(crate) fn say_rest(rt: &impl Abort, text: &mut String, entry: &Entry<'_>) {
     match entry {
         Entry::Dir(meta) => say_meta(rt, text, *meta, 0o755),
@@ -147,7 +147,7 @@ pub(crate) fn say_rest(rt: &impl Abort, text: &mut String, entry: &Entry<'_>) {
     }
 }
 
-/// Appends the entry at a node, after its path.
+/// Appends the entry at a node; `names` is the text of its path.
 pub(crate) fn say_node(rt: &impl Abort, text: &mut String, names: &str, node: &Node) {
     let entry = node.entry();
     say(rt, text, kind_of(&entry));

@@ -1,4 +1,4 @@
-//! Trees that share what they have in common: an edit of one, done or refused, does not change the other.
+//! Trees that share memory: an edit of one tree, done or refused, does not change the other tree.
 
 use super::printed::{Row, is_so, tree_of};
 use super::stage::are_transcripts;
@@ -14,7 +14,7 @@ const SHARED: &[Row<'_>] = &[
     ("/a/c/d", 0o644, 0, 0, Some("y")),
 ];
 
-// Each story begins with the same tree, from which another tree is taken.
+// Each story begins with the same tree, and makes a second tree that shares memory with it.
 const TAKEN_IS_EDITED: &str = "
     # A file of a copy is replaced and a directory goes.
     > new
@@ -180,8 +180,8 @@ fn the_tree_is_edited_and_what_was_taken_stays(rt: HostRuntime) {
     are_transcripts(&rt, rt.alloc(), TREE_IS_EDITED);
 }
 
-// Returns whether a copy equals its tree, an edit changes the tree if it is done and leaves it if memory is refused, and the
-// copy is unchanged.
+// Copies a tree and edits the tree. Returns whether the copy equals the tree before the edit, the edit changes the tree (or
+// leaves it as it is, if memory is refused), and the copy is unchanged.
 fn is_whole(alloc: Global, call: &str) -> Result<bool, TreeFault> {
     let fresh = tree_of(alloc, SHARED)?;
     let mut tree = tree_of(alloc, SHARED)?;
@@ -205,7 +205,7 @@ const EDITS: [&str; 8] = [
     "share /a/b /c 600 1:2",
 ];
 
-// This passes if any one allocation fails: at most one story is then cut short.
+// The test also passes if one of its allocations is refused: then at most one edit is not checked.
 #[test]
 fn a_refused_edit_leaves_a_shared_tree_as_it_was(rt: HostRuntime) {
     let mut is_refused = false;

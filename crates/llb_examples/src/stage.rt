@@ -1,6 +1,6 @@
-//! Calls on the libraries as transcripts. A line that begins with `> ` is a call, and the lines after it are its result, or its fault; one
-//! that begins with `# ` describes the next calls. The calls work on two trees (`trees`) and on the mounts of a view (`views`); after
-//! `new` there are no mounts and the trees are empty.
+//! Calls of libraries as transcripts. A line that begins with `> ` is a call, and the lines after it are its result or its fault; a line
+//! that begins with `# ` describes the next calls. The calls work on two trees (module `trees`) and on the mounts of a view (module
+//! `views`). After the call `new` the trees are empty, and there are no mounts.
 
 use super::printed::{is_same, is_so, say, say_fault};
 use super::trees::{Trees, answer, word_and_rest};
@@ -42,7 +42,7 @@ fn say_call(rt: &impl Abort, alloc: Global, text: &mut String, stage: &mut Stage
     }
 }
 
-// Appends a call and its result; nothing for a line that is no call.
+// Appends a call and its result; appends nothing if the line is no call.
 fn say_line(rt: &impl Abort, alloc: Global, text: &mut String, stage: &mut Stage, line: &str) {
     if let Some(call) = line.strip_prefix("> ") {
         say(rt, text, line);
@@ -60,7 +60,7 @@ fn transcript(rt: &impl Abort, alloc: Global, story: &str) -> String {
     text
 }
 
-// Ends the test at the first line of a text that differs from the transcript.
+// Ends the test if the lines of a text are not those of the transcript `told`, in which empty lines and comments are skipped.
 pub(crate) fn is_story_of(rt: &impl Abort, text: &str, story: &str) {
     let mut lines = text.lines();
     for line in story.lines() {
@@ -72,7 +72,7 @@ pub(crate) fn is_story_of(rt: &impl Abort, text: &str, story: &str) {
     is_so(rt, lines.next().is_none());
 }
 
-// Ends the test at the first line of a transcript that differs.
+// Does the calls of a transcript. Ends the test if their results are not those of the transcript.
 pub(crate) fn are_transcripts(rt: &impl Abort, alloc: Global, story: &str) {
     is_story_of(rt, transcript(rt, alloc, story).as_str(), story);
 }

@@ -7,7 +7,7 @@ use llb_wire::Same;
 use std::alloc::Global;
 use std::process::Abort;
 
-// Returns the path of a text, read from another path if one is given.
+// Reads a text as a path, from the path `start` if one is given and otherwise from the root.
 fn read(alloc: Global, start: Option<&str>, text: &str) -> Result<Path, TreeFault> {
     match start {
         None => Path::read(alloc, text),
@@ -15,7 +15,7 @@ fn read(alloc: Global, start: Option<&str>, text: &str) -> Result<Path, TreeFaul
     }
 }
 
-// Returns the path with `/` before each name, or the fault.
+// Returns the path that a text is read as, with `/` before each name; or the fault.
 fn printed(rt: &impl Abort, alloc: Global, start: Option<&str>, text: &str) -> String {
     let mut printed = String::new(alloc);
     match read(alloc, start, text) {
@@ -25,7 +25,7 @@ fn printed(rt: &impl Abort, alloc: Global, start: Option<&str>, text: &str) -> S
     printed
 }
 
-// Texts, and their paths, or 26.
+// The path from which a text is read, the text, and its path, or the fault 26.
 const TEXTS: &[(Option<&str>, &str, &str)] = &[
     (None, "/usr//./local/../bin/", "/usr/bin"),
     (None, "usr/bin", "/usr/bin"),
@@ -60,13 +60,13 @@ fn a_text_is_read_part_by_part_from_the_root_or_a_path(rt: HostRuntime) {
     }
 }
 
-// Returns how many names the path of a text has.
+// Returns the number of names of the path that a text is read as.
 fn names_of(alloc: Global, text: &str) -> Result<usize, TreeFault> {
     let path = Path::read(alloc, text)?;
     Ok(path.names().len())
 }
 
-// A part of a text, how often it is repeated, the rest of the text, and how many names its path has.
+// A part of a text, how often it is repeated, the rest of the text, and how many names the path of this text has.
 type Counted = (&'static str, usize, &'static str, Result<usize, TreeFault>);
 
 const COUNTS: &[Counted] = &[
@@ -125,7 +125,7 @@ fn push(rt: &impl Abort, alloc: Global, path: &mut Path, name: &str) {
     path.push(name).expect(rt, "room");
 }
 
-// Returns whether the path made from the name `etc`, and its copy, equal the path that `/etc` reads as.
+// Returns whether a path made from the name `etc`, and its copy, are the same as the path that `/etc` is read as.
 fn is_pushed(rt: &impl Abort, alloc: Global) -> bool {
     let mut path = Path::root(alloc);
     push(rt, alloc, &mut path, "etc");
@@ -146,7 +146,7 @@ fn names_and_paths_by_hand(rt: HostRuntime) {
     is_so(&rt, is_pushed(&rt, alloc) && Path::root(alloc).is_root());
 }
 
-// Returns a path of this many names, each of them `a`.
+// Returns a path of `names` names, each of which is `a`.
 pub(crate) fn path_with(rt: &impl Abort, alloc: Global, names: usize) -> Path {
     let mut path = Path::root(alloc);
     for _ in 0..names {
@@ -155,7 +155,7 @@ pub(crate) fn path_with(rt: &impl Abort, alloc: Global, names: usize) -> Path {
     path
 }
 
-// Returns whether one more name can be appended to a path of this many names, and how many it has then.
+// Tries to append a name to a path of `count` names. Returns whether this succeeds, and how many names the path has then.
 fn one_more(rt: &impl Abort, alloc: Global, count: usize) -> (bool, usize) {
     let mut path = path_with(rt, alloc, count);
     let name = Name::new(alloc, "b").expect(rt, "a name");
@@ -325,7 +325,7 @@ fn a_tree_is_changed_call_by_call(rt: HostRuntime) {
     are_transcripts(&rt, rt.alloc(), STORIES);
 }
 
-// Returns a tree with a directory at a path of this many names, and those above it.
+// Returns a tree of `names` directories, each in the one before.
 pub(crate) fn deep_tree(rt: &impl Abort, alloc: Global, names: usize) -> Tree {
     let mut tree = Tree::empty(alloc).expect(rt, "memory");
     for at in 0..names {
@@ -335,7 +335,7 @@ pub(crate) fn deep_tree(rt: &impl Abort, alloc: Global, names: usize) -> Tree {
     tree
 }
 
-// Returns the result of a graft at a path of this many names, for a tree whose path has one name.
+// Returns the result of a graft of a tree with one file `/b` at a path of `names` names.
 fn graft_depth(rt: &impl Abort, alloc: Global, names: usize) -> Result<(), TreeFault> {
     let mut tree = deep_tree(rt, alloc, names);
     let other = made(rt, alloc, &[file("/b", "")]);

@@ -1,10 +1,10 @@
-//! Calls on trees in transcripts (`stage`). There are two trees, this one and the other, both empty at first.
+//! Calls on trees in transcripts (module `stage`). There are two trees, this tree and the other tree, both empty at first.
 //!
-//! `dir PATH MODE OWNER` and `file PATH MODE OWNER CONTENT` put an entry; `remove PATH` removes what is at or below a path; `graft PATH GOAL` puts what is at
-//! or below the path at the goal too; `share PATH GOAL MODE OWNER` puts a file at the goal with the content of the file at the path, if there is one;
-//! `overlay MODE USER GROUP KEEPS` lays the other tree over this one. `look PATH`, `list PATH` and `tree` show this tree. `copy` and `subtree PATH`
-//! replace the other tree by one made from this, `below PATH` by an empty tree with this one at the path, and `swap` exchanges the two.
-//! A content that ends in `\n` ends with a line end.
+//! `dir PATH MODE OWNER` and `file PATH MODE OWNER CONTENT` put an entry into this tree; `\n` at the end of CONTENT is a line end. `remove PATH` removes what
+//! is at or below PATH. `graft PATH GOAL` puts a copy of what is at or below PATH at GOAL. `share PATH GOAL MODE OWNER` puts a file at GOAL with the content
+//! of the file at PATH, if there is one. `overlay MODE USER GROUP KEEPS` lays the other tree over this tree, by a `Way` of these words. `look PATH` shows the
+//! entry at PATH, `list PATH` the names in the directory PATH, and `tree` this whole tree. `copy` makes the other tree a copy of this tree, `subtree PATH` a
+//! copy of what is at or below PATH, and `below PATH` an empty tree in which this tree is at PATH. `swap` exchanges the two trees.
 
 use super::printed::{say, say_looked, say_names, say_tree};
 use llb_tree::{Bytes, Meta, OverlaySettings, Path, Tree, TreeFault};
@@ -26,7 +26,7 @@ fn octal(word: &str) -> Option<u16> {
     u16::from_str_radix(word, 8).ok()
 }
 
-// Returns the mode and the owner that these words give; if they give none, the mode and the owner of a new directory.
+// Reads a mode and an owner (`USER:GROUP`) from two words. If one of the words can't be read, returns those of a new directory.
 fn meta(mode: &str, owner: &str) -> Meta {
     let (user, group) = owner.split_once(':').unwrap_or(("", ""));
     match (octal(mode), user.parse::<u32>(), group.parse::<u32>()) {
@@ -37,7 +37,7 @@ fn meta(mode: &str, owner: &str) -> Meta {
     }
 }
 
-// Returns a content, with a line end in place of `\n`.
+// Returns the content that a text describes: `\n` at the end of the text is a line end.
 fn content_of(alloc: Global, text: &str) -> Result<String, AllocError> {
     match text.strip_suffix("\\n") {
         Some(line) => format!(in alloc; "{line}\n"),
@@ -75,7 +75,7 @@ fn share(alloc: Global, tree: &mut Tree, from: &str, words: &str) -> Result<(), 
     }
 }
 
-// Does an edit of one tree.
+// Does a call that edits one tree.
 pub(crate) fn edit(alloc: Global, tree: &mut Tree, call: &str) -> Result<(), TreeFault> {
     let (name, words) = word_and_rest(call);
     match name {
@@ -92,7 +92,7 @@ pub(crate) fn edit(alloc: Global, tree: &mut Tree, call: &str) -> Result<(), Tre
     }
 }
 
-// Returns the tree by which the other one is replaced.
+// Returns the tree by which `copy`, `subtree` or `below` replaces the other tree.
 fn taken(alloc: Global, tree: &Tree, name: &str, path: &str) -> Result<Tree, TreeFault> {
     let path = Path::read(alloc, path)?;
     if name == "subtree" {
@@ -148,7 +148,7 @@ fn tell(
     Ok(())
 }
 
-// Returns the result of a call, or its fault.
+// Does a call, and appends what it shows; or fails with its fault.
 pub(crate) fn answer(
     rt: &impl Abort,
     alloc: Global,

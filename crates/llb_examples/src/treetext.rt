@@ -1,4 +1,5 @@
-//! The text of a tree: written, hashed to its digest, and read. A text is read and written again, or its fault is printed.
+//! The text of a tree: printed, hashed to the tree's digest, and read. For a text, the tree that it is read as
+//! is printed again, or the fault is printed.
 
 use super::printed::{file, holds, is_same, is_so, made, prints, say};
 use llb_tree::Tree;
@@ -7,7 +8,7 @@ use llb_wire::{Over, Same, Text};
 use std::alloc::{AllocError, Global};
 use std::process::Abort;
 
-// Returns the text of a tree, as it is printed.
+// Returns the text of a tree, as `print_tree` writes it.
 pub(crate) fn printed(alloc: Global, tree: &Tree) -> Result<Vec<u8>, AllocError> {
     let mut text: Vec<u8> = Vec::new(alloc);
     let mut out = Over::new(&mut text);
@@ -17,7 +18,7 @@ pub(crate) fn printed(alloc: Global, tree: &Tree) -> Result<Vec<u8>, AllocError>
     Ok(text)
 }
 
-// Returns the tree that a text is read as, printed again; or the fault.
+// Reads a text as a tree. Returns the text of this tree, or the fault.
 fn answer(rt: &impl Abort, alloc: Global, text: &str) -> String {
     one_answer(text.as_bytes());
     let mut printed = String::new(alloc);
@@ -35,7 +36,7 @@ fn answer(rt: &impl Abort, alloc: Global, text: &str) -> String {
     printed
 }
 
-// Texts of trees.
+// Texts of trees, each of which is printed again after it is read.
 const TEXTS: &[&str] = &[
     "d 0755 0 0 /\n",
     "d 0755 0 0 /\nf 0600 1 1 - /old\n",
@@ -85,7 +86,7 @@ fn the_first_faulty_line_has_its_first_fault(rt: HostRuntime) {
     }
 }
 
-// Returns whether a text has this fault.
+// Returns whether reading a text fails with this fault.
 fn same_fault(alloc: Global, text: &str, wanted: TextFault) -> bool {
     match read_tree(alloc, text.as_bytes()) {
         Err(fault) => fault == wanted,
@@ -109,7 +110,7 @@ const LATE: &[(&str, TextFault)] = &[
     ),
 ];
 
-// A faulty line is found without allocating, so the results stay the same if every allocation fails.
+// The faulty line is found without allocating, so the test passes even if every allocation is refused.
 #[test]
 fn a_late_fault_is_told_without_memory(rt: HostRuntime) {
     for (text, wanted) in LATE {
@@ -117,7 +118,7 @@ fn a_late_fault_is_told_without_memory(rt: HostRuntime) {
     }
 }
 
-// Returns a text with the root, `files` files, and then a path below the last of them.
+// Returns a text with the lines of the root and of `files` files, and then the line of an entry below the file `/0999`.
 fn long_text(rt: &impl Abort, alloc: Global, files: usize) -> String {
     let mut text = String::new(alloc);
     say(rt, &mut text, "d 0755 0 0 /\n");
@@ -138,7 +139,7 @@ fn the_last_line_of_many_is_faulty(rt: HostRuntime) {
     );
 }
 
-// Returns the result for the text of a valid root followed by one line.
+// Returns the result for a text of two lines: the line of a root, and this line.
 fn second_line(rt: &impl Abort, alloc: Global, line: &str) -> String {
     let mut text = String::new(alloc);
     say(rt, &mut text, "d 0755 0 0 /\n");
@@ -147,7 +148,7 @@ fn second_line(rt: &impl Abort, alloc: Global, line: &str) -> String {
     answer(rt, alloc, text.as_str())
 }
 
-// Lines that no tree's text has, each tried after the line of the root.
+// Lines that are in the text of no tree. Each is tried after the line of a root.
 const MISSPELLED: &[&str] = &[
     "f 0644 0 0 6A /f",
     "f 0644 0 0 6a6 /f",
@@ -182,7 +183,7 @@ fn only_the_written_spelling_is_read(rt: HostRuntime) {
     }
 }
 
-// Returns whether a tree that is printed is read as the same tree.
+// Returns whether the printed text of a tree is read as the same tree.
 fn is_read_back(rt: &impl Abort, alloc: Global) -> bool {
     let tree = made(rt, alloc, &[("/a", 0o700, 1, 2, None), file("/a/b", "hi")]);
     reads_back(&tree);

@@ -1,7 +1,6 @@
-//! Scripts on views in transcripts (`stage`). `mount DEST SELECTOR` moves this tree into a new mount; `read-only`
-//! after them makes it read-only. `run CWD TEXT` runs the script of a text on a view of these mounts, and prints the statuses of its commands, `-` for
-//! one that is skipped, and then each mount's tree after a bar; the mounts themselves are unchanged. If the text is no script, it prints
-//! the fault.
+//! Calls of transcripts (module `stage`) that run scripts on a view. `mount DEST SELECTOR` moves this tree (module `trees`) into a new mount, which is
+//! read-only if the word `read-only` follows. `run CWD TEXT` runs TEXT as a script in the directory CWD, on a view of copies of the mounts. It prints
+//! the statuses of the script's commands, `-` for a skipped one, and then for each mount a bar and its tree; if TEXT is no script, it prints its fault.
 
 use super::printed::{say, say_fault, say_number, say_tree};
 use super::trees::{Trees, word_and_rest};
@@ -77,7 +76,7 @@ fn is_run(join: Join, last: u32) -> bool {
     }
 }
 
-// Runs the commands that are not skipped, and prints their statuses.
+// Runs the commands that are not skipped, and appends the status of each command, `-` for a skipped one.
 fn say_statuses(
     rt: &impl Abort,
     alloc: Global,

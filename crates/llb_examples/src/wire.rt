@@ -1,4 +1,4 @@
-//! The wire: numbers, records, texts and lists, and writers that fail.
+//! Calls of `llb_wire`: numbers, records, texts and lists, and writers that fail.
 
 use super::printed::{holds, is_same, is_so, prints, row_holds};
 use llb_wire::{
@@ -10,7 +10,8 @@ use std::io;
 use std::io::{ErrorKind, Write};
 use std::process::Abort;
 
-// Returns the number at a position, and its end; `None` for a position past the end.
+// Returns what is read at a position: a number and the position after it, or a fault. Returns `None` if the position is past
+// the end of the bytes.
 fn number(bytes: &[u8], at: usize) -> Option<Result<(u64, usize), WireFault>> {
     if at > bytes.len() {
         return None;
@@ -18,7 +19,7 @@ fn number(bytes: &[u8], at: usize) -> Option<Result<(u64, usize), WireFault>> {
     Some(varint(bytes, at))
 }
 
-// Bytes, a position, and the number there with its end, or the fault.
+// Bytes, a position, and what is read there: a number and the position after it, or a fault.
 type Numbered = (&'static [u8], usize, Result<(u64, usize), WireFault>);
 
 const NUMBERS: &[Numbered] = &[
@@ -54,7 +55,8 @@ fn a_number_has_at_most_ten_bytes(rt: HostRuntime) {
     }
 }
 
-// Returns the record at a position; `None` for a position past the end.
+// Returns what is read at a position: a record, nothing at the end of the bytes, or a fault. Returns `None` if the position is
+// past the end.
 fn record(bytes: &[u8], at: usize) -> Option<Result<Option<Field>, WireFault>> {
     if at > bytes.len() {
         return None;
@@ -132,7 +134,7 @@ fn a_record_has_its_first_fault(rt: HostRuntime) {
     }
 }
 
-// Returns the bytes of a number and of four records after it.
+// Returns the bytes that are written for a number and then for four records.
 fn spelled(rt: &impl Abort, alloc: Global) -> Vec<u8> {
     let mut out = Vec::new(alloc);
     write_varint(300, &mut out).expect(rt, "memory");
@@ -167,7 +169,7 @@ fn text_of(rt: &impl Abort, alloc: Global, text: &str) -> Text {
     Text::from_str(alloc, text).expect(rt, "memory")
 }
 
-// Returns whether the copy of a byte string and the vector that it is turned into have these bytes.
+// Returns whether a byte string of `bytes` equals its copy, differs from one of `other`, and is turned back into `bytes`.
 fn keeps_bytes(rt: &impl Abort, alloc: Global, bytes: &[u8], other: &[u8]) -> bool {
     let kept = bytes_of(rt, alloc, bytes);
     kept.is_bytes();
@@ -177,7 +179,7 @@ fn keeps_bytes(rt: &impl Abort, alloc: Global, bytes: &[u8], other: &[u8]) -> bo
     holds && copied.into_vec().as_slice() == bytes
 }
 
-// Returns whether the copy of a text and the string that it is turned into are this text.
+// Returns whether a text equals its copy, differs from the text `other`, and is turned back into the same string.
 fn keeps_text(rt: &impl Abort, alloc: Global, text: &str, other: &str) -> bool {
     let kept = text_of(rt, alloc, text);
     let copied = kept.copy().expect(rt, "memory");
@@ -203,7 +205,7 @@ fn texts_byte_strings_and_lists_own_what_they_were_given(rt: HostRuntime) {
     prints(&rt, alloc, &text_of(&rt, alloc, "é"), "é");
 }
 
-// A writer that takes one byte in each write, and fails after `room` bytes.
+// A writer that takes one byte in each write, and fails once it has taken `room` bytes.
 #[derive(Drop)]
 struct Narrow {
     room: usize,
@@ -230,8 +232,8 @@ impl Write for Narrow {
     }
 }
 
-// Returns how many bytes of `hello` such a writer takes, whether it has then failed, whether writing no bytes then succeeds, and
-// whether one more byte is refused although the writer has room again.
+// Writes `hello`, no bytes and `x` to such a writer, which gets more room before `x`. Returns how many bytes the writer took,
+// and whether writing `hello` failed, whether writing no bytes then succeeded, and whether `x` was refused.
 fn written(alloc: Global, room: usize) -> (usize, [bool; 3]) {
     let mut writer = Narrow {
         room,
@@ -254,7 +256,7 @@ fn a_writer_of_one_byte_a_write_gets_all_or_a_prefix(rt: HostRuntime) {
     is_so(&rt, written(rt.alloc(), 9) == (6, [false, true, false]));
 }
 
-// Returns whether bytes are written as this text, and whether the text is read as these bytes.
+// Returns whether these bytes are written as this hexadecimal text, and this text is read as these bytes.
 fn is_written_so(rt: &impl Abort, alloc: Global, bytes: &[u8], wanted: &str) -> bool {
     let mut text = String::new(alloc);
     push_hex(alloc, &mut text, bytes).expect(rt, "memory");
