@@ -1,4 +1,4 @@
--- The trees that a workspace works on, in an order, and the role of each: for callers that only read.
+-- The trees that a workspace works on, in a fixed order, and the role of each tree: for callers that only read.
 use Rattle.std.specs.Prelude.{ℕ, ◌+◌, ◌==◌, List, [], ◌∷◌, ◌++◌, map, Option, Some, None, slice_get, if◌then◌else◌}
 use Rattle.llb_tree.specs.Tree.{TreeMap}
 use Rattle.llb_mount.specs.declared.shown.Shown.{Shown}
@@ -36,7 +36,7 @@ tree_or own trees (Some k) = slice_get trees k
 abbrev pub next_place : ℕ → ℕ → ℕ → Option ℕ → Option ℕ
 next_place i m k place = if m == i then Some k else place
 
--- the tree at the last position at which the list of numbers has i; `own` if it has no i
+-- the tree at the last position at which the number in the list is i; `own` if no number is i
 abbrev pub last_tree : ℕ → List ℕ → List TreeMap → Option TreeMap → Option TreeMap
 last_tree i [] trees own = own
 last_tree i (m ∷ ms) [] own = own

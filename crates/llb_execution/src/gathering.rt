@@ -11,7 +11,7 @@ use std::alloc::Global;
 
 /// Vertices by number, of which some are done.
 pub trait Outputs {
-    /// How each vertex ended; `None` if it has not.
+    /// How each vertex ended; `None` for a vertex that has not ended.
     ghost ending: { Self → ℕ → Option Ending };
 
     /// Returns the output that an edge leads to, if the vertex of the edge is done and has that output.

@@ -4,7 +4,7 @@
 //! Types: `Program`, `Steps`, `MicroStep`, `Workspace` (what a program works on), `Job` (a program with its workspace and cache trees), `Outcome`, `Outputs`
 //! (vertices by number, from which the trees of inputs are gathered), `Gate`, `WorkFault`.
 //! Promise: `Workspace::step` (`left`, `err`) leaves exactly what the machine's micro-step leaves; if memory is refused, nothing is changed.
-//! `work` (`job`, `stopped`) does all micro-steps that a job has left, and is stopped (143) only if the gate's type says that the gate may stop that
+//! `work` (`job`, `stopped`) does all remaining micro-steps of a job, and is stopped (143) only if the type of the gate says that the gate may stop that
 //! worker at that vertex.
 //!
 //! A caller:

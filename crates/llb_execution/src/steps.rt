@@ -17,12 +17,12 @@ use std::alloc::Global;
 use std::marker::Model;
 
 /// The micro-steps of a vertex: one read of a source, the actions of a file op, the inputs of a merge, or the commands of an exec in
-/// their setting. Actions and commands are shared with the vertex. Contracts see the model's list.
+/// their setting. Actions and commands are shared with the vertex. Contracts see them as the model's list of micro-steps.
 pub struct Steps {
     pub(crate) by: ByKind,
 }
 
-// Written by hand, so that it is proved once; a derived one is proved again in every function that drops such a value.
+// This `Drop` is written by hand, so that it is proved once; a derived one is proved again in every function that drops such a value.
 impl Drop for Steps {
     fn drop(self) {
         let Steps { by: _ } = self;

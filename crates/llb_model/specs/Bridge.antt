@@ -1,7 +1,7 @@
 -- How the two models of caches are related. llb_cache models caches as rows, in the order in which the keys were first leased; a row is a key with the list of
--- its trees. It gives each lease a number. Its callers list keys in that order, and return a lease by its number. The machine models caches as a store, a map
--- from instances to trees: if two workers lease two new keys, the store is the same in either order, but the rows are not, since a new key is put last. This
--- file says which store the rows represent, which rows there are after an event, and which leases the running workers have.
+-- its trees. llb_cache also gives each lease a number. Its callers list keys in that order, and return a lease by its number. The machine models caches as a
+-- store, a map from instances to trees: if two workers lease two new keys, the store is the same in either order, but the rows are not, since a new key is put
+-- last. This file says which store the rows represent, which rows there are after an event, and which leases the running workers have.
 use Rattle.std.specs.Prelude.{◌≡◌, ◌⊎◌, ℕ, ◌+◌, true, List, [], ◌∷◌, ◌++◌, length, map, Option, Some, None, slice_get, slice_set, nat_lt}
 use Rattle.std.specs.Prelude.{if◌then◌else◌}
 use Rattle.std.specs.FinMap as finite

@@ -106,7 +106,7 @@ key_of n = n.key
 abbrev pub mount_of : Need → ℕ
 mount_of n = n.mount
 
--- the sharing mode that a mount's message has as this number
+-- the sharing mode with this number in a cache mount's message
 abbrev pub mode_of : ℤ → Mode
 mode_of n = if int_eq n (pos 1) then Private else if int_eq n (pos 2) then Locked else Shared
 

@@ -2,8 +2,8 @@
 //! on `llb_execution`, which it shares with the board.
 //!
 //! Types: `Outcomes`, `Outcome` (done with its outputs, failed, or blocked), `PlainFault` (101 to 103).
-//! Promise: `evaluate` (`gives`, `last`) returns exactly the machine's outcomes. First it fails with 101 and the name of the first local source, by vertex,
-//! that has no tree, then with 102 and the least vertex that mounts a cache.
+//! Promise: `evaluate` (`gives`, `last`) returns exactly the plain outcomes of `llb_model`. It fails with 101 and the name of the first local source, by
+//! vertex, that has no tree; else with 102 and the least vertex that mounts a cache.
 //!
 //! A caller:
 //!

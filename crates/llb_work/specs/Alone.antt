@@ -1,4 +1,5 @@
--- What a driver does to a board, and in which state it leaves a board that it runs to the end.
+-- What a driver does to a board, and in which state it leaves a board that it runs to the end. A driver is code that does the events of all workers on one
+-- thread.
 use Rattle.std.specs.Prelude.{◌≡◌, ℕ, ◌<◌, true, List, [], ◌∷◌, ◌++◌, length, drop, slice_index, Option, Some, None, ⊤}
 use Rattle.llb_model.specs.Program.{Build}
 use Rattle.llb_model.specs.State.{State, Opening, opening}
@@ -10,7 +11,7 @@ use Rattle.llb_model.specs.Order.{at_first, order, claims_in}
 use Rattle.llb_model.specs.Laws.{AreChosen}
 use Rattle.llb_board.specs.Seen.{BoardValue}
 
--- `new` is the board `old` after event e, which the table grants, and which is appended to the record
+-- `new` is the board `old` after event e: the table grants e, and e is appended to the record
 pub record Takes (old : BoardValue) (e : Event) (new : BoardValue) : Type 0 where
   pub build : new.build ≡ old.build
   pub opening : new.opening ≡ old.opening
@@ -19,7 +20,8 @@ pub record Takes (old : BoardValue) (e : Event) (new : BoardValue) : Type 0 wher
   pub given : table old.build old.state e ≡ Some (new.state, reply)
   pub events : new.events ≡ old.events ++ e ∷ []
 
--- `new` is the board `old` after events that are chosen and granted one after another, and are appended to its record
+-- `new` is the board `old` after events that are granted one after another and appended to the record; each is the chosen event of the state before it
+-- (`chosen` of llb_model)
 pub record Goes (old new : BoardValue) : Type 0 where
   pub build : new.build ≡ old.build
   pub opening : new.opening ≡ old.opening
@@ -44,7 +46,7 @@ pub record EndsInClaimOrder (b : Build) (o : Opening) (es : List Event) (s : Sta
 abbrev pub MadeBy : BoardValue → BoardValue → List ℕ → Type 0
 MadeBy old new made = (w : ℕ) → w < 64 → slice_index made w ≡ events_by w (drop (length old.events) new.events)
 
--- an event whose refusal for want of memory can end a run; a settle and a cancel take no memory
+-- the event is a claim or a step: if it is refused for want of memory, the run may end; a settle and a cancel need no memory
 abbrev pub TakesMemory : Option Event → Type 0
 TakesMemory (Some (Claim w v)) = ⊤
 TakesMemory (Some (Step w)) = ⊤

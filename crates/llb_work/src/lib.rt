@@ -4,7 +4,7 @@
 //! Types: `RunEnd` (the board, the number of events that each worker made, the fault), `RunFault` (151 to 154).
 //! Promise: `run_workers` (`leads`, `complete`, `idle`, `stopped`, `own`): the board that is returned goes on from the given one by granted
 //! events, whatever the fault, and no worker runs anything on it; without a fault it is complete. `run_alone` (`goes`, `ends`, `order`, `plain`)
-//! does the chosen events. That threads make progress is tested, and not proved.
+//! does the events that `chosen` of `llb_model` names, one after another. That threads make progress is tested, and not proved.
 //!
 //! A caller:
 //!
