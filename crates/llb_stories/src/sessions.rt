@@ -75,7 +75,7 @@ fn is_story(rt: &impl Abort, alloc: Global, way: Way, head: &str, lines: &str) -
     }
 }
 
-// Ends the test at the first story that does not go as it is written.
+// Ends the test at the first story whose result differs from the lines that are written in it.
 pub(crate) fn are_stories(rt: &impl Abort, alloc: Global, way: Way, told: &str) {
     let (_, stories) = told.split_once("@ ").expect(rt, "a story");
     for story in stories.split("@ ") {

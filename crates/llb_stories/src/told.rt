@@ -1,7 +1,7 @@
-//! What a session does not print of a board: what each worker does, and which instances caches have. Such a story is a transcript of the
-//! same form as a session's: a line that begins with `> ` is a call, and the lines after it are its result. The calls are a session's events, which
-//! print nothing if they are granted; `job W V`, a claim that prints its job and the instances of caches that it takes;
-//! `worker W`; `instance MODE I`, the tree of an instance of the cache `k` with that mode; and `leases`.
+//! What a session does not print of a board: what each worker does, and which instances caches have. Such a story is a transcript of the same form
+//! as a session's: a line that begins with `> ` is a call, and the lines after it are its result. The calls are: a session's events, which print
+//! nothing if they are granted; `job W V`, a claim that prints its job and the instances of caches that it takes; `worker W`; `instance MODE I`,
+//! the tree of an instance of the cache `k` with that mode; and `leases`.
 
 use super::calls::{event_in, is_event_done};
 use super::instances::{K_LOCKED, K_PRIVATE, K_SEEDED, K_SHARED};

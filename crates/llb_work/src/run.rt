@@ -21,9 +21,9 @@ use std::thread::Threads;
 /// Runs a board in as many threads as it has workers, 1 to 64. The threads share one lock and one queue of vertex numbers. First the number of every ready
 /// vertex is put into the queue, the least first. Each worker ends the vertex that it already runs, if any. Then it takes one number after another, claims the
 /// vertex of that number, passes the gate, and works on the vertex: away from the lock or, if the vertex mounts a shared cache, event by event under the lock.
-/// After the end of a vertex, its worker puts the numbers of those of its users that are now ready into the queue. A number whose vertex needs a locked cache
-/// that another worker holds is put again when the vertex with that cache ends. A worker that finds the queue empty sleeps until another worker puts more
-/// numbers than it takes itself, or until the run is over.
+/// When a vertex ends, its worker puts into the queue the numbers of the vertex's users that are now ready. A number whose vertex needs a locked cache that
+/// another worker holds is put again when the vertex with that cache ends. A worker that finds the queue empty sleeps until another worker puts more numbers
+/// than it takes itself, or until the run is over.
 ///
 /// The fault is the first that is met: 151 `Memory` if memory is refused, 152 `Stopped` if the gate stops a worker, 153 `Thread` if a thread can't be started.
 /// If memory is refused for the copies of the board, the queue, the workers' lists or the table of numbers that wait for a key, no thread starts, and the board

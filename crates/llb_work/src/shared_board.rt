@@ -177,8 +177,8 @@ impl<S: Gated> SharedBoard<S> {
     }
 
     /// Does what a worker has to do in one hold of the lock, by what it reports, and counts the events for the worker. Returns what the worker is to do next,
-    /// and shared copies of the trees that were dropped in this hold. Adds to `news` the numbers that the worker then has to put into the queue: if its vertex
-    /// ended, the numbers of the users that became ready, the greatest first, and numbers that waited for a key of the worker.
+    /// and shared copies of the trees that this hold may have dropped. Adds to `news` the numbers that the worker then has to put into the queue: those of the
+    /// vertices that became ready when its vertex ended, the greatest first, and those that had waited for a key.
     pub(crate) fn next_task(
         &mut self,
         w: u32,
@@ -232,7 +232,7 @@ impl<S: Gated> SharedBoard<S> {
         }
     }
 
-    // Claims a vertex, unless the run is over. If the vertex is not ready, its number is dropped: another worker has claimed the vertex.
+    // Claims a vertex, unless the run is over. If the vertex is not ready, its number is dropped: another worker has already claimed the vertex.
     fn take(&mut self, w: u32, v: u32, news: &mut Vec<u32>) -> Task
         ensures { IsHere S.start w result }
     {
