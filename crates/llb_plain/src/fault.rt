@@ -9,7 +9,7 @@ use thiserror::Error;
 /// Why a graph is not evaluated: the first cause that applies.
 #[derive(Debug, Drop, Error)]
 pub enum PlainFault {
-    /// 101: no tree is given for this local source (of several, that of the least vertex).
+    /// 101: no tree is given for this local source, the first such by vertex.
     #[error("101 {0}")]
     MissingLocal(Text),
     /// 102: this vertex mounts a cache (of several, the least).
