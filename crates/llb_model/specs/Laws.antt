@@ -80,8 +80,7 @@ OthersIgnore b = (s : State) (e : Event) (t : TreeMap) → IsReached b s → (w 
 
 -- ---- the claim order
 
--- after a run, each settled vertex and each instance that no worker holds is as it would be if the claims had been done one after another, each with all its
--- micro-steps or, if it was cancelled, with those before its cancel
+-- after a run, each settled vertex and each instance that no worker holds is as if the claims had been done one after another, each up to its end or cancel
 abbrev pub RunsInClaimOrder : Build → Type 0
 RunsInClaimOrder b = (o : Opening) (es : List Event) (rs : List Reply) (s : State) → run b (opening b o) es ≡ Some (s, rs)
     → StandsIn s (order b (at_first b o.store) (claims_in rs))
@@ -103,8 +102,7 @@ AreChosen b s es = EachIn (IsChosen b) b s es
 abbrev pub IsAtRest : State → Type 0
 IsAtRest s = (v w : ℕ) → slice_get s.statuses v ≡ Some (Running w) → ⊥
 
--- if a run has only chosen events, and no vertex runs at its end, it ends in the state to which its claims lead when they are done one after another; this
--- holds with shared caches too
+-- if a run has only chosen events, and no vertex runs at its end, it ends as if its claims were done one after another; this holds with shared caches too
 abbrev pub AloneInClaimOrder : Build → Type 0
 AloneInClaimOrder b = (o : Opening) (es : List Event) (rs : List Reply) (s : State) → run b (opening b o) es ≡ Some (s, rs)
     → AreChosen b (opening b o) es → IsAtRest s
@@ -137,8 +135,7 @@ HeldAreThere b = (s : State) → IsReached b s → (w : ℕ) (x : Execution) →
 abbrev pub at_start : List Shown → List ℕ → List TreeMap → Work
 at_start mounts caches trees = record { own = Mounted mounts caches 0; trees = trees }
 
--- the number of the last command that ran, among the commands up to number k. It is k if command k runs after the status `last`; else it is `before`, the
--- number of the last command that ran before command k
+-- the last command that ran among those up to number k: it is k if command k runs after the status `last`, else `before`, the last that ran before command k
 abbrev pub later_ran : ℕ → Option Joined → ℕ → ℕ → ℕ
 later_ran k None last before = before
 later_ran k (Some c) last before = if is_run c.join last then k else before
@@ -187,8 +184,7 @@ are_ands (c ∷ cs) = is_run c.join 0 && all_and cs
 abbrev pub in_turn : Setting → Joined → MicroStep
 in_turn setting c = Run setting (record { join = Then; command = c.command }) true
 
--- the first k commands have the same result as their `in_turn` micro-steps: they run one after another until a status is not 0, which is the fault; without a
--- fault command k runs too
+-- the first k commands have the same result as their `in_turn` micro-steps; if that result has no fault, command k runs
 pub record RunsInTurn (setting : Setting) (cs : List Joined) (work : Work) (k : ℕ) : Type 0 where
   pub leaves : part (runs_of setting cs) work k ≡ part (map (in_turn setting) cs) work k
   pub runs : (c : Joined) → (part (runs_of setting cs) work k).fault ≡ None → slice_get cs k ≡ Some c

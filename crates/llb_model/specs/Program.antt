@@ -1,5 +1,4 @@
--- What a vertex does: its program, which is a list of micro-steps; the work that micro-steps change; the result of the first k micro-steps; and the caches that
--- the vertex needs.
+-- What a vertex does: its program (a list of micro-steps), the work that micro-steps change, the result of the first k of them, and the caches that it needs.
 use Rattle.std.specs.Prelude.{ℕ, zero, suc, ◌+◌, ◌==◌, ℤ, pos, negsuc, Bool, true, false, not, List, [], ◌∷◌, ◌++◌, length, map, Option, Some, None}
 use Rattle.std.specs.Prelude.{option_map, unwrap_or, slice_get, Result, Ok, Err, if◌then◌else◌}
 use Rattle.std.specs.List.{list_any, list_all, range_with_len}
@@ -91,8 +90,7 @@ path_in text = unwrap_or (read_as text) []
 
 -- ---- the caches that a vertex needs
 
--- what a vertex needs of a cache: one cache mount of its exec. A need has the number of the mount, the key of the cache, and the number of the input whose tree
--- a new instance begins with (-1: the empty tree)
+-- a need, from a cache mount of an exec: the mount's number, the cache's key, and the number of the input whose tree starts a new instance (-1: the empty tree)
 pub record Need : Type 0 where
   pub mount : ℕ
   pub key : Key
@@ -273,8 +271,7 @@ filled mounts [] trees = mounts
 filled mounts (m ∷ ms) [] = mounts
 filled mounts (m ∷ ms) (t ∷ trees) = filled (with_tree_of mounts m t) ms trees
 
--- the list `trees`, after each of its items is replaced by the tree that the mount with the number at the same position shows; items past the last number are
--- unchanged
+-- the list `trees`, with each item replaced by the tree that the mount with the number at the same position shows; items past the last number stay
 abbrev pub taken : List Shown → List ℕ → List TreeMap → List TreeMap
 taken mounts ms [] = []
 taken mounts [] (t ∷ trees) = t ∷ trees
@@ -284,8 +281,7 @@ taken mounts (m ∷ ms) (t ∷ trees) = (mount_at mounts m).tree ∷ taken mount
 abbrev pub blanked : List Shown → List ℕ → List TreeMap → List Shown
 blanked mounts ms trees = filled mounts ms (map (λ t. empty_tree) trees)
 
--- the work after a command with status 0: the view that the command left is split into the mounts (each mount of a cache with the empty tree) and the trees of
--- the caches
+-- the work after a command with status 0: the mounts of the view that the command left, the empty tree in each mount of a cache, and the trees of the caches
 abbrev pub parted : List ℕ → List TreeMap → List Shown → Work
 parted caches trees mounts = record { own = Mounted (blanked mounts caches trees) caches 0; trees = taken mounts caches trees }
 
@@ -306,8 +302,7 @@ is_run Or last = not (last == 0)
 abbrev pub no_fault : Work → Left
 no_fault work = record { work = work; fault = None }
 
--- the work after a command ran. If the command succeeded, the work has the view that the command left; if it failed, the mounts and trees from before. The last
--- status is the command's status
+-- the work after a command ran: the view that the command left or, if it failed, the mounts and trees from before; the last status is the command's status
 abbrev pub after_run : List Shown → List ℕ → List TreeMap → Option (List Shown) → Work
 after_run mounts caches trees (Some after) = parted caches trees after
 after_run mounts caches trees None = record { own = Mounted mounts caches (status_of None); trees = trees }

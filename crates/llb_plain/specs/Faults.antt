@@ -1,5 +1,4 @@
--- What a call of this crate returns: the result of its rule (the definition of the result if no memory is refused), or the fault `Memory`. A rule never returns
--- `Memory`.
+-- What a call returns: the fault `Memory`, or the result of its rule (the definition of the result if memory is never refused). No rule returns `Memory`.
 use Rattle.std.specs.Prelude.{◌≡◌, Bool, true, false, Result, Ok, Err}
 use Rattle.llb_wire.specs.Answer as answer
 use Rattle.llb_plain.specs.declared.fault.PlainFault.{PlainFault}

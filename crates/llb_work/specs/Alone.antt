@@ -1,5 +1,4 @@
--- What a driver does to a board, and in which state it leaves a board that it runs to the end. A driver is code that does the events of all workers on one
--- thread.
+-- What a driver (code that does the events of all workers on one thread) does to a board, and in which state it leaves a board that it runs to the end.
 use Rattle.std.specs.Prelude.{◌≡◌, ℕ, ◌<◌, true, List, [], ◌∷◌, ◌++◌, length, drop, slice_index, Option, Some, None, ⊤}
 use Rattle.llb_model.specs.Program.{Build}
 use Rattle.llb_model.specs.State.{State, Opening, opening}
@@ -20,8 +19,7 @@ pub record Takes (old : BoardValue) (e : Event) (new : BoardValue) : Type 0 wher
   pub given : table old.build old.state e ≡ Some (new.state, reply)
   pub events : new.events ≡ old.events ++ e ∷ []
 
--- `new` is the board `old` after events that are granted one after another and appended to the record; each is the chosen event of the state before it
--- (`chosen` of llb_model)
+-- `new` is the board `old` after events that are granted one after another and recorded; each is the chosen event (see llb_model) of the state before it
 pub record Goes (old new : BoardValue) : Type 0 where
   pub build : new.build ≡ old.build
   pub opening : new.opening ≡ old.opening

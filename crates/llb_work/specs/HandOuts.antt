@@ -7,8 +7,7 @@ use Rattle.llb_work.specs.declared.hand_out.GivenBack.{GivenBack}
 use Rattle.llb_work.specs.Passes.{IsUncut}
 
 module _ {L : Type 0} where
-  -- what is handed out: the whole pass of the queue, and for each of at most 64 workers a share of the ledger (which counts events), a list, and room for a
-  -- thread
+  -- what is handed out: the whole pass of the queue; for each of at most 64 workers a share of the ledger (which counts events), a list and room for a thread
   pub record IsHandedOut (q : ReadyQueue) (out : HandOut L) : Type 0 where
     pub parts : out.share.parts ≡ out.workers
     pub amount : out.share.amount ≡ 0

@@ -10,8 +10,7 @@ use Rattle.llb_work.specs.declared.shared_board.Task.TheVariants.{Work, Pass, Ag
 use Rattle.llb_work.specs.declared.shared_board.Report.{Report}
 use Rattle.llb_work.specs.declared.shared_board.Report.TheVariants.{Nothing, Number, Outcome, Fault}
 
--- worker w and vertex v exist on the board, and the job is that of a claim of v by w; if no cache mount is at or before v, the job depends on nothing else (it
--- is the `plain_job` of llb_board)
+-- worker w and vertex v exist on the board, and the job is of a claim of v by w: the `plain_job` of llb_board, if no cache mount is at or before v
 pub record IsClaimed (b : BoardValue) (w v : ℕ) (job : Job) : Type 0 where
   pub worker : job.worker ≡ w
   pub vertex : job.vertex ≡ v
