@@ -1,5 +1,4 @@
-//! All remaining micro-steps of a vertex, one after another, on a workspace of its own. It is built on single
-//! micro-steps.
+//! Does all remaining micro-steps of a vertex, one after another, on a given workspace. It is built on `Workspace::step`.
 
 ghost use Rattle.std.specs.Prelude.{◌≡◌, ◌+◌, ◌<◌, ◌^◌, length, IfOk, None};
 ghost use Rattle.std.specs.List.{All};

@@ -120,7 +120,7 @@ impl Job {
         self.done
     }
 
-    /// Returns the workspace that the job works on, in which the mounts of caches are empty.
+    /// Returns the workspace that the job works on, in which each mount of a cache has the empty tree.
     pub fn workspace(&self) -> &Workspace
         ensures { result.now ≡ self.now.work.own }
     {

@@ -1,5 +1,5 @@
 //! One vertex's execution: its program of micro-steps, the workspace that they change, and the work of a whole job away from any board, behind
-//! a gate. It keeps no caches. It is built on `llb_model`.
+//! a gate. The crate keeps no caches. It is built on `llb_model`.
 //!
 //! Types: `Program`, `Steps`, `MicroStep`, `Workspace` (what a program works on), `Job` (a program with its workspace and cache trees), `Outcome`, `Outputs`
 //! (vertices by number, from which the trees of inputs are gathered), `Gate`, `WorkFault`.

@@ -16,8 +16,8 @@ use llb_wire::Memory;
 use std::alloc::Global;
 use std::marker::Model;
 
-/// The outcome of a job: how many micro-steps remained, and the workspace, the trees of the cache instances and the fault after them. By the type's invariant
-/// these are the result of the job's program, so no board has to check that.
+/// The outcome of a job: how many micro-steps remained, and what they left: the workspace, the trees of the cache instances, and the fault if there is one. By
+/// the type's invariant this is the result of the job's program, so no board has to check it.
 #[derive(Drop)]
 pub struct Outcome {
     job: Job,

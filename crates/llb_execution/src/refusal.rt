@@ -1,4 +1,4 @@
-//! The fault of refused memory. The calls of lower crates that this crate makes can fail with nothing else.
+//! The fault of refused memory. The calls whose faults are converted here can fail with nothing else.
 
 use llb_applet::ScriptFault;
 use llb_tree::TreeFault;

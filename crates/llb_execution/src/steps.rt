@@ -62,7 +62,7 @@ impl Steps {
         Ok(Steps { by })
     }
 
-    /// Copies the micro-steps, which share actions and commands. Fails with 5 `Memory` alone.
+    /// Copies the micro-steps; the copy shares actions and commands. Fails with 5 `Memory` alone.
     pub fn copy(&self) -> Result<Steps, Memory>
         ensures { IfOk result (λ s. s ≡ self.now) }
     {
@@ -70,7 +70,7 @@ impl Steps {
         Ok(Steps { by })
     }
 
-    /// Returns micro-step `k`, from 0; `None` if `k` is at least the number of micro-steps. Does not allocate.
+    /// Returns micro-step `k`, counted from 0; `None` if `k` is at least the number of micro-steps. Does not allocate.
     pub fn get(&self, k: u32) -> Option<MicroStep<'_>>
         ensures { option_map step_in result ≡ slice_get self.now k }
     {

@@ -71,8 +71,8 @@ impl Model for Workspace {
 }
 
 impl Workspace {
-    /// Makes the workspace before the first micro-step of a vertex: on the trees of its inputs, with the numbers of the
-    /// mounts that show caches, in the order of the needs. Fails with 5 `Memory` alone.
+    /// Makes the workspace of a vertex before its first micro-step: on the trees of its inputs, with the numbers of the mounts
+    /// that show caches, in ascending order. Fails with 5 `Memory` alone.
     pub fn on(
         alloc: Global,
         locals: &Locals,
@@ -166,7 +166,7 @@ impl Workspace {
         outputs_of(own, outputs, vertex)
     }
 
-    // Adds the tree that action `k` returned to the results; if the action failed, returns its fault.
+    // Appends the tree that action `k` made to the results; if the action failed, returns its fault.
     fn put_result(
         &mut self,
         k: u32,
@@ -222,7 +222,7 @@ impl Workspace {
         }
     }
 
-    // Lays a merge's input over those before it.
+    // Lays a merge's input over the inputs before it.
     fn lay(&mut self, alloc: Global, input: i64) -> Result<(), NoMemory>
         ensures ok { OnOk result (self.new ≡ lay_on input self.old) }
         ensures err { OnErr result (self.new ≡ self.old) }
@@ -354,7 +354,7 @@ fn own_on(
     }
 }
 
-// Copies the local tree of a source; returns the empty tree if none is given.
+// Copies the local tree of a source; returns the empty tree if no tree is given for the source.
 fn local_tree(alloc: Global, locals: &Locals, vertex: &Vertex) -> Result<Tree, NoMemory>
     ensures { IfOk result (λ t. t ≡ local_tree locals.now vertex.now) }
 {

@@ -104,7 +104,7 @@ key_of n = n.key
 abbrev pub mount_of : Need → ℕ
 mount_of n = n.mount
 
--- the sharing mode with this number in a cache mount's message
+-- the sharing mode with this number in the message of a cache mount: 1 is private, 2 is locked, any other number is shared
 abbrev pub mode_of : ℤ → Mode
 mode_of n = if int_eq n (pos 1) then Private else if int_eq n (pos 2) then Locked else Shared
 
@@ -131,7 +131,7 @@ abbrev pub needs_from : List Input → ℕ → List Mount → List Need
 needs_from inputs i [] = []
 needs_from inputs i (m ∷ ms) = with_need i m (mounts.key_of inputs m) (needs_from inputs (i + 1) ms)
 
--- the needs of a vertex: the caches that its mounts show, in their order
+-- the needs of a vertex: the caches that its mounts show, in the order of the mounts
 abbrev pub needs_of : Vertex → List Need
 needs_of v = needs_from v.op.inputs 0 (kind_mounts v.op.kind)
 
@@ -389,6 +389,6 @@ output_from p (Layers inputs t) zero = t
 output_from p (Layers inputs t) (suc i) = empty_tree
 output_from p (Mounted mounts caches last) i = tree_for i p.output_numbers mounts
 
--- the outputs of a program, by the workspace after all its micro-steps
+-- the outputs of a program, given the workspace after all its micro-steps
 unfoldable pub outputs_of : Program → Workspace → List TreeMap
 outputs_of p workspace = map (output_from p workspace) (range_with_len 0 p.outputs)

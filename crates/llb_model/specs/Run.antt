@@ -42,7 +42,7 @@ abbrev pub or_else : Option Event → Option Event → Option Event
 or_else (Some e) other = Some e
 or_else None other = other
 
--- the event that the driver chooses: the next event of the running worker with the lowest number, or, if no worker runs, a claim by worker 0
+-- the chosen event: the next event of the running worker with the lowest number, or, if no worker runs, worker 0's claim of the least Ready vertex
 abbrev pub chosen : Build → State → Option Event
 chosen b s = or_else (next_of b 0 s.workers) (next_claim b s)
 

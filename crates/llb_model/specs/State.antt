@@ -1,4 +1,4 @@
--- The state of the machine, and questions about it.
+-- The state of the machine, and what can be asked of it: whether a vertex is Ready or blocked, what a worker runs, and which instances a claim takes.
 use Rattle.std.specs.Prelude.{◌≡◌, ℕ, zero, suc, ◌+◌, Bool, true, false, ◌&&◌, ◌||◌, List, [], ◌∷◌, ◌++◌, length, map, Option, Some, None}
 use Rattle.std.specs.Prelude.{is_some, option_map, unwrap_or, slice_get, nat_le, replicate, if◌then◌else◌}
 use Rattle.std.specs.List.{list_any}
@@ -89,13 +89,13 @@ is_waiting (Some (Running w)) = false
 is_waiting (Some (Settled e)) = false
 is_waiting None = false
 
--- whether a vertex that ended like this is done; false if it has no ending
+-- whether a vertex with this ending is done; false if there is no ending
 abbrev pub is_done : Option Ending → Bool
 is_done (Some (Done trees)) = true
 is_done (Some (Failed f)) = false
 is_done None = false
 
--- whether a vertex that ended like this has failed; false if it has no ending
+-- whether a vertex with this ending has failed; false if there is no ending
 abbrev pub is_failed : Option Ending → Bool
 is_failed (Some (Failed f)) = true
 is_failed (Some (Done trees)) = false

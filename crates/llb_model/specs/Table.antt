@@ -134,7 +134,7 @@ after_step s w x left = record s { workers = slice_set s.workers w (Runs (with_s
 abbrev pub step_by : State → ℕ → Execution → MicroStep → Left → State × Reply
 step_by s w x m left = (after_step s w x left, step_reply x.done m x.own left)
 
--- the result of a step, given the next micro-step; the step is refused if there is none
+-- the result of a step, given the next micro-step; the step is refused if there is no next micro-step
 abbrev pub step_with : State → ℕ → Execution → Option MicroStep → Result (State × Reply) StepFault
 step_with s w x None = Err step.NothingLeft
 step_with s w x (Some m) = Ok (step_by s w x m (step_on x.done (Some m) (work_of s x)))
@@ -191,7 +191,7 @@ settle_grant b s w = settled b s w (slice_get s.workers w)
 abbrev pub cancel_reply : ℕ → ℕ → Reply
 cancel_reply v k = HasCancelled (record { vertex = v; done = k })
 
--- the state and the reply after a cancel: the vertex waits again, and the caches keep what its micro-steps have written
+-- the state and the reply after a cancel: the vertex waits again, and the caches keep what the vertex's micro-steps have written
 abbrev pub cancel_with : State → ℕ → ℕ → ℕ → State × Reply
 cancel_with s w v k = (after_end s w v Waiting, cancel_reply v k)
 

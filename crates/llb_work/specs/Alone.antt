@@ -30,8 +30,8 @@ pub record Goes (old new : BoardValue) : Type 0 where
   pub chosen : AreChosen old.build old.state more
   pub events : new.events ≡ old.events ++ more
 
--- The chosen events lead from an opening to a complete state. There each vertex and each instance of a cache is as if the vertices had been run one after
--- another in the order of their claims, each with all its micro-steps.
+-- The chosen events lead from an opening to a complete state. In that state each vertex and each instance of a cache is as if the vertices had been run one
+-- after another in the order of their claims, each with all its micro-steps.
 pub record EndsInClaimOrder (b : Build) (o : Opening) (es : List Event) (s : State) : Type 0 where
   pub replies : List Reply
   pub leads : run b (opening b o) es ≡ Some (s, replies)

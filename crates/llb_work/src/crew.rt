@@ -18,7 +18,7 @@ use std::sync::{Mutex, Wait};
 use std::thread;
 use std::thread::Threads;
 
-/// What all workers of a run use.
+/// What all workers of a run share: the runtime, the allocator, the board under its lock, the queue, the counts of idle workers, and the gate.
 #[derive_where(Clone, Copy)]
 pub(crate) struct Crew<'x, S: Gated, G, R> {
     pub rt: &'x R,

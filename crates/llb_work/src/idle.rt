@@ -21,7 +21,7 @@ pub(crate) struct Idle {
     wakes: AtomicU64,
     // How many workers are about to park, are parked, or were woken just now.
     sleepers: AtomicU64,
-    // 1 once no vertex is to be claimed any more.
+    // 1 once the run is over, else 0.
     over: AtomicU64,
 }
 

@@ -129,8 +129,8 @@ impl<S: Gated> SharedBoard<S> {
         self.board.land(w, outcome)
     }
 
-    // Returns whether a job is known to agree with what its worker runs: so it is if no cache mount is at or before the vertex of the
-    // job, and the worker has done no micro-step of that vertex on the board.
+    // Returns whether a job is known to agree with what its worker runs: no cache mount is at or before the vertex of the job, and
+    // the worker has done no micro-step of that vertex on the board.
     fn is_known(&self, w: u32, job: &Job) -> bool
         requires { IsClaimed S.start w job.now.vertex job.now }
         ensures { OnTrue result (IsKnown self.now.board w job.now) }
@@ -212,7 +212,7 @@ impl<S: Gated> SharedBoard<S> {
         }
     }
 
-    // Does one event of what a worker runs: a step or, if it is finished, its settle. A worker that runs nothing ends if the run is over.
+    // Does the next event of what a worker runs: a step, or the settle if no micro-step is left. A worker that runs nothing ends if the run is over.
     fn go_on(&mut self, w: u32, news: &mut Vec<u32>) -> Task
         ensures { IsHere S.start w result }
     {
@@ -292,7 +292,7 @@ impl<S: Gated> SharedBoard<S> {
         Task::Next
     }
 
-    // Returns whether no vertex is claimed any more.
+    // Returns whether the run is over: a fault is noted, or the board is complete.
     fn is_over(&self) -> bool {
         self.noted.is_some() || self.board.is_complete()
     }
