@@ -12,9 +12,9 @@ use Rattle.llb_execution.specs.declared.look.Part.TheVariants as part
 abbrev pub shown_tree : Shown → TreeMap
 shown_tree m = m.tree
 
--- the trees that a workspace works on, if the cache instances that it holds have these trees, in the order of the needs: for a source its local tree; for a
--- file op its inputs, then the results so far; for a merge its inputs, then what is laid so far; for an exec the tree of each mount; a mount that shows a cache
--- has the tree of its instance
+-- the trees that a workspace works on, given the trees of its cache instances in the order of the mounts that show them. Source: its local tree. File op: its
+-- inputs, then the results so far. Merge: its inputs, then what is laid so far. Exec: the tree of each mount; for a mount that shows a cache, the tree of its
+-- instance
 abbrev pub trees_with : Workspace → List TreeMap → List TreeMap
 trees_with (LocalTree t) trees = t ∷ []
 trees_with (Files inputs results) trees = inputs ++ results

@@ -1,4 +1,4 @@
--- The plain outcome of a vertex. If no cache mount is at or before the vertex, no order of events can make it end otherwise.
+-- The plain outcome of a vertex. A vertex with no cache mount at or before it ends with its plain outcome, whatever the order of events.
 use Rattle.std.specs.Prelude.{ℕ, Bool, false, not, ◌&&◌, List, [], ◌∷◌, map, Option, Some, None, unwrap_or, slice_get}
 use Rattle.std.specs.List.{list_all}
 use Rattle.llb_loader.specs.declared.graph.Edge.{Edge}

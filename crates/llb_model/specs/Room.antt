@@ -19,7 +19,7 @@ is_cancel_of v (HasStepped r) = false
 is_cancel_of v (HasSettled r) = false
 is_cancel_of v (HasCancelled r) = r.vertex == v
 
--- how often a vertex was cancelled
+-- how often vertex v was cancelled, by these replies
 abbrev pub cancels_in : ℕ → List Reply → ℕ
 cancels_in v rs = count_by (is_cancel_of v) rs
 
@@ -69,7 +69,7 @@ still_to_come b s = all_to_come b.graph.vertices s.statuses + all_left b s.worke
 
 -- ---- room in the record
 
--- the room in the record that the next claim of a vertex reserves: 0, unless the vertex waits after a cancel
+-- the room in the record, in events, that the next claim of a vertex reserves: 0, unless the vertex waits after a cancel
 abbrev pub owed_by : Vertex → Status → ℕ → ℕ
 owed_by v Waiting zero = 0
 owed_by v Waiting (suc n) = events_of v

@@ -1,4 +1,4 @@
-//! Runs with more workers than there is work for, so that most of them sleep: each run ends, in many repetitions, with all its events.
+//! Runs with more workers than there is work for, so that most workers sleep. Each run is repeated many times, and ends each time with all its events.
 
 use super::calls::{are_same, is_event_done, replayed};
 use super::farm::{counts, have_one_tree, push_merge};
@@ -73,7 +73,7 @@ impl Gate for Ten {
     }
 }
 
-// What each vertex does: it makes a file on the output of the vertex before it (`Chain`) or on the empty tree (`Fan`), or runs a command that ends with a
+// What the vertices do. Each makes a file on the output of the vertex before it (`Chain`) or on the empty tree (`Fan`), or runs a command that ends with a
 // status, on up to two caches.
 #[derive(Clone, Copy)]
 enum Shape {

@@ -155,7 +155,7 @@ const ON_CACHES: &str =
     "locked: write /c/a x; locked: write /c/b y; private: write /c/a x; private: write /c/b y; \
     shared: append /c/l a && append /c/l b; shared: append /c/l c && append /c/l d";
 
-// Returns the text of the merge of the outputs of a number of entries.
+// Returns a board over `count` entries and the merge of their outputs.
 pub(crate) fn merge_on(
     rt: &impl Abort,
     alloc: Global,

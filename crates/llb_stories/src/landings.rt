@@ -207,7 +207,7 @@ fn are_told(rt: &impl Abort, alloc: Global, board: &mut Board, told: Told) {
     is_same(rt, text.as_str(), told.1);
 }
 
-// Returns whether no board with this number of workers is opened.
+// Returns whether the opening of a board with this number of workers is refused.
 fn are_refused(rt: &impl Abort, alloc: Global, workers: u32) -> bool {
     let graph = graph_from(rt, alloc, TWO_FILES);
     let board = opened(

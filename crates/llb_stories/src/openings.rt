@@ -1,5 +1,5 @@
-//! What the opening of a board takes and returns, and what one board leaves for the next. The program prints which local tree is
-//! missing (`run` in `llbm`).
+//! What the opening of a board takes and returns, and what one board leaves for the next. Which local tree is missing is printed
+//! by the program, and tested there (`run` in `llbm`).
 
 use super::calls::{are_done, opened};
 use super::instances::{K_LOCKED, K_SHARED};
@@ -82,7 +82,7 @@ fn left(rt: &impl Abort, alloc: Global, definition: &str, events: &str) -> Cache
     caches
 }
 
-// Returns caches with an empty instance of each key, in that order.
+// Returns caches with an empty instance of each key, in the order of the rows.
 fn in_order(rt: &impl Abort, alloc: Global, rows: &[CacheRow]) -> Caches {
     let needs = needs_of(rt, alloc, rows);
     let mut caches = Caches::new(alloc);

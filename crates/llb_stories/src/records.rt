@@ -1,5 +1,5 @@
-//! Records of workers in threads, on caches that are not shared: a stepper replays such a record, line by line;
-//! and one worker that takes the vertices in the order of its claims leaves the same trees.
+//! Records of workers in threads, on caches that are not shared: a stepper replays such a record, line by line; and one worker
+//! that takes the vertices in the order of the record's claims leaves the same trees.
 
 use super::calls::{are_same, is_event_done, replayed};
 use super::farm::{have_one_tree, merge_on};
@@ -85,7 +85,7 @@ fn are_lines(rt: &impl Abort, alloc: Global, stepper: &Stepper, events: &[Event]
     true
 }
 
-// Claims a vertex, and does the chosen events up to its settle.
+// Claims vertex `v` for worker 0, and does the chosen events up to its settle. Returns whether all these events were granted.
 fn is_run(board: &mut Board, v: u32) -> bool {
     let mut done = is_event_done(board, Event::Claim(0, v));
     for _ in 0..9 {

@@ -129,12 +129,12 @@ fn transcript(rt: &impl Abort, alloc: Global, board: &mut Board, told: &str) -> 
     text
 }
 
-// Ends the test if something does not hold.
+// Ends the test unless `holds` is true.
 pub(crate) fn is_so(rt: &impl Abort, holds: bool) {
     assert!(rt; holds);
 }
 
-// Ends the test if the row with a number does not hold; the failure names it.
+// Ends the test if the row with this number does not hold; the failure names the row.
 pub(crate) fn row_holds(rt: &impl Abort, row: usize, is_so: bool) {
     assert!(rt; is_so, "row {row}");
 }
@@ -144,7 +144,7 @@ pub(crate) fn is_same(rt: &impl Abort, told: &str, wanted: &str) {
     assert_eq!(rt; told, wanted);
 }
 
-// Ends the test if a fault prints something else.
+// Ends the test if a fault does not print the text `wanted`.
 pub(crate) fn prints<E: Display>(rt: &impl Abort, alloc: Global, fault: &E, wanted: &str) {
     let mut text = String::new(alloc);
     write!(text, "{fault}").expect(rt, "memory");

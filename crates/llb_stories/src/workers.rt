@@ -59,8 +59,7 @@ fn cancels_left(event: Event, cancels: u32) -> Option<u32> {
     }
 }
 
-// Returns the most events that a run can have that goes on from the stepper's board with at most `cancels` cancels; only runs of at most `most` further events
-// are tried.
+// Returns the most events of a run that goes on from the stepper's board with at most `cancels` cancels. Tries only runs of at most `most` further events.
 fn longest_run(stepper: &mut Stepper, cancels: u32, most: u32) -> usize {
     let mut longest = stepper.board().events().len();
     if most == 0 {
@@ -88,8 +87,8 @@ fn a_run_has_four_events_for_a_claim_of_two_commands(rt: HostRuntime) {
     }
 }
 
-// Returns how many runs go on from the stepper's board to an end, and at how many of these ends the stepper prints `END`; only runs of at most `most` events
-// are tried.
+// Returns how many runs go on from the stepper's board to an end, and at how many of these ends the stepper prints `END`. Tries only runs of at most `most`
+// events.
 fn ends(rt: &impl Abort, alloc: Global, stepper: &mut Stepper, most: u32) -> [u32; 2] {
     let mut all = 0u32;
     let mut right = 0u32;

@@ -1,4 +1,4 @@
-//! Boards from short texts: definitions by their entries, local trees by their texts (`llb_samples`), and keys of caches by rows.
+//! Boards from short texts: definitions are written by their entries, local trees by their texts (`llb_samples`), and keys of caches by rows (`CacheRow`).
 
 use llb_board::Board;
 use llb_cache::{Caches, Key, Mode, Need, Seed};
