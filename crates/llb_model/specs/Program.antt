@@ -90,7 +90,7 @@ path_in text = unwrap_or (read_as text) []
 
 -- ---- the caches that a vertex needs
 
--- a need, from a cache mount of an exec: the mount's number, the cache's key, and the number of the input whose tree starts a new instance (-1: the empty tree)
+-- a need: a cache mount's number, the key of its cache, and the number of the input whose tree a new instance begins with (-1: the empty tree)
 pub record Need : Type 0 where
   pub mount : ℕ
   pub key : Key

@@ -212,7 +212,7 @@ impl<S: Gated> SharedBoard<S> {
         }
     }
 
-    // Does the next event of what a worker runs: a step, or the settle if no micro-step is left. A worker that runs nothing ends if the run is over.
+    // Does the next event of what a worker runs: a step, or the settle if it is finished. A worker that runs nothing ends if the run is over.
     fn go_on(&mut self, w: u32, news: &mut Vec<u32>) -> Task
         ensures { IsHere S.start w result }
     {

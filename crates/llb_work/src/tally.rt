@@ -1,5 +1,5 @@
 //! Counts a run's events in two ways. Workers that share the lock count the events that they add to the record, each with its share of a ledger; the ledger
-//! makes sure that the counts add up to the number of these events. The events of a single thread are counted afterwards, from the record.
+//! makes sure that the counts add up to the number of these events. Events that one thread does alone are counted afterwards, from the record.
 
 ghost use Rattle.std.specs.Prelude.{◌≡◌, ◌≤◌, ◌<◌, ◌+◌, ◌^◌, ◌==◌, ℕ, sum, length, drop, slice_index};
 ghost use Rattle.std.specs.List.{count_by, All};
