@@ -7,8 +7,8 @@ use Rattle.llb_model.specs.Table.{Job}
 use Rattle.llb_model.specs.Landing.{AreLeft, further}
 use Rattle.llb_execution.specs.Parts.{mounts_in, shown_in}
 
--- a program's micro-steps can be done on this work: its caches are shown by distinct mounts that exist, there is a tree for each of them, and the number of
--- micro-steps has 32 bits
+-- the micro-steps of a program can be done on this work: the mounts that show its caches are distinct and exist, there is a tree for each of these mounts, and
+-- there are fewer than 2^32 micro-steps
 pub record IsWorkable (p : Program) (work : Work) : Type 0 where
   pub apart : Distinct (shown_in work.own)
   pub within : All (λ n. n < mounts_in work.own) (shown_in work.own)
@@ -21,11 +21,11 @@ pub record OutcomeValue : Type 0 where
   pub count : ℕ
   pub left : Left
 
--- the result so far of a job of which no remaining micro-step is done: its work, and no fault
+-- the result with which the remaining micro-steps of a job begin: the job's work, and no fault
 abbrev pub begun_on : Job → Left
 begun_on j = record { work = j.work; fault = None }
 
--- `count` micro-steps of the job remained, and this is their result; the workspace has as many mounts as before, and shows caches in the same ones
+-- `count` micro-steps of the job remained, and `left` is their result; the workspace has as many mounts as before, and the same mounts show caches
 pub record IsOutcome (j : Job) (count : ℕ) (left : Left) : Type 0 where
   pub few : j.done + count < 2 ^ 32
   pub all : AreLeft j.program.steps j.done (begun_on j) count

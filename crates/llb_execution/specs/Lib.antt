@@ -1,5 +1,5 @@
--- Read first Parts (what a program, a workspace and the trees of instances represent in the machine's words), then Marks (how a micro-step is taken back),
--- Outputs (how outputs replace empty trees), Jobs (what a worker takes away from a board, and brings back), and Looks (the trees of a workspace, in an order).
+-- Read first Parts (which values of llb_model the types of this crate represent), then Marks (how a micro-step is taken back), Outputs (how outputs replace
+-- empty trees), Jobs (what a worker takes away from a board, and brings back), and Looks (the trees of a workspace, in a fixed order).
 pub mod Parts
 pub mod Outputs
 pub mod Marks

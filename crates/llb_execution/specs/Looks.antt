@@ -1,4 +1,4 @@
--- The trees that a workspace works on, in an order, and the role of each: for callers that only read.
+-- The trees that a workspace works on, in a fixed order, and the role of each tree: for callers that only read.
 use Rattle.std.specs.Prelude.{ℕ, ◌+◌, ◌==◌, List, [], ◌∷◌, ◌++◌, map, Option, Some, None, slice_get, if◌then◌else◌}
 use Rattle.llb_tree.specs.Tree.{TreeMap}
 use Rattle.llb_mount.specs.declared.shown.Shown.{Shown}
@@ -12,9 +12,9 @@ use Rattle.llb_execution.specs.declared.look.Part.TheVariants as part
 abbrev pub shown_tree : Shown → TreeMap
 shown_tree m = m.tree
 
--- the trees that a workspace works on, if the cache instances that it holds have these trees, in the order of the needs: for a source its local tree; for a
--- file op its inputs, then the results so far; for a merge its inputs, then what is laid so far; for an exec the tree of each mount; a mount that shows a cache
--- has the tree of its instance
+-- the trees that a workspace works on, given the trees of its cache instances in the order of the mounts that show them. Source: its local tree. File op: its
+-- inputs, then the results so far. Merge: its inputs, then what is laid so far. Exec: the tree of each mount; for a mount that shows a cache, the tree of its
+-- instance
 abbrev pub trees_with : Workspace → List TreeMap → List TreeMap
 trees_with (LocalTree t) trees = t ∷ []
 trees_with (Files inputs results) trees = inputs ++ results
@@ -36,7 +36,7 @@ tree_or own trees (Some k) = slice_get trees k
 abbrev pub next_place : ℕ → ℕ → ℕ → Option ℕ → Option ℕ
 next_place i m k place = if m == i then Some k else place
 
--- the tree at the last position at which the list of numbers has i; `own` if it has no i
+-- the tree at the last position at which the number in the list is i; `own` if no number is i
 abbrev pub last_tree : ℕ → List ℕ → List TreeMap → Option TreeMap → Option TreeMap
 last_tree i [] trees own = own
 last_tree i (m ∷ ms) [] own = own

@@ -1,4 +1,4 @@
--- A mark is what a micro-step can change in a workspace. It is kept before the micro-step, and put back to undo the micro-step.
+-- A mark here is no flag, but a copy of what a micro-step can change in a workspace. It is made before the micro-step, and put back to undo the micro-step.
 use Rattle.std.specs.Prelude.{◌≡◌, ℕ, List, length, take, Option}
 use Rattle.llb_mount.specs.declared.shown.Shown.{Shown}
 use Rattle.llb_tree.specs.Tree.{TreeMap}

@@ -12,14 +12,14 @@ use Rattle.llb_execution.specs.declared.workspace.WorkState.TheVariants as own
 
 -- ---- programs
 
--- the micro-step that a value of the code represents, which borrows it from its program
+-- the micro-step that a value of the code's type `MicroStep` represents; the value borrows from its program
 abbrev pub step_in : MicroStep → model.MicroStep
 step_in step.ReadLocal = model.ReadLocal
 step_in (step.Act action) = model.Act action.now
 step_in (step.LayInput number) = model.LayInput number
 step_in (step.Run setting command later) = model.Run setting.now command.now (model.all_and later.now)
 
--- the micro-steps that a value of the code represents, which owns their data
+-- the micro-steps that a value of the code's type `ByKind` represents; the value owns their data
 abbrev pub steps_in : ByKind → List model.MicroStep
 steps_in steps.Nothing = []
 steps_in steps.Read = model.ReadLocal ∷ []
@@ -29,7 +29,7 @@ steps_in (steps.Commands setting script) = model.runs_of setting script
 
 -- ---- workspaces
 
--- the workspace that the data of the code represents
+-- the workspace that a value of the code's type `WorkState` represents
 abbrev pub own_of : WorkState → model.Workspace
 own_of (own.Local t) = model.LocalTree t
 own_of (own.Files inputs results) = model.Files inputs.items results.items

@@ -35,7 +35,7 @@ fn blanks(alloc: Global, count: usize) -> Result<Vec<Tree>, NoMemory>
     Ok(trees)
 }
 
-// Swaps each tree with the tree of the mount whose number is at the same index. The spare tree is in the mount while the two are swapped.
+// Swaps each tree with the tree of the mount whose number is at the same index. During a swap the mount has the spare tree.
 fn swap_all(mounts: &mut Mounts, numbers: &[u32], trees: &mut Vec<Tree>, spare: Tree) -> Tree
     requires apart { Distinct numbers.now }
     requires within { All (λ n. n < length mounts.old) numbers.now }
@@ -52,8 +52,8 @@ fn swap_all(mounts: &mut Mounts, numbers: &[u32], trees: &mut Vec<Tree>, spare: 
     spare
 }
 
-// Runs a command on mounts, while the mounts with these numbers show these trees, and returns the status of the command. If it is 0, the trees are as the
-// command left them, and these mounts are empty; otherwise, or if memory is refused, mounts and trees are as they were.
+// Runs a command on mounts, while the mounts with these numbers show these trees, and returns the status of the command. If the status is 0, the trees are as
+// the command left them, and these mounts have the empty tree; otherwise, or if memory is refused, mounts and trees are as they were.
 pub(crate) fn run_filled(
     alloc: Global,
     command: &Command,

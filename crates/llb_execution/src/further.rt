@@ -1,5 +1,4 @@
-//! All remaining micro-steps of a vertex, one after another, on a workspace of its own. It is built on single
-//! micro-steps.
+//! Does all remaining micro-steps of a vertex, one after another, on a given workspace. It is built on `Workspace::step`.
 
 ghost use Rattle.std.specs.Prelude.{◌≡◌, ◌+◌, ◌<◌, ◌^◌, length, IfOk, None};
 ghost use Rattle.std.specs.List.{All};
@@ -14,15 +13,15 @@ use llb_tree::Tree;
 use llb_wire::Memory;
 use std::alloc::Global;
 
-/// How many micro-steps were done, and the fault of the last, if it had one.
+/// How many micro-steps were done, and the fault of the last of them, if it had one.
 #[derive(Clone, Copy)]
 pub struct Further {
     pub count: u32,
     pub fault: Option<VertexFault>,
 }
 
-/// Does micro-steps from number `done` on, up to the first that faults or else the last one. The trees given are those of the instances of the caches that the
-/// workspace shows, in the order of the needs. Fails with 5 `Memory` alone; then some of the micro-steps may be done.
+/// Does the micro-steps from number `done` up, until one faults or the last one is done. `trees` are the trees of the cache instances that the workspace shows,
+/// in the order of the mounts that show them. Fails with 5 `Memory` alone; then some of the micro-steps may be done.
 pub fn do_further(
     alloc: Global,
     steps: &Steps,

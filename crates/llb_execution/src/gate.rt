@@ -1,4 +1,4 @@
-//! The gate: a worker passes it once before it works on a vertex, and it may stop the worker there.
+//! The gate: a worker passes it once before it works on a vertex, and the gate may stop the worker there.
 
 ghost use Rattle.std.specs.Prelude.{ℕ, Bool, IfErr, IsTrue};
 
@@ -11,10 +11,10 @@ pub struct Stopped;
 
 /// What a worker passes before it works on a vertex.
 pub trait Gate {
-    /// Whether it may stop this worker at this vertex.
+    /// Whether the gate may stop this worker at this vertex.
     ghost may_stop: { ℕ → ℕ → Bool };
 
-    /// Lets worker `w` work on vertex `v`, or fails with 143 `Stopped`. It returns after a bounded number of turns.
+    /// Lets worker `w` work on vertex `v`, or fails with 143 `Stopped`. The call may wait, but returns after a bounded number of turns.
     fn pass(&self, w: u32, v: u32) -> Result<(), Stopped>
         ensures { IfErr result (λ _. IsTrue (may_stop w v)) };
 }

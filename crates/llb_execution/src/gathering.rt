@@ -11,7 +11,7 @@ use std::alloc::Global;
 
 /// Vertices by number, of which some are done.
 pub trait Outputs {
-    /// How each vertex ended; `None` if it has not.
+    /// How each vertex ended; `None` for a vertex that has not ended.
     ghost ending: { Self → ℕ → Option Ending };
 
     /// Returns the output that an edge leads to, if the vertex of the edge is done and has that output.
@@ -19,7 +19,7 @@ pub trait Outputs {
         ensures { option_map (λ t. t.now) result ≡ output_in (ending self.now edge.vertex) edge.index };
 }
 
-/// Copies the trees that edges lead to, in their order; returns `None` if one of them is not there. Fails with 5 `Memory` alone.
+/// Copies the trees that edges lead to, in the order of the edges; returns `None` if one of the trees is not there. Fails with 5 `Memory` alone.
 pub fn gathered<O: Outputs>(
     alloc: Global,
     outputs: &O,
@@ -30,7 +30,7 @@ pub fn gathered<O: Outputs>(
     Ok(all_at(alloc, outputs, edges)?)
 }
 
-// Copies the trees that edges lead to, if all are there.
+// Copies the trees that edges lead to; returns `None` if one of the trees is not there.
 fn all_at<O: Outputs>(
     alloc: Global,
     outputs: &O,

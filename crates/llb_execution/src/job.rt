@@ -1,5 +1,5 @@
-//! A job is what a worker has to do: a vertex's program, and what the program works on. It owns all its data. By the type's invariant the micro-steps of the
-//! job can be done.
+//! A job is what a worker has to do: a vertex's program, and what the program works on. A job owns all its data. By an invariant of the type, its micro-steps
+//! can be done.
 
 ghost use Rattle.std.specs.Prelude.{◌≡◌};
 ghost use Rattle.llb_execution.specs.Jobs.{IsWorkable};
@@ -11,7 +11,7 @@ use llb_tree::Tree;
 use llb_wire::Many;
 use std::marker::Model;
 
-/// A job: who does it, and everything that it needs. Contracts see it as the model's `Job`.
+/// A job: which worker does it, and everything that the work needs. Contracts see a job as the model's `Job`.
 pub struct Job {
     pub(crate) worker: u32,
     pub(crate) vertex: u32,
@@ -22,7 +22,7 @@ pub struct Job {
     instances: Many<u32>,
 }
 
-// Written by hand, so that it is proved once; a derived one is proved again in every function that drops such a value.
+// This `Drop` is written by hand, so that it is proved once; a derived one is proved again in every function that drops such a value.
 impl Drop for Job {
     fn drop(self) {
         let Job {
@@ -120,7 +120,7 @@ impl Job {
         self.done
     }
 
-    /// Returns the workspace that the job works on, in which the mounts of caches are empty.
+    /// Returns the workspace that the job works on, in which each mount of a cache has the empty tree.
     pub fn workspace(&self) -> &Workspace
         ensures { result.now ≡ self.now.work.own }
     {

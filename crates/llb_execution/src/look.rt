@@ -1,4 +1,4 @@
-//! The trees that a workspace works on, in their order, and the role of each. Nothing here allocates.
+//! The trees that a workspace works on, in a fixed order, and the role of each tree. Nothing here allocates.
 
 ghost use Rattle.std.specs.Prelude.{◌≡◌, ◌++◌, ◌∷◌, [], ℕ, List, Option, length, map, option_map, slice_get};
 ghost use Rattle.llb_tree.specs.Tree.{TreeMap};
@@ -14,7 +14,7 @@ use llb_tree::{Path, Tree};
 pub enum Look<'a> {
     /// A tree that the workspace owns.
     Here(&'a Tree),
-    /// The tree of the cache instance for the need with this number.
+    /// The tree of the cache instance of the cache mount with this index, counted among the vertex's cache mounts alone.
     Cached(usize),
 }
 
@@ -33,9 +33,9 @@ pub enum Part<'a> {
 }
 
 impl Workspace {
-    /// Returns tree `i` of those that the workspace works on: the local tree of a source; the inputs of a file op, then
-    /// its results so far; the inputs of a merge, then what is laid so far; for each mount of an exec its tree or, if it
-    /// shows a cache, the number of the need whose instance has that tree. `held` is how many instances are held. Returns
+    /// Returns tree `i` of those that the workspace works on: the local tree of a source; the inputs of a file op, then its
+    /// results so far; the inputs of a merge, then what is laid so far; for each mount of an exec its tree or, if the mount shows
+    /// a cache, the index of the mount among the cache mounts. `held` is how many cache instances the worker holds. Returns
     /// `None` past the last tree. Does not allocate.
     pub fn look(&self, i: u32, held: usize) -> Option<Look<'_>>
         ensures { (trees : List TreeMap) → length trees ≡ held → looked trees result ≡ slice_get (trees_with self.now trees) i }
@@ -130,7 +130,7 @@ fn here(tree: Option<&Tree>) -> Option<Look<'_>>
     }
 }
 
-// Returns tree `i` of two lists, one after the other.
+// Returns tree `i` of the list that joins `first` and `second`.
 fn among<'a>(first: &'a [Tree], second: &'a [Tree], i: u32) -> Option<&'a Tree>
     ensures { option_map (λ t. t.now) result ≡ slice_get (first.now ++ second.now) i }
 {
@@ -141,7 +141,7 @@ fn among<'a>(first: &'a [Tree], second: &'a [Tree], i: u32) -> Option<&'a Tree>
     second.get(at - first.len())
 }
 
-// Returns tree `i` of a list of trees and one more after them.
+// Returns tree `i` of the list that has the trees of `first`, and then `last`.
 fn before_last<'a>(first: &'a [Tree], last: &'a Tree, i: u32) -> Option<&'a Tree>
     ensures { option_map (λ t. t.now) result ≡ slice_get (first.now ++ last.now ∷ []) i }
 {
@@ -169,7 +169,7 @@ fn look_in<'a>(mounts: &'a Mounts, numbers: &[u32], i: u32, held: usize) -> Opti
     }
 }
 
-// Returns the tree that a mount itself has.
+// Returns the tree that a mount itself has, which is empty for a mount of a cache.
 fn mount_tree(mounts: &Mounts, i: u32) -> Option<&Tree>
     ensures { option_map (λ t. t.now) result ≡ slice_get (map shown_tree mounts.now) i }
 {

@@ -1,4 +1,4 @@
-//! What a micro-step can change of a workspace: kept before the micro-step, and put back when the micro-step is taken back.
+//! Marks: copies of what a micro-step can change in a workspace, made before the micro-step and put back to undo the micro-step.
 
 ghost use Rattle.std.specs.Prelude.{◌≡◌, IfOk};
 ghost use Rattle.llb_execution.specs.Marks.{mark_in, mark_of, put_back, PutsBack};
@@ -11,8 +11,8 @@ use llb_tree::Tree;
 use llb_wire::Memory;
 use std::marker::Model;
 
-/// What a micro-step can change of a workspace: for a source nothing, for a file op how many results there are, for a merge what is laid so
-/// far, for an exec its mounts and its last status.
+/// A copy of what a micro-step can change in a workspace: for a source nothing, for a file op how many results there are, for a merge what
+/// is laid so far, for an exec its mounts and its last status.
 #[derive(Drop)]
 pub struct Mark {
     was: StateBefore,
@@ -40,8 +40,8 @@ impl Model for Mark {
 }
 
 impl Workspace {
-    /// Returns what the next micro-step can change, and no more of the workspace: no input of a file op or of a merge.
-    /// Trees are shared. Fails with 5 `Memory` alone.
+    /// Copies what the next micro-step can change, and nothing else of the workspace: not the inputs of a file op or of a merge.
+    /// The copy shares its trees. Fails with 5 `Memory` alone.
     pub fn mark(&self) -> Result<Mark, Memory>
         ensures is { IfOk result (λ m. m ≡ mark_of self.now) }
         ensures back { IfOk result (λ m. PutsBack self.now m) }
@@ -63,7 +63,7 @@ impl Workspace {
     }
 }
 
-// Returns what a micro-step can change of a workspace's data.
+// Copies what a micro-step can change in a workspace's data.
 fn was_in(own: &WorkState) -> Result<StateBefore, NoMemory>
     ensures { IfOk result (λ w. mark_in w ≡ mark_of (own_of own.now)) }
 {

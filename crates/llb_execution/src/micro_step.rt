@@ -1,4 +1,4 @@
-//! One micro-step, which borrows from the list of micro-steps that it is in. Nothing here does a micro-step.
+//! One micro-step, which borrows from the list of micro-steps that has it. Nothing here does a micro-step.
 
 ghost use Rattle.std.specs.Prelude.{◌≡◌, ◌∷◌, [], map, option_map, slice_get};
 ghost use Rattle.llb_model.specs.Program.{ReadLocal, Act, LayInput, runs_of};
@@ -14,13 +14,13 @@ pub enum MicroStep<'a> {
     ReadLocal,
     /// An action of a file op.
     Act(&'a Action),
-    /// The laying of a merge's input, by number, over those before it.
+    /// The laying of a merge's input, given by its number, over the inputs before it.
     LayInput(i64),
-    /// A command of an exec: where it runs, the command, and the commands after it.
+    /// A command of an exec: its setting (directory and variables), the command, and the commands after it.
     Run(&'a Setting, &'a Joined, &'a [Joined]),
 }
 
-// Returns the one micro-step of a source, for `k` = 0.
+// Returns the one micro-step of a source if `k` is 0, else `None`.
 pub(crate) fn read_at<'a>(k: u32) -> Option<MicroStep<'a>>
     ensures { option_map step_in result ≡ slice_get (ReadLocal ∷ []) k }
 {
@@ -50,7 +50,7 @@ pub(crate) fn lay_at<'a>(numbers: &[i64], k: u32) -> Option<MicroStep<'a>>
     }
 }
 
-// Returns the command at index `k`, with those after it.
+// Returns the command at index `k`, with the commands after it.
 pub(crate) fn run_at<'a>(
     setting: &'a Setting,
     commands: &'a [Joined],

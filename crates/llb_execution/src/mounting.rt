@@ -42,7 +42,7 @@ fn path_in(alloc: Global, text: &Text) -> Result<Path, NoMemory>
     match Path::read(alloc, text.as_str()) {
         Ok(path) => Ok(path),
         Err(TreeFault::Memory) => Err(NoMemory),
-        // Unreachable in a graph: its rules refuse texts that are no paths.
+        // Not reached for a loaded graph: `load` refuses texts that are no paths.
         Err(_) => Ok(Path::root(alloc)),
     }
 }
@@ -57,7 +57,7 @@ fn copies(alloc: Global, texts: &[Text]) -> Result<Vec<Text>, NoMemory>
     Ok(copied)
 }
 
-/// Returns the view of mounts that show these inputs.
+/// Returns the view of an exec's mounts before its first command, given the trees of the inputs.
 pub(crate) fn view_of(alloc: Global, inputs: &[Tree], mounts: &[Mount]) -> Result<View, NoMemory>
     requires { IsView (map (shown_of inputs.now) mounts.now) }
     ensures { IfOk result (λ v. v ≡ map (shown_of inputs.now) mounts.now) }
@@ -66,7 +66,7 @@ pub(crate) fn view_of(alloc: Global, inputs: &[Tree], mounts: &[Mount]) -> Resul
     Ok(View::make(Many::new(shown))?)
 }
 
-// Makes the mounts with the trees of these inputs.
+// Makes an exec's mounts, given the trees of the inputs.
 fn all_shown(alloc: Global, inputs: &[Tree], mounts: &[Mount]) -> Result<Vec<Shown>, NoMemory>
     ensures { IfOk result (λ v. v.items ≡ map (shown_of inputs.now) mounts.now) }
 {
@@ -77,7 +77,7 @@ fn all_shown(alloc: Global, inputs: &[Tree], mounts: &[Mount]) -> Result<Vec<Sho
     Ok(shown)
 }
 
-// Makes a mount with the trees of these inputs.
+// Makes a mount, given the trees of the inputs.
 fn shown_of(alloc: Global, inputs: &[Tree], mount: &Mount) -> Result<Shown, NoMemory>
     ensures { IfOk result (λ m. m ≡ shown_of inputs.now mount.now) }
 {
@@ -92,7 +92,7 @@ fn shown_of(alloc: Global, inputs: &[Tree], mount: &Mount) -> Result<Shown, NoMe
     })
 }
 
-// Returns the path in its tree that a mount shows; the root for a tmpfs mount.
+// Returns the path, in a mount's tree, that the mount shows; the root for a tmpfs mount.
 fn selector_of(alloc: Global, mount: &Mount) -> Result<Path, NoMemory>
     ensures { IfOk result (λ p. p ≡ selector_of mount.now) }
 {
@@ -102,7 +102,7 @@ fn selector_of(alloc: Global, mount: &Mount) -> Result<Path, NoMemory>
     path_in(alloc, &mount.selector)
 }
 
-// Returns the tree that a mount shows: its input's for a bind mount, else the empty tree.
+// Returns the tree that a mount shows: for a bind mount the tree of its input, else the empty tree.
 fn tree_shown(alloc: Global, inputs: &[Tree], mount: &Mount) -> Result<Tree, NoMemory>
     ensures { IfOk result (λ t. t ≡ tree_shown inputs.now mount.now) }
 {

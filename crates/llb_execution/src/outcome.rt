@@ -1,4 +1,4 @@
-//! Does the work of a job, away from any board: all its remaining micro-steps. It depends on the job alone.
+//! Does the work of a job, away from any board: all its remaining micro-steps. The result depends on the job alone.
 
 ghost use Rattle.std.specs.Prelude.{◌≡◌, IfOk, IsTrue, Err};
 ghost use Rattle.llb_execution.specs.Parts.{left_with};
@@ -16,8 +16,8 @@ use llb_wire::Memory;
 use std::alloc::Global;
 use std::marker::Model;
 
-/// The outcome of a job: how many micro-steps remained, and the workspace, the trees of the cache instances and the fault after them. By the type's invariant
-/// these are the result of the job's program, so no board has to check that.
+/// The outcome of a job: how many micro-steps remained, and what they left: the workspace, the trees of the cache instances, and the fault if there is one. By
+/// the type's invariant this is the result of the job's program, so no board has to check it.
 #[derive(Drop)]
 pub struct Outcome {
     job: Job,
@@ -78,8 +78,8 @@ impl Outcome {
         self.fault
     }
 
-    /// Returns how many micro-steps of the job remained, and their result: the workspace, the trees of the cache
-    /// instances, and the fault of the last.
+    /// Returns how many micro-steps of the job remained, and their result: the workspace, the trees of the cache instances, and
+    /// the fault of the last micro-step, if it had one.
     pub fn into_left(self) -> (u32, Workspace, Vec<Tree>, Option<VertexFault>)
         ensures count { result.0 ≡ self.count }
         ensures left { left_with result.1 result.2.items result.3 ≡ self.left }
@@ -95,8 +95,8 @@ impl Outcome {
     }
 }
 
-/// Does all remaining micro-steps of a job, behind a gate. Fails with 143 `Stopped` if the gate stops the worker (a gate stops only a worker that it may stop
-/// at that vertex), or with 142 `Memory`; then the job is dropped. The micro-steps are done on copies of the job's workspace and trees.
+/// Does all remaining micro-steps of a job, behind a gate. Fails with 143 `Stopped` if the gate stops the worker, which it may do only where its `may_stop` is
+/// true, or with 142 `Memory`; then the job is dropped. The micro-steps are done on copies of the job's workspace and trees.
 pub fn work<G: Gate>(alloc: Global, job: Job, gate: &G) -> Result<Outcome, WorkFault>
     ensures job { IfOk result (λ o. o.job ≡ job) }
     ensures stopped { result ≡ Err work.Stopped → IsTrue (G.may_stop job.worker job.vertex) }

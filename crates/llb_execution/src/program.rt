@@ -20,7 +20,7 @@ pub struct Program {
     pub(crate) output_numbers: Vec<i64>,
 }
 
-// Written by hand, so that it is proved once; a derived one is proved again in every function that drops such a value.
+// This `Drop` is written by hand, so that it is proved once; a derived one is proved again in every function that drops such a value.
 impl Drop for Program {
     fn drop(self) {
         let Program {
@@ -40,7 +40,7 @@ impl Model for Program {
 }
 
 impl Program {
-    /// Returns the program of a vertex, with which it shares actions and commands. Fails with 5 `Memory` alone.
+    /// Makes the program of a vertex, which shares the actions and commands of the vertex. Fails with 5 `Memory` alone.
     pub fn of(alloc: Global, vertex: &Vertex) -> Result<Program, Memory>
         ensures { IfOk result (λ p. p ≡ program_of vertex.now) }
     {

@@ -1,4 +1,4 @@
-//! Refused memory: the calls of lower crates that are made here can fail with nothing else.
+//! The fault of refused memory. The calls whose faults are converted here can fail with nothing else.
 
 use llb_applet::ScriptFault;
 use llb_tree::TreeFault;

@@ -1,5 +1,5 @@
-//! Whether two workspaces are the same by value, whether two vertices have the same micro-steps, and whether a program is the program of a vertex. Nothing here
-//! allocates: the vertex's micro-steps are made before, and the outputs are compared with the fields of the vertex.
+//! Compares two workspaces by value, the micro-steps of two vertices, and a program with the program of a vertex. Nothing here allocates: the caller has made
+//! the vertex's micro-steps before, and outputs are compared with the fields of the vertex.
 
 ghost use Rattle.std.specs.Prelude.{◌≡◌, ◌↔◌, IsTrue, [], ◌∷◌, map};
 ghost use Rattle.llb_loader.specs.Rules.{mount_outputs};

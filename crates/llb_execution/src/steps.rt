@@ -17,12 +17,12 @@ use std::alloc::Global;
 use std::marker::Model;
 
 /// The micro-steps of a vertex: one read of a source, the actions of a file op, the inputs of a merge, or the commands of an exec in
-/// their setting. Actions and commands are shared with the vertex. Contracts see the model's list.
+/// their setting. Actions and commands are shared with the vertex. Contracts see them as the model's list of micro-steps.
 pub struct Steps {
     pub(crate) by: ByKind,
 }
 
-// Written by hand, so that it is proved once; a derived one is proved again in every function that drops such a value.
+// This `Drop` is written by hand, so that it is proved once; a derived one is proved again in every function that drops such a value.
 impl Drop for Steps {
     fn drop(self) {
         let Steps { by: _ } = self;
@@ -62,7 +62,7 @@ impl Steps {
         Ok(Steps { by })
     }
 
-    /// Copies the micro-steps, which share actions and commands. Fails with 5 `Memory` alone.
+    /// Copies the micro-steps; the copy shares actions and commands. Fails with 5 `Memory` alone.
     pub fn copy(&self) -> Result<Steps, Memory>
         ensures { IfOk result (λ s. s ≡ self.now) }
     {
@@ -70,7 +70,7 @@ impl Steps {
         Ok(Steps { by })
     }
 
-    /// Returns micro-step `k`, from 0; `None` if `k` is at least the number of micro-steps. Does not allocate.
+    /// Returns micro-step `k`, counted from 0; `None` if `k` is at least the number of micro-steps. Does not allocate.
     pub fn get(&self, k: u32) -> Option<MicroStep<'_>>
         ensures { option_map step_in result ≡ slice_get self.now k }
     {

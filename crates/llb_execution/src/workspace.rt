@@ -1,5 +1,6 @@
-//! What a program works on, which owns its data: it begins with the trees of the vertex's inputs, each micro-step changes it, and the
-//! outputs are taken from it at the end. It is built on what one action, one laying and one command do.
+//! The workspace: what a program works on. It owns its data, and begins with the trees of the vertex's inputs; each micro-step
+//! changes it; at the end the outputs are taken from it. One action is done by `llb_fileop`, one laying by `llb_merge`, one command
+//! by `filling`.
 
 ghost use Rattle.std.specs.Prelude.{◌≡◌, ◌<◌, List, length, map, option_map, replicate, unwrap_or, Some, None, Result, IfOk, OnOk, OnErr};
 ghost use Rattle.std.specs.List.{All};
@@ -32,14 +33,14 @@ use llb_wire::Memory;
 use std::alloc::Global;
 use std::marker::Model;
 
-/// What a program works on: for a source its local tree, for a file op the trees of its inputs and the results so far, for a
-/// merge the trees of its inputs and what is laid so far, for an exec its mounts, of which those that show caches are empty, and
-/// the status of the last command that ran.
+/// What a program works on: for a source its local tree; for a file op the trees of its inputs and the results so far; for a
+/// merge the trees of its inputs and what is laid so far; for an exec its mounts (those that show caches have the empty tree
+/// here) and the status of the last command that ran.
 pub struct Workspace {
     pub(crate) own: WorkState,
 }
 
-// Written by hand, so that it is proved once; a derived one is proved again in every function that drops such a value.
+// This `Drop` is written by hand, so that it is proved once; a derived one is proved again in every function that drops such a value.
 impl Drop for Workspace {
     fn drop(self) {
         let Workspace { own: _ } = self;
@@ -70,8 +71,8 @@ impl Model for Workspace {
 }
 
 impl Workspace {
-    /// Makes the workspace before the first micro-step of a vertex: on the trees of its inputs, with the numbers of the
-    /// mounts that show caches, in the order of the needs. Fails with 5 `Memory` alone.
+    /// Makes the workspace of a vertex before its first micro-step: on the trees of its inputs, with the numbers of the mounts
+    /// that show caches, in ascending order. Fails with 5 `Memory` alone.
     pub fn on(
         alloc: Global,
         locals: &Locals,
@@ -87,7 +88,7 @@ impl Workspace {
         Ok(Workspace { own })
     }
 
-    /// Copies the workspace, which shares its trees. Fails with 5 `Memory` alone.
+    /// Copies the workspace; the copy shares its trees. Fails with 5 `Memory` alone.
     pub fn copy(&self) -> Result<Workspace, Memory>
         ensures { IfOk result (λ v. v ≡ self.now) }
     {
@@ -95,7 +96,7 @@ impl Workspace {
         Ok(Workspace { own })
     }
 
-    /// Returns the status of the last command that ran, 0 before one has. Does not allocate.
+    /// Returns the status of the last command that ran; 0 before a command has run. Does not allocate.
     pub fn last(&self) -> u32
         ensures { result ≡ last_of self.now }
     {
@@ -105,7 +106,7 @@ impl Workspace {
         }
     }
 
-    /// Returns whether a micro-step is a command that is skipped here: it changes nothing. Does not allocate.
+    /// Returns whether a micro-step is a command that is skipped; a skipped command changes nothing. Does not allocate.
     pub fn skips(&self, step: MicroStep<'_>) -> bool
         ensures { result ≡ is_skipped (step_in step.entry) self.now }
     {
@@ -115,9 +116,9 @@ impl Workspace {
         }
     }
 
-    /// Does micro-step `k`; if it faults, the fault has the number `k` in it. The trees given are those of the instances of the caches that the workspace
-    /// shows, in the order of the needs, and a command changes them. Returns the fault, if there is one, and then the workspace and the trees are as they were
-    /// except for the last status. Fails with 5 `Memory` alone; then they are as they were.
+    /// Does micro-step `k`, and returns its fault, if it has one; the fault has the number `k` in it. `trees` are the trees of the cache instances that the
+    /// workspace shows, in the order of the mounts that show them; a command changes them. If there is a fault, the workspace and `trees` are as before, except
+    /// for the last status. Fails with 5 `Memory` alone; then nothing is changed.
     pub fn step(
         &mut self,
         alloc: Global,
@@ -165,7 +166,7 @@ impl Workspace {
         outputs_of(own, outputs, vertex)
     }
 
-    // Adds the tree that action `k` returned to the results; if the action failed, returns its fault.
+    // Appends the tree that action `k` made to the results; if the action failed, returns its fault.
     fn put_result(
         &mut self,
         k: u32,
@@ -185,7 +186,7 @@ impl Workspace {
         }
     }
 
-    // Returns the tree with that number, which an action can begin with; `None` means the empty tree.
+    // Returns the tree that an action names by this number; `None` means the empty tree.
     fn tree(&self, number: i64) -> Option<&Tree>
         ensures { unwrap_or (option_map (λ t. t.now) result) empty_tree ≡ base_in number (trees_in self.now) }
     {
@@ -221,7 +222,7 @@ impl Workspace {
         }
     }
 
-    // Lays a merge's input over those before it.
+    // Lays a merge's input over the inputs before it.
     fn lay(&mut self, alloc: Global, input: i64) -> Result<(), NoMemory>
         ensures ok { OnOk result (self.new ≡ lay_on input self.old) }
         ensures err { OnErr result (self.new ≡ self.old) }
@@ -233,7 +234,7 @@ impl Workspace {
         }
     }
 
-    // Keeps the first results of a file op, `count` of them.
+    // Keeps only the first `count` results of a file op.
     pub(crate) fn keep_results(&mut self, count: usize)
         ensures { self.new ≡ put_back (Results count) self.old }
     {
@@ -243,7 +244,7 @@ impl Workspace {
         }
     }
 
-    // Replaces what is laid so far of a merge.
+    // Replaces what a merge has laid so far.
     pub(crate) fn put_laid(&mut self, tree: Tree)
         ensures { self.new ≡ put_back (Laid tree) self.old }
     {
@@ -266,8 +267,8 @@ impl Workspace {
         }
     }
 
-    // Runs command `k` on an exec's mounts, while those that show caches have these trees; or skips it, by its join and the last status. Returns its fault: a
-    // status other than 0, if no later command may run.
+    // Runs command `k` on an exec's mounts, or skips it, by its join and the last status. While it runs, the mounts that show caches have the trees `trees`.
+    // Returns the exec's fault: the command's status, if it is not 0 and no later command may run.
     fn run(
         &mut self,
         k: u32,
@@ -319,7 +320,7 @@ fn copy_of(own: &WorkState) -> Result<WorkState, NoMemory>
     }
 }
 
-// Copies trees, which stay shared.
+// Copies a list of trees; the copies share memory with the trees.
 pub(crate) fn tree_copies(alloc: Global, trees: &[Tree]) -> Result<Vec<Tree>, NoMemory>
     ensures { IfOk result (λ v. v.items ≡ trees.now) }
 {
@@ -330,7 +331,7 @@ pub(crate) fn tree_copies(alloc: Global, trees: &[Tree]) -> Result<Vec<Tree>, No
     Ok(copies)
 }
 
-// Makes what a vertex's program begins with.
+// Makes the data of the workspace that a vertex's program begins with.
 fn own_on(
     alloc: Global,
     locals: &Locals,
@@ -353,7 +354,7 @@ fn own_on(
     }
 }
 
-// Copies the local tree of a source; returns the empty tree if none is given.
+// Copies the local tree of a source; returns the empty tree if no tree is given for the source.
 fn local_tree(alloc: Global, locals: &Locals, vertex: &Vertex) -> Result<Tree, NoMemory>
     ensures { IfOk result (λ t. t ≡ local_tree locals.now vertex.now) }
 {
@@ -396,7 +397,7 @@ fn tree_number(fault: TreeFault) -> u32
     }
 }
 
-// Lays one of the inputs over a tree; -1 is the empty tree.
+// Lays the input with this number over a tree; the number -1 means the empty tree.
 fn lay_input(alloc: Global, laid: &mut Tree, inputs: &[Tree], input: i64) -> Result<(), NoMemory>
     ensures ok { OnOk result (laid.new ≡ lay laid.old (base_in input inputs.now)) }
     ensures err { OnErr result (laid.new ≡ laid.old) }
@@ -408,7 +409,7 @@ fn lay_input(alloc: Global, laid: &mut Tree, inputs: &[Tree], input: i64) -> Res
     Ok(())
 }
 
-// Returns whether a command with this join runs after a last status.
+// Returns whether a command with this join runs, given the status of the last command that ran.
 fn runs_after(join: Join, last: u32) -> bool
     ensures { result ≡ is_run join last }
 {
@@ -440,8 +441,9 @@ fn are_ands(commands: &[Joined]) -> bool
     true
 }
 
-// Returns the fault of a command that ended with a status other than 0, if no later one may run. Only if the status is not 0 are later commands looked at, up
-// to the first that is not joined by `&&`. The commands before that one are all skipped, so over a whole script this takes time in the length of the script.
+// Returns the exec's fault after a command: the command's status, if it is not 0 and no later command may run. Later commands are looked at only if the status
+// is not 0, and only up to the first that is not joined by `&&`. The commands before that one are all skipped, so over a whole script this takes time in the
+// length of the script.
 fn exit_of(command: u32, status: u32, later: &[Joined]) -> Option<VertexFault>
     ensures { result ≡ exit_of command (all_and later.now) status }
 {

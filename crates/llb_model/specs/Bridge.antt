@@ -1,7 +1,7 @@
--- How the two models of caches are related. The model of llb_cache has rows, each a key with the list of its trees, in the order in which keys were first
--- leased, and leases with numbers, since its callers list keys in that order and give a lease back by its number. The model of the machine has a store, a map
--- from instances to trees: events of different workers change it to the same store in either order, but not rows, since a new key is put last. This file says
--- which store rows represent, which rows there are after an event, and which leases running workers have.
+-- How the two models of caches are related. llb_cache models caches as rows, in the order in which the keys were first leased; a row is a key with the list of
+-- its trees. llb_cache also gives each lease a number. Its callers list keys in that order, and return a lease by its number. The machine models caches as a
+-- store, a map from instances to trees: if two workers lease two new keys, the store is the same in either order, but the rows are not, since a new key is put
+-- last. This file says which store the rows represent, which rows there are after an event, and which leases the running workers have.
 use Rattle.std.specs.Prelude.{◌≡◌, ◌⊎◌, ℕ, ◌+◌, true, List, [], ◌∷◌, ◌++◌, length, map, Option, Some, None, slice_get, slice_set, nat_lt}
 use Rattle.std.specs.Prelude.{if◌then◌else◌}
 use Rattle.std.specs.FinMap as finite
@@ -50,13 +50,13 @@ abbrev pub written : Store → List Row → List Instance → List Row
 written s rows [] = rows
 written s rows (p ∷ ps) = written s (showing rows p (tree_of s p)) ps
 
--- the rows after an event of worker w, given the state after it: only the instances that the worker holds then are written or made
+-- the rows after an event of worker w, given the state after the event: the event writes or makes only instances that the worker holds in that state
 abbrev pub rows_after : List Row → State → ℕ → List Row
 rows_after rows s w = written s.store rows (places_at (slice_get s.workers w))
 
 -- ---- what a lease needs, and which instances it takes
 
--- the needs of a lease: for each need of a vertex its key, and the tree that a new instance begins with (that of an input, or the empty tree)
+-- the needs of a lease, one for each need of a vertex: the same key, and the tree that a new instance begins with (the tree of an input, or the empty tree)
 abbrev pub asked : List TreeMap → List Need → List cache_need.Need
 asked inputs needs = map (λ (n : Need). record { key = n.key; tree = base_in n.input inputs }) needs
 
@@ -75,11 +75,11 @@ pub record HoldsAs (out : Leases) (workers : List WorkerStatus) : Type 0 where
   pub leased : (p : Instance) → Has (held workers) p → is_held out p ≡ true
   pub running : (p : Instance) → is_held out p ≡ true → Has (held workers) p
 
--- l, a worker's item in a list of leases, is the number of a lease of these instances, or it is empty and there are no instances
+-- l is a worker's item in a list of lease numbers. Either it is the number of a lease of these instances, or it is empty and there are no instances
 abbrev pub HasLease : Leases → Option (Option ℕ) → List Instance → Type 0
 HasLease out l ps = ((k : ℕ) × (l ≡ Some (Some k)) × cache.Has out k ps) ⊎ ((l ≡ Some None) × (ps ≡ []))
 
--- each running worker that holds instances has a lease of exactly these instances, which no other worker has, and there is no other lease
+-- each running worker that holds instances has a lease of exactly these instances; no two workers have the same lease, and every lease is that of a worker
 pub record AreLeased (out : Leases) (workers : List WorkerStatus) (ls : List (Option ℕ)) : Type 0 where
   pub count : length ls ≡ length workers
   pub has : (w : ℕ) (x : Execution) → slice_get workers w ≡ Some (Runs x) → HasLease out (slice_get ls w) x.places

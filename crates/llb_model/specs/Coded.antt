@@ -1,4 +1,4 @@
--- Stores as plain values (pairs, numbers, lists), so that a type whose contract value has a store can be compared by that value.
+-- Stores as plain values (pairs, numbers, lists), so that two values that contain stores can be compared in a contract.
 use Rattle.std.specs.Prelude.{◌≡◌, ℕ, zero, suc, List, Option, Some, None, refl}
 use Rattle.std.specs.FinMap as finite
 use Rattle.std.specs.Coded.{Coded, code_by, coded×, coded_ℕ, coded_list, coded_option}
@@ -15,7 +15,7 @@ mode_at zero = Shared
 mode_at (suc zero) = Private
 mode_at (suc (suc n)) = Locked
 
--- an instance as pairs of the numbers and texts in it
+-- an instance in plain form: its number and mode, the ID of its key, and the seed of its key
 abbrev pub Packed : Type 0
 Packed = (ℕ × ℕ) × (List ℕ × Option (List ℕ × ℕ))
 

@@ -64,7 +64,7 @@ landed b s w x left = record {
   store = put_all s.store x.places left.work.trees;
 }
 
--- if a worker can do n further micro-steps, n steps of it are granted, and change the state exactly as these micro-steps change its result so far
+-- if a worker can do n further micro-steps, n steps of the worker are granted, and their effect is that of these micro-steps on the worker's result so far
 abbrev pub StepsAsBlock : Build → Type 0
 StepsAsBlock b = (s : State) (w : ℕ) (x : Execution) (trees : List TreeMap) (n : ℕ) → slice_get s.workers w ≡ Some (Runs x)
     → Distinct x.places → Hold s.store x.places trees

@@ -73,14 +73,14 @@ with_content p t s = record s { store = put s.store p t }
 abbrev pub with_content_after : Instance → TreeMap → State × Reply → State × Reply
 with_content_after p t a = (with_content p t a.0, a.1)
 
--- another worker's event does not read an instance that a running worker holds exclusively: for any tree there, its reply and effect elsewhere are the same
+-- another worker's event does not read an instance that a running worker holds exclusively: whatever tree it has, reply and effect elsewhere are the same
 abbrev pub OthersIgnore : Build → Type 0
 OthersIgnore b = (s : State) (e : Event) (t : TreeMap) → IsReached b s → (w : ℕ) (x : Execution) (p : Instance) → slice_get s.workers w ≡ Some (Runs x)
     → Has x.places p → IsExclusive p.key.mode → worker_of e ≢ w → table b (with_content p t s) e ≡ option_map (with_content_after p t) (table b s e)
 
 -- ---- the claim order
 
--- after a run, each settled vertex and each instance that nobody holds is as if the claims were done one after another, each whole or up to its cancel
+-- after a run, each settled vertex and each instance that no worker holds is as if the claims had been done one after another, each up to its end or cancel
 abbrev pub RunsInClaimOrder : Build → Type 0
 RunsInClaimOrder b = (o : Opening) (es : List Event) (rs : List Reply) (s : State) → run b (opening b o) es ≡ Some (s, rs)
     → StandsIn s (order b (at_first b o.store) (claims_in rs))
@@ -102,7 +102,7 @@ AreChosen b s es = EachIn (IsChosen b) b s es
 abbrev pub IsAtRest : State → Type 0
 IsAtRest s = (v w : ℕ) → slice_get s.statuses v ≡ Some (Running w) → ⊥
 
--- a run of chosen events, at whose end no vertex runs, ends in the state to which its claims lead if they are done one after another, also with shared caches
+-- if a run has only chosen events, and no vertex runs at its end, it ends as if its claims were done one after another; this holds with shared caches too
 abbrev pub AloneInClaimOrder : Build → Type 0
 AloneInClaimOrder b = (o : Opening) (es : List Event) (rs : List Reply) (s : State) → run b (opening b o) es ≡ Some (s, rs)
     → AreChosen b (opening b o) es → IsAtRest s
@@ -114,7 +114,7 @@ AloneInClaimOrder b = (o : Opening) (es : List Event) (rs : List Reply) (s : Sta
 abbrev pub IsDense : Store → Type 0
 IsDense store = (k : Key) (n : ℕ) → is_some (content store (place k (n + 1))) ≡ true → is_some (content store (place k n)) ≡ true
 
--- if there are no gaps at the opening, there are none later: a claim adds the next number
+-- if the numbers have no gaps at the opening, they have none later: a claim that makes an instance gives it the next number of its key
 abbrev pub StaysDense : Build → Type 0
 StaysDense b = (o : Opening) (es : List Event) (rs : List Reply) (s : State) → IsDense o.store → run b (opening b o) es ≡ Some (s, rs) → IsDense s.store
 
@@ -135,7 +135,7 @@ HeldAreThere b = (s : State) → IsReached b s → (w : ℕ) (x : Execution) →
 abbrev pub at_start : List Shown → List ℕ → List TreeMap → Work
 at_start mounts caches trees = record { own = Mounted mounts caches 0; trees = trees }
 
--- the number of the last command that ran, of those up to number k: k if command k runs after the status `last`; else `before`, the last that ran before k
+-- the last command that ran among those up to number k: it is k if command k runs after the status `last`, else `before`, the last that ran before command k
 abbrev pub later_ran : ℕ → Option Joined → ℕ → ℕ → ℕ
 later_ran k None last before = before
 later_ran k (Some c) last before = if is_run c.join last then k else before
@@ -184,7 +184,7 @@ are_ands (c ∷ cs) = is_run c.join 0 && all_and cs
 abbrev pub in_turn : Setting → Joined → MicroStep
 in_turn setting c = Run setting (record { join = Then; command = c.command }) true
 
--- the first k commands have the result that `in_turn` gives them: each runs, until a status is not 0, which is a fault; without a fault command k runs too
+-- the first k commands have the same result as their `in_turn` micro-steps; if that result has no fault, command k runs
 pub record RunsInTurn (setting : Setting) (cs : List Joined) (work : Work) (k : ℕ) : Type 0 where
   pub leaves : part (runs_of setting cs) work k ≡ part (map (in_turn setting) cs) work k
   pub runs : (c : Joined) → (part (runs_of setting cs) work k).fault ≡ None → slice_get cs k ≡ Some c
@@ -197,7 +197,7 @@ AndsRunInTurn = (setting : Setting) (cs : List Joined) (mounts : List Shown) (ca
 
 -- ---- views
 
--- nothing is lost between two commands: the caches taken out of a view and put back give the same view
+-- nothing is lost between two commands: if the trees of the caches are taken out of a view and put back, the view is the same as before
 abbrev pub PartsMeet : Type 0
 PartsMeet = (ms : List ℕ) (trees : List TreeMap) (mounts : List Shown) → Distinct ms → length trees ≡ length ms
     → filled (blanked mounts ms trees) ms (taken mounts ms trees) ≡ mounts

@@ -54,12 +54,12 @@ stands_after (Some k) p left = Waiting
 abbrev pub left_by : Order → ℕ → List Instance → Program → Option ℕ → Left → Order
 left_by o v ps p cut left = record { statuses = slice_set o.statuses v (stands_after cut p left); store = put_all o.store ps left.work.trees }
 
--- the state after the work of a claim, which begins with the trees of the inputs and of the instances
+-- the state after the work of a claim, if that work begins with the trees of the inputs and of the instances
 abbrev pub whole_at : Build → Order → ℕ → Start → List Instance → Option ℕ → Order
 whole_at b o v start ps cut =
     left_by o v ps (program_of start.vertex) cut (done_of cut (program_of start.vertex).steps (begin_at b o.store start ps))
 
--- the state after a claim if the trees of its inputs are given; else the state is unchanged
+-- the state after a claim, given the `Start` of its vertex; without a `Start` (the vertex is not Ready) the state is unchanged
 abbrev pub run_whole : Build → Order → Named → Option Start → Order
 run_whole b o c None = o
 run_whole b o c (Some start) = whole_at b o c.vertex start (places_by (needs_of start.vertex) c.instances) c.cut

@@ -1,4 +1,4 @@
--- The plain outcome of a vertex, which no order of events can change if no cache mount is at or before it.
+-- The plain outcome of a vertex. A vertex with no cache mount at or before it ends with its plain outcome, whatever the order of events.
 use Rattle.std.specs.Prelude.{ℕ, Bool, false, not, ◌&&◌, List, [], ◌∷◌, map, Option, Some, None, unwrap_or, slice_get}
 use Rattle.std.specs.List.{list_all}
 use Rattle.llb_loader.specs.declared.graph.Edge.{Edge}
@@ -13,7 +13,7 @@ pub data Ending : Type 0 where
   Done : List TreeMap → Ending
   Failed : VertexFault → Ending
 
--- what the graph alone makes of a vertex: an ending, or Blocked if an input has no tree
+-- how a vertex ends by the graph and the local trees alone: an ending, or Blocked if an input has no tree
 pub data Outcome : Type 0 where
   Ended : Ending → Outcome
   Blocked : Outcome
@@ -27,7 +27,7 @@ ended p workspace (Some f) = Failed f
 abbrev pub ending : Program → Left → Ending
 ending p left = ended p left.work.own left.fault
 
--- output i of a vertex that ended done
+-- output i of a vertex, if the vertex is done and has that output
 abbrev pub output_in : Option Ending → ℕ → Option TreeMap
 output_in (Some (Done trees)) i = slice_get trees i
 output_in (Some (Failed f)) i = None

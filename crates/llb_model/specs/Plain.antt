@@ -10,7 +10,7 @@ use Rattle.llb_model.specs.State.{Settled, Execution, Runs, State}
 abbrev pub left_of : Execution → Left
 left_of x = record { work = record { own = x.own; trees = [] }; fault = x.fault }
 
--- an execution has done the first micro-steps of its vertex's program, on the plain outcomes of the inputs, and holds no instances
+-- an execution holds no instances, and its result so far is that of its program's first micro-steps on the trees in the inputs' plain outcomes
 pub record IsUnderWay (b : Build) (x : Execution) : Type 0 where
   pub vertex : Vertex
   pub trees : List TreeMap
@@ -19,7 +19,7 @@ pub record IsUnderWay (b : Build) (x : Execution) : Type 0 where
   pub so_far : part (program_of vertex).steps (begin b (start_with vertex trees) []) x.done ≡ left_of x
   pub bare : x.places ≡ []
 
--- for each plain vertex: if it is settled, it has its plain outcome; if it runs, its first micro-steps were done on plain outcomes
+-- for each plain vertex: if it is settled, it has ended with its plain outcome; if it runs, `IsUnderWay` holds for its execution
 pub record StandsByOutcomes (b : Build) (s : State) : Type 0 where
   pub settled : (v : ℕ) (e : Ending) → is_plain b v ≡ true → slice_get s.statuses v ≡ Some (Settled e) → outcome b v ≡ Some (Ended e)
   pub working : (w : ℕ) (x : Execution) → is_plain b x.vertex ≡ true → slice_get s.workers w ≡ Some (Runs x) → IsUnderWay b x

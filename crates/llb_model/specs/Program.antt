@@ -1,4 +1,4 @@
--- What a vertex does: its program, a list of micro-steps; the work that they change, and the result of the first k; and the caches that the vertex needs.
+-- What a vertex does: its program (a list of micro-steps), the work that micro-steps change, the result of the first k of them, and the caches that it needs.
 use Rattle.std.specs.Prelude.{ℕ, zero, suc, ◌+◌, ◌==◌, ℤ, pos, negsuc, Bool, true, false, not, List, [], ◌∷◌, ◌++◌, length, map, Option, Some, None}
 use Rattle.std.specs.Prelude.{option_map, unwrap_or, slice_get, Result, Ok, Err, if◌then◌else◌}
 use Rattle.std.specs.List.{list_any, list_all, range_with_len}
@@ -42,8 +42,8 @@ pub record Build : Type 0 where
   pub graph : Numbered
   pub locals : List Local
 
--- one micro-step: the read of a source; an action of a file op; the laying of a merge's input over the inputs before it; a command of an exec with its setting,
--- and whether every later command is joined by And
+-- one micro-step: the read of a source; an action of a file op; the laying of a merge's input over the inputs before it; a command of an exec, with its setting
+-- (directory and variables), and whether every later command of the script is joined by And
 pub data MicroStep : Type 0 where
   ReadLocal : MicroStep
   Act : Action → MicroStep
@@ -65,7 +65,7 @@ pub data Workspace : Type 0 where
   Layers : List TreeMap → TreeMap → Workspace
   Mounted : List Shown → List ℕ → ℕ → Workspace
 
--- all that micro-steps work on: the workspace, and the trees of the cache instances that the vertex holds, in the order of its needs
+-- all that micro-steps work on: the workspace, and the trees of the cache instances that the vertex holds, in the order of its needs (see `Need`)
 pub record Work : Type 0 where
   pub own : Workspace
   pub trees : List TreeMap
@@ -80,17 +80,17 @@ pub record Start : Type 0 where
   pub vertex : Vertex
   pub inputs : List TreeMap
 
--- the start of a vertex with these trees of its inputs
+-- the `Start` of a vertex, given the trees of its inputs
 abbrev pub start_with : Vertex → List TreeMap → Start
 start_with v trees = record { vertex = v; inputs = trees }
 
--- the path that a text spells, or the root if it spells none; in a loaded graph each text that has to be a path spells one
+-- the path that a text spells; the root if the text spells no path (in a loaded graph every cwd, dest and selector spells a path)
 abbrev pub path_in : List ℕ → List (List ℕ)
 path_in text = unwrap_or (read_as text) []
 
 -- ---- the caches that a vertex needs
 
--- a cache mount of an exec: the number of the mount, the key, and the number of the input whose tree a new instance begins with (-1: the empty tree)
+-- a need: a cache mount's number, the key of its cache, and the number of the input whose tree a new instance begins with (-1: the empty tree)
 pub record Need : Type 0 where
   pub mount : ℕ
   pub key : Key
@@ -104,7 +104,7 @@ key_of n = n.key
 abbrev pub mount_of : Need → ℕ
 mount_of n = n.mount
 
--- the sharing mode of a cache, by its number in the message
+-- the sharing mode with this number in the message of a cache mount: 1 is private, 2 is locked, any other number is shared
 abbrev pub mode_of : ℤ → Mode
 mode_of n = if int_eq n (pos 1) then Private else if int_eq n (pos 2) then Locked else Shared
 
@@ -113,15 +113,15 @@ abbrev pub index_of : ℤ → ℕ
 index_of (pos n) = n
 index_of (negsuc n) = 0
 
--- a seed of the loader with its index as a natural number
+-- a key's seed (the digest of an entry, and an output index), with the loader's integer index as a natural number
 abbrev pub seed_as : mounts.Seed → Seed
 seed_as s = record { digest = s.digest; index = index_of s.index }
 
--- the key of a cache, as its mount names it
+-- the loader's key of a cache mount, as a key of llb_cache
 abbrev pub key_as : CacheKey → Key
 key_as k = record { id = k.id; seed = option_map seed_as k.seed; mode = mode_of k.mode }
 
--- the need of mount i, if the mount shows a cache, put before the needs of the mounts after it
+-- the needs of mount i and of the mounts after it: if mount i shows a cache, its need is put before the others
 abbrev pub with_need : ℕ → Mount → Option CacheKey → List Need → List Need
 with_need i m (Some k) needs = record { mount = i; key = key_as k; input = m.input } ∷ needs
 with_need i m None needs = needs
@@ -131,7 +131,7 @@ abbrev pub needs_from : List Input → ℕ → List Mount → List Need
 needs_from inputs i [] = []
 needs_from inputs i (m ∷ ms) = with_need i m (mounts.key_of inputs m) (needs_from inputs (i + 1) ms)
 
--- the needs of a vertex: the caches that its mounts show, in their order
+-- the needs of a vertex: the caches that its mounts show, in the order of the mounts
 abbrev pub needs_of : Vertex → List Need
 needs_of v = needs_from v.op.inputs 0 (kind_mounts v.op.kind)
 
@@ -141,7 +141,7 @@ has_cache v = list_any (has_type cache) (kind_mounts v.op.kind)
 
 -- ---- programs
 
--- where an exec's commands run: its `cwd` and its `env`; every exec of a loaded graph has a meta
+-- the setting of an exec's commands: the `cwd` and the `env` of its meta; every exec of a loaded graph has a meta
 abbrev pub setting_of : Option Meta → Setting
 setting_of (Some m) = record { cwd = path_in m.cwd; env = m.env }
 setting_of None = record { cwd = []; env = [] }
@@ -175,12 +175,12 @@ steps_of None script = []
 abbrev pub program_of : Vertex → Program
 program_of v = record { steps = steps_of v.op.kind v.script; outputs = v.outputs; output_numbers = mount_outputs (kind_mounts v.op.kind) }
 
--- the program of a vertex; one without steps if there is no vertex
+-- the program of a vertex; a program without micro-steps if there is no vertex
 abbrev pub program_at : Option Vertex → Program
 program_at (Some v) = program_of v
 program_at None = record { steps = []; outputs = 0; output_numbers = [] }
 
--- the local tree of a source; the empty tree if its name has none
+-- the local tree of a source; the empty tree if no tree is given for the source's name
 abbrev pub local_tree : List Local → Vertex → TreeMap
 local_tree locals v = unwrap_or (tree_of_local locals (unwrap_or (local_name v.op) [])) empty_tree
 
@@ -193,7 +193,7 @@ base_in (negsuc n) trees = empty_tree
 abbrev pub tree_shown : List TreeMap → Mount → TreeMap
 tree_shown inputs m = if has_type bind m then base_in m.input inputs else empty_tree
 
--- the path in a mount's tree that its dest shows; the root for a tmpfs
+-- the path, in a mount's tree, of what is seen at the mount's dest; the root for a tmpfs
 abbrev pub selector_of : Mount → List (List ℕ)
 selector_of m = if has_type tmpfs m then [] else path_in m.selector
 
@@ -211,7 +211,7 @@ workspace_on locals v (Some (kind.Build b)) inputs = Files inputs []
 workspace_on locals v (Some (kind.Diff d)) inputs = Files inputs []
 workspace_on locals v None inputs = Files inputs []
 
--- the work before the first micro-step of a vertex, with these trees of instances
+-- the work of a vertex before its first micro-step, if its cache instances have these trees
 abbrev pub begin : Build → Start → List TreeMap → Work
 begin b start trees = record { own = workspace_on b.locals start.vertex start.vertex.op.kind start.inputs; trees = trees }
 
@@ -231,7 +231,7 @@ fault_number (act_fault.File f) = tree_fault_number f
 fault_number act_fault.BadPattern = 52
 fault_number act_fault.Memory = 53
 
--- the trees that an action can begin with, by number: the trees of the inputs, then the results so far
+-- the trees that an action can name by number: the trees of the inputs, then the results so far
 abbrev pub trees_in : Workspace → List TreeMap
 trees_in (Files inputs results) = inputs ++ results
 trees_in (LocalTree t) = []
@@ -250,7 +250,7 @@ abbrev pub with_result : ℕ → Workspace → Result TreeMap ActFault → Resul
 with_result a workspace (Ok t) = Ok (with_tree workspace t)
 with_result a workspace (Err f) = Err (fault.Action a (fault_number f))
 
--- the tree that an action makes of the tree of its input, or its fault; a copy reads the tree of its secondary input too
+-- the tree that an action makes of its input's tree, or the action's fault; a copy also reads the tree of its secondary input
 abbrev pub act_among : Action → List TreeMap → Result TreeMap ActFault
 act_among action trees = act action.kind (base_in action.input trees) (base_in action.secondary_input trees)
 
@@ -265,23 +265,23 @@ lay_on i (LocalTree t) = LocalTree t
 lay_on i (Files inputs results) = Files inputs results
 lay_on i (Mounted mounts caches last) = Mounted mounts caches last
 
--- the mounts, where the mount of each of these numbers has the tree at the same position of the list
+-- the mounts after trees are put into some of them: each mount whose number is in the list gets the tree at the same position of the other list
 abbrev pub filled : List Shown → List ℕ → List TreeMap → List Shown
 filled mounts [] trees = mounts
 filled mounts (m ∷ ms) [] = mounts
 filled mounts (m ∷ ms) (t ∷ trees) = filled (with_tree_of mounts m t) ms trees
 
--- the trees that the mounts with these numbers show; for each item of `trees` past the last number, that item
+-- the list `trees`, with each item replaced by the tree that the mount with the number at the same position shows; items past the last number stay
 abbrev pub taken : List Shown → List ℕ → List TreeMap → List TreeMap
 taken mounts ms [] = []
 taken mounts [] (t ∷ trees) = t ∷ trees
 taken mounts (m ∷ ms) (t ∷ trees) = (mount_at mounts m).tree ∷ taken mounts ms trees
 
--- the mounts, where the mount of each of these numbers, as many as `trees` has, has the empty tree
+-- the mounts after the mounts with these numbers get the empty tree; numbers past the length of `trees` have no effect
 abbrev pub blanked : List Shown → List ℕ → List TreeMap → List Shown
 blanked mounts ms trees = filled mounts ms (map (λ t. empty_tree) trees)
 
--- the view after a command with status 0, split into the mounts (with the empty tree in place of the tree of a cache) and the trees of the caches
+-- the work after a command with status 0: the mounts of the view that the command left, the empty tree in each mount of a cache, and the trees of the caches
 abbrev pub parted : List ℕ → List TreeMap → List Shown → Work
 parted caches trees mounts = record { own = Mounted (blanked mounts caches trees) caches 0; trees = taken mounts caches trees }
 
@@ -298,11 +298,11 @@ is_run Then last = true
 is_run And last = last == 0
 is_run Or last = not (last == 0)
 
--- what a micro-step without a fault leaves: this work
+-- the result of a micro-step that leaves this work and has no fault
 abbrev pub no_fault : Work → Left
 no_fault work = record { work = work; fault = None }
 
--- the work after a command ran: the view that it left, or, if it failed, the mounts and trees from before; its status is the last status now
+-- the work after a command ran: the view that the command left or, if it failed, the mounts and trees from before; the last status is the command's status
 abbrev pub after_run : List Shown → List ℕ → List TreeMap → Option (List Shown) → Work
 after_run mounts caches trees (Some after) = parted caches trees after
 after_run mounts caches trees None = record { own = Mounted mounts caches (status_of None); trees = trees }
@@ -329,7 +329,7 @@ abbrev pub tried : Work → Result Workspace VertexFault → Left
 tried work (Ok workspace) = no_fault (record work { own = workspace })
 tried work (Err f) = record { work = work; fault = Some f }
 
--- the result of micro-step k: the work after it, and its fault if it has one
+-- the result of micro-step k: the work after the micro-step, and its fault if it has one
 unfoldable pub micro_step : ℕ → MicroStep → Work → Left
 micro_step k ReadLocal work = no_fault work
 micro_step k (Act action) work = tried work (act_on k action work.own)
@@ -341,12 +341,12 @@ abbrev pub step_on : ℕ → Option MicroStep → Work → Left
 step_on k None work = no_fault work
 step_on k (Some m) work = micro_step k m work
 
--- the earlier result if there is a fault, else the next result
+-- the earlier result if it has a fault, else the next result
 abbrev pub unless_faulted : Option VertexFault → Left → Left → Left
 unless_faulted None left next = next
 unless_faulted (Some f) left next = left
 
--- the result after micro-step k as well, given the result before it; after a fault no micro-step is done
+-- the result after micro-step k, given the result before it; if there was a fault before, the micro-step is not done
 abbrev pub go_on : List MicroStep → ℕ → Left → Left
 go_on steps k left = unless_faulted left.fault left (step_on k (slice_get steps k) left.work)
 
@@ -389,6 +389,6 @@ output_from p (Layers inputs t) zero = t
 output_from p (Layers inputs t) (suc i) = empty_tree
 output_from p (Mounted mounts caches last) i = tree_for i p.output_numbers mounts
 
--- the outputs of a program, by the workspace after all its micro-steps
+-- the outputs of a program, given the workspace after all its micro-steps
 unfoldable pub outputs_of : Program → Workspace → List TreeMap
 outputs_of p workspace = map (output_from p workspace) (range_with_len 0 p.outputs)

@@ -19,7 +19,7 @@ is_cancel_of v (HasStepped r) = false
 is_cancel_of v (HasSettled r) = false
 is_cancel_of v (HasCancelled r) = r.vertex == v
 
--- how often a vertex was cancelled
+-- how often vertex v was cancelled, by these replies
 abbrev pub cancels_in : ℕ → List Reply → ℕ
 cancels_in v rs = count_by (is_cancel_of v) rs
 
@@ -37,23 +37,23 @@ abbrev pub most_from : ℕ → List Vertex → List Reply → ℕ
 most_from k [] rs = 0
 most_from k (v ∷ vs) rs = events_of v * (1 + cancels_in k rs) + most_from (k + 1) vs rs
 
--- the most events of a whole run, by the replies so far
+-- the most events that a whole run can have, given the replies so far: each cancel among them allows further events
 abbrev pub most_events : Build → List Reply → ℕ
 most_events b rs = most_from 0 b.graph.vertices rs
 
--- the most events still to come for a vertex that is not claimed yet; 0 once it is
+-- the most events still to come for a vertex that waits; 0 for a vertex that runs or is settled
 abbrev pub to_come : Vertex → Status → ℕ
 to_come v Waiting = events_of v
 to_come v (Running w) = 0
 to_come v (Settled e) = 0
 
--- the most events still to come for vertices that are not claimed yet
+-- the most events still to come for all vertices that wait
 abbrev pub all_to_come : List Vertex → List Status → ℕ
 all_to_come [] statuses = 0
 all_to_come (v ∷ vs) [] = 0
 all_to_come (v ∷ vs) (s ∷ statuses) = to_come v s + all_to_come vs statuses
 
--- the most events still to come for a worker: the rest of its micro-steps, and its settle
+-- the most events still to come for a worker: its remaining micro-steps and its settle; 0 for an idle worker
 abbrev pub left_by : Build → WorkerStatus → ℕ
 left_by b Idle = 0
 left_by b (Runs x) = (length (program_in b x).steps - x.done) + 1
@@ -69,7 +69,7 @@ still_to_come b s = all_to_come b.graph.vertices s.statuses + all_left b s.worke
 
 -- ---- room in the record
 
--- the room in the record that the next claim of a vertex reserves: 0, unless the vertex waits after a cancel
+-- the room in the record, in events, that the next claim of a vertex reserves: 0, unless the vertex waits after a cancel
 abbrev pub owed_by : Vertex → Status → ℕ → ℕ
 owed_by v Waiting zero = 0
 owed_by v Waiting (suc n) = events_of v
@@ -86,7 +86,7 @@ owed_from k (v ∷ vs) (s ∷ statuses) rs = owed_by v s (cancels_in k rs) + owe
 abbrev pub owed : Build → List Status → List Reply → ℕ
 owed b statuses rs = owed_from 0 b.graph.vertices statuses rs
 
--- the room that is reserved for the claim of a waiting vertex that was cancelled n times
+-- the room that the claim of a waiting vertex reserves, if the vertex was cancelled n times before; 0 if there is no vertex
 abbrev pub owed_at : Option Vertex → ℕ → ℕ
 owed_at None n = 0
 owed_at (Some v) n = owed_by v Waiting n

@@ -8,7 +8,7 @@ use Rattle.llb_events.specs.declared.event.Event.{Event}
 use Rattle.llb_events.specs.declared.event.Event.TheVariants.{Claim, Step, Settle, Cancel}
 use Rattle.llb_model.specs.Table.{Reply, worker_of, table}
 
--- the result of a run, given the result of its first event and, as `go`, the run of the others: the first reply is put first; nothing after a refusal
+-- the result of a run, given the result of its first event and a function `go` that runs the other events: all replies, in order; `None` if one is refused
 abbrev pub after : Option (State × Reply) → (State → Option (State × List Reply)) → Option (State × List Reply)
 after None go = None
 after (Some (s, r)) go = option_map (λ (t : State × List Reply). (t.0, r ∷ t.1)) (go s)
@@ -22,7 +22,7 @@ run b s (e ∷ es) = after (table b s e) (λ t. run b t es)
 abbrev pub events_by : ℕ → List Event → ℕ
 events_by w es = count_by (λ e. worker_of e == w) es
 
--- the next event of the running worker with the lowest number: its settle if it is finished, else a step; the workers of the list are numbered from w
+-- the next event of the running worker with the lowest number: a settle if its execution is finished, else a step; the workers of the list are numbered from w
 abbrev pub next_of : Build → ℕ → List WorkerStatus → Option Event
 next_of b w [] = None
 next_of b w (Idle ∷ workers) = next_of b (w + 1) workers
@@ -37,12 +37,12 @@ least test v (suc n) = if test v then Some v else least test (v + 1) n
 abbrev pub next_claim : Build → State → Option Event
 next_claim b s = option_map (λ v. Claim 0 v) (least (is_ready b s.statuses) 0 (length b.graph.vertices))
 
--- the event before `other` if there is one, else `other`
+-- the first event if there is one, else `other`
 abbrev pub or_else : Option Event → Option Event → Option Event
 or_else (Some e) other = Some e
 or_else None other = other
 
--- the event that the driver chooses: the next event of the running worker with the lowest number, or, if no worker runs, a claim by worker 0
+-- the chosen event: the next event of the running worker with the lowest number, or, if no worker runs, worker 0's claim of the least Ready vertex
 abbrev pub chosen : Build → State → Option Event
 chosen b s = or_else (next_of b 0 s.workers) (next_claim b s)
 
@@ -70,12 +70,12 @@ claims_of (Step w ∷ es) = claims_of es
 claims_of (Settle w ∷ es) = claims_of es
 claims_of (Cancel w ∷ es) = claims_of es
 
--- each of some numbers is above n
+-- each number of the list is above n
 abbrev pub AllAbove : ℕ → List ℕ → Type 0
 AllAbove n [] = Unit {0}
 AllAbove n (m ∷ ms) = (n < m) × AllAbove n ms
 
--- each number is above all before it
+-- each number of the list is above all numbers before it
 abbrev pub AreAscending : List ℕ → Type 0
 AreAscending [] = Unit {0}
 AreAscending (n ∷ ns) = AllAbove n ns × AreAscending ns

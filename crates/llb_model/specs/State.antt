@@ -1,4 +1,4 @@
--- The state of the machine, and questions about it.
+-- The state of the machine, and what can be asked of it: whether a vertex is Ready or blocked, what a worker runs, and which instances a claim takes.
 use Rattle.std.specs.Prelude.{◌≡◌, ℕ, zero, suc, ◌+◌, Bool, true, false, ◌&&◌, ◌||◌, List, [], ◌∷◌, ◌++◌, length, map, Option, Some, None}
 use Rattle.std.specs.Prelude.{is_some, option_map, unwrap_or, slice_get, nat_le, replicate, if◌then◌else◌}
 use Rattle.std.specs.List.{list_any}
@@ -20,8 +20,8 @@ pub data Status : Type 0 where
   Running : ℕ → Status
   Settled : Ending → Status
 
--- the work of a running worker: its vertex, how many micro-steps are done (a micro-step that faults is counted too), the vertex's fault if there is one, the
--- workspace, and the instances of caches that the worker holds, in the order of the needs
+-- what a running worker runs: its vertex, how many micro-steps are done (a micro-step that faults is counted too), the vertex's fault if there is one, the
+-- workspace, and the instances of caches that the worker holds, in the order of the vertex's needs
 pub record Execution : Type 0 where
   pub vertex : ℕ
   pub done : ℕ
@@ -55,7 +55,7 @@ places_at (Some (Runs x)) = x.places
 places_at (Some Idle) = []
 places_at None = []
 
--- how a vertex of this status ended, if it is settled
+-- how a vertex with this status ended, if it is settled
 abbrev pub ending_of : Option Status → Option Ending
 ending_of (Some (Settled e)) = Some e
 ending_of (Some (Running w)) = None
@@ -66,7 +66,7 @@ ending_of None = None
 abbrev pub ending_at : List Status → ℕ → Option Ending
 ending_at statuses v = ending_of (slice_get statuses v)
 
--- what the work on a vertex of this status begins with, if the vertex waits and the trees of all its inputs are there
+-- what the work on a vertex with this status begins with; nothing unless the vertex waits and the trees of all its inputs are there
 abbrev pub start_from : List Status → Option Status → Option Vertex → Option Start
 start_from statuses (Some Waiting) (Some v) = option_map (start_with v) (inputs_from (ending_at statuses) v.inputs)
 start_from statuses (Some Waiting) None = None
@@ -89,13 +89,13 @@ is_waiting (Some (Running w)) = false
 is_waiting (Some (Settled e)) = false
 is_waiting None = false
 
--- whether a vertex ended done, with its outputs; false if it has no ending
+-- whether a vertex with this ending is done; false if there is no ending
 abbrev pub is_done : Option Ending → Bool
 is_done (Some (Done trees)) = true
 is_done (Some (Failed f)) = false
 is_done None = false
 
--- whether a vertex ended failed; false if it has no ending
+-- whether a vertex with this ending has failed; false if there is no ending
 abbrev pub is_failed : Option Ending → Bool
 is_failed (Some (Failed f)) = true
 is_failed (Some (Done trees)) = false
@@ -118,7 +118,7 @@ is_stopped b statuses v = unwrap_or (slice_get (stopped b statuses) v) false
 abbrev pub is_blocked : Build → List Status → ℕ → Bool
 is_blocked b statuses v = is_waiting (slice_get statuses v) && is_stopped b statuses v
 
--- what a worker runs, if anything
+-- the execution of a worker, if the worker runs one
 abbrev pub runs : Option WorkerStatus → Option Execution
 runs (Some (Runs x)) = Some x
 runs (Some Idle) = None
@@ -161,12 +161,12 @@ abbrev pub above : List Instance → ℕ
 above [] = 0
 above (p ∷ ps) = p.number + 1 + above ps
 
--- the least number at or after n whose instance of the key is not in the list, if it is one of the `tries` numbers from n on; else n + tries
+-- the first of the `tries` numbers n, n + 1 and so on whose instance of the key is not in the list; n + tries if there is none
 abbrev pub first_free : List Instance → Key → ℕ → ℕ → ℕ
 first_free ps k n zero = n
 first_free ps k n (suc tries) = if is_in ps (place k n) then first_free ps k (n + 1) tries else n
 
--- the number of the instance of a key that a claim takes: for a private cache the least number whose instance is not held; for any other cache 0
+-- the number of the instance that a claim takes of a key: for a private cache the least number whose instance is not held; for any other cache 0
 abbrev pub number_for : List Instance → Key → Mode → ℕ
 number_for ps k Shared = 0
 number_for ps k Locked = 0

@@ -34,7 +34,7 @@ worker_of (Settle w) = w
 worker_of (Cancel w) = w
 
 -- what a claim hands out: the worker, the vertex and its program, how many micro-steps are done, the work, with the trees of the instances as they are at the
--- claim, and the numbers of these instances in the order of the needs
+-- claim, and the numbers of these instances in the order of the vertex's needs
 pub record Job : Type 0 where
   pub worker : ℕ
   pub vertex : ℕ
@@ -73,7 +73,7 @@ abbrev pub job_on : ℕ → ℕ → Vertex → Work → List Instance → Job
 job_on w v vertex work ps =
     record { worker = w; vertex = v; program = program_of vertex; done = 0; work = work; instances = map (λ (p : Instance). p.number) ps }
 
--- the state after a claim: the vertex and the worker are running, and each instance that did not exist is made in the caches
+-- the state after a claim: the worker runs the vertex, and each instance of the claim that did not exist is made in the caches
 abbrev pub after_claim : State → ℕ → ℕ → Work → List Instance → State
 after_claim s w v work ps = record {
   statuses = slice_set s.statuses v (Running w);
@@ -89,7 +89,7 @@ claim_with s w v vertex work ps = (after_claim s w v work ps, Claimed (job_on w 
 abbrev pub claim_at : Build → State → ℕ → ℕ → Start → List Instance → State × Reply
 claim_at b s w v start ps = claim_with s w v start.vertex (begin_at b s.store start ps) ps
 
--- the result of a claim, given the first locked key among its needs that a worker holds; the claim is refused if there is such a key
+-- the result of a claim, given the first locked key among the vertex's needs whose instance a worker holds; the claim is refused if there is such a key
 abbrev pub claim_unless : Build → State → ℕ → ℕ → Start → Option Key → Result (State × Reply) ClaimFault
 claim_unless b s w v start (Some k) = Err (claim.Held k)
 claim_unless b s w v start None = Ok (claim_at b s w v start (places_for (held s.workers) (needs_of start.vertex)))
@@ -109,12 +109,12 @@ claim_grant b s w v = claimed b s w v (claim_start s.statuses v (slice_get s.wor
 abbrev pub with_step : Execution → Left → Execution
 with_step x left = record x { done = x.done + 1; fault = left.fault; own = left.work.own }
 
--- the fault if there was one, else what was done
+-- what the reply to a micro-step says: the fault if there was one, else what was done
 abbrev pub unless_failed : Option VertexFault → of_step.Stepped → of_step.Stepped
 unless_failed None done = done
 unless_failed (Some f) done = did.Fault f
 
--- what the reply to micro-step k says, given the workspace before it and its result; for a command that ran, its status, even if that makes the exec fail
+-- what the reply to micro-step k says, given the workspace before it and its result; for a command that ran, its status, even if the exec fails by that status
 abbrev pub step_done : ℕ → MicroStep → Workspace → Left → of_step.Stepped
 step_done k ReadLocal before left = unless_failed left.fault did.Read
 step_done k (Act action) before left = unless_failed left.fault (did.Acted k)
@@ -126,7 +126,7 @@ step_done k (Run setting command ends) before left =
 abbrev pub step_reply : ℕ → MicroStep → Workspace → Left → Reply
 step_reply k m before left = HasStepped (step_done k m before left)
 
--- the state after a step: the trees that it wrote are in the caches at once, and stay there even if a later micro-step faults
+-- the state after a step: the trees that the step wrote are in the caches at once, and stay there even if a later micro-step faults
 abbrev pub after_step : State → ℕ → Execution → Left → State
 after_step s w x left = record s { workers = slice_set s.workers w (Runs (with_step x left)); store = put_all s.store x.places left.work.trees }
 
@@ -134,12 +134,12 @@ after_step s w x left = record s { workers = slice_set s.workers w (Runs (with_s
 abbrev pub step_by : State → ℕ → Execution → MicroStep → Left → State × Reply
 step_by s w x m left = (after_step s w x left, step_reply x.done m x.own left)
 
--- the result of a step, given the next micro-step; the step is refused if there is none
+-- the result of a step, given the next micro-step; the step is refused if there is no next micro-step
 abbrev pub step_with : State → ℕ → Execution → Option MicroStep → Result (State × Reply) StepFault
 step_with s w x None = Err step.NothingLeft
 step_with s w x (Some m) = Ok (step_by s w x m (step_on x.done (Some m) (work_of s x)))
 
--- the result of a step, given what the worker does; the step is refused if the worker runs nothing, or nothing that is unfinished
+-- the result of a step, given what the worker does; the step is refused if there is no such worker, if it is idle, or if what it runs is finished
 abbrev pub stepped : Build → State → ℕ → Option WorkerStatus → Result (State × Reply) StepFault
 stepped b s w None = Err step.NoWorker
 stepped b s w (Some Idle) = Err step.NotRunning
@@ -174,7 +174,7 @@ after_settle s w v e = after_end s w v (Settled e)
 abbrev pub settle_with : State → ℕ → ℕ → Ending → State × Reply
 settle_with s w v e = (after_settle s w v e, settle_reply v e)
 
--- the result of a settle, given what the worker does; the settle is refused unless the worker runs something that is finished
+-- the result of a settle, given what the worker does; the settle is refused unless the worker runs an execution that is finished
 abbrev pub settled : Build → State → ℕ → Option WorkerStatus → Result (State × Reply) SettleFault
 settled b s w None = Err settle.NoWorker
 settled b s w (Some Idle) = Err settle.NotRunning
@@ -191,7 +191,7 @@ settle_grant b s w = settled b s w (slice_get s.workers w)
 abbrev pub cancel_reply : ℕ → ℕ → Reply
 cancel_reply v k = HasCancelled (record { vertex = v; done = k })
 
--- the state and the reply after a cancel: the vertex waits again, and the caches keep what its micro-steps have written
+-- the state and the reply after a cancel: the vertex waits again, and the caches keep what the vertex's micro-steps have written
 abbrev pub cancel_with : State → ℕ → ℕ → ℕ → State × Reply
 cancel_with s w v k = (after_end s w v Waiting, cancel_reply v k)
 

@@ -1,6 +1,7 @@
-//! The machine as mathematics: definitions in `specs/`, which the crates that run a graph cite. Its events and refusals are the types of `llb_events`. It is
-//! built on `llb_events`, `llb_fileop`, `llb_loader` and `llb_merge`. What follows for every list of granted events is proved in `proofs/`; the laws of
-//! `llb_board` state it. `specs/Lib.antt` has the order in which to read the files, and docs/FORMATS.md describes the machine in words.
+//! The machine as mathematics: definitions in `specs/`, which the crates that run a graph cite. The events and refusals of the machine are types of
+//! `llb_events`. The crate is built on `llb_events`, `llb_fileop`, `llb_loader` and `llb_merge`. Theorems about every list of granted events are proved in
+//! `proofs/`; the laws of `llb_board` state them. `specs/Lib.antt` has the order in which to read the files, and docs/FORMATS.md describes the machine in
+//! words.
 //!
 //! Types: none in code; in `specs/`: `State` (statuses, workers, the store of caches), `Table` (the transition table), `Program`, `Outcome`,
 //! `Run`.
@@ -8,7 +9,7 @@
 //!
 //! A caller:
 //!
-//!     // Clauses cite it: a board's record leads to its state.
+//!     // A clause of `llb_board` cites the model: the record of a board leads to its state.
 //!     ghost use Rattle.llb_model.specs.Run.{run};
 //!     ghost use Rattle.llb_model.specs.State.{opening};
 //!     // run b.build (opening b.build b.opening) b.events ≡ Some (b.state, replies)

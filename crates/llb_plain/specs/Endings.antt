@@ -4,7 +4,7 @@ use Rattle.llb_model.specs.Outcome as model
 use Rattle.llb_plain.specs.declared.outcome.Outcome.{Outcome}
 use Rattle.llb_plain.specs.declared.outcome.Outcome.TheVariants.{Done, Failed, Blocked}
 
--- an outcome of the code as one of the model
+-- the outcome of the model that an outcome of this crate represents
 abbrev pub outcome_of : Outcome → model.Outcome
 outcome_of (Done trees) = model.Ended (model.Done trees)
 outcome_of (Failed f) = model.Ended (model.Failed f)

@@ -1,4 +1,4 @@
--- What a call of this crate returns: the result of its rule, or the fault `Memory`. A rule never returns `Memory`.
+-- What a call returns: the fault `Memory`, or the result of its rule (the definition of the result if memory is never refused). No rule returns `Memory`.
 use Rattle.std.specs.Prelude.{◌≡◌, Bool, true, false, Result, Ok, Err}
 use Rattle.llb_wire.specs.Answer as answer
 use Rattle.llb_plain.specs.declared.fault.PlainFault.{PlainFault}
@@ -14,7 +14,7 @@ is_memory (HasCache v) = false
 abbrev pub Gives : {X Y : Type 0} → (X → Y) → Result X PlainFault → Result Y PlainFault → Type 0
 Gives = answer.Gives is_memory
 
--- whether a call may need memory, given the result of its rule: the rule refuses nothing, or it refuses a missing local tree, whose name is copied
+-- whether a call may need memory, given the result of its rule: it may if the rule refuses nothing, or refuses a missing local tree, whose name the call copies
 abbrev pub may_want_memory : {Y : Type 0} → Result Y PlainFault → Bool
 may_want_memory (Ok y) = true
 may_want_memory (Err (MissingLocal name)) = true

@@ -1,5 +1,5 @@
-//! Which vertices mount a cache. If a vertex, or a vertex before it, mounts a cache, the outcome may depend on the order in which vertices run, so no graph
-//! with a cache is evaluated.
+//! Finds vertices that mount a cache. The outcome of such a vertex, and of a vertex downstream of one, may depend on the order in which vertices run; so no
+//! graph with a cache is evaluated.
 
 ghost use Rattle.std.specs.Prelude.{◌≡◌};
 ghost use Rattle.llb_plain.specs.Evaluation.{cache_from};

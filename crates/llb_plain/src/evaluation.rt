@@ -1,4 +1,4 @@
-//! The plain outcome of every vertex of a graph, computed in ascending order of their numbers.
+//! The plain outcome of every vertex of a graph, computed in ascending order of vertex numbers.
 
 ghost use Rattle.std.specs.Prelude.{◌≡◌, false, Ok};
 ghost use Rattle.llb_loader.specs.Graph.{IsVertexOf, Numbered};
@@ -18,10 +18,9 @@ use llb_loader::{Graph, Locals, Vertex, missing_local};
 use llb_wire::Text;
 use std::alloc::Global;
 
-/// Returns the plain outcome of every vertex: `Blocked` if an input of the vertex is not done, else what the vertex's whole program makes of the trees of its
-/// inputs: the outputs of the vertex, or its first fault. Fails with 101 `MissingLocal` and the name of the first local source, by vertex, that has no tree;
-/// else with 102 `HasCache` and the least vertex that mounts a cache; else with 103 `Memory`, which can also come in place of 101 if memory for the name is
-/// refused.
+/// Returns the plain outcome of every vertex: `Blocked` if an input of the vertex is not done; else the outputs or the first fault of the vertex's whole
+/// program, run on the trees of its inputs. Fails with 101 `MissingLocal` and the name of the first local source, by vertex, that has no tree; else with 102
+/// `HasCache` and the least vertex that mounts a cache; else with 103 `Memory`. If memory for the name is refused, 103 takes the place of 101.
 pub fn evaluate(alloc: Global, graph: &Graph, locals: &Locals) -> Result<Outcomes, PlainFault>
     ensures gives { Gives (λ o. o) result (evaluate_of (record { graph = graph.now; locals = locals.now })) }
     ensures last { MemoryLast result (evaluate_of (record { graph = graph.now; locals = locals.now })) }

@@ -17,16 +17,16 @@ use std::marker::Model;
 /// How a vertex ends.
 #[derive(Drop)]
 pub enum Outcome {
-    /// Its outputs, in the order of their numbers.
+    /// The vertex is done; its outputs, in the order of their numbers.
     Done(Many<Tree>),
-    /// Its first fault.
+    /// The vertex failed; its first fault.
     Failed(VertexFault),
-    /// An input of it is not done.
+    /// The vertex can't run: one of its inputs is not done.
     Blocked,
 }
 
 impl Outcome {
-    /// Returns the output with this number, if the vertex is done and has it.
+    /// Returns the output with this number, if the vertex is done and has that output.
     pub fn output(&self, index: u32) -> Option<&Tree>
         ensures { option_map (λ t. t.now) result ≡ output_in (ending_in (Some (outcome_of self.now))) index }
     {
@@ -37,12 +37,12 @@ impl Outcome {
     }
 }
 
-/// The outcomes of vertices, by number. Contracts see the list of them, as outcomes of the model.
+/// The outcomes of vertices, by number. Contracts see them as a list of the model's outcomes.
 pub struct Outcomes {
     items: Vec<Outcome>,
 }
 
-// Written by hand, so that it is proved once; a derived one is proved again in every function that drops such a value.
+// This `Drop` is written by hand, so that it is proved once; a derived one is proved again in every function that drops such a value.
 impl Drop for Outcomes {
     fn drop(self) {
         let Outcomes { items: _ } = self;

@@ -1,4 +1,4 @@
-//! Stories of runs whose executions mount a cache: who may hold it at which time, and what they see in it.
+//! Stories of runs whose executions mount a cache: which execution may hold the cache at which time, and what executions see in it.
 
 use super::sessions::{StoryKind, are_stories};
 

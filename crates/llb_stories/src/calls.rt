@@ -1,5 +1,5 @@
-//! Calls on boards and steppers, each in a function without clauses, since a story compares values and needs nothing else of what a call
-//! promises.
+//! Calls on boards and steppers, each in a function without clauses: a story only compares the values that calls return, and needs none
+//! of their other promises.
 
 use llb_board::{Board, Event, Gate, Job, LandFault, OpenFault, Outcome, WorkFault, work};
 use llb_cache::Caches;
@@ -63,7 +63,7 @@ fn is_done(board: &mut Board, line: &str) -> bool {
     }
 }
 
-// Returns whether these events are granted, each written in a line as in a session.
+// Does events, a line each as in a session, up to the first that is refused. Returns whether all were granted.
 pub(crate) fn are_done(board: &mut Board, events: &str) -> bool {
     for line in events.lines() {
         if !is_done(board, line) {
@@ -73,7 +73,7 @@ pub(crate) fn are_done(board: &mut Board, events: &str) -> bool {
     true
 }
 
-// Appends for each of these events a line: what its refusal prints, or `done`.
+// Does events, a line each as in a session. Appends a line for each: `done`, or what its refusal prints.
 pub(crate) fn say_events(rt: &impl Abort, text: &mut String, board: &mut Board, events: &str) {
     for line in events.lines() {
         let event = event_in(line).expect(rt, "an event");
@@ -96,7 +96,7 @@ pub(crate) fn claimed(board: &mut Board, w: u32, v: u32) -> Option<Job> {
     board.claim(w, v).ok()
 }
 
-// Returns the outcome of a job behind a gate, or the number of the fault.
+// Works on a job behind a gate. Returns the outcome, or the number of the fault.
 pub(crate) fn worked_out<G: Gate>(alloc: Global, job: Job, gate: &G) -> Result<Outcome, u32> {
     match work(alloc, job, gate) {
         Ok(outcome) => Ok(outcome),
@@ -105,7 +105,7 @@ pub(crate) fn worked_out<G: Gate>(alloc: Global, job: Job, gate: &G) -> Result<O
     }
 }
 
-// Returns the outcome of what worker `w` does at a vertex behind a gate, or the number of the fault.
+// Claims vertex `v` for worker `w`, and works on the job behind a gate. Returns the outcome, or the number of the fault; 0 if the claim is refused.
 pub(crate) fn worked<G: Gate>(
     alloc: Global,
     board: &mut Board,

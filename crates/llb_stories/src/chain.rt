@@ -86,7 +86,7 @@ fn goes_back(stepper: &mut Stepper) -> bool {
     stepper.back().is_ok()
 }
 
-// Returns whether all events can be taken back, and no more.
+// Returns whether exactly `EVENTS` events can be taken back, which leaves an empty record.
 fn is_taken_back(stepper: &mut Stepper) -> bool {
     for _event in 0..EVENTS {
         if !goes_back(stepper) {

@@ -1,7 +1,7 @@
-//! What a session does not print of a board: what each worker does, and which instances caches have. Such a story is a transcript of the
-//! same form as a session's: a line that begins with `> ` is a call, and the lines after it are its result. The calls are a session's events, which
-//! print nothing if they are granted; `job W V`, a claim that prints its job and the instances of caches that it takes;
-//! `worker W`; `instance MODE I`, the tree of an instance of the cache `k` with that mode; and `leases`.
+//! What a session does not print of a board: what each worker does, and which instances caches have. Such a story is a transcript of the same form
+//! as a session's: a line that begins with `> ` is a call, and the lines after it are its result. The calls are: a session's events, which print
+//! nothing if they are granted; `job W V`, a claim that prints its job and the instances of caches that it takes; `worker W`; `instance MODE I`,
+//! the tree of an instance of the cache `k` with that mode; and `leases`.
 
 use super::calls::{event_in, is_event_done};
 use super::instances::{K_LOCKED, K_PRIVATE, K_SEEDED, K_SHARED};
@@ -129,12 +129,12 @@ fn transcript(rt: &impl Abort, alloc: Global, board: &mut Board, story: &str) ->
     text
 }
 
-// Ends the test if something does not hold.
+// Ends the test unless `holds` is true.
 pub(crate) fn is_so(rt: &impl Abort, holds: bool) {
     assert!(rt; holds);
 }
 
-// Ends the test if the row with a number does not hold; the failure names it.
+// Ends the test if the row with this number does not hold; the failure names the row.
 pub(crate) fn row_holds(rt: &impl Abort, row: usize, is_so: bool) {
     assert!(rt; is_so, "row {row}");
 }
@@ -144,7 +144,7 @@ pub(crate) fn is_same(rt: &impl Abort, printed: &str, wanted: &str) {
     assert_eq!(rt; printed, wanted);
 }
 
-// Ends the test if a fault prints something else.
+// Ends the test if a fault does not print the text `wanted`.
 pub(crate) fn prints<E: Display>(rt: &impl Abort, alloc: Global, fault: &E, wanted: &str) {
     let mut text = String::new(alloc);
     write!(text, "{fault}").expect(rt, "memory");

@@ -42,7 +42,7 @@ fn on_one_file(rt: &impl Abort, alloc: Global) -> Stepper {
     Stepper::new(alloc, board_of(rt, alloc, ONE_FILE, "", 1))
 }
 
-// Returns how a conversation over one file ends within these bounds, if it prints this.
+// Runs a conversation over one file within these bounds. Returns how it ends, or `None` if it does not print the expected text.
 fn ended(
     rt: &impl Abort,
     alloc: Global,
@@ -78,7 +78,7 @@ fn lines_are_answered_up_to_the_end(rt: HostRuntime) {
 
 const TWICE: &str = "next\nnext\n";
 
-// The bounds on bytes and on reads, what two lines print within them, and the number of the fault, or 0.
+// The bounds on the bytes and on the reads of the commands, what two lines print within these bounds, and the number of the fault, or 0.
 const BOUNDS: &[(usize, u64, &str, u32)] = &[
     (9, 5, "1 claim 0 0 -> file 1\n", 185),
     (5, 5, "1 claim 0 0 -> file 1\n", 185),
@@ -104,7 +104,7 @@ fn lines_within_the_bounds_are_answered(rt: HostRuntime) {
     }
 }
 
-// A reader that returns a byte in each read, and the bytes of a line only after the lines before it have their replies.
+// A reader that returns one byte in each read. It returns the bytes of a line only after all lines before that line have their replies.
 #[derive(Drop)]
 struct Waits<'a> {
     bytes: &'a [u8],

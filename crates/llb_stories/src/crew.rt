@@ -1,8 +1,8 @@
 //! Two workers, each in a thread of its own, with a gate that holds each until the other has arrived.
 
 use super::calls::{breaks_at, goes_back, replayed};
-use super::checks::{is_so, row_holds};
 use super::runs::TWO_FILES;
+use super::checks::{is_so, row_holds};
 use super::written::board_of;
 use llb_board::{Board, Event, Gate, Status, Stopped, WorkerStatus};
 use llb_stepper::{Break, Stepper, Stop};
@@ -10,7 +10,8 @@ use llb_work::{RunEnd, RunFault, run_workers};
 use std::sync::atomic::{AtomicU64, Ordering};
 use std::thread;
 
-// A gate that holds vertices 0 and 1 each until the other has arrived, for at most 100,000 turns, and notes for each vertex the worker that it let pass.
+// A gate that holds a worker at vertex 0 or 1 until there is a worker at each of the two, and stops it after 100,000 turns. It notes for each vertex the worker
+// that it let pass.
 #[derive(Drop)]
 struct Meet {
     arrived: AtomicU64,
@@ -65,7 +66,7 @@ impl Gate for Meet {
     }
 }
 
-// Returns how many claims there are, if the gate let each of them pass.
+// Returns how many claims there are; `None` if the gate did not let the worker of each claim pass.
 fn claims_let_pass(events: &[Event], gate: &Meet) -> Option<u32> {
     let mut count = 0u32;
     for event in events {
@@ -79,8 +80,8 @@ fn claims_let_pass(events: &[Event], gate: &Meet) -> Option<u32> {
     Some(count)
 }
 
-// Returns the fewest and the most events that one of two workers made, and how many claims there are, all of which the gate let pass; nothing if
-// there is a fault, or the board is not complete.
+// Returns the smaller and the larger of the two workers' numbers of events, and how many claims there are; `None` if there is a fault, the
+// board is not complete, or the gate did not let the worker of each claim pass.
 fn figures(end: &RunEnd, gate: &Meet) -> Option<(u64, u64, u32)> {
     let [first, second, ..] = end.made;
     let claims = claims_let_pass(end.board.events().as_slice(), gate)?;
@@ -90,7 +91,7 @@ fn figures(end: &RunEnd, gate: &Meet) -> Option<(u64, u64, u32)> {
     Some((first.min(second), first.max(second), claims))
 }
 
-// Returns whether one of the two files is made, and the worker of the other one has finished it and not settled.
+// Returns whether one of the two files is made, and the worker of the other file has finished its micro-steps and has not settled.
 fn is_half_made(board: &Board) -> bool {
     match (board.status(0), board.status(1)) {
         (Some(Status::Done), Some(Status::Running(w))) => {
@@ -108,7 +109,8 @@ const AT_THE_MERGE: Stop = Stop {
     at_break: true,
 };
 
-// Returns whether a replay stops after the claim of the merge, its seventh event, and whether two events earlier one file is made and the other finished.
+// Returns whether a replay stops after the claim of the merge, which is its seventh event, and whether, two events earlier, one file is made and the other one
+// is finished and not settled.
 fn is_walked(stepper: &mut Stepper, events: &[Event]) -> [bool; 3] {
     let broken = breaks_at(stepper, Break::Claims(2));
     let stopped = replayed(stepper, events) == Some(AT_THE_MERGE);
@@ -155,7 +157,7 @@ fn a_worker_alone_waits_for_nobody_and_is_stopped(rt: HostRuntime) {
     is_so(&rt, is_stopped(&end));
 }
 
-// A locked cache, and a shared one, whose vertex is stepped under the lock.
+// A vertex on a locked cache, and one on a shared cache, which is stepped under the lock.
 const ON_CACHES: &[&str] = &[
     "locked: write /c/a x; RESULT_0",
     "shared: write /c/a x; RESULT_0",

@@ -1,4 +1,4 @@
-//! Runs with more workers than there is work for, so that most of them sleep: each run ends, in many repetitions, with all its events.
+//! Runs with more workers than there is work for, so that most workers sleep. Each run is repeated many times, and ends each time with all its events.
 
 use super::calls::{are_same, is_event_done, replayed};
 use super::checks::row_holds;
@@ -15,7 +15,7 @@ use std::sync::atomic::{AtomicU64, Ordering};
 use std::thread;
 use std::thread::Threads;
 
-// A gate that lets everybody pass, but at every third vertex only after 20 turns of other threads.
+// A gate that lets every worker pass; at every third vertex it first waits for 20 turns of other threads.
 struct Slow;
 
 impl Gate for Slow {
@@ -73,7 +73,7 @@ impl Gate for Ten {
     }
 }
 
-// What each vertex does: it makes a file on the output of the vertex before it (`Chain`) or on the empty tree (`Fan`), or runs a command that ends with a
+// What the vertices do. Each makes a file on the output of the vertex before it (`Chain`) or on the empty tree (`Fan`), or runs a command that ends with a
 // status, on up to two caches.
 #[derive(Clone, Copy)]
 enum Shape {
@@ -170,7 +170,7 @@ fn all_end<R: Abort + Threads + Wait + Sync>(
     true
 }
 
-// Returns a row number for the shape at an index and for a number of workers below 100; different pairs have different row numbers.
+// Returns the number of a row for the shape at an index and a number of workers below 100; different pairs have different numbers.
 fn row(at: usize, workers: u32) -> usize {
     at.wrapping_mul(100).wrapping_add(workers as usize)
 }
@@ -230,14 +230,14 @@ fn a_stop_ends_the_run_of_those_that_sleep_and_leaves_nobody_at_work(rt: HostRun
     }
 }
 
-// Returns whether the record of a run leads from an opening of its board to its end.
+// Returns whether a replay of the record of `end` on the board `opened` leads to a board equal to `end`.
 fn is_replayed(alloc: Global, opened: Board, end: &Board) -> bool {
     let mut stepper = Stepper::new(alloc, opened);
     let stop = replayed(&mut stepper, end.events().as_slice());
     stop.is_some() && are_same(stepper.board(), end)
 }
 
-// Returns whether one driver completes a board, and an output of a vertex is then the same tree as on another board.
+// Returns whether `run_alone` completes a board, and the first output of vertex `v` is then the same tree as on the board `wanted`.
 fn is_completed(board: Board, wanted: &Board, v: u32) -> bool {
     let end = run_alone(board);
     end.fault.is_none() && end.board.is_complete() && have_one_tree(&end.board, wanted, v)
@@ -287,7 +287,7 @@ fn is_ended(end: &RunEnd) -> bool {
         && are_idle(&end.board, 2)
 }
 
-// The gate stops whoever claims vertex 1.
+// The gate stops any worker at vertex 1.
 #[test]
 fn what_a_worker_ran_before_is_ended_though_another_is_stopped(rt: HostRuntime) {
     for (at, shape) in [Shape::Fan, Shape::Mixed].iter().enumerate() {

@@ -17,7 +17,7 @@ use std::sync::atomic::{AtomicU64, Ordering};
 use std::thread;
 use std::thread::Threads;
 
-// A gate that holds each of the first vertices until `count` have arrived, for at most 1,000,000 turns.
+// A gate that holds workers at the vertices below `count` until `count` of them have arrived. It stops a worker that has waited for 1,000,000 turns.
 #[derive(Drop)]
 struct Gather {
     count: u64,
@@ -76,7 +76,7 @@ pub(crate) fn push_merge(rt: &impl Abort, text: &mut String, count: u32) {
     write!(text, "}}\n}}\nop {{\ninputs {{\ndigest %{count}\n}}\n}}\n").expect(rt, "memory");
 }
 
-// Returns how many events the first `workers` workers made in all, and the fewest that any of them made; nothing if there is a fault, or the board is
+// Returns how many events the first `workers` workers made in all, and the fewest that one of them made; `None` if there is a fault, or the board is
 // not complete.
 pub(crate) fn counts(end: &RunEnd, workers: usize) -> Option<(u64, u64)> {
     if end.fault.is_some() || !end.board.is_complete() {
@@ -127,7 +127,7 @@ pub(crate) fn have_one_tree(one: &Board, other: &Board, v: u32) -> bool {
     }
 }
 
-// Returns how many events a run with a number of workers has, if its result is the same tree as on the given board.
+// Returns how many events a run with this number of workers has; `None` if its result is not the same tree as on the given board.
 fn made_by<R: Abort + Threads + Wait + Sync>(
     rt: &R,
     alloc: Global,
@@ -155,7 +155,7 @@ const ON_CACHES: &str =
     "locked: write /c/a x; locked: write /c/b y; private: write /c/a x; private: write /c/b y; \
     shared: append /c/l a && append /c/l b; shared: append /c/l c && append /c/l d";
 
-// Returns the text of the merge of the outputs of a number of entries.
+// Returns a board over `count` entries and the merge of their outputs.
 pub(crate) fn merge_on(
     rt: &impl Abort,
     alloc: Global,
@@ -184,7 +184,7 @@ fn a_record_of_threads_on_caches_is_replayed(rt: HostRuntime) {
     is_so(&rt, stop.is_some() && are_same(stepper.board(), &end.board));
 }
 
-// The vertices that mount a shared cache have numbers from 4 on.
+// Vertices 4 and 5 mount the shared cache; vertex 6 is the merge.
 #[test]
 fn each_vertex_passes_the_gate_once(rt: HostRuntime) {
     let gate = Counting::new(4);
@@ -205,7 +205,7 @@ const WRITTEN: &str = "
     0
     ";
 
-// While one worker holds the cache and waits, the other finds it held, and puts the vertex back into the queue.
+// While one worker holds the cache, the claim of the other is refused; the refused vertex waits until the cache is free.
 #[test]
 fn a_vertex_whose_cache_is_held_is_taken_later(rt: HostRuntime) {
     let alloc = rt.alloc();

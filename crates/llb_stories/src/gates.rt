@@ -16,7 +16,7 @@ impl Gate for Open {
     }
 }
 
-/// Counts how often workers pass, at the vertices below a number and at the others. At vertex 0 it yields to other threads for a while.
+/// Counts how often workers pass at the vertices below a number, and at the other vertices. At vertex 0 the gate yields to other threads for a while.
 #[derive(Drop)]
 pub(crate) struct Counting {
     from: u32,
@@ -33,7 +33,7 @@ impl Counting {
         }
     }
 
-    /// Returns how often workers have passed at the vertices below that number, and at the others.
+    /// Returns how often workers have passed at the vertices below that number, and how often at the other vertices.
     pub(crate) fn passed(&self) -> (u64, u64) {
         let below = self.below.load(Ordering::SeqCst);
         (below, self.others.load(Ordering::SeqCst))

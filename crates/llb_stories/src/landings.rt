@@ -1,8 +1,8 @@
-//! The work of jobs away from the board: the outcome, gates that stop it, and on which boards the outcome lands.
+//! Work on jobs away from the board: the outcome, gates that stop the work, and on which boards the outcome lands.
 
 use super::calls::{are_done, claimed, copy_of, landed, opened, say_events, worked, worked_out};
-use super::checks::{is_answered, is_same, is_so, row_holds};
 use super::runs::TWO_FILES;
+use super::checks::{is_answered, is_same, is_so, row_holds};
 use super::written::{board_of, graph_from};
 use llb_board::{Board, Event, Gate, OpenFault, Outcome, Status, Stopped};
 use llb_cache::Caches;
@@ -48,7 +48,7 @@ const SECOND_COMMAND_FAILS: &str =
 
 const APPENDS: &str = "locked: append /c/l a && append /c/l b; RESULT_0";
 
-// Returns the outcome of what worker `w` does at vertex 0, or the number of the fault.
+// Claims vertex 0 for worker `w`, and works on the job. Returns the outcome, or the number of the fault.
 fn outcome_from<G: Gate>(
     rt: &impl Abort,
     alloc: Global,
@@ -74,7 +74,7 @@ fn counted<G: Gate>(
     }
 }
 
-// What worker 0 does at vertex 0, and the two numbers that `counted` returns of its outcome.
+// Definitions, and what `counted` returns of the outcome of worker 0 at vertex 0.
 const COUNTS: &[(&str, (u32, bool))] = &[
     (TWO_FILES, (1, false)),
     (FIRST_FAILS, (1, true)),
@@ -111,11 +111,12 @@ const LANDINGS: &[Landing] = &[
     (TWO_FILES, TWO_FILES, CLAIMED, 1, 136),
     (TWO_FILES, TWO_FILES, CLAIMED, 5, 131),
     (TWO_FILES, TWO_FILES, "", 0, 136),
-    // The job has to be what remains for that worker: a job over another graph does not land, nor a job after whose claim the worker has done a step.
+    // The job has to be what the worker still has to do: an outcome does not land if its job is over another graph, or if the worker has done a step after the
+    // claim.
     (OTHER_FILES, TWO_FILES, CLAIMED, 0, 139),
     (TWO_FILES, TWO_FILES, "claim 0 0\nstep 0", 0, 139),
-    // The outcome of a claim that was cancelled lands if the same claim is made again, but not for another worker, nor after its
-    // cache was written to.
+    // The outcome of a cancelled claim lands if the same worker claims the vertex again. It does not land for another worker, nor
+    // after the vertex's cache was written to.
     (TWO_FILES, TWO_FILES, "claim 0 0\ncancel 0\nclaim 0 0", 0, 0),
     (APPENDS, APPENDS, "claim 0 0\ncancel 0\nclaim 1 0", 1, 139),
     (
@@ -162,7 +163,7 @@ fn is_a_block(board: &mut Board, outcome: Outcome) -> [bool; 3] {
     ]
 }
 
-// Returns whether an outcome does not land after a step of the same vertex was done, and its worker can still settle.
+// Returns whether an outcome does not land after its worker has done a step on the vertex, and whether that worker can still settle.
 fn is_late(board: &mut Board, outcome: Outcome) -> [bool; 3] {
     let stepped = are_done(board, "step 0");
     let refused = landed(board, 0, outcome) == 139;
@@ -206,7 +207,7 @@ fn are_expected(rt: &impl Abort, alloc: Global, board: &mut Board, expected: Exp
     is_same(rt, text.as_str(), expected.1);
 }
 
-// Returns whether no board with this number of workers is opened.
+// Returns whether the opening of a board with this number of workers is refused.
 fn are_refused(rt: &impl Abort, alloc: Global, workers: u32) -> bool {
     let graph = graph_from(rt, alloc, TWO_FILES);
     let board = opened(
@@ -225,8 +226,8 @@ fn is_opening(board: &Board) -> bool {
     board.status(0) == Some(Status::Ready) && board.events().is_empty()
 }
 
-// From the opening of a board for two workers to its first settle: each call that is refused on the way, and a copy from before the claim,
-// which does not change. The other outcome is of a board whose first vertex makes another file.
+// A run of a board for two workers, from its opening to its first settle, with each call that is refused on the way; a copy from before
+// the claim does not change. The other outcome is of a board whose first vertex makes another file.
 #[test]
 fn a_vertex_is_claimed_worked_on_and_settled_with_each_refusal_on_the_way(rt: HostRuntime) {
     let alloc = rt.alloc();
@@ -253,8 +254,8 @@ fn a_vertex_is_claimed_worked_on_and_settled_with_each_refusal_on_the_way(rt: Ho
     );
 }
 
-// The outcome of a cancelled job does not land for the worker that claims the vertex next: it is of another worker, and the cache
-// has changed.
+// The outcome of a cancelled job does not land for the worker that claims the vertex next: the outcome is of another worker, and
+// the cache has changed.
 const GIVEN_UP: Expected = (
     "step 0\ncancel 0\ncancel 0\ncancel 9\nclaim 1 0",
     "done\ndone\n136\n131\ndone\n",

@@ -37,7 +37,8 @@ fn board_after(rt: &impl Abort, alloc: Global, workers: u32, events: &[Event]) -
     board
 }
 
-// Returns whether the run had no fault, the record is `BY_ONE`, and worker 0 made all events in it but the first `before`.
+// Returns whether the run had no fault, the record is `BY_ONE`, and worker 0's count has all events of the record but the first `before`, which were done
+// before the run.
 fn is_by_one(end: &RunEnd, before: usize) -> bool {
     let [made, ..] = end.made;
     let events = end.board.events().as_slice();
@@ -46,7 +47,7 @@ fn is_by_one(end: &RunEnd, before: usize) -> bool {
         && made == 11u64.saturating_sub(before as u64)
 }
 
-// In four cases the worker has claimed the second vertex, has done one of its two micro-steps, has done both, and has settled the vertex.
+// The four cases: the worker has claimed the second vertex; it has done one of the two micro-steps; it has done both; it has settled the vertex.
 #[test]
 fn a_worker_first_ends_what_it_runs(rt: HostRuntime) {
     for before in 1..=4 {

@@ -1,5 +1,5 @@
-//! What the opening of a board takes and returns, and what one board leaves for the next. The program prints which local tree is
-//! missing (`run` in `llbm`).
+//! What the opening of a board takes and returns, and what one board leaves for the next. Which local tree is missing is printed
+//! by the program, and tested there (`run` in `llbm`).
 
 use super::calls::{are_done, opened};
 use super::checks::{is_answered, is_so, row_holds};
@@ -23,7 +23,7 @@ const WORKERS: &[(u32, Option<usize>)] = &[
     (64, None),
 ];
 
-// Returns how many vertices the graph has that is returned with a refused number of workers.
+// Returns how many vertices the returned graph has, if the opening is refused for the number of workers.
 fn vertices_back(fault: &OpenFault) -> Option<usize> {
     match fault {
         OpenFault::Workers(back, _, _) => Some(back.vertices().len()),
@@ -82,7 +82,7 @@ fn left(rt: &impl Abort, alloc: Global, definition: &str, events: &str) -> Cache
     caches
 }
 
-// Returns caches with an empty instance of each key, in that order.
+// Returns caches with an empty instance of each key, in the order of the rows.
 fn in_order(rt: &impl Abort, alloc: Global, rows: &[CacheRow]) -> Caches {
     let needs = needs_of(rt, alloc, rows);
     let mut caches = Caches::new(alloc);
@@ -109,7 +109,7 @@ fn keys_stand_in_the_order_of_the_first_claims(rt: HostRuntime) {
     );
 }
 
-// The results on a board that is opened on the caches of another one, which was in the middle of its run.
+// What the calls on a board return. The board is opened on the caches of another board, which was in the middle of its run.
 const BEHIND: &str = "
     > worker 0
     idle
@@ -148,7 +148,7 @@ fn a_board_that_is_left_in_the_middle_gives_its_caches_to_the_next(rt: HostRunti
     is_so(&rt, is_answered(&rt, alloc, &mut board, BEHIND));
 }
 
-// Returns whether these caches are returned with a refused number of workers.
+// Returns whether the opening is refused for the number of workers, and these caches are returned.
 fn has_caches(fault: &OpenFault, caches: &Caches) -> bool {
     match fault {
         OpenFault::Workers(_, _, back) => back.same(caches),

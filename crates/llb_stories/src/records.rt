@@ -1,5 +1,5 @@
-//! Records of workers in threads, on caches that are not shared: a stepper replays such a record, line by line;
-//! and one worker that takes the vertices in the order of its claims leaves the same trees.
+//! Records of workers in threads, on caches that are not shared: a stepper replays such a record, line by line; and one worker
+//! that takes the vertices in the order of the record's claims leaves the same trees.
 
 use super::calls::{are_same, is_event_done, replayed};
 use super::checks::row_holds;
@@ -37,7 +37,7 @@ fn worker_of(event: Event) -> u32 {
     }
 }
 
-// Returns the reply to the last of these events, by its position among the events of its worker since its claim.
+// Returns the reply to the last of these events, by the position of that event among its worker's events since that worker's claim.
 fn answer_to(events: &[Event]) -> &'static str {
     let mut place = 0usize;
     let worker = events.last().map(|event| worker_of(*event));
@@ -53,7 +53,7 @@ fn answer_to(events: &[Event]) -> &'static str {
     "none"
 }
 
-// Returns the line of the last of these events, which are the first of the record.
+// Returns what a session prints for the last of these events, which are the first events of the record.
 fn line_of(rt: &impl Abort, alloc: Global, events: &[Event]) -> String {
     let (number, answer) = (events.len(), answer_to(events));
     let mut text = String::new(alloc);
@@ -85,7 +85,7 @@ fn are_lines(rt: &impl Abort, alloc: Global, stepper: &Stepper, events: &[Event]
     true
 }
 
-// Claims a vertex, and does the chosen events up to its settle.
+// Claims vertex `v` for worker 0, and does the chosen events up to its settle. Returns whether all these events were granted.
 fn is_run(board: &mut Board, v: u32) -> bool {
     let mut done = is_event_done(board, Event::Claim(0, v));
     for _ in 0..9 {
@@ -99,7 +99,7 @@ fn is_run(board: &mut Board, v: u32) -> bool {
     false
 }
 
-// Returns whether the vertices of the claims can be run one by one in their order, to the end.
+// Returns whether the vertices that these events claim can be run to their ends, one by one, in the order of the claims.
 fn are_run(board: &mut Board, events: &[Event]) -> bool {
     for event in events {
         if let Event::Claim(_, v) = event {
@@ -126,7 +126,8 @@ const WHOLE: Stop = Stop {
     at_break: false,
 };
 
-// Returns whether the record of a board is replayed to an equal board, with these lines, and running its claims in their order leaves the same trees.
+// Returns whether the record of a board is replayed to an equal board, with these lines, and whether running its vertices in the order of their claims leaves
+// the same trees.
 fn is_record(rt: &impl Abort, alloc: Global, ended: &Board, workers: u32) -> [bool; 5] {
     let events = ended.events().as_slice();
     let mut stepper = Stepper::new(alloc, board_by(rt, alloc, workers));

@@ -1,4 +1,4 @@
-//! Stories of runs without local trees and caches: how they go, what is refused of them, what a failure stops, and how they are taken back.
+//! Stories of runs without local trees and caches: how runs go, which events are refused, what a failure stops, and how runs are taken back.
 
 use super::sessions::{StoryKind, are_stories};
 

@@ -1,10 +1,10 @@
-//! Stories as transcripts, most of them of sessions on boards. A line that begins with `@ ` opens a board (`written`); one that begins with `> ` is a
-//! command, and the lines after it are what it prints; one that begins with `# ` describes the story. Spaces before and after a line are not
-//! read. Stories of calls (`checks`), of plain outcomes (`plain`) and of shared vertices (`sharing`) have the same form.
+//! Stories as transcripts, most of them of sessions on boards. A line that begins with `@ ` opens a board (`written`). A line that begins with `> `
+//! is a command; the lines after it are what the command prints. A line that begins with `# ` describes the story. Spaces before and after a line are
+//! not read. Stories of calls (`checks`), of plain outcomes (`plain`) and of shared vertices (`sharing`) have the same form.
 
-use super::checks::is_answered;
 use super::plain::are_outcomes;
 use super::sharing::are_shared;
+use super::checks::is_answered;
 use super::written::board_in;
 use llb_session::converse;
 use llb_stepper::Stepper;
@@ -39,12 +39,7 @@ fn say(rt: &impl Abort, alloc: Global, stepper: &mut Stepper, line: &str, out: &
 }
 
 // Returns whether the commands of a transcript print the lines that follow them.
-pub(crate) fn is_transcript(
-    rt: &impl Abort,
-    alloc: Global,
-    stepper: &mut Stepper,
-    story: &str,
-) -> bool {
+pub(crate) fn is_transcript(rt: &impl Abort, alloc: Global, stepper: &mut Stepper, story: &str) -> bool {
     let mut out = Vec::new(alloc);
     for line in story.lines() {
         say(rt, alloc, stepper, line.trim(), &mut out);
@@ -80,7 +75,7 @@ fn is_story(rt: &impl Abort, alloc: Global, kind: StoryKind, head: &str, lines: 
     }
 }
 
-// Ends the test at the first story that does not go as it is written.
+// Ends the test at the first story whose result differs from the lines that are written in it.
 pub(crate) fn are_stories(rt: &impl Abort, alloc: Global, kind: StoryKind, story: &str) {
     let (_, stories) = story.split_once("@ ").expect(rt, "a story");
     for story in stories.split("@ ") {

@@ -12,7 +12,7 @@ use llb_stepper::{Break, Stepper, Stop};
 use std::alloc::Global;
 use std::process::Abort;
 
-// Does the chosen events, at most `most` of them, and takes them back. Returns whether the board was complete in between.
+// Does the chosen events, at most `most` of them, and takes them all back. Returns whether the board was complete before they were taken back.
 fn there_and_back(board: &mut Board, most: u32) -> bool
     ensures { board.new ≡ board.old }
 {
@@ -41,7 +41,7 @@ fn finish(board: &mut Board) -> bool {
     board.is_complete()
 }
 
-// Definitions, and the results on the complete board.
+// Definitions, and the calls on the complete board with their results.
 const WALKED: &[(&str, &str)] = &[
     (FAILS_FIRST, "> leases\n0"),
     (IN_A_ROW, "> worker 0\nidle"),
@@ -59,7 +59,8 @@ const WALKED: &[(&str, &str)] = &[
     ),
 ];
 
-// Returns whether a run that is done and taken back leaves a board equal to its copy, and both go on to the same end, with these results.
+// Returns whether a run completes, whether taking it back leaves a board equal to a copy from before, and whether board and copy then go on to the same end,
+// with these results.
 fn is_walked(rt: &impl Abort, alloc: Global, definition: &str, ended: &str) -> [bool; 4] {
     let mut board = board_of(rt, alloc, definition, "", 2);
     let mut fresh = copy_of(&board).expect(rt, "memory");
@@ -82,7 +83,7 @@ fn a_run_that_is_walked_is_taken_back(rt: HostRuntime) {
     }
 }
 
-// Returns whether an event is refused and its refusal prints this.
+// Returns whether an event is refused and its refusal prints the text `wanted`.
 fn is_refused(alloc: Global, board: &mut Board, event: Event, wanted: &str) -> bool {
     match board.walk(event) {
         Ok(_) => false,
@@ -117,7 +118,7 @@ const OF_TWO_WORKERS: [Event; 10] = [
     Event::Settle(0),
 ];
 
-// Returns whether the stepper is two events before a breakpoint at the merge: one file is done, and the other one is finished and not settled.
+// Returns whether five events are done, of the seven up to the claim of the merge: one file is done, and the other one is finished and not settled.
 fn is_two_before(board: &Board) -> bool {
     board.events().len() == 5
         && board.status(0) == Some(Status::Done)
@@ -125,7 +126,7 @@ fn is_two_before(board: &Board) -> bool {
         && board.worker(1) == Some(WorkerStatus::Runs(1, 1, true))
 }
 
-// Returns whether a replay of the record of two workers stops at a breakpoint at a claim of the merge, and can be taken back from there.
+// Returns whether a replay of the record of two workers stops at a breakpoint at a claim of the merge, and whether events can be taken back from there.
 fn is_replayed(stepper: &mut Stepper) -> [bool; 3] {
     let broken = breaks_at(stepper, Break::Claims(2));
     let wanted = Stop {

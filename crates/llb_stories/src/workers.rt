@@ -23,7 +23,7 @@ const EVENTS: [Event; 10] = [
     Event::Settle(1),
 ];
 
-// What the end of each run prints: it is complete, and its result has both files.
+// What the end of each run prints: the run is complete, and its result has both files.
 const END: &str = "
     > next
     end
@@ -51,7 +51,7 @@ const ON_ONE_VERTEX: [Event; 8] = [
     Event::Cancel(1),
 ];
 
-// Returns how many more cancels there may be after an event; nothing if the event is one cancel too many.
+// Returns how many more cancels are allowed after an event; `None` if the event is one cancel too many.
 fn cancels_left(event: Event, cancels: u32) -> Option<u32> {
     match event {
         Event::Cancel(_) => cancels.checked_sub(1),
@@ -59,7 +59,7 @@ fn cancels_left(event: Event, cancels: u32) -> Option<u32> {
     }
 }
 
-// Returns the most events of a run that goes on from here with at most this number of cancels; only runs of at most `most` further events are tried.
+// Returns the most events of a run that goes on from the stepper's board with at most `cancels` cancels. Tries only runs of at most `most` further events.
 fn longest_run(stepper: &mut Stepper, cancels: u32, most: u32) -> usize {
     let mut longest = stepper.board().events().len();
     if most == 0 {
@@ -76,7 +76,7 @@ fn longest_run(stepper: &mut Stepper, cancels: u32, most: u32) -> usize {
     longest
 }
 
-// A vertex of two commands has four events, and as many more for each cancel.
+// The claim of a vertex of two commands has four events: the claim itself, two steps and a settle or cancel. Each cancel allows four more.
 #[test]
 fn a_run_has_four_events_for_a_claim_of_two_commands(rt: HostRuntime) {
     let appends = "locked: append /c/l a && append /c/l b; RESULT_0";
@@ -87,7 +87,8 @@ fn a_run_has_four_events_for_a_claim_of_two_commands(rt: HostRuntime) {
     }
 }
 
-// Returns how many runs go on from here to an end, and how many of the ends print what they should; only runs of at most `most` events are tried.
+// Returns how many runs go on from the stepper's board to an end, and at how many of these ends the stepper prints `END`. Tries only runs of at most `most`
+// events.
 fn ends(rt: &impl Abort, alloc: Global, stepper: &mut Stepper, most: u32) -> [u32; 2] {
     let mut all = 0u32;
     let mut right = 0u32;

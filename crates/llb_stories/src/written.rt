@@ -1,4 +1,4 @@
-//! Boards from short texts: definitions by their entries, local trees by their texts (`llb_samples`), and keys of caches by rows.
+//! Boards from short texts: definitions are written by their entries, local trees by their texts (`llb_samples`), and keys of caches by rows (`CacheRow`).
 
 use llb_board::Board;
 use llb_cache::{Caches, Key, Mode, Need, Seed};
@@ -9,7 +9,7 @@ use llb_wire::{Bytes, Text};
 use std::alloc::Global;
 use std::process::Abort;
 
-// A key: its ID, its mode, and the output of the first entry that is its seed, or none.
+// A key: its ID, its mode, and which output of the first entry is its seed, if it has one.
 pub(crate) type CacheRow = (&'static str, Mode, Option<u32>);
 
 /// Appends the text of some entries.
@@ -32,7 +32,7 @@ fn board_on(rt: &impl Abort, alloc: Global, graph: Graph, locals: Locals, worker
     board.ok().expect(rt, "a board")
 }
 
-// Returns a board over the definition that a text is assembled to, without local trees.
+// Returns a board over the definition that is assembled from a text, without local trees.
 pub(crate) fn board_from(rt: &impl Abort, alloc: Global, text: &str, workers: u32) -> Board {
     let graph = graph_in(alloc, text).expect(rt, "a graph");
     board_on(rt, alloc, graph, Locals::new(alloc), workers)
@@ -63,7 +63,7 @@ pub(crate) fn board_in(rt: &impl Abort, alloc: Global, head: &str) -> Board {
     board_of(rt, alloc, definition, locals_named(locals), workers)
 }
 
-// The digest of the entry that makes `/a`, which is the first entry if a cache begins with an output.
+// The digest of the entry that makes `/a`. In each definition with a cache that has a seed, this entry is the first one.
 const DIGEST_OF_A: &str = "sha256:17d299b0a332287e9d0f57a4a7f23e97dbf1203cd154f7157e30471c769cda1b";
 
 fn seed_of(rt: &impl Abort, alloc: Global, index: u32) -> Seed {

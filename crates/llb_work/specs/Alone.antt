@@ -1,4 +1,4 @@
--- What a driver does to a board, and in which state it leaves a board that it runs to the end.
+-- What a driver (code that does the events of all workers on one thread) does to a board, and in which state it leaves a board that it runs to the end.
 use Rattle.std.specs.Prelude.{◌≡◌, ℕ, ◌<◌, true, List, [], ◌∷◌, ◌++◌, length, drop, slice_index, Option, Some, None, ⊤}
 use Rattle.llb_model.specs.Program.{Build}
 use Rattle.llb_model.specs.State.{State, Opening, opening}
@@ -10,7 +10,7 @@ use Rattle.llb_model.specs.Order.{at_first, order, claims_in}
 use Rattle.llb_model.specs.Laws.{AreChosen}
 use Rattle.llb_board.specs.Seen.{BoardValue}
 
--- `new` is the board `old` after event e, which the table grants, and which is appended to the record
+-- `new` is the board `old` after event e: the table grants e, and e is appended to the record
 pub record Takes (old : BoardValue) (e : Event) (new : BoardValue) : Type 0 where
   pub build : new.build ≡ old.build
   pub opening : new.opening ≡ old.opening
@@ -19,7 +19,7 @@ pub record Takes (old : BoardValue) (e : Event) (new : BoardValue) : Type 0 wher
   pub given : table old.build old.state e ≡ Some (new.state, reply)
   pub events : new.events ≡ old.events ++ e ∷ []
 
--- `new` is the board `old` after events that are chosen and granted one after another, and are appended to its record
+-- `new` is the board `old` after events that are granted one after another and recorded; each is the chosen event (see llb_model) of the state before it
 pub record Goes (old new : BoardValue) : Type 0 where
   pub build : new.build ≡ old.build
   pub opening : new.opening ≡ old.opening
@@ -30,8 +30,8 @@ pub record Goes (old new : BoardValue) : Type 0 where
   pub chosen : AreChosen old.build old.state more
   pub events : new.events ≡ old.events ++ more
 
--- The chosen events lead from an opening to a complete state. There each vertex and each instance of a cache is as if the vertices had been run one after
--- another in the order of their claims, each with all its micro-steps.
+-- The chosen events lead from an opening to a complete state. In that state each vertex and each instance of a cache is as if the vertices had been run one
+-- after another in the order of their claims, each with all its micro-steps.
 pub record EndsInClaimOrder (b : Build) (o : Opening) (es : List Event) (s : State) : Type 0 where
   pub replies : List Reply
   pub leads : run b (opening b o) es ≡ Some (s, replies)
@@ -44,7 +44,7 @@ pub record EndsInClaimOrder (b : Build) (o : Opening) (es : List Event) (s : Sta
 abbrev pub MadeBy : BoardValue → BoardValue → List ℕ → Type 0
 MadeBy old new made = (w : ℕ) → w < 64 → slice_index made w ≡ events_by w (drop (length old.events) new.events)
 
--- an event whose refusal for want of memory can end a run; a settle and a cancel take no memory
+-- the event is a claim or a step: if it is refused for want of memory, the run may end; a settle and a cancel need no memory
 abbrev pub TakesMemory : Option Event → Type 0
 TakesMemory (Some (Claim w v)) = ⊤
 TakesMemory (Some (Step w)) = ⊤

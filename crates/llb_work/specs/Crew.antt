@@ -22,7 +22,7 @@ pub record GoesOn (old new : BoardValue) : Type 0 where
 abbrev pub state_in : State × List Reply → State
 state_in a = a.0
 
--- the board `found` goes on from `start`, stated by equations only: the older record is a prefix of the newer one, and the events after it lead to its state
+-- `found` goes on from `start`, by equations only: the record of `start` is a prefix of that of `found`, and the further events lead to the state of `found`
 pub record IsAfter (start found : BoardValue) : Type 0 where
   pub build : found.build ≡ start.build
   pub opening : found.opening ≡ start.opening
@@ -45,14 +45,14 @@ is_cancel (Cancel w) = true
 abbrev pub CancelsNothing : BoardValue → BoardValue → Type 0
 CancelsNothing old new = count_by is_cancel new.events ≡ count_by is_cancel old.events
 
--- no worker runs anything, so no worker has an instance of a cache
+-- no worker runs anything, so no worker holds an instance of a cache
 abbrev pub AreIdle : State → Type 0
 AreIdle s = (w : ℕ) → runs (slice_get s.workers w) ≡ None
 
--- a build without vertices; the board opened on it is used as a value if no board is given
+-- a build without vertices, for the board `nothing`
 abbrev pub no_build : Build
 no_build = record { graph = record { vertices = []; result = record { vertex = 0; index = 0 } }; locals = [] }
 
--- the board that is used if none is given, without vertices and workers
+-- a board without vertices and workers: the value where no board is given
 abbrev pub nothing : BoardValue
 nothing = opened no_build 0 []

@@ -7,7 +7,7 @@ use Rattle.llb_work.specs.declared.hand_out.GivenBack.{GivenBack}
 use Rattle.llb_work.specs.Passes.{IsUncut}
 
 module _ {L : Type 0} where
-  -- for each worker, at most 64 of them: a share of the ledger (which counts events), a list, and room for a thread; and the whole pass of the queue
+  -- what is handed out: the whole pass of the queue; for each of at most 64 workers a share of the ledger (which counts events), a list and room for a thread
   pub record IsHandedOut (q : ReadyQueue) (out : HandOut L) : Type 0 where
     pub parts : out.share.parts ≡ out.workers
     pub amount : out.share.amount ≡ 0
@@ -17,7 +17,7 @@ module _ {L : Type 0} where
     pub no_threads : vec_len out.threads ≡ 0
     pub threads : out.workers ≤ vec_capacity out.threads
 
-  -- the shares of n workers, whose amount is the number of events that the workers made, and the whole pass of the queue
+  -- what n workers give back: their shares of the ledger, whose amount is the number of events that they made, and the whole pass of the queue
   pub record IsGivenBack (q : ReadyQueue) (n : ℕ) (back : GivenBack L) : Type 0 where
     pub parts : back.share.parts ≡ n
     pub amount : back.share.amount ≡ sum back.made

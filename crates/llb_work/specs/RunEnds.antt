@@ -20,7 +20,7 @@ is_foreign (Some (Foreign b)) = true
 abbrev pub Leads : BoardValue → List ℕ → BoardValue → Type 0
 Leads given made found = GoesOn given found × Counts made given found
 
--- no worker runs anything on the board that is found; or memory was refused before a thread was started, and that board is the given one
+-- no worker runs anything on the returned board; or memory was refused before a thread was started, and the returned board is the given one
 abbrev pub EndsIdle : BoardValue → Option RunFault → BoardValue → Type 0
 EndsIdle given fault found = AreIdle found.state ⊎ ((fault ≡ Some Memory) × (found ≡ given))
 

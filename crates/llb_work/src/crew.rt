@@ -18,7 +18,7 @@ use std::sync::{Mutex, Wait};
 use std::thread;
 use std::thread::Threads;
 
-/// What all workers of a run use.
+/// What all workers of a run share: the runtime, the allocator, the board under its lock, the queue, the counts of idle workers, and the gate.
 #[derive_where(Clone, Copy)]
 pub(crate) struct Crew<'x, S: Gated, G, R> {
     pub rt: &'x R,
@@ -125,8 +125,8 @@ pub(crate) fn run_crew<S: Gated + Send + Sync, G: Gate + Sync, R: Threads + Wait
     Ok(closed(board.into_inner(), share, made))
 }
 
-// Closes the ledger of a run whose threads have ended and have given back all shares of it. If the record has events that no worker has counted,
-// counts them.
+// Closes the ledger of a run after its threads have ended and given back all shares of the ledger. Also counts the events of the record that no
+// worker has counted.
 fn closed<S: Gated>(shared: SharedBoard<S>, share: Share<S>, made: [u64; 64]) -> CrewEnd
     requires whole { share.parts ≡ S.parts }
     requires made { share.amount ≡ sum made }

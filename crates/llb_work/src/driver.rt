@@ -1,4 +1,4 @@
-//! What one driver does to a board, on the caller's own thread: the chosen events one after another, or a cancel of whatever runs.
+//! Does events on a board, on the caller's own thread: the chosen events (`chosen` of `llb_model`) one after another, or a cancel of everything that runs.
 
 ghost use Rattle.std.specs.Prelude.{◌≡◌, None, []};
 ghost use Rattle.std.specs.Bool.{OnTrue, OnFalse};
@@ -23,7 +23,7 @@ fn do_event(board: &mut Board, event: Event) -> bool
     }
 }
 
-/// Does the chosen events until none is left or one is refused. Returns whether none is left; otherwise memory was refused.
+/// Does the chosen events until there is none or one is refused. Returns whether there is none; if one is refused, memory was refused.
 pub(crate) fn go_to_end(board: &mut Board) -> bool
     ensures goes { Goes board.old board.new }
     ensures ends { OnTrue result (chosen board.new.build board.new.state ≡ None) }
@@ -42,7 +42,7 @@ pub(crate) fn go_to_end(board: &mut Board) -> bool
     true
 }
 
-/// Cancels what any worker still runs. Does not allocate.
+/// Cancels everything that workers still run. Does not allocate.
 pub(crate) fn cancel_all(board: &mut Board)
     ensures goes { GoesOn board.old board.new }
     ensures idle { AreIdle board.new.state }

@@ -1,4 +1,4 @@
-//! Hands out passes, shares of the ledger and lists to at most 64 workers, and takes them back.
+//! Hands out passes of the queue, shares of the ledger of events, and lists to at most 64 workers, and takes them back.
 
 ghost use Rattle.std.specs.Prelude.{◌≡◌, ◌≤◌, ◌^◌, vec_len};
 ghost use Rattle.llb_ready.specs.Passes.{hand_of, IsReadyPassOf};
@@ -19,7 +19,7 @@ use std::sync::Wait;
 use std::sync::ledger::{Ledger, Share};
 use std::thread::{Scope, Threads};
 
-/// What is handed out to n workers: all shares of the ledger, the whole pass, a list for each worker, and room for their threads.
+/// What is handed out to n workers: all shares of the ledger, the whole pass of the queue, a list for each worker, and room for their threads.
 #[derive(Drop)]
 pub(crate) struct HandOut<S: Ledger> {
     pub workers: u32,
@@ -38,7 +38,7 @@ pub(crate) struct GivenBack<S: Ledger> {
 }
 
 impl<'x, S: Gated + Send + Sync, G: Gate + Sync, R: Threads + Wait + Sync> Crew<'x, S, G, R> {
-    /// Starts a thread for each worker, with a fraction of the whole pass, a share of the ledger and a list. Joins all threads.
+    /// Starts a thread for each worker, with a fraction of the pass, a share of the ledger and a list. Joins all threads, and returns what they give back.
     pub(crate) fn all_serve<E>(self, scope: &Scope<'x, E>, out: HandOut<S>) -> GivenBack<S>
         requires stop { AllowsStops G.may_stop S.may_stop }
         requires out { IsHandedOut self.queue.now out }
@@ -66,7 +66,7 @@ impl<'x, S: Gated + Send + Sync, G: Gate + Sync, R: Threads + Wait + Sync> Crew<
         self.gathered(workers, all, rest, threads)
     }
 
-    // Starts a thread for a worker. If that fails, notes it and does the worker's work on this thread.
+    // Starts a thread for a worker. If that fails, notes the failure and does the worker's work on this thread.
     fn start<E>(self, scope: &Scope<'x, E>, w: u32, kit: WorkerKit<S>) -> WorkerThread<S>
         requires stop { AllowsStops G.may_stop S.may_stop }
         requires pass { IsPassFor self.queue.now w kit.pass }
@@ -91,7 +91,7 @@ impl<'x, S: Gated + Send + Sync, G: Gate + Sync, R: Threads + Wait + Sync> Crew<
         }
     }
 
-    // Joins the workers in their order.
+    // Joins the workers' threads, in the order of the workers, and gathers what they give back.
     fn gathered(
         self,
         n: u32,

@@ -1,14 +1,14 @@
 //! Workers that find no number in the queue wait here and are woken here. Nothing here knows about the board or its lock.
 //!
-//! Before a worker waits it does three things, in this order: it reads `wakes`, sees that the run is not over, and finds the queue empty.
-//! It then parks on `wakes`, which returns at once if the word has changed since it was read. So the worker sleeps only if no wake has come since
-//! it read the word, and a later wake does not miss it: the wake changes `wakes` first and then reads `sleepers`, which the worker
-//! has raised before it parks.
+//! Before a worker waits it does three things, in this order: it reads the word `wakes`, sees that the run is not over, and finds the queue
+//! empty. It then parks on `wakes`; parking returns at once if `wakes` has changed since the worker read it. So the worker sleeps only if there
+//! was no wake since it read `wakes`, and no later wake misses the worker: a wake first changes `wakes` and then reads `sleepers`, which the
+//! worker has raised before it parks.
 //!
-//! A worker that puts numbers into the queue wakes one sleeper for each of them, except for the one that it takes itself right after. So while a worker sleeps,
-//! as many workers are about to take a number as there are numbers in the queue, and no number stays there. A worker that sees the run end wakes all sleepers.
-//! A number whose claim was refused for a held key is not in the queue: the worker that settles the vertex with that key puts it into the queue again, as it
-//! puts the numbers that have become ready. So after every settled vertex there is a worker awake that goes on or ends the run.
+//! A worker that puts numbers into the queue wakes one sleeper for each of them, except for the number that it takes itself right after. So while a worker
+//! sleeps, as many workers are about to take a number as there are numbers in the queue, and no number stays there. A worker that sees the run end wakes all
+//! sleepers. A number whose claim was refused for a held key is not in the queue: the worker that ends the vertex with that key puts it into the queue again,
+//! as it puts the numbers of the vertices that have become ready. So after every settled vertex a worker is awake, and goes on or ends the run.
 
 use crossbeam_utils::Backoff;
 use std::sync::Wait;
@@ -21,7 +21,7 @@ pub(crate) struct Idle {
     wakes: AtomicU64,
     // How many workers are about to park, are parked, or were woken just now.
     sleepers: AtomicU64,
-    // 1 once no vertex is to be claimed any more.
+    // 1 once the run is over, else 0.
     over: AtomicU64,
 }
 
@@ -35,8 +35,7 @@ impl Idle {
         }
     }
 
-    /// Returns the argument for `wait`: the low 32 bits of the number of wakes. It has to be read before the worker looks into the queue, which it may find
-    /// empty.
+    /// Returns the argument for `wait`: the low 32 bits of the number of wakes. A worker has to read it before it looks into the queue.
     pub(crate) fn wakes(&self) -> u32 {
         (self.wakes.load(Ordering::SeqCst) & 0xffff_ffff) as u32
     }
@@ -46,7 +45,7 @@ impl Idle {
         self.over.load(Ordering::SeqCst) != 0
     }
 
-    /// Waits for a short while; once `backoff` is completed, until there is a wake that came after `seen` was read. It may also return without such a wake.
+    /// Waits for a short while or, once `backoff` is completed, until there is a wake after `seen` was read. It may also return without such a wake.
     pub(crate) fn wait<R: Wait>(&self, rt: &R, seen: u32, backoff: &Backoff) {
         if !backoff.is_completed() {
             backoff.snooze();

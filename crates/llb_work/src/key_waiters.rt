@@ -1,7 +1,7 @@
-//! The numbers of vertices whose claim was refused because another worker holds a locked key, by that key. For each key they are put into the queue again one
-//! by one: the first number when the vertex that holds the key ends, and each later number when the vertex of the number before it ends, or when the claim of
-//! the number before it is refused for another key. So no number is claimed again and again. The table is made with all the room that it needs, and later calls
-//! do not allocate. Nothing here knows about the board.
+//! The numbers of vertices whose claim was refused because another worker holds a locked key; here they wait for that key. The numbers that wait for one key
+//! are put into the queue again one by one: the first when the vertex that holds the key ends, and each later one when the vertex of the number before it ends,
+//! or when the claim of that vertex is refused for another key. So no vertex is claimed again and again while its key is held. The table is made with all the
+//! room that it needs, and later calls do not allocate. Nothing here knows about the board.
 
 use llb_cache::Key;
 use std::alloc::{AllocError, Global};
@@ -47,7 +47,7 @@ impl KeyWaiters {
         self.rows.iter().position(|row| row.key == *key)
     }
 
-    // Sets which number waits after a number.
+    // Sets which number waits after the number `v`; `None` if no number does.
     fn set_after(&mut self, v: u32, next: Option<u32>) {
         if let Some(after) = self.after.get_mut(v as usize) {
             *after = next;
@@ -64,7 +64,7 @@ impl KeyWaiters {
         }
     }
 
-    // Adds a number to the row with an index.
+    // Adds a number to the row at an index. Returns false if there is no such row.
     fn push_at(&mut self, at: usize, v: u32) -> bool {
         let Some(row) = self.rows.get_mut(at) else {
             return false;
@@ -79,7 +79,7 @@ impl KeyWaiters {
         true
     }
 
-    // Adds a row with one number.
+    // Adds a row with one number. Returns false if there is no room for the row.
     fn push_row(&mut self, key: Key, v: u32) -> bool {
         if self.rows.len() >= self.rows.capacity() {
             return false;
@@ -94,8 +94,8 @@ impl KeyWaiters {
         true
     }
 
-    // Takes the next number of a row, to be put into the queue again; `None` if a number of the row was put again before and not claimed since, or no number
-    // waits.
+    // Takes the next number of a row, to be put into the queue again. Returns `None` if no number waits, or if a number of this row was put again before and
+    // has not been claimed since.
     fn next_at(&mut self, at: usize) -> Option<u32> {
         let KeyWaiters { rows, after } = self;
         let row = rows.get_mut(at)?;
@@ -108,14 +108,15 @@ impl KeyWaiters {
         row.put
     }
 
-    /// Takes a number that waits for a key which will be free soon; `None` if a number was put again for this key and not claimed since, or no number waits.
+    /// Takes a number that waits for a key, which is about to be free. Returns `None` if no number waits, or if a number was put again for this key and has not
+    /// been claimed since.
     pub(crate) fn next_of(&mut self, key: &Key) -> Option<u32> {
         let at = self.place_of(key)?;
         self.next_at(at)
     }
 
-    /// Notes that the claim of a number was granted, or was refused for a key. If the number had waited in the row of another key than the one it was refused
-    /// for, returns the next number of that row, because the key of that row may be free.
+    /// Notes that the claim of the number `v` was granted, or was refused for a key. If `v` had waited for another key than that one, returns the next number
+    /// that waits for that other key, which may be free.
     pub(crate) fn answered(&mut self, v: u32, refused: Option<&Key>) -> Option<u32> {
         let at = self.rows.iter().position(|row| row.put == Some(v))?;
         let row = self.rows.get_mut(at)?;

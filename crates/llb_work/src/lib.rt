@@ -2,9 +2,10 @@
 //! ready vertices. It is built on `llb_board` and `llb_ready`, and changes the board only by the board's own calls.
 //!
 //! Types: `RunEnd` (the board, the number of events that each worker made, the fault), `RunFault` (151 to 154).
-//! Promise: `run_workers` (`leads`, `complete`, `idle`, `stopped`, `own`): the board that is returned goes on from the given one by granted
-//! events, whatever the fault, and no worker runs anything on it; without a fault it is complete. `run_alone` (`goes`, `ends`, `order`, `plain`)
-//! does the chosen events. That threads make progress is tested, and not proved.
+//! Promise: `run_workers` (`leads`, `complete`, `idle`, `stopped`, `own`): granted events lead from the given board to the returned one, whatever
+//! the fault; no worker runs anything on the returned board, unless memory was refused before a thread was started; without a fault the board is
+//! complete. `run_alone` (`goes`, `ends`, `order`, `plain`) does the events that `chosen` of `llb_model` names, one after another. That threads
+//! make progress is tested, and not proved.
 //!
 //! A caller:
 //!

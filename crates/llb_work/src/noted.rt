@@ -18,7 +18,7 @@ pub(crate) enum Noted {
     Thread,
 }
 
-/// The ledger of a run. Its type also has the board that was given, and where the run's gate may stop.
+/// The ledger of a run. Its type also has, for clauses, the given board, and which worker the run's gate may stop at which vertex.
 pub(crate) trait Gated: Ledger {
     ghost may_stop: { ℕ → ℕ → Bool };
 

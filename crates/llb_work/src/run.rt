@@ -18,19 +18,19 @@ use std::sync::Wait;
 use std::sync::ledger::Blank;
 use std::thread::Threads;
 
-/// Runs a board in as many threads as it has workers, 1 to 64. The threads share one lock and one queue of vertex numbers. First the number
-/// of every ready vertex is put into the queue, the least first. Each worker ends the vertex that it runs, then takes one number after another, claims
-/// that vertex, and works on it away from the lock; if the vertex mounts a shared cache, the worker first passes the gate and then works on
-/// it event by event under the lock. After the end of a vertex, the worker puts into the queue the numbers of its users
-/// that are now ready. A number whose vertex needs a locked cache that another worker holds is put again when the vertex with that cache
-/// ends. A worker that finds the queue empty sleeps until more numbers are put than others are about to take, or until the run is over.
+/// Runs a board in as many threads as it has workers, 1 to 64. The threads share one lock and one queue of vertex numbers. First the number of every ready
+/// vertex is put into the queue, the least first. Each worker ends the vertex that it already runs, if any. Then it takes one number after another, claims the
+/// vertex of that number, passes the gate, and works on the vertex: away from the lock or, if the vertex mounts a shared cache, event by event under the lock.
+/// When a vertex ends, its worker puts into the queue the numbers of the vertex's users that are now ready. A number whose vertex needs a locked cache that
+/// another worker holds is put again when the vertex with that cache ends. A worker that finds the queue empty sleeps until another worker puts more numbers
+/// than it takes itself, or until the run is over.
 ///
 /// The fault is the first that is met: 151 `Memory` if memory is refused, 152 `Stopped` if the gate stops a worker, 153 `Thread` if a thread can't be started.
 /// If memory is refused for the copies of the board, the queue, the workers' lists or the table of numbers that wait for a key, no thread starts, and the board
 /// is returned as it was given. The worker that meets 151 or 152 notes the fault and cancels what it runs, both in one hold of the lock; every other worker
-/// ends what it runs, and the work of a worker without a thread is done by the caller's thread. So on any other board that is returned no worker runs anything
-/// and no cache is held. Granted events lead from the given board to the returned one, and the sum of `made` is their number; none of them is a cancel unless
-/// there is a fault. 154 `Foreign` would say that the board kept under the lock from the beginning is another one; it never occurs.
+/// ends what it runs, and the work of a worker without a thread is done by the caller's thread. So if threads were started, no worker runs anything on the
+/// returned board, and no cache is held. Granted events lead from the given board to the returned one, and the sum of `made` is their number; none of them is a
+/// cancel unless there is a fault. 154 `Foreign` would say that the opening board that was kept under the lock is not the given one; it never occurs.
 pub fn run_workers<G: Gate + Sync, R: Threads + Wait + Sync>(
     rt: &R,
     alloc: Global,
@@ -67,7 +67,7 @@ pub fn run_workers<G: Gate + Sync, R: Threads + Wait + Sync>(
         made,
         noted,
     } = left;
-    // Never happens: by the type of what the lock holds, this copy is the given board.
+    // Never happens: by an invariant of the value under the lock, `start` is the given board.
     if !start.same(&outside) {
         let fault = Some(RunFault::Foreign(start));
         return RunEnd { board, made, fault };
@@ -121,8 +121,8 @@ fn ended(board: Board, made: [u64; 64], noted: Option<Noted>) -> RunEnd
     RunEnd { board, made, fault }
 }
 
-// Finishes a run after its threads have ended, and returns its fault. If nothing is noted, does the chosen events until the board is complete;
-// if something is noted or memory is refused, cancels what workers still run.
+// Finishes a run after its threads have ended, and returns the fault of the run. If nothing is noted, does the chosen events until the board
+// is complete; if something is noted or memory is refused, cancels what workers still run.
 fn finish(board: &mut Board, noted: Option<Noted>) -> Option<RunFault>
     ensures goes { GoesOn board.old board.new }
     ensures own { is_foreign result ≡ false }

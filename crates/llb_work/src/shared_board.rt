@@ -1,6 +1,6 @@
 //! What is under the lock: the board, the board that the run began from, the ledger of the events that the workers have counted, and the fault
-//! that was noted first; which vertices have no cache mount at or before them; and the vertex numbers that wait for a key. An invariant of its
-//! type says that the record goes on from the given board by granted events, and that none of them is a cancel unless something is noted.
+//! that was noted first; which vertices have no cache mount at or before them; and the vertex numbers that wait for a key. By an invariant of
+//! the type, granted events lead from the given board to the board, and none of them is a cancel unless something is noted.
 
 ghost use Rattle.std.specs.Prelude.{◌≡◌, ◌≤◌, ◌+◌, ℕ, length, true, Some, None, IfOk, IsSome};
 ghost use Rattle.std.specs.Bool.{OnTrue};
@@ -54,7 +54,7 @@ pub(crate) enum Report {
     Number(u32),
     /// The outcome of a job.
     Outcome(Outcome),
-    /// Why it has to give up what it runs.
+    /// Why the worker has to give up what it runs.
     Fault(Noted),
 }
 
@@ -67,13 +67,13 @@ pub(crate) enum Task {
     Pass(u32),
     /// Come back to the lock.
     Again,
-    /// Come back with a number as soon as the queue has one: the worker runs nothing.
+    /// Come back with a number as soon as the queue has one; the worker runs nothing.
     Next,
-    /// End, as all others do: nothing is claimed any more.
+    /// End: the run is over, so no vertex is claimed any more.
     End,
 }
 
-/// Makes a shared board on which nothing was done yet.
+/// Makes the value under the lock for a run of which no event is done yet.
 pub(crate) fn make_shared_board<S: Gated>(
     board: Board,
     start: Board,
@@ -117,8 +117,8 @@ impl<S: Gated> SharedBoard<S> {
         self.board.claim(w, v)
     }
 
-    // Lands the outcome of a job on the board. If the job is known to be what the worker runs, nothing is compared. Fails with 131,
-    // 136, 139 or 140.
+    // Lands the outcome of a job on the board. The job is compared with what the worker runs, unless the two are known to agree
+    // (`is_known`). Fails with 131, 136, 139 or 140.
     fn land(&mut self, w: u32, outcome: Outcome) -> Result<Settled, LandFault>
         requires { IsClaimed S.start w outcome.job.vertex outcome.job }
     {
@@ -129,8 +129,8 @@ impl<S: Gated> SharedBoard<S> {
         self.board.land(w, outcome)
     }
 
-    // Returns whether a job is known to be what its worker runs: no cache mount is at or before its vertex, and the worker has done no
-    // micro-step of it.
+    // Returns whether a job is known to agree with what its worker runs: no cache mount is at or before the vertex of the job, and
+    // the worker has done no micro-step of that vertex on the board.
     fn is_known(&self, w: u32, job: &Job) -> bool
         requires { IsClaimed S.start w job.now.vertex job.now }
         ensures { OnTrue result (IsKnown self.now.board w job.now) }
@@ -158,8 +158,8 @@ impl<S: Gated> SharedBoard<S> {
         let _ = self.board.cancel(w);
     }
 
-    // Notes why the run ends and cancels what a worker runs, if it runs anything, both in one hold of the lock: another worker never sees a
-    // ready vertex that is in no queue while nothing is noted. Ends the worker.
+    // Notes why the run ends and cancels what a worker runs, if it runs anything, both in one hold of the lock. Otherwise another worker
+    // could find a ready vertex whose number is in no queue before a fault is noted. Returns `Task::End`.
     fn give_up(&mut self, w: u32, noted: Noted) -> Task
         requires { may_be S.may_stop S.start (Some noted) ≡ true }
         ensures { IsHere S.start w result }
@@ -177,8 +177,8 @@ impl<S: Gated> SharedBoard<S> {
     }
 
     /// Does what a worker has to do in one hold of the lock, by what it reports, and counts the events for the worker. Returns what the worker is to do next,
-    /// and further owners of the trees that this hold has dropped. Adds to `news` the numbers that the worker then has to put into the queue: those of the
-    /// vertices that became ready when its vertex ended, the greatest first, and those of the vertices that waited for its keys.
+    /// and shared copies of the trees that this hold may have dropped. Adds to `news` the numbers that the worker then has to put into the queue: those of the
+    /// vertices that became ready when its vertex ended, the greatest first, and those that had waited for a key.
     pub(crate) fn next_task(
         &mut self,
         w: u32,
@@ -212,7 +212,7 @@ impl<S: Gated> SharedBoard<S> {
         }
     }
 
-    // Does one event of what a worker runs. A worker that runs nothing ends if the run is over.
+    // Does the next event of what a worker runs: a step, or the settle if it is finished. A worker that runs nothing ends if the run is over.
     fn go_on(&mut self, w: u32, news: &mut Vec<u32>) -> Task
         ensures { IsHere S.start w result }
     {
@@ -232,7 +232,7 @@ impl<S: Gated> SharedBoard<S> {
         }
     }
 
-    // Claims a vertex, unless the run is over. If the vertex is not ready, its number is dropped: another worker has it.
+    // Claims a vertex, unless the run is over. If the vertex is not ready, its number is dropped: another worker has already claimed the vertex.
     fn take(&mut self, w: u32, v: u32, news: &mut Vec<u32>) -> Task
         ensures { IsHere S.start w result }
     {
@@ -277,7 +277,8 @@ impl<S: Gated> SharedBoard<S> {
         }
     }
 
-    // Lets a number wait for a key that another worker holds. If the number had waited for another key, adds the next number of that key to `news`.
+    // Lets a number wait for a key that another worker holds. If the number had waited for another key before, adds the next number that waits for that other
+    // key to `news`.
     fn wait_for(&mut self, key: Key, v: u32, news: &mut Vec<u32>) -> Task
         ensures { (w : ℕ) → IsHere S.start w result }
     {
@@ -291,7 +292,7 @@ impl<S: Gated> SharedBoard<S> {
         Task::Next
     }
 
-    // Returns whether no vertex is claimed any more.
+    // Returns whether the run is over: a fault is noted, or the board is complete.
     fn is_over(&self) -> bool {
         self.noted.is_some() || self.board.is_complete()
     }
@@ -308,7 +309,7 @@ impl<S: Gated> SharedBoard<S> {
     }
 }
 
-// Adds to `news` the ready vertices that have an edge to a vertex, the greatest first.
+// Adds to `news` the numbers of those users of vertex `v` that are ready, the greatest first.
 fn note_ready(board: &Board, v: u32, news: &mut Vec<u32>) {
     for u in board.users(v).iter().rev() {
         if matches!(board.status(*u), Some(Status::Ready)) {

@@ -1,5 +1,5 @@
-//! Counts a run's events in two ways. Workers that share the lock count what they add to the record, each with its share of a ledger; the ledger makes sure
-//! that the counts add up to the number of these events. What one thread does alone is counted afterwards, from the record.
+//! Counts a run's events in two ways. Workers that share the lock count the events that they add to the record, each with its share of a ledger; the ledger
+//! makes sure that the counts add up to the number of these events. Events that one thread does alone are counted afterwards, from the record.
 
 ghost use Rattle.std.specs.Prelude.{◌≡◌, ◌≤◌, ◌<◌, ◌+◌, ◌^◌, ◌==◌, ℕ, sum, length, drop, slice_index};
 ghost use Rattle.std.specs.List.{count_by, All};
@@ -26,7 +26,7 @@ pub(crate) fn make_tally<S: Ledger>(share: Share<S>) -> Tally<S>
     Tally { made: 0, share }
 }
 
-/// Adds to the book and to a tally the number of events by which a record has grown, from one length to another.
+/// Adds the number of events by which a record has grown, from length `before` to length `after`, to the total of the ledger and to a worker's tally.
 pub(crate) fn count<S: Ledger>(
     calls: &mut Book<S>,
     mine: &mut Tally<S>,
@@ -69,7 +69,7 @@ fn count_events(events: &[Event], made: &mut [u64; 64])
     }
 }
 
-// Returns the worker whose event it is.
+// Returns the worker of an event.
 fn worker_of(event: Event) -> u32
     ensures { result ≡ worker_of event }
 {

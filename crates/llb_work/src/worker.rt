@@ -1,5 +1,5 @@
-//! What a worker does in each hold of the lock, and then away from the lock. It puts the numbers that it has noted into the queue, and
-//! takes numbers from the queue.
+//! One worker: it takes the lock for a moment, then works away from the lock, and so on. Away from the lock it puts the numbers that
+//! it has noted into the queue, takes a number from the queue, passes the gate, or works on a job.
 
 ghost use Rattle.std.specs.Prelude.{◌≡◌, true, IfSome};
 ghost use Rattle.llb_work.specs.Passes.{IsPassFor};
@@ -16,8 +16,8 @@ use llb_ready::ReadyPass;
 use std::sync::Wait;
 use std::sync::ledger::Ledger;
 
-/// What a worker holds in its thread and gives back: its count of events, its pass, and the numbers that it still has to put, of which the last one is
-/// put first.
+/// What a worker holds in its thread and gives back: its count of events, its pass, and the vertex numbers that it still has to put into the queue (the last
+/// one is put first).
 #[derive(Drop)]
 pub(crate) struct WorkerKit<S: Ledger> {
     pub tally: Tally<S>,
@@ -26,8 +26,8 @@ pub(crate) struct WorkerKit<S: Ledger> {
 }
 
 impl<'x, S: Gated, G: Gate, R: Wait> Crew<'x, S, G, R> {
-    /// Ends what its worker runs, then takes one number after another from the queue and works on the vertex, until the board is complete or a fault is noted.
-    /// A worker that meets a fault itself reports it at the lock, cancels there what it runs and ends at once.
+    /// Ends what its worker runs, then takes one number after another from the queue and works on the vertex of that number, until the board is complete or a
+    /// fault is noted. A worker that meets a fault itself reports the fault at the lock, cancels there what it runs, and ends at once.
     pub(crate) fn serve(self, w: u32, kit: WorkerKit<S>) -> WorkerKit<S>
         requires stop { AllowsStops G.may_stop S.may_stop }
         requires pass { IsPassFor self.queue.now w kit.pass }
@@ -53,7 +53,7 @@ impl<'x, S: Gated, G: Gate, R: Wait> Crew<'x, S, G, R> {
         kit
     }
 
-    // Does what a worker has to do away from the lock. Returns what it then reports at the lock; `None` if it ends.
+    // Does a worker's task away from the lock. Returns what the worker then reports at the lock; `None` if the worker ends.
     fn away(self, w: u32, task: Task, kit: &mut WorkerKit<S>) -> Option<Report>
         requires stop { AllowsStops G.may_stop S.may_stop }
         requires here { IsHere S.start w task }
@@ -70,8 +70,8 @@ impl<'x, S: Gated, G: Gate, R: Wait> Crew<'x, S, G, R> {
         }
     }
 
-    // Takes a number as soon as there is one; returns `None` if the run is over. After each try, puts again the numbers for which the queue was
-    // full.
+    // Takes a number from the queue as soon as the queue has one; returns `None` if the run is over. After each try, also puts the numbers that
+    // did not fit into the queue before.
     fn taken(self, w: u32, kit: &mut WorkerKit<S>) -> Option<u32>
         requires { IsPassFor self.queue.now w kit.old.pass }
         ensures { IsPassFor self.entry.queue.now w kit.new.pass }
@@ -92,7 +92,7 @@ impl<'x, S: Gated, G: Gate, R: Wait> Crew<'x, S, G, R> {
         unreachable!()
     }
 
-    // Puts numbers into the queue, the last one first, until the queue is full. Those that are not put are kept. Returns how many were
+    // Puts the worker's numbers into the queue, the last one first, until the queue is full; keeps the others. Returns how many were
     // put.
     fn put_all(self, w: u32, kit: &mut WorkerKit<S>) -> usize
         requires { IsPassFor self.queue.now w kit.old.pass }
@@ -123,7 +123,7 @@ impl<'x, S: Gated, G: Gate, R: Wait> Crew<'x, S, G, R> {
         }
     }
 
-    // Works on a job, and returns what the worker then reports at the lock: the outcome, or why there is none.
+    // Works on a job, and returns what the worker then reports at the lock: the outcome, or why there is no outcome.
     fn worked(self, w: u32, job: Job) -> Report
         requires stop { AllowsStops G.may_stop S.may_stop }
         requires here { IsClaimed S.start w job.vertex job }
