@@ -1,5 +1,5 @@
-//! Why rows are no graph. A fault prints what comes after the word `fault` in a refusal: its number and
-//! its arguments, features and rules by their names. Refusals of memory of any kind become `Memory` by `?`.
+//! Why rows are no graph. A fault prints what comes after the word `fault` in a refusal: its number, and then its
+//! arguments; a feature or a rule is printed as its name. Refusals of memory of any kind become `Memory` by `?`.
 
 ghost use Rattle.std.specs.Prelude.{◌≡◌, Some, codes};
 ghost use Rattle.std.specs.Fmt.{◌++?◌, DisplaysOnOk, decimal};
@@ -12,7 +12,7 @@ use std::alloc::{AllocError, AllocFailed};
 use std::{error, fmt};
 use thiserror::Error;
 
-/// Why rows are no graph: the first fault in this order, the least row, then the least input.
+/// Why rows are no graph: the first fault in this order that applies, at the least row with this fault, and there at the least input.
 #[derive(Drop)]
 pub enum LoadFault {
     /// 81: the definition is not readable; its fault follows.
@@ -109,7 +109,7 @@ pub enum Feature {
 }
 
 impl Feature {
-    // Returns the name that it prints.
+    // Returns the name that is printed for the feature.
     fn name(&self) -> &'static str
         ensures { result.now ≡ feature_text self.now }
     {
@@ -129,7 +129,7 @@ impl Feature {
     }
 }
 
-/// A feature prints its name.
+/// Prints the name of a feature.
 impl fmt::Display for Feature {
     ghost output = { λ x. Some (feature_text x) };
 
@@ -182,7 +182,7 @@ pub enum Rule {
 }
 
 impl Rule {
-    // Returns what it prints, without the fault of a script.
+    // Returns the name of the rule, without the fault of a script.
     fn name(&self) -> &'static str
         ensures { result.now ≡ rule_name self.now }
     {
@@ -210,7 +210,7 @@ impl Rule {
     }
 }
 
-/// A rule prints its name, and that of scripts the script's fault after it.
+/// Prints the name of a rule; after the name `Script` the fault of the script follows.
 impl fmt::Display for Rule {
     ghost output = { λ r. Some (rule_text r) };
 
@@ -246,7 +246,7 @@ impl From<AllocError> for Memory {
     }
 }
 
-/// Converts the fault of a copy of a tree, which can only lack memory.
+/// Converts the fault of a copy of a tree, which fails only for want of memory.
 impl From<TreeFault> for Memory {
     fn from(_: TreeFault) -> Memory {
         Memory

@@ -7,7 +7,7 @@ ghost use Rattle.llb_loader.specs.Laws.{HasOneAnswer, HasOneAnswerIn};
 
 use crate::row::Row;
 
-/// Proves that there is at most one numbering.
+/// Proves that the rows that are reached from `start` have at most one numbering.
 pub fn one_numbering(rows: &[Vec<usize>], start: usize, first: &[usize], second: &[usize])
     requires first { IsNumbering (lists rows.now) start first.now }
     requires second { IsNumbering (lists rows.now) start second.now }

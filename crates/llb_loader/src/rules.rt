@@ -25,7 +25,7 @@ pub(crate) fn broken_rule(alloc: Global, op: &Op) -> Result<Option<Rule>, Memory
     broken_in(alloc, op.inputs.as_slice(), kind)
 }
 
-// Returns the first rule that the kind of op breaks on these inputs.
+// Returns the first rule that an op of this kind with these inputs breaks.
 fn broken_in(alloc: Global, inputs: &[Input], kind: &Kind) -> Result<Option<Rule>, Memory>
     ensures { IfOk result (IsFirstBroken inputs.now (Some kind.now) (rules_on (Some kind.now))) }
 {
@@ -49,7 +49,7 @@ fn broken_in_source(source: &SourceOp) -> Option<Rule>
     None
 }
 
-// Returns the first rule on merges that the merge of these inputs breaks.
+// Returns the first rule on merges that the merge with these inputs breaks.
 fn broken_in_merge(inputs: &[Input], merge: &MergeOp) -> Option<Rule>
     ensures { IsFirstBroken inputs.now (Some (kind.Merge merge.now)) merge_rules result }
 {
