@@ -16,7 +16,7 @@ use Rattle.llb_ops.specs.declared.table.FieldRow.{FieldRow}
 abbrev pub Row : Type 0
 Row = List ℕ × NamedField
 
--- a row of the code's table, with its name as the bytes of the text
+-- a row of the code's table, with the name as a list of bytes
 abbrev pub row_seen : FieldRow → Row
 row_seen r = (r.name.now, r.field)
 
