@@ -21,7 +21,7 @@ pub enum LoadFault {
     Entry(u32, OpFault),
     /// 83: there are fewer than two distinct rows.
     TooFew,
-    /// 84: row k has an earlier row's digest and other bytes.
+    /// 84: row k has the digest of an earlier row, but other bytes.
     Collision(u32),
     /// 85: the terminal has no input.
     NoResult,
@@ -29,11 +29,11 @@ pub enum LoadFault {
     UnknownDigest(u32, u32),
     /// 87: the reached rows have a cycle.
     Cycle,
-    /// 88: the op of row k has an unsupported feature; its name follows.
+    /// 88: the op of row k has an unsupported feature; the feature's name follows.
     Unsupported(u32, Feature),
-    /// 89: the op of row k breaks a rule; its name follows.
+    /// 89: the op of row k breaks a rule; the rule's name follows.
     Invalid(u32, Rule),
-    /// 90: input i of row k has an index that no output has.
+    /// 90: input i of row k names an output that does not exist.
     BadIndex(u32, u32),
     /// 91: memory was refused.
     Memory,
@@ -96,11 +96,11 @@ pub enum Feature {
     SshMount,
     /// A secret in the environment.
     SecretEnv,
-    /// An action without a named member.
+    /// An action that is no copy, mkfile, mkdir or rm.
     Action,
     /// A copy that unpacks archives.
     Unpack,
-    /// A copy with patterns of what to leave in or out.
+    /// A copy with patterns of what to include or exclude.
     Patterns,
     /// An owner that is given by name.
     OwnerByName,
@@ -141,43 +141,43 @@ impl fmt::Display for Feature {
 /// The rules that ops meet, in the order in which they are checked.
 #[derive(Drop)]
 pub enum Rule {
-    /// The op is of some kind.
+    /// The op has a kind.
     NoKind,
-    /// There is a name after `local://`.
+    /// A local source has a name after `local://`.
     LocalName,
-    /// A file op has an action.
+    /// A file op has at least one action.
     NoActions,
-    /// An action reads an input, the result of an earlier action, or nothing.
+    /// An action reads inputs of the op, results of earlier actions, or nothing.
     ActionInput,
     /// The outputs of actions are numbered from 0, each once.
     ActionOutput,
-    /// An exec has its meta.
+    /// An exec has a `meta`.
     NoMeta,
-    /// An exec has a word to run.
+    /// An exec has at least one word in `args`.
     NoArgs,
-    /// An exec has a mount.
+    /// An exec has at least one mount.
     NoMounts,
-    /// A mount is at the root.
+    /// An exec has a mount with the dest `/`.
     NoRoot,
-    /// A dest, a selector and a cwd are paths.
+    /// The dests, the selectors and the cwd of an exec are paths.
     BadPath,
-    /// No two mounts have the same dest.
+    /// No two mounts of an exec have the same dest.
     SameDest,
-    /// A mount is of a known kind.
+    /// The type of a mount is a number from 0 to 4.
     MountKind,
-    /// A bind or cache mount shows an input or nothing.
+    /// The input of a bind or cache mount is an input of the op, or -1.
     MountInput,
     /// The outputs of mounts are numbered from 0, each once, and only bind mounts have one.
     MountOutput,
-    /// A cache mount has its options.
+    /// A cache mount has a `cacheOpt`.
     NoCacheOpt,
-    /// A cache is shared in a known way.
+    /// The mode of a cache mount is a number from 0 to 2.
     Sharing,
     /// No two cache mounts of an exec have the same key.
     CacheTwice,
-    /// The words of an exec are a script; the script's own fault, 71 to 73.
+    /// The words of an exec are a script; the fault of the words, 71 to 73, follows.
     Script(ScriptFault),
-    /// A merge takes inputs or nothing.
+    /// Each input of a merge is an input of the op, or -1.
     MergeInput,
 }
 

@@ -9,10 +9,10 @@ use thiserror::Error;
 /// Why a graph is not evaluated: the first cause that applies.
 #[derive(Debug, Drop, Error)]
 pub enum PlainFault {
-    /// 101: no tree is given for a local source; its name (the least such vertex's).
+    /// 101: no tree is given for a local source; the first such name, by vertex, follows.
     #[error("101 {0}")]
     MissingLocal(Text),
-    /// 102: a vertex mounts a cache; the least such vertex.
+    /// 102: a vertex mounts a cache; the first such number follows.
     #[error("102 {0}")]
     HasCache(u32),
     /// 103: memory was refused.
