@@ -41,7 +41,7 @@ pub record IsBuilt (text : List ℕ) (from : Op) (named ranks : List ℕ) (v : V
   pub steps : v.steps ≡ step_count from
   pub outputs : v.outputs ≡ output_count from
 
--- the first n vertices are the vertices of the first n rows in this order
+-- the first n vertices are the vertices of the first n rows in `order`
 abbrev pub AreBuilt : List Row → List Op → List (List ℕ) → List ℕ → List ℕ → List Vertex → ℕ → Type 0
 AreBuilt rows ops links ranks order vertices n = (j : ℕ) → j < n
     → IsBuilt (row_at rows (slice_index order j)).digest (op_at ops (slice_index order j)) (inputs links (slice_index order j)) ranks (vertex_at vertices j)

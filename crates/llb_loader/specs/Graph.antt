@@ -93,8 +93,8 @@ pub record IsMergeVertex (v : Vertex) (m : MergeOp) : Type 0 where
   pub outputs : v.outputs ≡ 1
 
 -- the words of an exec are a script, its cwd is a path, and its mounts are at distinct paths, of which one is the root; each mount shows an
--- input that exists, or nothing, or is a tmpfs; only bind mounts have outputs; the caches that the exec mounts have distinct keys.
--- There are fewer than 2^25 commands, since each takes more than half a byte of the entry.
+-- input that exists, or nothing, or is a tmpfs; only bind mounts have outputs; the caches that the exec mounts have distinct keys. There
+-- are fewer than 2^25 commands, since an entry has at most 2^24 bytes and each command takes at least one of them.
 pub record IsExecVertex (v : Vertex) (x : ExecOp) : Type 0 where
   pub meta : Meta
   pub commands : List Joined

@@ -1,5 +1,5 @@
-//! The key of a cache: its ID, the output with which a new instance begins, and its sharing mode. Keys borrow
-//! from the op, and are ordered by all three, so that a set of keys can be searched.
+//! The key of a cache: its ID, the output with which a new instance begins, and its sharing mode. A key borrows these
+//! parts from the op. Keys are ordered by ID, then mode, then seed, so that a set can be searched for an equal key.
 
 ghost use Rattle.std.specs.Prelude.{◌≡◌, Some};
 ghost use Rattle.std.specs.Option.{option_copied, option_cmp};

@@ -32,7 +32,7 @@ pub(crate) fn broken_in_file(
     Ok(None)
 }
 
-// Returns whether each action reads only inputs below `count`, results of earlier actions, or nothing.
+// Returns whether each action reads only inputs from 0 to `count - 1`, results of earlier actions, or nothing.
 fn take_inputs(count: usize, actions: &[Action]) -> bool
     ensures { IsTrue result ↔ TakeInputs count actions.now }
 {

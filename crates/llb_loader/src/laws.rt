@@ -14,7 +14,7 @@ pub fn one_numbering(rows: &[Vec<usize>], start: usize, first: &[usize], second:
     ensures { first.now ≡ second.now }
 {}
 
-/// Proves that in a numbering every edge leads to a lower number.
+/// Proves that in a numbering every edge of a reached row leads to a row with a lower number.
 pub fn numbering_goes_down(rows: &[Vec<usize>], start: usize, order: &[usize])
     requires { IsNumbering (lists rows.now) start order.now }
     ensures { GoesDown (lists rows.now) start (rank_in order.now) }

@@ -60,10 +60,10 @@ struct Names {
     seen: Vec<bool>,
 }
 
-/// Returns the graph of the rows. The last row given is the terminal; its first input is the result.
+/// Returns the graph of the rows. The last row is the terminal; the terminal's first input is the result.
 ///
-/// Fails with the fault of the least number that applies, at the least row that has it, and there at the least input: 82 `Entry`, 83 `TooFew`, 84 `Collision`,
-/// 85 `NoResult`, 86 `UnknownDigest`, 87 `Cycle`, 88 `Unsupported`, 89 `Invalid`, 90 `BadIndex`. Fails with 91 `Memory` if memory is refused.
+/// Fails with the fault of the least number that applies, at the least row with this fault, and there at the least input: 82 `Entry`, 83 `TooFew`, 84
+/// `Collision`, 85 `NoResult`, 86 `UnknownDigest`, 87 `Cycle`, 88 `Unsupported`, 89 `Invalid`, 90 `BadIndex`. Fails with 91 `Memory` if memory is refused.
 pub fn link(alloc: Global, rows: &[Row]) -> Result<Graph, LoadFault>
     requires { length rows.now ≤ 65_536 }
     ensures graph { IfOk result (λ g. IsGraphOf rows.now g) }
@@ -201,7 +201,7 @@ impl Linked {
         Ok(order)
     }
 
-    // Makes the graph. Fails with 91 `Memory` alone.
+    // Makes the graph of the linked rows; `order` has the reached rows in the order of their numbers. Fails with 91 `Memory` alone.
     fn into_graph(self, alloc: Global, order: &[usize]) -> Result<Graph, LoadFault>
         requires linked { IsLinked self }
         requires whole { IsWhole (plan_in self) order.now }

@@ -13,7 +13,7 @@ use std::alloc::{AllocError, Global};
 use std::collections::BTreeSet;
 use std::mem;
 
-/// A row that waits until the row that its input `checked` names is numbered; the rows that its earlier inputs name are numbered.
+/// A row that waits for the row that its input `checked` names. The rows that its inputs before `checked` name are numbered.
 #[derive(Clone, Copy)]
 struct Waiter {
     row: usize,
@@ -107,8 +107,7 @@ fn first_open(named: &[usize], from: usize, done: &[bool]) -> usize
     named.len()
 }
 
-// Puts the waiter's row among the ready rows if all rows that it names are numbered, else among the rows that wait for the first row that it names and that is
-// not numbered.
+// Puts the waiter's row among the ready rows if all rows that it names are numbered. Otherwise lets it wait for the first of these rows that is not numbered.
 fn place(
     rows: &[Vec<usize>],
     done: &[bool],

@@ -38,7 +38,7 @@ fn same(digest: &Text, other: &Text, bytes: &Bytes, others: &Bytes) -> bool
 }
 
 // Returns a map from each digest text to the first row with it, and for each row the first row with the same digest
-// text. Fails with 84 `Collision` at the first row that has an earlier row's digest and another entry, or with 91
+// text. Fails with 84 `Collision` at the first row that has an earlier row's digest but other bytes, or with 91
 // `Memory`.
 pub(crate) fn index_of<'a>(
     alloc: Global,

@@ -1,4 +1,4 @@
-//! Finds the first rule that an op breaks. Each kind has rules of its own; the definition `rules_on` has them in the order in which they are checked.
+//! Finds the first rule that an op breaks. Each kind of op has its own rules; the definition `rules_on` lists all rules in the order in which they are checked.
 
 ghost use Rattle.std.specs.Prelude.{◌↔◌, Some, IfOk, MatchOption, IsTrue, List};
 ghost use Rattle.llb_ops.specs.declared.op.Input.{Input};
@@ -15,7 +15,7 @@ use llb_ops::{Input, Kind, MergeInput, MergeOp, Op, SourceOp};
 use llb_wire::Memory;
 use std::alloc::Global;
 
-/// Returns the first rule that the op breaks.
+/// Returns the first rule that the op breaks; `None` if it meets all rules.
 pub(crate) fn broken_rule(alloc: Global, op: &Op) -> Result<Option<Rule>, Memory>
     ensures { IfOk result (λ broken. MatchOption broken (MeetsRules op.now) (BreaksFirst op.now)) }
 {

@@ -22,7 +22,7 @@ use Rattle.llb_ops.specs.declared.records.Record.{Record as Held}
 use Rattle.llb_ops.specs.declared.records.Front.{Front}
 use Rattle.llb_ops.specs.Limits.{field_limit}
 
--- the fields that a message names, each a number and a form
+-- the fields that a message names: for each field, its number and its form
 abbrev pub Shape : Type 0
 Shape = List (ℕ × Form)
 
