@@ -61,7 +61,7 @@ IsNumberOf String v = ⊥
 IsNumberOf Bytes v = ⊥
 IsNumberOf (Message m) v = ⊥
 
--- these bytes may be the payload of a field of this kind: UTF-8 for a string, any for a bytes field, none for a number or a message
+-- these bytes may be the payload of a field of this kind: a string has UTF-8, and a bytes field any bytes; false for a number or a message
 abbrev pub IsBytesOf : FieldKind → List ℕ → Type 0
 IsBytesOf Int64 held = ⊥
 IsBytesOf Int32 held = ⊥

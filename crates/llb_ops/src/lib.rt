@@ -2,9 +2,10 @@
 //! `llb_wire`.
 //!
 //! Types: `Op` with `Kind` (a source, a file op, a merge, an exec, or a build or a diff, which `llb_loader` refuses), `Entries` (of a definition),
-//! `FieldRow` (a row of the table), `OpFault`. Promise: `read_op` (`gives`, `within`) returns exactly the op that the definitions say an entry is read as,
-//! or the entry's first fault. `read_definition` (`gives`, `last`) does the same for the entries of a definition. Laws say that an op that was read is
-//! read again from its canonical bytes, and which fields these bytes have.
+//! `FieldRow` (a row of the table), `OpFault`.
+//! Promise: `read_op` (`gives`, `within`) returns exactly the op that the definitions say an entry is read as, or the entry's first fault. `read_definition`
+//! (`gives`, `last`) does the same for the entries of a definition. Laws say that an op that was read is read again from its canonical bytes, and which
+//! fields these bytes have.
 //!
 //! A caller:
 //!

@@ -1,4 +1,4 @@
-//! Equality by value of ops and of the messages in them: all fields are compared, and the extra bytes. The attributes of a
+//! Equality by value of ops and of the messages in them: all fields and the extra bytes are compared. The attributes of a
 //! source are compared as a list of keys and attributes, in order. Nothing here allocates.
 
 ghost use Rattle.std.specs.Prelude.{◌≡◌, ◌↔◌, IsTrue, slice_get};

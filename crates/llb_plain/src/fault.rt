@@ -12,7 +12,7 @@ pub enum PlainFault {
     /// 101: no tree is given for a local source; the first such name, by vertex, follows.
     #[error("101 {0}")]
     MissingLocal(Text),
-    /// 102: a vertex mounts a cache; the first such number follows.
+    /// 102: a vertex mounts a cache; the number of the first such vertex follows.
     #[error("102 {0}")]
     HasCache(u32),
     /// 103: memory was refused.
