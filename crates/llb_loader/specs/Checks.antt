@@ -1,5 +1,4 @@
--- The results of the checks of the marked rows, which are the reached ones. Each check goes through the rows in their order and stops at the first row that
--- fails it.
+-- The results of the checks of the marked rows, which are the reached rows: each check goes through them in order and stops at the first row that fails it.
 use Rattle.std.specs.Prelude.{◌≡◌, ◌≢◌, ℕ, ◌<◌, ◌==◌, ◌⊎◌, Bool, false, cond, List, [], length, slice_index_or, Some, None}
 use Rattle.llb_ops.specs.declared.op.Op.{Op}
 use Rattle.llb_loader.specs.declared.row.Row.{Row}
@@ -61,8 +60,7 @@ pub record FirstBad (counts named : List ℕ) (op : Op) (n i : ℕ) : Type 0 whe
 abbrev pub asked_of : List Op → List Bool → ℕ → ℕ → ℕ
 asked_of ops seen terminal k = cond (slice_index_or seen k false) (length (op_at ops k).inputs) (cond (k == terminal) 1 0)
 
--- e names the least row with a bad input, and the first bad input of that row. An input is bad if it is one of the row's checked inputs (`asked_of`), and the
--- row that it names has no output with the input's index.
+-- e names the least row with a checked input (`asked_of`) that names an output that does not exist, and the first such input of that row
 abbrev pub RefusesIndex : List Op → List (List ℕ) → List ℕ → List Bool → ℕ → LoadFault → Type 0
 RefusesIndex ops links counts seen t e = (k : ℕ) × (i : ℕ) × (e ≡ BadIndex k i) × (k < length ops)
     × FirstBad counts (inputs links k) (op_at ops k) (asked_of ops seen t k) i

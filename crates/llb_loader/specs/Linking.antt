@@ -189,8 +189,7 @@ numbered_of p order = record {
   result = edge_of p order (input_at (op_at p.ops p.terminal) 0);
 }
 
--- g is the graph of the rows, which are read as these ops. No refusal applies to their plan, g is the graph of this plan, and `order` has the reached rows in
--- the order of their numbers.
+-- g is the graph of the plan of the rows, which are read as these ops; no refusal applies, and `order` has the reached rows in the order of their numbers
 pub record GraphOf (rows : List Row) (ops : List Op) (g : Numbered) : Type 0 where
   pub order : List ℕ
   pub whole : IsWhole (plan_of rows ops) order

@@ -16,8 +16,7 @@ use Rattle.llb_loader.specs.Linking.{Plan, plan, IsPlanOf, IsApart, IsNamed, Rea
 abbrev pub plan_in : Linked → Plan
 plan_in l = plan l.rows.items l.ops.items l.terminal l.start
 
--- What holds of linked rows. Their terminal and row of the result are those of the rows' plan, each input of a reached row names a row, and `seen` marks the
--- reached rows.
+-- The terminal and the row of the result are those of the rows' plan, each input of a reached row names a row, and `seen` marks the reached rows.
 pub record IsLinked (l : Linked) : Type 0 where
   pub few : length l.rows.items ≤ 65_536
   pub len : length l.ops.items ≡ length l.rows.items

@@ -19,8 +19,7 @@ use Rattle.llb_ops.specs.Records.{form_of, parts, int32, int64, uint32, flag}
 use Rattle.llb_ops.specs.Messages.{op_of}
 use Rattle.llb_ops.specs.Writing.{bit, set_number, set_bytes, op_bytes}
 
--- A list of fields, each with its row of the table and with its value: a number as its varint spells it, bytes, or the fields of a message. The extra bytes are
--- last.
+-- a list of fields, each with its row of the table and its value: a number as its varint spells it, bytes, or the fields of a message; the extra bytes are last
 pub data Fields : Type 0 where
   extra : List ℕ → Fields
   number : Row → ℕ → Fields → Fields

@@ -13,7 +13,7 @@ use std::{error, fmt};
 pub enum TextFault {
     /// 31 N: line N does not spell an entry, or does not end in a line feed.
     BadLine(u64),
-    /// 32 N: the path of line N does not come after the path of the line before, or line 1 is not for the root.
+    /// 32 N: the path of line N is not after the path of the line before, or line 1 is not for the root.
     Order(u64),
     /// 33 N: no earlier line is for the parent of the path of line N.
     NoParent(u64),
