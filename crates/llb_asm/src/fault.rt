@@ -12,15 +12,15 @@ use std::{error, fmt};
 pub enum Rule {
     /// The line is not UTF-8, or no item can be recognized in it.
     Syntax,
-    /// The current message has no field of that name.
+    /// The message that is open has no field of that name.
     UnknownField,
-    /// The field may not follow the one before it.
+    /// The field may not follow the field before it.
     Order,
     /// The text after the name is not a value of the field's kind.
     BadValue,
-    /// The line passes a limit of a definition.
+    /// With this line, a limit of a definition is exceeded.
     OverLimit,
-    /// The line is the last one, and an entry is not closed.
+    /// The line is the last one, and the `}` of an entry is missing.
     Unclosed,
 }
 
@@ -44,7 +44,7 @@ impl error::Error for Rule {}
 /// Why a text is not assembled, or entries are not written. Lines are counted from 1.
 #[derive(Clone, Copy, Debug, PartialEq, Eq)]
 pub enum AsmFault {
-    /// 161 N RULE: line N breaks the rule.
+    /// 161 N RULE: line N breaks the rule whose name follows.
     Line(u64, Rule),
     /// 162 N: a label of line N names no earlier entry.
     UnknownLabel(u64),

@@ -31,7 +31,7 @@ pub enum LandFault {
     /// 140: a cache of the vertex that the worker runs is in shared mode.
     #[error("140")]
     HasShared(Outcome),
-    /// 139: the outcome's job is not what the worker runs now, with the caches as they are now.
+    /// 139: the outcome is not of the job that the worker runs now, with the caches as they are now.
     #[error("139")]
     Stranger(Outcome),
 }
@@ -45,7 +45,7 @@ impl fmt::Debug for LandFault {
 /// Why a graph is not opened. The graph, the local trees and the caches are in the fault.
 #[derive(Drop, Error)]
 pub enum OpenFault {
-    /// 121: no tree is given for a local source; its name (the least such vertex's).
+    /// 121: no tree is given for a local source; the first such name, by vertex, follows.
     #[error("121 {0}")]
     MissingLocal(Text, Graph, Locals, Caches),
     /// 122: the number of workers is 0 or more than 64.

@@ -28,7 +28,7 @@ bared rows = map (λ r. record { digest = r.digest; bytes = [] }) rows
 abbrev pub bytes_of : List Row → List (List ℕ)
 bytes_of rows = map (λ r. r.bytes) rows
 
--- for each entry the row with its digest text, without bytes
+-- for each entry, a row that has the entry's digest text and no bytes
 abbrev pub titles_from : List (List ℕ) → List Row
 titles_from entries = map (λ bytes. record { digest = digest_text bytes; bytes = [] }) entries
 
@@ -37,12 +37,12 @@ pub record AreRead (entries : List (List ℕ)) (ops : List Op) : Type 0 where
   pub len : length ops ≡ length entries
   pub each : (k : ℕ) → k < length entries → op_of (slice_index_or entries k []) ≡ Ok (op_at ops k)
 
--- the first entry that spells no op, and why
+-- entry k is the first entry that can't be read as an op, and f is its fault
 pub record IsUnreadEntry (entries : List (List ℕ)) (k : ℕ) (f : OpFault) : Type 0 where
   pub here : k < length entries
   pub fault : op_of (slice_index_or entries k []) ≡ Err f
   pub before : (j : ℕ) → j < k → IsOk (op_of (slice_index_or entries j []))
 
--- e says what is wrong with the first entry that cannot be read
+-- e is the refusal of the first entry that can't be read as an op
 abbrev pub RefusesEntry : List (List ℕ) → LoadFault → Type 0
 RefusesEntry entries e = (k : ℕ) × (f : OpFault) × (e ≡ Entry k f) × IsUnreadEntry entries k f

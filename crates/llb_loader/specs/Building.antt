@@ -1,4 +1,4 @@
--- How vertices are built: from a row's digest text and op, the rows that its inputs name, and the numbers of rows.
+-- How a vertex is built: from the digest text and the op of a row, the rows that the op's inputs name, and the vertex numbers of these rows.
 use Rattle.std.specs.Prelude.{◌≡◌, ℕ, ◌<◌, ◌≤◌, ◌^◌, nat_abs, List, [], length, slice_index, slice_index_or, None}
 use Rattle.llb_ops.specs.declared.op.Op.{Op}
 use Rattle.llb_ops.specs.declared.op.Input.{Input}
@@ -31,7 +31,7 @@ pub record IsBuildable (op : Op) (named : List ℕ) : Type 0 where
   pub len : length named ≡ length op.inputs
   pub indexes : (i : ℕ) → i < length op.inputs → IsBelow 1_025 (input_at op i).index
 
--- v is the vertex of this op, and each of its edges leads to the number, by `ranks`, of the row that the op's input names
+-- v is the vertex of this op. The edge of each input leads to the vertex with the number that `ranks` has for the row that the input names.
 pub record IsBuilt (text : List ℕ) (from : Op) (named ranks : List ℕ) (v : Vertex) : Type 0 where
   pub digest : v.digest ≡ text
   pub op : v.op ≡ from
@@ -41,7 +41,7 @@ pub record IsBuilt (text : List ℕ) (from : Op) (named ranks : List ℕ) (v : V
   pub steps : v.steps ≡ step_count from
   pub outputs : v.outputs ≡ output_count from
 
--- the first n vertices are the vertices of the first n rows in this order
+-- the first n vertices are the vertices of the first n rows in `order`
 abbrev pub AreBuilt : List Row → List Op → List (List ℕ) → List ℕ → List ℕ → List Vertex → ℕ → Type 0
 AreBuilt rows ops links ranks order vertices n = (j : ℕ) → j < n
     → IsBuilt (row_at rows (slice_index order j)).digest (op_at ops (slice_index order j)) (inputs links (slice_index order j)) ranks (vertex_at vertices j)

@@ -8,7 +8,7 @@ use Rattle.llb_loader.specs.declared.fault.Rule.TheVariants as rule
 use Rattle.llb_loader.specs.Scripts.{script_fault}
 use Rattle.llb_loader.specs.Rules.{MeetsAll, Breaks}
 
--- `broken` is the first of these rules that is broken, or nothing if none is
+-- `broken` is the first of these rules that an op of this kind with these inputs breaks; none if the op meets all of them
 abbrev pub IsFirstBroken : List Input → Option Kind → List Rule → Option Rule → Type 0
 IsFirstBroken inputs kind rs broken = MatchOption broken (MeetsAll inputs kind rs) (Breaks inputs kind rs)
 
@@ -20,7 +20,7 @@ source_rules = rule.LocalName ∷ []
 abbrev pub file_rules : List Rule
 file_rules = rule.NoActions ∷ rule.ActionInput ∷ rule.ActionOutput ∷ []
 
--- the rules on the words of an exec and what they need
+-- the rules that an exec has a `Meta`, at least one word, and at least one mount
 abbrev pub word_rules : List Rule
 word_rules = rule.NoMeta ∷ rule.NoArgs ∷ rule.NoMounts ∷ []
 

@@ -1,4 +1,4 @@
--- The results of the checks over the marked rows: each check goes through the rows in their order and stops at the first row that fails it.
+-- The results of the checks of the marked rows, which are the reached rows: each check goes through them in order and stops at the first row that fails it.
 use Rattle.std.specs.Prelude.{◌≡◌, ◌≢◌, ℕ, ◌<◌, ◌==◌, ◌⊎◌, Bool, false, cond, List, [], length, slice_index_or, Some, None}
 use Rattle.llb_ops.specs.declared.op.Op.{Op}
 use Rattle.llb_loader.specs.declared.row.Row.{Row}
@@ -21,7 +21,7 @@ RefusesStart rows t op e = ((e ≡ NoResult) × (op.inputs ≡ []))
 abbrev pub NamesAll : List Row → ℕ → Op → ℕ → Type 0
 NamesAll rows t op n = (i : ℕ) → i < n → row_named rows t (input_at op i).digest ≢ None
 
--- input i is the first that names no row
+-- input i of an op is the first of its inputs that names no row
 pub record FirstUnknown (rows : List Row) (t : ℕ) (op : Op) (i : ℕ) : Type 0 where
   pub here : i < length op.inputs
   pub unknown : row_named rows t (input_at op i).digest ≡ None
@@ -42,7 +42,7 @@ abbrev pub RefusesRule : List Op → (ℕ → Type 0) → LoadFault → Type 0
 RefusesRule ops Marked e = (k : ℕ) × (r : Rule) × (e ≡ Invalid k r) × Marked k × BreaksFirst (op_at ops k) r
     × ((j : ℕ) → j < k → Marked j → MeetsRules (op_at ops j))
 
--- how many outputs the row has that input i of an op names, given the rows that the op's inputs name
+-- the number of outputs of the row that input i of an op names; `counts` has the number of outputs of each row, and `named` the rows that the op's inputs name
 abbrev pub count_there : List ℕ → List ℕ → ℕ → ℕ
 count_there counts named i = slice_index_or counts (slice_index_or named i 0) 0
 
@@ -60,7 +60,7 @@ pub record FirstBad (counts named : List ℕ) (op : Op) (n i : ℕ) : Type 0 whe
 abbrev pub asked_of : List Op → List Bool → ℕ → ℕ → ℕ
 asked_of ops seen terminal k = cond (slice_index_or seen k false) (length (op_at ops k).inputs) (cond (k == terminal) 1 0)
 
--- e names the least row with a checked input whose index is not the index of an output of the row that the input names, and the first such input
+-- e names the least row with a checked input (`asked_of`) that names an output that does not exist, and the first such input of that row
 abbrev pub RefusesIndex : List Op → List (List ℕ) → List ℕ → List Bool → ℕ → LoadFault → Type 0
 RefusesIndex ops links counts seen t e = (k : ℕ) × (i : ℕ) × (e ≡ BadIndex k i) × (k < length ops)
     × FirstBad counts (inputs links k) (op_at ops k) (asked_of ops seen t k) i

@@ -13,12 +13,12 @@ use Rattle.llb_loader.specs.declared.fault.Rule.TheVariants as rule
 use Rattle.llb_loader.specs.declared.fault.LoadFault.{LoadFault}
 use Rattle.llb_loader.specs.declared.fault.LoadFault.TheVariants as fault
 
--- whether a fault is `Memory`, which no rule returns
+-- whether a fault is `Memory`, which no definition of a result has
 abbrev pub is_memory : LoadFault → Bool
 is_memory fault.Memory = true
 is_memory _ = false
 
--- a call returns what its rule returns, or it fails for want of memory
+-- a call returns what the definition of its result says, or it fails for want of memory
 abbrev pub Gives : {X Y : Type 0} → (X → Y) → Result X LoadFault → Result Y LoadFault → Type 0
 Gives = answer.Gives is_memory
 

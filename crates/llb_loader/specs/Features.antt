@@ -32,7 +32,7 @@ abbrev pub has_secret : Option Kind → Bool
 has_secret (Some (Exec x)) = not (length x.secretenv == 0)
 has_secret _ = false
 
--- whether an action has none of the kinds that its message names
+-- whether an action is of no known kind: no member of its oneof is set
 abbrev pub is_nameless : Option ActionKind → Bool
 is_nameless None = true
 is_nameless (Some k) = false
@@ -50,7 +50,7 @@ has_pattern c = not (length c.include_patterns == 0) || not (length c.exclude_pa
 abbrev pub unpacks : CopyFile → Bool
 unpacks c = c.attempt_unpack_docker_compatibility
 
--- whether a copy has a field that its message does not name
+-- whether a copy has a field that the table of messages does not name
 abbrev pub has_field : CopyFile → Bool
 has_field c = not (length c.extra == 0)
 

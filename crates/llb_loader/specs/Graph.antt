@@ -37,7 +37,7 @@ pub record LeadsBelow (vertices : List Vertex) (k : ℕ) (e : Edge) : Type 0 whe
   pub lower : e.vertex < k
   pub index : HoldsAt (λ v. e.index < v.outputs) vertices e.vertex
 
--- the edge of an input leads to the vertex with the digest that the input names, and has the input's index
+-- e is the edge of an input: it leads to the vertex whose digest is in the input, and to the output with the index that is in the input
 pub record IsEdgeOfInput (vertices : List Vertex) (input : Input) (e : Edge) : Type 0 where
   pub digest : HoldsAt (λ v. v.digest ≡ input.digest) vertices e.vertex
   pub index : input.index ≡ pos e.index
@@ -48,7 +48,7 @@ pub record HasInputs (vertices : List Vertex) (v : Vertex) : Type 0 where
   pub each : (i : ℕ) (input : Input) (e : Edge) → i < length v.inputs
       → IsEdgeOfInput vertices (slice_index_or v.op.inputs i input) (slice_index_or v.inputs i e)
 
--- what holds of a vertex: its op is within the limits, meets the rules and has no unsupported feature; its script and counts of steps and outputs are its op's
+-- what holds of each vertex: its op is within the limits, meets the rules and has no unsupported feature; `script`, `steps` and `outputs` are those of the op
 pub record IsVertex (v : Vertex) : Type 0 where
   pub within : IsWithinLimits v.op
   pub featureless : feature_of v.op ≡ None
@@ -70,7 +70,7 @@ pub record IsSourceVertex (v : Vertex) (s : SourceOp) : Type 0 where
   pub steps : v.steps ≡ 1
   pub outputs : v.outputs ≡ 1
 
--- a file op has at least one action; each action has a kind, sets no owner by name, and takes inputs of the op, results of earlier actions, or none
+-- a file op has at least one action; each action has a kind, sets no owner by name, and reads inputs of the op, results of earlier actions, or nothing
 pub record IsFileVertex (v : Vertex) (f : FileOp) : Type 0 where
   pub some : 0 < length f.actions
   pub few : length f.actions ≤ 1_024
@@ -92,8 +92,8 @@ pub record IsMergeVertex (v : Vertex) (m : MergeOp) : Type 0 where
   pub outputs : v.outputs ≡ 1
 
 -- the words of an exec are a script, its cwd is a path, and its mounts are at distinct paths, of which one is the root; each mount shows an
--- input that exists, or nothing, or is a tmpfs; only bind mounts have outputs; the caches that the exec mounts have distinct keys.
--- There are fewer than 2^25 commands, since each takes more than half a byte of the entry.
+-- input that exists, or nothing, or is a tmpfs; only bind mounts have outputs; the caches that the exec mounts have distinct keys. There
+-- are fewer than 2^25 commands, since an entry has at most 2^24 bytes and each command takes at least one of them.
 pub record IsExecVertex (v : Vertex) (x : ExecOp) : Type 0 where
   pub meta : Meta
   pub commands : List Joined
@@ -121,7 +121,7 @@ pub record IsExecVertex (v : Vertex) (x : ExecOp) : Type 0 where
   pub steps : v.steps ≡ length commands
   pub outputs : v.outputs ≡ count_outputs (mount_outputs x.mounts)
 
--- the vertex is of a supported kind, and the definition above for this kind holds of it
+-- the vertex is of a supported kind, and meets the definition above for this kind
 abbrev pub IsVertexOf : Vertex → Option Kind → Type 0
 IsVertexOf v (Some (Source s)) = IsSourceVertex v s
 IsVertexOf v (Some (File f)) = IsFileVertex v f
@@ -129,7 +129,7 @@ IsVertexOf v (Some (Merge m)) = IsMergeVertex v m
 IsVertexOf v (Some (Exec x)) = IsExecVertex v x
 IsVertexOf v _ = ⊥
 
--- a loaded graph: its vertices are in an order in which every edge of a vertex leads to a vertex with a lower number
+-- what is true of every loaded graph
 pub record IsGraph (g : Numbered) : Type 0 where
   -- every edge of a vertex leads to an output of a vertex with a lower number, and the result is an output of one of the vertices
   pub down : (k : ℕ) (d : Vertex) → k < length g.vertices → All (LeadsBelow g.vertices k) (slice_index_or g.vertices k d).inputs

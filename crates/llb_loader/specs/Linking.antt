@@ -1,4 +1,4 @@
--- The graph of the rows, or the first fault: the meaning of each refusal, and what has to hold before the next one is looked for.
+-- The graph of the rows, or the first fault: the meaning of each refusal, and what has to hold before the next refusal is looked for.
 use Rattle.std.specs.Prelude.{◌≡◌, ℕ, ◌<◌, ◌≤◌, pos, nat_abs, List, [], length, map, slice_index_or, Option, Some, None, ◌⊎◌}
 use Rattle.std.specs.Option.{unwrap_or}
 use Rattle.llb_ops.specs.declared.op.Op.{Op}
@@ -26,7 +26,7 @@ op_at ops k = slice_index_or ops k (record { inputs = []; kind = None; extra = [
 abbrev pub input_at : Op → ℕ → Input
 input_at op i = slice_index_or op.inputs i (record { digest = []; index = pos 0; extra = [] })
 
--- k and i have the property P; each pair with this property has a first number above k, or the first number k and a second number that is at least i
+-- the pair of k and i has the property P, and is the least such pair: by the first number, then by the second
 pub record Foremost (P : ℕ → ℕ → Type 0) (k i : ℕ) : Type 0 where
   pub holds : P k i
   pub least : (j h : ℕ) → P j h → (k < j) ⊎ ((k ≡ j) × (i ≤ h))
@@ -71,16 +71,16 @@ pub record HasInput (p : Plan) (k i : ℕ) : Type 0 where
   pub reached : ReachedRow p k
   pub here : i < length (op_at p.ops k).inputs
 
--- an input of a reached row names no row
+-- row k is reached, and its input i names no row
 pub record IsUnknown (p : Plan) (k i : ℕ) : Type 0 where
   pub input : HasInput p k i
   pub unknown : input_row p k i ≡ None
 
--- how many outputs the row has that input i of row k names; if the input names no row, how many outputs row 0 has
+-- the number of outputs of the row that input i of row k names; if the input names no row, the number of outputs of row 0
 abbrev pub outputs_there : Plan → ℕ → ℕ → ℕ
 outputs_there p k i = output_count (op_at p.ops (unwrap_or (input_row p k i) 0))
 
--- an input of a reached row, or the terminal's first input, has an index that is no output of the row that the input names
+-- The row that input i of row k names has no output with the input's index. Row k is reached, or row k is the terminal and i is 0.
 pub record IsBadIndex (p : Plan) (k i : ℕ) : Type 0 where
   pub asked : HasInput p k i ⊎ ((k ≡ p.terminal) × (i ≡ 0))
   pub bad : ¬ IsBelow (outputs_there p k i) (input_at (op_at p.ops k) i).index
@@ -108,7 +108,7 @@ pub record IsNamed (p : Plan) : Type 0 where
   pub started : IsStarted p
   pub named : (k i : ℕ) → ¬ IsUnknown p k i
 
--- Each input of a reached row names a row, and the order numbers the reached rows.
+-- Each input of a reached row names a row, and `order` has the reached rows in the order of their numbers.
 pub record IsOrdered (p : Plan) (order : List ℕ) : Type 0 where
   pub named : IsNamed p
   pub numbering : IsNumbering (links_in p) p.start order
@@ -161,7 +161,7 @@ Refuses p (Invalid k r) = (order : List ℕ) × IsSupported p order × IsInvalid
 Refuses p (BadIndex k i) = (order : List ℕ) × IsValid p order × Foremost (IsBadIndex p) k i
 Refuses p _ = ⊥
 
--- the rows, read as these ops, are refused
+-- e is the refusal of the rows, which are read as these ops
 abbrev pub Refused : List Row → List Op → LoadFault → Type 0
 Refused rows ops e = Refuses (plan_of rows ops) e
 
@@ -189,7 +189,7 @@ numbered_of p order = record {
   result = edge_of p order (input_at (op_at p.ops p.terminal) 0);
 }
 
--- The rows, which are read as these ops, make the graph: no refusal applies to their plan, and g is the graph of the plan with its rows in this order.
+-- g is the graph of the plan of the rows, which are read as these ops; no refusal applies, and `order` has the reached rows in the order of their numbers
 pub record GraphOf (rows : List Row) (ops : List Op) (g : Numbered) : Type 0 where
   pub order : List ℕ
   pub whole : IsWhole (plan_of rows ops) order

@@ -14,7 +14,7 @@ use Rattle.llb_tree.specs.Tree.{TreeMap}
 abbrev pub behind : List ℕ → List ℕ → Option (List ℕ)
 behind prefix text = cond (starts_with nat_eq text prefix) (Some (drop (length prefix) text)) None
 
--- the rest of a source's identifier after `local://`; nothing if it does not begin with that
+-- the part of a source's identifier after `local://`; none if the identifier does not begin with `local://`
 abbrev pub source_name : SourceOp → Option (List ℕ)
 source_name s = behind (codes "local://") s.identifier
 
@@ -41,6 +41,6 @@ locals_of entries = map (λ e. (string_bytes e.0, e.1)) entries
 abbrev pub tree_of_local : List Local → List ℕ → Option TreeMap
 tree_of_local locals name = lookup (bytes_eq name) locals
 
--- the trees after one is given for a name: it replaces the tree that the name had, or, if the name had none, comes last
+-- the list after a tree is given for a name: the tree replaces the one that the name had; a name that had none is added at the end
 abbrev pub with_local : List Local → List ℕ → TreeMap → List Local
 with_local locals name tree = insert_entry bytes_eq locals name tree

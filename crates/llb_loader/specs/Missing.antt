@@ -8,7 +8,7 @@ abbrev pub lacks : List Local → Option (List ℕ) → Option (List ℕ)
 lacks locals None = None
 lacks locals (Some name) = if is_some (tree_of_local locals name) then None else Some name
 
--- the first value if there is one, else the later one
+-- the first value if there is one, else the second value
 abbrev pub first_of : {A : Type 0} → Option A → Option A → Option A
 first_of (Some x) later = Some x
 first_of None later = later

@@ -67,7 +67,7 @@ abbrev pub ReadsCwd : Option Meta → Type 0
 ReadsCwd (Some meta) = IsSome (read_as meta.cwd)
 ReadsCwd None = ⊤
 
--- every text of an exec that has to be a path reads as one
+-- the dests and the selectors of the mounts, and the `cwd`, read as paths
 pub record ReadsPaths (mounts : List Mount) (meta : Option Meta) : Type 0 where
   pub dests : All IsSome (dests_of mounts)
   pub selectors : All (λ m. IsSome (read_as m.selector)) mounts
@@ -75,7 +75,7 @@ pub record ReadsPaths (mounts : List Mount) (meta : Option Meta) : Type 0 where
 
 -- ---- caches
 
--- an output: the digest text of its op, and its index
+-- an output with whose tree a new instance of a cache begins: the digest text of the output's op, and the output's index
 pub record Seed : Type 0 where
   pub digest : List ℕ
   pub index : ℤ
@@ -85,7 +85,7 @@ abbrev pub seed_by : Option Input → Option Seed
 seed_by (Some i) = Some (record { digest = i.digest; index = i.index })
 seed_by None = None
 
--- the output that a new instance of a cache begins with: the one that the input with this number names; none if there is no such input, as for -1
+-- the output with which a new instance of a cache begins: the output that the input with this number names; none if there is no such input, as for -1
 abbrev pub seed_of : List Input → ℤ → Option Seed
 seed_of inputs (pos n) = seed_by (slice_get inputs n)
 seed_of inputs (negsuc n) = None

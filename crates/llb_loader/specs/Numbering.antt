@@ -14,12 +14,12 @@ pub record IsNext (g : List (List ℕ)) (start : ℕ) (done : List ℕ) (k : ℕ
   pub ready : IsReady g start done k
   pub least : (j : ℕ) → IsReady g start done j → k ≤ j
 
--- The list has the reached rows in the order of their numbers: at each position is the least row that can be numbered after those before it.
+-- `order` has the reached rows in the order of their numbers: at each position is the least row that can be numbered once all rows at earlier positions are.
 pub record IsNumbering (g : List (List ℕ)) (start : ℕ) (order : List ℕ) : Type 0 where
   pub each : (i : ℕ) → i < length order → IsNext g start (take i order) (slice_index order i)
   pub whole : (k : ℕ) → Reached g start k → Contains order k
 
--- every edge from a reached row leads to a row of lower rank, by these ranks
+-- if each row has the rank that `rank` says, every edge from a reached row leads to a row of lower rank
 abbrev pub GoesDown : List (List ℕ) → ℕ → (ℕ → ℕ) → Type 0
 GoesDown g start rank = (a b : ℕ) → Reached g start a → HasEdge g a b → rank b < rank a
 
@@ -27,7 +27,7 @@ GoesDown g start rank = (a b : ℕ) → Reached g start a → HasEdge g a b → 
 abbrev pub HasCycle : List (List ℕ) → ℕ → Type 0
 HasCycle g start = (rank : ℕ → ℕ) → ¬ GoesDown g start rank
 
--- the number of row k: its first position in the list, or the list's length if it is not there
+-- the number of row k: its first position in the list, or the list's length if row k is not in the list
 abbrev pub rank_in : List ℕ → ℕ → ℕ
 rank_in [] k = 0
 rank_in (x ∷ xs) k = cond (x == k) 0 (suc (rank_in xs k))

@@ -1,4 +1,4 @@
--- What becomes of a row that is not numbered yet: it joins the ready rows, or waits for one of its inputs.
+-- What becomes of a row that is not numbered yet: it joins the ready rows, or waits for a row that it names.
 use Rattle.std.specs.Prelude.{◌≡◌, ℕ, ◌<◌, ◌≤◌, Bool, true, false, cond, List, [], ◌∷◌, ◌++◌, ◌⊎◌, length, slice_index, slice_index_or, slice_set, ◌==◌}
 use Rattle.std.specs.List.{All}
 use Rattle.llb_loader.specs.declared.numbering.Waiter.{Waiter}
@@ -8,19 +8,19 @@ use Rattle.llb_loader.specs.Rows.{inputs, HasEdge}
 abbrev pub IsMarked : List Bool → ℕ → Type 0
 IsMarked marks k = slice_index_or marks k false ≡ true
 
--- the first `checked` inputs of the waiter's row are marked
+-- `done` marks the rows that the first `checked` inputs of the waiter's row name
 pub record IsChecked (g : List (List ℕ)) (done : List Bool) (w : Waiter) : Type 0 where
   pub within : w.checked ≤ length (inputs g w.row)
   pub passed : (i : ℕ) → i < w.checked → IsMarked done (slice_index (inputs g w.row) i)
 
--- all inputs of the row are marked, and it joins the ready rows
+-- `done` marks all rows that the waiter's row names, and the waiter's row joins the ready rows
 pub record GoesToReady (g : List (List ℕ)) (done : List Bool) (w : Waiter) (ready next_ready : ℕ → Bool)
     (waiting next_waiting : List (List Waiter)) : Type 0 where
   pub all : All (IsMarked done) (inputs g w.row)
   pub added : (q : ℕ) → next_ready q ≡ cond (w.row == q) true (ready q)
   pub same : next_waiting ≡ waiting
 
--- input b of the row is not marked, and the row waits for it
+-- the waiter's row names row b, which `done` does not mark, and now waits for row b
 pub record GoesToWaiting (g : List (List ℕ)) (done : List Bool) (w : Waiter) (ready next_ready : ℕ → Bool)
     (waiting next_waiting : List (List Waiter)) (b : ℕ) (next : Waiter) : Type 0 where
   pub edge : HasEdge g w.row b
@@ -31,7 +31,7 @@ pub record GoesToWaiting (g : List (List ℕ)) (done : List Bool) (w : Waiter) (
   pub below : b < length waiting
   pub pushed : next_waiting ≡ slice_set waiting b (slice_index_or waiting b [] ++ next ∷ [])
 
--- a waiting row joins the ready rows, or waits for another of its inputs
+-- the waiter's row joins the ready rows, or waits for another row that it names
 abbrev pub IsPlacing : List (List ℕ) → List Bool → Waiter → (ℕ → Bool) → (ℕ → Bool) → List (List Waiter) → List (List Waiter) → Type 0
 IsPlacing g done w ready next_ready waiting next_waiting =
     GoesToReady g done w ready next_ready waiting next_waiting

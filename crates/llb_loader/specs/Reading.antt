@@ -14,7 +14,7 @@ pub record AreOps (rows : List Row) (ops : List Op) : Type 0 where
   pub len : length ops ≡ length rows
   pub each : (k : ℕ) → k < length rows → op_of (row_at rows k).bytes ≡ Ok (op_at ops k)
 
--- row k is the first that can't be read as an op, with this fault
+-- row k is the first row that can't be read as an op, and f is the fault of its bytes
 pub record IsUnread (rows : List Row) (k : ℕ) (f : OpFault) : Type 0 where
   pub here : k < length rows
   pub fault : op_of (row_at rows k).bytes ≡ Err f

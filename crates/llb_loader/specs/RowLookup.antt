@@ -42,12 +42,12 @@ first_with rows d = position (λ r. bytes_eq d r.digest) rows
 abbrev pub terminal_in : List Row → ℕ
 terminal_in rows = unwrap_or (first_with rows (row_at rows (length rows - 1)).digest) 0
 
--- row k, unless it is row t
+-- row k; none if k is t
 abbrev pub other_than : ℕ → Option ℕ → Option ℕ
 other_than t (Some k) = cond (k == t) None (Some k)
 other_than t None = None
 
--- the row that a digest text names: the first row with it, unless this is the terminal, which no input can name
+-- the row that a digest text names: the first row with this digest text, or none if that row is the terminal, which no input can name
 abbrev pub row_named : List Row → ℕ → List ℕ → Option ℕ
 row_named rows t d = other_than t (first_with rows d)
 
@@ -63,11 +63,11 @@ graph_of rows t ops = map (rows_named rows t) ops
 abbrev pub IsIndex : List Row → BTreeMap (Bor (List ℕ)) ℕ → Type 0
 IsIndex rows index = (d : List ℕ) → get_by (λ q. slice_cmp nat_cmp d q.now) index ≡ first_with rows d
 
--- for each row, the first one with its digest text
+-- `firsts` has for each row the first row with the same digest text
 pub record AreFirsts (rows : List Row) (firsts : List ℕ) : Type 0 where
   pub len : length firsts ≡ length rows
   pub each : (k : ℕ) → k < length rows → first_with rows (row_at rows k).digest ≡ Some (slice_index_or firsts k 0)
 
--- e names the least row that collides
+-- e is the refusal of the least row that collides with an earlier row
 abbrev pub RefusesCollision : List Row → LoadFault → Type 0
 RefusesCollision rows e = (k : ℕ) × (e ≡ Collision k) × Least (Collides rows) k

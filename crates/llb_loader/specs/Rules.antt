@@ -112,7 +112,7 @@ count_outputs outputs = count_by is_output outputs
 abbrev pub output_at : List ℤ → ℕ → ℤ
 output_at outputs a = slice_index_or outputs a none
 
--- The numbers other than -1 are 0 to m - 1, each once, if there are m of them.
+-- If m of the numbers are other than -1, these are the numbers 0 to m - 1, each once.
 pub record AreOutputs (outputs : List ℤ) : Type 0 where
   pub within : (a : ℕ) → output_at outputs a ≢ none → IsBelow (count_outputs outputs) (output_at outputs a)
   pub once : (a b : ℕ) → output_at outputs a ≢ none → output_at outputs a ≡ output_at outputs b → a ≡ b
@@ -141,7 +141,7 @@ IsKnownSharing None = ⊤
 abbrev pub IsShared : Mount → Type 0
 IsShared m = m.mount_type ≡ cache → IsKnownSharing m.cache_opt
 
--- the outputs of mounts are numbered from 0, each once, and no cache or tmpfs mount has one
+-- the outputs of mounts are numbered from 0, each once, and no cache or tmpfs mount has an output
 pub record AreMountOutputs (mounts : List Mount) : Type 0 where
   pub numbered : AreOutputs (mount_outputs mounts)
   pub caches : All (λ m. m.mount_type ≡ cache → m.output ≡ none) mounts
@@ -180,22 +180,22 @@ output_count op = kind_outputs op.kind
 
 -- ---- properties of ops of one kind
 
--- a source op has the property; nothing is asked of an op of another kind
+-- if the op is a source, it has the property P
 abbrev pub OfSource : (SourceOp → Type 0) → Option Kind → Type 0
 OfSource P (Some (Source s)) = P s
 OfSource P _ = ⊤
 
--- a file op has the property; nothing is asked of an op of another kind
+-- if the op is a file op, it has the property P
 abbrev pub OfFile : (FileOp → Type 0) → Option Kind → Type 0
 OfFile P (Some (File f)) = P f
 OfFile P _ = ⊤
 
--- an exec has the property; nothing is asked of an op of another kind
+-- if the op is an exec, it has the property P
 abbrev pub OfExec : (ExecOp → Type 0) → Option Kind → Type 0
 OfExec P (Some (Exec x)) = P x
 OfExec P _ = ⊤
 
--- a merge has the property; nothing is asked of an op of another kind
+-- if the op is a merge, it has the property P
 abbrev pub OfMerge : (MergeOp → Type 0) → Option Kind → Type 0
 OfMerge P (Some (Merge m)) = P m
 OfMerge P _ = ⊤

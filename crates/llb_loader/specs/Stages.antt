@@ -16,7 +16,7 @@ use Rattle.llb_loader.specs.Linking.{Plan, plan, IsPlanOf, IsApart, IsNamed, Rea
 abbrev pub plan_in : Linked → Plan
 plan_in l = plan l.rows.items l.ops.items l.terminal l.start
 
--- The terminal and the row of the result are right for the rows, each input of a reached row names a row, and the reached rows are marked.
+-- The terminal and the row of the result are those of the rows' plan, each input of a reached row names a row, and `seen` marks the reached rows.
 pub record IsLinked (l : Linked) : Type 0 where
   pub few : length l.rows.items ≤ 65_536
   pub len : length l.ops.items ≡ length l.rows.items
@@ -27,8 +27,8 @@ pub record IsLinked (l : Linked) : Type 0 where
   pub seen : length l.seen.items ≡ length l.rows.items
   pub exact : (k : ℕ) → IsMarked l.seen.items k ↔ ReachedRow (plan_in l) k
 
--- What the names in the rows, which are read as these ops, were found to say: the plan is the plan of the rows, each input of a reached row names a
--- row, and the reached rows are marked.
+-- n is what the digest texts in the inputs of the rows are resolved to; the rows are read as these ops. The terminal and the row of the result
+-- are those of the rows' plan, each input of a reached row names a row, and `seen` marks the reached rows.
 pub record AreNames (rows : List Row) (ops : List Op) (n : Names) : Type 0 where
   pub planned : IsPlanOf rows ops (plan rows ops n.terminal n.start)
   pub named : IsNamed (plan rows ops n.terminal n.start)
@@ -36,7 +36,7 @@ pub record AreNames (rows : List Row) (ops : List Op) (n : Names) : Type 0 where
   pub seen : length n.seen.items ≡ length rows
   pub exact : (k : ℕ) → IsMarked n.seen.items k ↔ ReachedRow (plan rows ops n.terminal n.start) k
 
--- These rows are read as the ops of l, and l is linked; for each of these rows, l has a row with the same number and digest text.
+-- `IsLinked` holds of l, and `IsApart` of the rows. The rows are read as the ops of l, and each has the digest text of the row of l with the same number.
 pub record IsLinkedFrom (rows : List Row) (l : Linked) : Type 0 where
   pub ops : AreOps rows l.ops.items
   pub len : length l.rows.items ≡ length rows

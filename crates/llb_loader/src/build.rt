@@ -1,4 +1,4 @@
-//! The vertices of the numbered rows: ops and digest texts are moved out of their lists.
+//! Makes the vertices of the numbered rows. Ops and digest texts are moved out of their lists, not copied.
 
 ghost use Rattle.std.specs.Prelude.{◌≡◌, ◌≢◌, ◌<◌, ℕ, length, slice_index, IfOk};
 ghost use Rattle.std.specs.List.{All};
@@ -53,7 +53,7 @@ pub(crate) fn vertices_of(
     Ok(vertices)
 }
 
-// Returns an empty op, to leave in the place of one that is taken out.
+// Returns an empty op, which replaces an op that is moved out of a list.
 fn no_op(alloc: Global) -> Op {
     Op {
         inputs: Many::new(Vec::new(alloc)),
@@ -62,12 +62,12 @@ fn no_op(alloc: Global) -> Op {
     }
 }
 
-// Returns an empty row, to leave in the place of one that is taken out.
+// Returns an empty row, which replaces a row that is moved out of a list.
 fn no_row(alloc: Global) -> Row {
     Row::bare(alloc, Text::new(String::new(alloc)))
 }
 
-// Makes the vertex of an op whose inputs name these rows, under the numbers of the rows.
+// Makes the vertex of an op whose inputs name these rows; `ranks` has the vertex number of each row.
 fn vertex_of(
     alloc: Global,
     digest: Text,
@@ -104,7 +104,7 @@ fn script_in(alloc: Global, op: &Op) -> Result<Option<Script>, Memory>
     }
 }
 
-// Reads the script in the words of an exec; `None` if it has none.
+// Reads the script in the words of an exec; `None` if there are no words.
 fn commands_in(alloc: Global, meta: &Option<Meta>) -> Result<Option<Script>, Memory>
     ensures { IfOk result (λ script. script ≡ commands_in meta.now) }
 {
@@ -117,7 +117,7 @@ fn commands_in(alloc: Global, meta: &Option<Meta>) -> Result<Option<Script>, Mem
     match read_script(alloc, meta.args.as_slice()) {
         Ok(script) => Ok(Some(script)),
         Err(ScriptFault::Memory) => Err(Memory),
-        // Unreachable in a graph: its rules refuse words that are no script.
+        // Unreachable in a graph: the rules refuse words that are no script.
         Err(_) => Ok(None),
     }
 }
@@ -143,7 +143,7 @@ fn edges_of(
     Ok(edges)
 }
 
-// Returns the edge of an input, to the vertex of that number.
+// Returns the edge of an input, which leads to the vertex with this number.
 fn edge(vertex: usize, input: &Input) -> Edge
     requires vertex { vertex < 65_536 }
     requires index { IsBelow 1_025 input.now.index }
@@ -155,7 +155,7 @@ fn edge(vertex: usize, input: &Input) -> Edge
     }
 }
 
-/// Returns the edge of the op's first input.
+/// Returns the edge of the op's first input, which leads to the vertex with this number.
 pub(crate) fn first_edge(vertex: usize, op: &Op) -> Edge
     requires some { 0 < length op.now.inputs }
     requires vertex { vertex < 65_536 }

@@ -1,5 +1,5 @@
-//! The key of a cache: its ID, the output with which a new instance begins, and its sharing mode. Keys borrow
-//! from the op, and are ordered by all three, so that a set of keys can be searched.
+//! The key of a cache: its ID, the output with which a new instance begins, and its sharing mode. A key borrows these
+//! parts from the op. Keys are ordered by ID, then mode, then seed, so that a set can be searched for an equal key.
 
 ghost use Rattle.std.specs.Prelude.{◌≡◌, Some};
 ghost use Rattle.std.specs.Option.{option_copied, option_cmp};
@@ -11,7 +11,7 @@ use llb_ops::{Input, Mount};
 use std::cmp::Ordering;
 use std::marker::Model;
 
-/// The key of a cache. Its seed is given by the input that names the output.
+/// The key of a cache. The seed, which is the output with which a new instance begins, is kept as the input that names this output.
 #[derive(Drop)]
 pub(crate) struct Key<'a> {
     id: &'a str,
@@ -41,7 +41,7 @@ pub(crate) fn key_of<'a>(inputs: &'a [Input], mount: &'a Mount) -> Option<Key<'a
     Some(Key { id, mode, seed })
 }
 
-// Returns the input that is the seed of a new instance; `None` for -1.
+// Returns the input that names the seed of the mount's cache; `None` if there is no such input, as for -1.
 fn seed_in<'a>(inputs: &'a [Input], mount: &Mount) -> Option<&'a Input>
     ensures { seed_by (option_copied result) ≡ seed_of inputs.now mount.now.input }
 {
@@ -59,7 +59,7 @@ fn order_of(input: &Input, other: &Input) -> Ordering
     digests.then(input.index.cmp(&other.index))
 }
 
-// Compares seeds; no seed comes before any seed.
+// Compares seeds; `None` comes before all seeds.
 fn order_of_seeds(seed: Option<&Input>, other: Option<&Input>) -> Ordering
     ensures { result ≡ option_cmp seed_cmp (seed_by (option_copied seed.entry)) (seed_by (option_copied other.entry)) }
 {

@@ -1,4 +1,4 @@
-//! The checks over the reached rows, each in the order of the rows, up to the first that fails.
+//! The checks of the reached rows, which `seen` marks. Each check goes through the rows in order, and stops at the first row that fails it.
 
 ghost use Rattle.std.specs.Prelude.{◌≡◌, ◌<◌, ◌≤◌, ◌↔◌, ℕ, false, cond, length, map, IfOk, IfErr, OnOk, IsTrue, MatchOption};
 ghost use Rattle.std.specs.List.{All};
@@ -51,8 +51,8 @@ pub(crate) fn check_names(
     Ok(())
 }
 
-// Returns the index of the first input that names no row, given `named`, the rows that the inputs name. If these are as many as the inputs, no input is looked
-// up.
+// Returns the index of the op's first input that names no row. `named` has the rows that the inputs name; if there are as many of these as inputs, no input is
+// looked up.
 fn unnamed_in(
     rows: &[Row],
     index: &BTreeMap<&str, usize>,
@@ -135,7 +135,7 @@ pub(crate) fn counts_of(alloc: Global, ops: &[Op]) -> Result<Vec<usize>, AllocEr
     Ok(counts)
 }
 
-// Checks that each input of a marked row, and the terminal's first input, has the index of an output of the row that it names. Fails with 90 `BadIndex` alone.
+// Checks that each input of a marked row, and the terminal's first input, names an output that exists. Fails with 90 `BadIndex` alone.
 pub(crate) fn check_indexes(
     ops: &[Op],
     links: &[Vec<usize>],
@@ -165,7 +165,7 @@ pub(crate) fn check_indexes(
     Ok(())
 }
 
-// Returns how many of the row's inputs are checked.
+// Returns how many inputs of a row are checked: all of a reached row, the first one of the terminal if it is not reached, else none.
 fn asked_inputs(op: &Op, reached: bool, terminal: bool) -> usize
     ensures { result ≡ cond reached (length op.now.inputs) (cond terminal 1 0) }
 {
@@ -175,7 +175,7 @@ fn asked_inputs(op: &Op, reached: bool, terminal: bool) -> usize
     if terminal { 1 } else { 0 }
 }
 
-// Returns which of the first `asked` inputs is the first one whose index no output has; `None` if there is no such input.
+// Returns the index of the first input, among the first `asked` ones, that names an output that does not exist; `None` if there is no such input.
 fn first_bad(op: &Op, named: &[usize], counts: &[usize], asked: usize) -> Option<usize>
     requires named { asked ≤ length named.now }
     requires inputs { asked ≤ length op.now.inputs }

@@ -18,7 +18,7 @@ use llb_ops::{CacheOpt, ExecOp, Input, Mount};
 use llb_wire::Memory;
 use std::alloc::{AllocError, Global};
 
-/// Returns the first of the rules on execs that the op on these inputs breaks.
+/// Returns the first rule on execs that the exec with these inputs breaks.
 pub(crate) fn broken_in_exec(
     alloc: Global,
     inputs: &[Input],
@@ -142,7 +142,7 @@ fn shows_input(count: usize, mount: &Mount) -> bool
     true
 }
 
-// Returns whether the outputs are numbered from 0, each once, and only bind mounts have one.
+// Returns whether the outputs of the mounts are numbered from 0, each once, and no cache or tmpfs mount has an output.
 fn are_mount_outputs(alloc: Global, mounts: &[Mount]) -> Result<bool, AllocError>
     ensures { IfOk result (λ stand. IsTrue stand ↔ AreMountOutputs mounts.now) }
 {

@@ -1,5 +1,5 @@
-//! Why rows are no graph. A fault prints what comes after the word `fault` in a refusal: its number and
-//! its arguments, features and rules by their names. Refusals of memory of any kind become `Memory` by `?`.
+//! Why rows are no graph. A fault prints what comes after the word `fault` in a refusal: its number, and then its
+//! arguments; a feature or a rule is printed as its name. Refusals of memory of any kind become `Memory` by `?`.
 
 ghost use Rattle.std.specs.Prelude.{◌≡◌, Some, codes};
 ghost use Rattle.std.specs.Fmt.{◌++?◌, DisplaysOnOk, decimal};
@@ -12,7 +12,7 @@ use std::alloc::{AllocError, AllocFailed};
 use std::{error, fmt};
 use thiserror::Error;
 
-/// Why rows are no graph: the first fault in this order, the least row, then the least input.
+/// Why rows are no graph: the first fault in this order that applies, at the least row with this fault, and there at the least input.
 #[derive(Drop)]
 pub enum LoadFault {
     /// 81: the definition is not readable; its fault follows.
@@ -21,7 +21,7 @@ pub enum LoadFault {
     Entry(u32, OpFault),
     /// 83: there are fewer than two distinct rows.
     TooFew,
-    /// 84: row k has an earlier row's digest and other bytes.
+    /// 84: row k has the digest of an earlier row, but other bytes.
     Collision(u32),
     /// 85: the terminal has no input.
     NoResult,
@@ -29,11 +29,11 @@ pub enum LoadFault {
     UnknownDigest(u32, u32),
     /// 87: the reached rows have a cycle.
     Cycle,
-    /// 88: the op of row k has an unsupported feature; its name follows.
+    /// 88: the op of row k has an unsupported feature; the feature's name follows.
     Unsupported(u32, Feature),
-    /// 89: the op of row k breaks a rule; its name follows.
+    /// 89: the op of row k breaks a rule; the rule's name follows.
     Invalid(u32, Rule),
-    /// 90: input i of row k has an index that no output has.
+    /// 90: input i of row k names an output that does not exist.
     BadIndex(u32, u32),
     /// 91: memory was refused.
     Memory,
@@ -96,11 +96,11 @@ pub enum Feature {
     SshMount,
     /// A secret in the environment.
     SecretEnv,
-    /// An action without a named member.
+    /// An action that is no copy, mkfile, mkdir or rm.
     Action,
     /// A copy that unpacks archives.
     Unpack,
-    /// A copy with patterns of what to leave in or out.
+    /// A copy with patterns of what to include or exclude.
     Patterns,
     /// An owner that is given by name.
     OwnerByName,
@@ -109,7 +109,7 @@ pub enum Feature {
 }
 
 impl Feature {
-    // Returns the name that it prints.
+    // Returns the name that is printed for the feature.
     fn name(&self) -> &'static str
         ensures { result.now ≡ feature_text self.now }
     {
@@ -129,7 +129,7 @@ impl Feature {
     }
 }
 
-/// A feature prints its name.
+/// Prints the name of a feature.
 impl fmt::Display for Feature {
     ghost output = { λ x. Some (feature_text x) };
 
@@ -141,48 +141,48 @@ impl fmt::Display for Feature {
 /// The rules that ops meet, in the order in which they are checked.
 #[derive(Drop)]
 pub enum Rule {
-    /// The op is of some kind.
+    /// The op has a kind.
     NoKind,
-    /// There is a name after `local://`.
+    /// A local source has a name after `local://`.
     LocalName,
-    /// A file op has an action.
+    /// A file op has at least one action.
     NoActions,
-    /// An action reads an input, the result of an earlier action, or nothing.
+    /// An action reads inputs of the op, results of earlier actions, or nothing.
     ActionInput,
     /// The outputs of actions are numbered from 0, each once.
     ActionOutput,
-    /// An exec has its meta.
+    /// An exec has a `meta`.
     NoMeta,
-    /// An exec has a word to run.
+    /// An exec has at least one word in `args`.
     NoArgs,
-    /// An exec has a mount.
+    /// An exec has at least one mount.
     NoMounts,
-    /// A mount is at the root.
+    /// An exec has a mount with the dest `/`.
     NoRoot,
-    /// A dest, a selector and a cwd are paths.
+    /// The dests, the selectors and the cwd of an exec are paths.
     BadPath,
-    /// No two mounts have the same dest.
+    /// No two mounts of an exec have the same dest.
     SameDest,
-    /// A mount is of a known kind.
+    /// The type of a mount is a number from 0 to 4.
     MountKind,
-    /// A bind or cache mount shows an input or nothing.
+    /// The input of a bind or cache mount is an input of the op, or -1.
     MountInput,
     /// The outputs of mounts are numbered from 0, each once, and only bind mounts have one.
     MountOutput,
-    /// A cache mount has its options.
+    /// A cache mount has a `cacheOpt`.
     NoCacheOpt,
-    /// A cache is shared in a known way.
+    /// The mode of a cache mount is a number from 0 to 2.
     Sharing,
     /// No two cache mounts of an exec have the same key.
     CacheTwice,
-    /// The words of an exec are a script; the script's own fault, 71 to 73.
+    /// The words of an exec are a script; the fault of the words, 71 to 73, follows.
     Script(ScriptFault),
-    /// A merge takes inputs or nothing.
+    /// Each input of a merge is an input of the op, or -1.
     MergeInput,
 }
 
 impl Rule {
-    // Returns what it prints, without the fault of a script.
+    // Returns the name of the rule, without the fault of a script.
     fn name(&self) -> &'static str
         ensures { result.now ≡ rule_name self.now }
     {
@@ -210,7 +210,7 @@ impl Rule {
     }
 }
 
-/// A rule prints its name, and that of scripts the script's fault after it.
+/// Prints the name of a rule; after the name `Script` the fault of the script follows.
 impl fmt::Display for Rule {
     ghost output = { λ r. Some (rule_text r) };
 
@@ -246,7 +246,7 @@ impl From<AllocError> for Memory {
     }
 }
 
-/// Converts the fault of a copy of a tree, which can only lack memory.
+/// Converts the fault of a copy of a tree, which fails only for want of memory.
 impl From<TreeFault> for Memory {
     fn from(_: TreeFault) -> Memory {
         Memory

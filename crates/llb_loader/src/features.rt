@@ -1,4 +1,4 @@
-//! The features of an op that are not supported. Each test looks at ops of one kind; the features are in the order of the definition `features`.
+//! The features of an op that are not supported. Each function looks at ops of one kind, and looks for features in the order of the definition `features`.
 
 ghost use Rattle.std.specs.Prelude.{◌≡◌};
 ghost use Rattle.std.specs.List.{list_any, find};
@@ -92,7 +92,7 @@ fn file_feature(file: &FileOp) -> Option<Feature>
     None
 }
 
-// Returns whether one of the actions has no named member.
+// Returns whether one of the actions is of no known kind: no member of its oneof is set.
 fn any_nameless(actions: &[Action]) -> bool
     ensures { result ≡ list_any (λ a. is_nameless a.kind) actions.now }
 {
@@ -118,7 +118,7 @@ fn any_unpacks(actions: &[Action]) -> bool
     false
 }
 
-// Returns whether one of the actions is a copy with patterns.
+// Returns whether one of the actions is a copy with patterns of what to include or exclude.
 fn any_has_pattern(actions: &[Action]) -> bool
     ensures { result ≡ list_any (λ a. copies_with has_pattern a.kind) actions.now }
 {
@@ -132,14 +132,14 @@ fn any_has_pattern(actions: &[Action]) -> bool
     false
 }
 
-// Returns whether the copy has patterns of what to leave in or out.
+// Returns whether the copy has patterns of what to include or exclude.
 fn has_pattern(copy: &CopyFile) -> bool
     ensures { result ≡ has_pattern copy.now }
 {
     !copy.include_patterns.is_empty() || !copy.exclude_patterns.is_empty()
 }
 
-// Returns whether one of the actions is a copy with a field that its message does not name.
+// Returns whether one of the actions is a copy with a field that the table of messages does not name.
 fn any_has_field(actions: &[Action]) -> bool
     ensures { result ≡ list_any (λ a. copies_with has_field a.kind) actions.now }
 {
@@ -153,7 +153,7 @@ fn any_has_field(actions: &[Action]) -> bool
     false
 }
 
-// Returns whether one of the actions gives an owner by name.
+// Returns whether one of the actions sets an owner that is given by name.
 fn any_owner_by_name(actions: &[Action]) -> bool
     ensures { result ≡ list_any (λ a. owner_by_name (owner_of a.kind)) actions.now }
 {
@@ -165,7 +165,7 @@ fn any_owner_by_name(actions: &[Action]) -> bool
     false
 }
 
-// Returns whether the action gives an owner by name.
+// Returns whether the action sets an owner that is given by name.
 fn action_by_name(action: &Action) -> bool
     ensures { result ≡ owner_by_name (owner_of action.now.kind) }
 {

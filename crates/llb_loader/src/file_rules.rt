@@ -10,7 +10,7 @@ use crate::indices::{are_outputs, is_input};
 use llb_ops::{Action, ActionKind, FileOp, Input};
 use std::alloc::{AllocError, Global};
 
-/// Returns the first of the rules on file ops that the op on these inputs breaks.
+/// Returns the first rule on file ops that the file op with these inputs breaks.
 pub(crate) fn broken_in_file(
     alloc: Global,
     inputs: &[Input],
@@ -32,7 +32,7 @@ pub(crate) fn broken_in_file(
     Ok(None)
 }
 
-// Returns whether each action reads one of `count` inputs, the result of an action before it, or nothing.
+// Returns whether each action reads only inputs from 0 to `count - 1`, results of earlier actions, or nothing.
 fn take_inputs(count: usize, actions: &[Action]) -> bool
     ensures { IsTrue result ↔ TakeInputs count actions.now }
 {
@@ -58,7 +58,7 @@ fn input_stands(count: usize, place: usize, input: i64) -> bool
     input < place || input - place < count
 }
 
-// Returns whether the second input of a copy exists; for other actions it is not used.
+// Returns whether the second input of a copy is -1, one of `count` inputs, or an earlier result; true for other actions, which have no use of it.
 fn second_stands(count: usize, place: usize, action: &Action) -> bool
     ensures { IsTrue result ↔ TakesSecond (count + place) action.now.kind action.now.secondary_input }
 {

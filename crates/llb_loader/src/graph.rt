@@ -1,4 +1,4 @@
-//! The loaded graph: vertices whose edges lead to lower numbers, and the edge that is its result.
+//! The loaded graph: vertices whose edges lead to vertices with lower numbers, and the edge to the output that is the result.
 
 ghost use Rattle.std.specs.Prelude.{◌≡◌, IfOk, option_map};
 ghost use Rattle.llb_loader.specs.Graph.{IsGraph};
@@ -12,19 +12,19 @@ use std::alloc::{AllocError, Global};
 use std::marker::Model;
 use std::sync::Arc;
 
-/// Output `index` of the vertex with this number.
+/// An edge: it leads to the output with the number `index` of the vertex with the number `vertex`.
 #[derive(Clone, Copy, PartialEq, Eq)]
 pub struct Edge {
     pub vertex: u32,
     pub index: u32,
 }
 
-/// A vertex: a reached row under its number.
+/// A vertex, made from a reached row. Its number is its index in the list of vertices.
 pub struct Vertex {
     /// `sha256:` and 64 hexadecimal digits, if the graph was loaded from a definition.
     pub digest: Text,
     pub op: Op,
-    /// The commands of an exec; nothing else has a script.
+    /// The commands of an exec; `None` for an op of another kind.
     pub script: Option<Script>,
     /// The edges of the op's inputs, in their order.
     pub inputs: Many<Edge>,
@@ -60,8 +60,8 @@ impl Vertex {
     }
 }
 
-/// The vertices at or before the result, each with a higher number than its inputs; copies share them. Contracts see the list of the vertices and the
-/// result.
+/// A loaded graph: the result, and the vertices on which it depends. Each vertex has a higher number than the vertices of its inputs. Copies share
+/// the vertices. Contracts see the list of the vertices and the result.
 pub struct Graph {
     shared: Arc<Vec<Vertex>>,
     result: Edge,
@@ -124,9 +124,9 @@ impl Graph {
         })
     }
 
-    /// Proves that every edge leads to an output of a lower vertex, and the result to an output of a vertex; that every
-    /// vertex is at or before the result, of a supported kind, and the only one with its digest; and that there are at
-    /// most 65,536 of them.
+    /// Proves that every edge leads to an output of a vertex with a lower number, and the result to an output of a
+    /// vertex; that the result depends on every vertex; that every vertex is of a supported kind and the only vertex
+    /// with its digest; and that there are at most 65,536 vertices.
     pub fn is_graph(&self)
         ensures { IsGraph self.now }
     {

@@ -1,4 +1,4 @@
-//! Links rows: looks for each refusal in its order, and then makes the graph. Nothing here recurses on the graph's depth.
+//! Links rows: looks for the refusals in their order, and then makes the graph. No call here recurses along the graph, so a deep graph needs no deep stack.
 
 ghost use Rattle.std.specs.Prelude.{◌≡◌, ◌<◌, ◌≤◌, true, false, length, IfOk, IfErr};
 ghost use Rattle.std.specs.List.{All};
@@ -32,7 +32,7 @@ struct Linked {
     terminal: usize,
     // The row that the terminal's first input names.
     start: usize,
-    // For each row, the rows that its inputs name, and whether `start` reaches it.
+    // `links` has for each row the rows that its inputs name, and `seen` whether the row is reached from `start`.
     links: Vec<Vec<usize>>,
     seen: Vec<bool>,
 }
@@ -51,7 +51,7 @@ impl Drop for Linked {
     }
 }
 
-// What the names in rows lead to: the fields of `Linked` besides the rows and the ops.
+// The result of resolving the digest texts by which inputs name rows: the fields of `Linked` other than the rows and the ops.
 #[derive(Drop)]
 struct Names {
     terminal: usize,
@@ -60,10 +60,10 @@ struct Names {
     seen: Vec<bool>,
 }
 
-/// Returns the graph of the rows. The last row given is the terminal; its first input is the result.
+/// Returns the graph of the rows. The last row is the terminal; the terminal's first input is the result.
 ///
-/// Fails with the fault of the least number that applies, at the least row that has it, and there at the least input: 82 `Entry`, 83 `TooFew`, 84 `Collision`,
-/// 85 `NoResult`, 86 `UnknownDigest`, 87 `Cycle`, 88 `Unsupported`, 89 `Invalid`, 90 `BadIndex`. Fails with 91 `Memory` if memory is refused.
+/// Fails with the fault of the least number that applies, at the least row with this fault, and there at the least input: 82 `Entry`, 83 `TooFew`, 84
+/// `Collision`, 85 `NoResult`, 86 `UnknownDigest`, 87 `Cycle`, 88 `Unsupported`, 89 `Invalid`, 90 `BadIndex`. Fails with 91 `Memory` if memory is refused.
 pub fn link(alloc: Global, rows: &[Row]) -> Result<Graph, LoadFault>
     requires { length rows.now ≤ 65_536 }
     ensures graph { IfOk result (λ g. IsGraphOf rows.now g) }
@@ -116,8 +116,8 @@ pub(crate) fn link_entries(
 }
 
 impl Names {
-    // Resolves the names in the rows, given their ops. Fails with 85 `NoResult` or 86 `UnknownDigest`, or with 91
-    // `Memory`.
+    // Resolves the digest texts by which the inputs of the ops name rows. Fails with 85 `NoResult` or 86
+    // `UnknownDigest`, or with 91 `Memory`.
     fn of(
         alloc: Global,
         rows: &[Row],
@@ -150,9 +150,9 @@ impl Names {
 }
 
 impl Linked {
-    // Reads the entries of rows without bytes, drops them and resolves the names. Fails with 82 `Entry`, 83 `TooFew`, 84 `Collision`, 85 `NoResult` or 86
-    // `UnknownDigest`, or with 91 `Memory`. The rows are compared before any entry is read, since each entry is dropped once it is read; what the comparison
-    // found is reported after the faults of reading.
+    // Reads the entries of rows without bytes as ops, drops the entries, and resolves the digest texts by which inputs name rows. Fails with 82 `Entry`, 83
+    // `TooFew`, 84 `Collision`, 85 `NoResult` or 86 `UnknownDigest`, or with 91 `Memory`. The rows are compared before any entry is read, since each entry
+    // is dropped once it is read; what the comparison found is reported after the faults of reading.
     fn of(alloc: Global, rows: Vec<Row>, entries: Vec<Bytes>) -> Result<Linked, LoadFault>
         requires few { length rows.items ≤ 65_536 }
         requires len { length entries.items ≡ length rows.items }
@@ -201,7 +201,7 @@ impl Linked {
         Ok(order)
     }
 
-    // Makes the graph. Fails with 91 `Memory` alone.
+    // Makes the graph of the linked rows; `order` has the reached rows in the order of their numbers. Fails with 91 `Memory` alone.
     fn into_graph(self, alloc: Global, order: &[usize]) -> Result<Graph, LoadFault>
         requires linked { IsLinked self }
         requires whole { IsWhole (plan_in self) order.now }

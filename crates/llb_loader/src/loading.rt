@@ -15,7 +15,7 @@ use llb_ops::{Entries, read_definition};
 use llb_wire::{Bytes, Memory};
 use std::alloc::Global;
 
-/// Returns the graph of a definition's entries under their own digest texts.
+/// Returns the graph of a definition. Each entry becomes a row with the digest text of its bytes.
 ///
 /// Fails with 81 `Definition` if the definition is not readable, else as `link` does. Fails with 91 `Memory` if memory
 /// is refused.
@@ -27,8 +27,8 @@ pub fn load(alloc: Global, bytes: &[u8]) -> Result<Graph, LoadFault>
     linked(alloc, entries)
 }
 
-/// Loads a definition as `load` does, and takes its bytes over: they are dropped once the entries are read. Fails as
-/// `load` does.
+/// Loads a definition as `load` does, but takes ownership of the bytes, which are dropped once the entries are read.
+/// Fails as `load` does.
 pub fn load_owned(alloc: Global, bytes: Vec<u8>) -> Result<Graph, LoadFault>
     ensures graph { IfOk result (λ g. IsGraphIn bytes.items g) }
     ensures refused { IfErr result (λ e. is_memory e ≡ false → IsRefusalIn bytes.items e) }
@@ -38,7 +38,7 @@ pub fn load_owned(alloc: Global, bytes: Vec<u8>) -> Result<Graph, LoadFault>
     linked(alloc, entries)
 }
 
-// Returns the graph of entries under their digest texts.
+// Returns the graph of entries, each of which becomes a row with the digest text of its bytes.
 fn linked(alloc: Global, entries: Entries) -> Result<Graph, LoadFault>
     requires { length entries ≤ 65_536 }
     ensures graph { IfOk result (λ g. IsGraphOf (rows_from entries) g) }

@@ -47,7 +47,7 @@ impl Locals {
         }
     }
 
-    /// Adds a tree under a name: it replaces the tree that the name had, or else comes after all others.
+    /// Adds a tree under a name. The tree replaces the one that the name had; if the name had none, the tree comes after all others.
     ///
     /// Fails with 92 `Memory` alone; then the list is unchanged.
     #[tactic(auto, using(crate::proofs::Trees::locals_added, crate::proofs::Trees::last_given))]
@@ -60,7 +60,7 @@ impl Locals {
         Ok(())
     }
 
-    /// Copies the names, and the trees, which stay shared. Fails with 92 `Memory` alone.
+    /// Copies the list: the names are copied, and the trees are shared. Fails with 92 `Memory` alone.
     pub fn copy(&self) -> Result<Locals, Memory>
         ensures { IfOk result (λ l. l ≡ self.now) }
     {
@@ -75,7 +75,7 @@ impl Locals {
     }
 }
 
-// Copies the names, and the trees, which stay shared.
+// Copies the list: the names are copied, and the trees are shared.
 fn copied(trees: &IndexMap<String, Tree>) -> Result<Locals, Memory>
     ensures { IfOk result (λ l. l ≡ locals_of trees.now.entries) }
 {
@@ -120,7 +120,7 @@ fn same_trees(trees: &IndexMap<String, Tree>, others: &IndexMap<String, Tree>) -
     true
 }
 
-// Returns whether two lists have the same tree under the same name at an index.
+// Returns whether two lists have the same tree under the same name at an index, or both have nothing there.
 #[tactic(auto, using(crate::proofs::Trees::local_at))]
 fn same_at(trees: &IndexMap<String, Tree>, others: &IndexMap<String, Tree>, i: usize) -> bool
     ensures { IsTrue result ↔ (slice_get (locals_of trees.now.entries) i ≡ slice_get (locals_of others.now.entries) i) }

@@ -13,14 +13,14 @@ use std::alloc::{AllocError, Global};
 use std::collections::BTreeSet;
 use std::mem;
 
-/// A row that waits for the input at `checked`; the inputs before it are numbered.
+/// A row that waits for the row that its input `checked` names. The rows that its inputs before `checked` name are numbered.
 #[derive(Clone, Copy)]
 struct Waiter {
     row: usize,
     checked: usize,
 }
 
-// Returns the numbering of the rows that are reached from `start`, which are marked; `None` if they have a cycle.
+// Returns the rows that are reached from `start`, in the order of their numbers; `None` if they have a cycle. `seen` marks these rows.
 pub(crate) fn number(
     alloc: Global,
     rows: &[Vec<usize>],
@@ -63,7 +63,7 @@ pub(crate) fn number(
     }
 }
 
-// Returns the first marked row that is not numbered.
+// Returns the first row that `seen` marks and that is not numbered; `None` if there is no such row.
 fn first_stuck(seen: &[bool], done: &[bool]) -> Option<usize>
     requires { length done.now ≡ length seen.now }
     ensures { MatchOption result ((k : ℕ) → IsMarked seen.now k → IsMarked done.now k) (λ k. IsMarked seen.now k × (slice_index_or done.now k false ≡ false)) }
@@ -90,7 +90,7 @@ fn empty_lists(alloc: Global, count: usize) -> Result<Vec<Vec<Waiter>>, AllocErr
     Ok(all)
 }
 
-// Returns the first input at or after `from` that is not numbered, or the number of inputs.
+// Returns the index of the first input at or after `from` whose row is not numbered; if there is none, returns the number of inputs.
 fn first_open(named: &[usize], from: usize, done: &[bool]) -> usize
     requires from { from ≤ length named.now }
     requires range { All (λ b. b < length done.now) named.now }
@@ -107,7 +107,7 @@ fn first_open(named: &[usize], from: usize, done: &[bool]) -> usize
     named.len()
 }
 
-// Puts the row among the ready rows if all its inputs are numbered, else among the rows that wait for its first input that is not.
+// Puts the waiter's row among the ready rows if all rows that it names are numbered. Otherwise lets it wait for the first of these rows that is not numbered.
 fn place(
     rows: &[Vec<usize>],
     done: &[bool],

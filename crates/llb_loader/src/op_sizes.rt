@@ -7,7 +7,7 @@ ghost use Rattle.llb_loader.specs.Rules.{is_output, count_outputs, outputs_of, m
 use llb_applet::Script;
 use llb_ops::{Action, Kind, Mount, Op};
 
-/// Returns the number of the micro-steps of the op that has this script.
+/// Returns the number of micro-steps of the op; `script` is the op's script, if it has one.
 pub(crate) fn steps_of(op: &Op, script: &Option<Script>) -> usize
     requires { script.now ≡ script_in op.now }
     ensures { result ≡ step_count op.now }

@@ -7,7 +7,7 @@ ghost use Rattle.llb_loader.specs.Numbering.{IsNumbering};
 
 use std::alloc::{AllocError, Global};
 
-/// Returns the vertex number of each row that is numbered.
+/// Returns for each row its vertex number; 0 for a row that is not numbered.
 pub(crate) fn ranks_of(
     alloc: Global,
     rows: &[Vec<usize>],

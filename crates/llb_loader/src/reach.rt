@@ -5,7 +5,7 @@ ghost use Rattle.llb_loader.specs.Rows.{lists, InRange, Reached};
 
 use std::alloc::{AllocError, Global};
 
-/// Returns which of the rows are reached from `start`.
+/// Returns for each row whether it is reached from `start`.
 pub(crate) fn reached(
     alloc: Global,
     rows: &[Vec<usize>],

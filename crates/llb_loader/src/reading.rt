@@ -1,4 +1,4 @@
-//! The ops that entries spell. Each op is read from the bytes of its entry alone.
+//! Reads entries as ops. Each op is read from the bytes of its entry alone.
 
 ghost use Rattle.std.specs.Prelude.{◌≡◌, ◌≤◌, false, length, IfOk, IfErr};
 ghost use Rattle.std.specs.List.{All};
@@ -11,7 +11,7 @@ use llb_ops::{Bytes, Op, OpFault, read_op};
 use std::alloc::Global;
 use std::mem;
 
-// Reads the op of each entry, and drops the entry. Fails with 82 `Entry` at the first entry that spells no op, or with 91 `Memory`.
+// Reads each entry as an op, and drops the entry. Fails with 82 `Entry` at the first entry that can't be read as an op, or with 91 `Memory`.
 pub(crate) fn ops_of(alloc: Global, mut entries: Vec<Bytes>) -> Result<Vec<Op>, LoadFault>
     requires { length entries.items ≤ 65_536 }
     ensures read { IfOk result (λ ops. AreRead entries.items ops.items) }
@@ -29,7 +29,7 @@ pub(crate) fn ops_of(alloc: Global, mut entries: Vec<Bytes>) -> Result<Vec<Op>, 
     Ok(ops)
 }
 
-// Returns the fault of a row that spells no op.
+// Returns the fault of a row that can't be read as an op.
 fn at_row(k: u32, fault: OpFault) -> LoadFault
     ensures { result ≡ row_fault k fault }
 {

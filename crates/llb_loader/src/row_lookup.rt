@@ -1,5 +1,5 @@
-//! Which rows are distinct, and which row a digest text names. Look-ups by digest go through an index in the order of the texts, so that no choice of entries
-//! makes them slow; if a guessed row has the digest, no look-up is made. The terminal's own digest names nothing.
+//! Which rows are distinct, and which row a digest text names. Look-ups by digest use a map that is sorted by the digest texts, so that no choice of entries
+//! makes look-ups slow. No look-up is made if a guessed row has the digest. The digest of the terminal names no row.
 
 ghost use Rattle.std.specs.Prelude.{◌≡◌, ◌<◌, ◌≤◌, ◌↔◌, ℕ, false, length, map, IfOk, IfErr, OnOk, IsTrue, Some};
 ghost use Rattle.std.specs.List.{filter_map};
@@ -37,8 +37,9 @@ fn same(digest: &Text, other: &Text, bytes: &Bytes, others: &Bytes) -> bool
     digest.same(other) && bytes.same(others)
 }
 
-// Returns the first row of each digest text, and for each row the first one with its digest text. Fails with 84
-// `Collision` at the first row that has an earlier row's digest and another entry, or with 91 `Memory`.
+// Returns a map from each digest text to the first row with it, and for each row the first row with the same digest
+// text. Fails with 84 `Collision` at the first row that has an earlier row's digest but other bytes, or with 91
+// `Memory`.
 pub(crate) fn index_of<'a>(
     alloc: Global,
     rows: &'a [Row],
@@ -171,7 +172,8 @@ fn rows_named_by(
     Ok(named)
 }
 
-// Returns the rows that each row names. The first guess for a row is the row before it: many entries come right after their first input.
+// Returns for each row the rows that its inputs name. The first guess for a row is the row before it, since many entries come right after the entry that their
+// first input names.
 pub(crate) fn links_of(
     alloc: Global,
     rows: &[Row],

@@ -1,4 +1,4 @@
-//! Finds the first rule that an op breaks. Each kind has rules of its own; the definition `rules_on` has them in the order in which they are checked.
+//! Finds the first rule that an op breaks. Each kind of op has its own rules; the definition `rules_on` lists all rules in the order in which they are checked.
 
 ghost use Rattle.std.specs.Prelude.{◌↔◌, Some, IfOk, MatchOption, IsTrue, List};
 ghost use Rattle.llb_ops.specs.declared.op.Input.{Input};
@@ -15,7 +15,7 @@ use llb_ops::{Input, Kind, MergeInput, MergeOp, Op, SourceOp};
 use llb_wire::Memory;
 use std::alloc::Global;
 
-/// Returns the first rule that the op breaks.
+/// Returns the first rule that the op breaks; `None` if it meets all rules.
 pub(crate) fn broken_rule(alloc: Global, op: &Op) -> Result<Option<Rule>, Memory>
     ensures { IfOk result (λ broken. MatchOption broken (MeetsRules op.now) (BreaksFirst op.now)) }
 {
@@ -25,7 +25,7 @@ pub(crate) fn broken_rule(alloc: Global, op: &Op) -> Result<Option<Rule>, Memory
     broken_in(alloc, op.inputs.as_slice(), kind)
 }
 
-// Returns the first rule that the kind of op breaks on these inputs.
+// Returns the first rule that an op of this kind with these inputs breaks.
 fn broken_in(alloc: Global, inputs: &[Input], kind: &Kind) -> Result<Option<Rule>, Memory>
     ensures { IfOk result (IsFirstBroken inputs.now (Some kind.now) (rules_on (Some kind.now))) }
 {
@@ -49,7 +49,7 @@ fn broken_in_source(source: &SourceOp) -> Option<Rule>
     None
 }
 
-// Returns the first rule on merges that the merge of these inputs breaks.
+// Returns the first rule on merges that the merge with these inputs breaks.
 fn broken_in_merge(inputs: &[Input], merge: &MergeOp) -> Option<Rule>
     ensures { IsFirstBroken inputs.now (Some (kind.Merge merge.now)) merge_rules result }
 {

@@ -13,7 +13,7 @@ Held = List ℕ × Attribute
 abbrev pub entry_of : Held → AttributeEntry
 entry_of p = record { key = p.0; value = p.1.value; extra = p.1.extra }
 
--- the attributes after one more entry: it replaces the attribute that has the same key, or, if there is none, is appended
+-- the attributes after one more entry: its attribute replaces the one that has the same key; if there is none, the attribute is appended
 abbrev pub put : List Held → AttributeEntry → List Held
 put held e = insert_entry (pointwise nat_eq) held e.key (record { value = e.value; extra = e.extra })
 

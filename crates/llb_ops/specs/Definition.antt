@@ -37,7 +37,7 @@ abbrev pub admission : Result (List (List ℕ)) OpFault → Result (Unit {0}) Op
 admission (Ok entries) = Ok tt
 admission (Err f) = Err f
 
--- the entries of a definition's records, without a check of their number and lengths
+-- the entries of a definition's bytes, or the first fault of its records; the number and the lengths of the entries are not checked
 unfoldable pub entries_in : List ℕ → Result (List (List ℕ)) OpFault
 entries_in bytes = records_from definition_shape 0 bytes >>= λ rs. Ok (payloads (all 1 rs))
 

@@ -5,7 +5,7 @@ use Rattle.llb_wire.specs.Faults.{wire_text}
 use Rattle.llb_ops.specs.declared.fault.OpFault.{OpFault}
 use Rattle.llb_ops.specs.declared.fault.OpFault.TheVariants.{Wire, WrongWireType, NotUtf8, OverLimit, Memory}
 
--- whether a fault is `Memory`, which no rule returns
+-- whether a fault is `Memory`, which no definition of a result has
 abbrev pub is_memory : OpFault → Bool
 is_memory Memory = true
 is_memory (Wire f) = false
@@ -13,7 +13,7 @@ is_memory WrongWireType = false
 is_memory NotUtf8 = false
 is_memory OverLimit = false
 
--- a call returns what its rule returns, or it fails for want of memory
+-- a call returns what the definition of its result says, or it fails for want of memory
 abbrev pub Gives : {X Y : Type 0} → (X → Y) → Result X OpFault → Result Y OpFault → Type 0
 Gives = answer.Gives is_memory
 

@@ -19,7 +19,7 @@ use Rattle.llb_ops.specs.Records.{form_of, parts, int32, int64, uint32, flag}
 use Rattle.llb_ops.specs.Messages.{op_of}
 use Rattle.llb_ops.specs.Writing.{bit, set_number, set_bytes, op_bytes}
 
--- fields with their rows of the table, one after another; a number is the one that its varint spells; the extra bytes are last
+-- a list of fields, each with its row of the table and its value: a number as its varint spells it, bytes, or the fields of a message; the extra bytes are last
 pub data Fields : Type 0 where
   extra : List ℕ → Fields
   number : Row → ℕ → Fields → Fields
@@ -35,17 +35,17 @@ bytes_of (message row inner rest) = set_bytes row.1.number (bytes_of inner) ++ b
 
 -- ---- canonical fields, by the table
 
--- Whether a field may follow the field `last`: numbers ascend, and only a repeated field occurs again. `set` says that a member of the oneof is there already,
--- and then no other member may follow.
+-- Whether a field may follow the field `last`: numbers ascend, and only a repeated field occurs again. `set` is true if a member of the oneof has occurred;
+-- then no other member may follow.
 abbrev pub may_follow : ℕ → Bool → NamedField → Bool
 may_follow last set f = (nat_lt last f.number || (f.repeated && (last == f.number))) && not (f.member && set)
 
--- the table has this row for the row's number in message m, and the row's field may follow the field `last`; for `set` see `may_follow`
+-- the row is in the table of message m under its number, and its field may follow the field `last`; `set` is as in `may_follow`
 pub record IsNext (m : MessageName) (last : ℕ) (set : Bool) (row : Row) : Type 0 where
   pub known : by_number row.1.number (rows_of m) ≡ Some row
   pub follows : may_follow last set row.1 ≡ true
 
--- whether a value that is 0 or empty is written: in a member of a oneof, in a repeated field, and in an entry of a map
+-- whether a value of this field is written even if it is 0 or empty: in a member of a oneof, in a repeated field, and in an entry of a map
 abbrev pub may_be_empty : NamedField → Bool
 may_be_empty f = f.member || f.repeated || f.of_entry
 
@@ -60,7 +60,7 @@ IsNumberOf String v = ⊥
 IsNumberOf Bytes v = ⊥
 IsNumberOf (Message m) v = ⊥
 
--- these bytes may be the payload of a field of this kind: UTF-8 for a string, any for a bytes field, none for a number or a message
+-- these bytes may be the payload of a field of this kind: a string has UTF-8, and a bytes field any bytes; false for a number or a message
 abbrev pub IsBytesOf : FieldKind → List ℕ → Type 0
 IsBytesOf Int64 held = ⊥
 IsBytesOf Int32 held = ⊥
@@ -86,7 +86,7 @@ only_unnamed m (Err f) = false
 unfoldable pub are_unnamed : MessageName → List ℕ → Bool
 are_unnamed m more = only_unnamed m (parts (shape_of m) more)
 
--- these are fields as canonical bytes of message m have them after the field `last`; `set` says whether a member of the oneof came before
+-- canonical bytes of message m may have these fields after the field `last`; `set` is as in `may_follow`
 abbrev pub AreFields : MessageName → ℕ → Bool → Fields → Type 0
 AreFields m last set (extra more) = AreUnnamed m more
 AreFields m last set (number row v rest) =
@@ -100,7 +100,7 @@ AreFields m last set (message row inner rest) =
 
 -- ---- entries of a map
 
--- the fields without each empty key and each empty value of a map's entries; canonical bytes have these too
+-- the fields without the empty keys and the empty values in entries of maps; canonical bytes do have empty keys and values
 abbrev pub without_empty : Fields → Fields
 without_empty (extra more) = extra more
 without_empty (number row v rest) = number row v (without_empty rest)
@@ -123,8 +123,8 @@ AreFew last count (message row inner rest) =
 
 -- ---- the law of canonical bytes
 
--- An op's canonical bytes are fields of the message Op, none of which occurs too often. Without empty keys and values the bytes are not longer,
--- still no field occurs too often, and the same op is read from them.
+-- An op's canonical bytes are fields of the message Op, none of which occurs too often. The bytes without the empty keys and values of maps are
+-- not longer, no field occurs too often in them, and the same op is read from them, if they are within the limit of an entry.
 pub record HasFields (op : Op) : Type 0 where
   pub fields : Fields
   pub are : AreFields named.Op 0 false fields

@@ -53,11 +53,11 @@ input_of = message_of input_shape input_in
 abbrev pub user_opt_shape : Shape
 user_opt_shape = shape_of message.UserOpt
 
--- the numbers of the fields that name a user
+-- the numbers of the members of the oneof of a `UserOpt`; the member that is set is the user
 abbrev pub users : List ℕ
 users = members_of message.UserOpt
 
--- a user, if field n is the one that is set, from the records of that field
+-- the user that is read from the records of field n, the member of the oneof that is set
 abbrev pub user_of : ℕ → List Record → Result User OpFault
 user_of n rs = if n == 1 then Ok (ByName (joined rs)) else Ok (ById (uint32 (number rs)))
 
@@ -182,11 +182,11 @@ rm_of = message_of rm_shape rm_in
 abbrev pub action_shape : Shape
 action_shape = shape_of message.FileAction
 
--- the numbers of the fields that say what an action does
+-- the numbers of the members of the oneof of a `FileAction`; the member that is set says what the action does
 abbrev pub action_kinds : List ℕ
 action_kinds = members_of message.FileAction
 
--- what an action does, if field n is the one that is set, from the records of that field
+-- what an action does, read from the records of field n, the member of the oneof that is set
 abbrev pub action_kind_of : ℕ → List Record → Result ActionKind OpFault
 action_kind_of n rs =
     if n == 4 then (copy_file_of (joined rs) >>= λ m. Ok (action.Copy m))
@@ -382,15 +382,15 @@ source_op_in rs = do
 abbrev pub source_op_of : List ℕ → Result SourceOp OpFault
 source_op_of = message_of source_op_shape source_op_in
 
--- the shape of an `Op` message; each other message has a definition of its shape too
+-- the shape of an `Op` message: `inputs` (1), and the members of its oneof (2 to 7)
 abbrev pub op_shape : Shape
 op_shape = shape_of message.Op
 
--- the numbers of the fields of which one is set to give an op its kind
+-- the numbers of the members of the oneof of an `Op`; the member that is set is the op's kind
 abbrev pub kinds : List ℕ
 kinds = members_of message.Op
 
--- the kind of an op, if field n is the one that is set, from the records of that field
+-- the kind of an op, read from the records of field n, the member of the oneof that is set
 unfoldable pub kind_of : ℕ → List Record → Result Kind OpFault
 kind_of n rs =
     if n == 2 then (exec_op_of (joined rs) >>= λ m. Ok (Exec m))
@@ -407,7 +407,7 @@ op_in rs = do
   kind ← one_of kinds kind_of rs
   if within_limits (repeated_of message.Op) rs then Ok (record { inputs = inputs; kind = kind; extra = unnamed op_shape rs }) else Err OverLimit
 
--- the op that bytes are read as, or the first fault, without the limit on the number of bytes
+-- the op that bytes are read as, or the first fault; the number of bytes has no limit here
 abbrev pub op_message_of : List ℕ → Result Op OpFault
 op_message_of = message_of op_shape op_in
 

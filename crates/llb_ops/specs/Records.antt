@@ -1,5 +1,5 @@
 -- The records of a message, and how the value of each kind of field is made from them (the encoding guide of Protocol Buffers: "Message
--- Structure", "Last One Wins", "Optional and Repeated Elements", "Oneofs"). A record has no position in the bytes here.
+-- Structure", "Last One Wins", "Optional and Repeated Elements", "Oneofs"). Records are seen here without their positions in the bytes.
 use Rattle.std.specs.Prelude.{◌≡◌, ◌<◌, ℕ, zero, suc, ◌-◌, List, [], ◌∷◌, ◌++◌, length, map, Option, Some, None, Result, Ok, Err, Bool}
 use Rattle.std.specs.Prelude.{true, false, nat_le, ◌==◌, not, if◌then◌else◌, find, option_map, fold, ◌&&◌, filter, slice_get, is_none, ℤ}
 use Rattle.std.specs.Prelude.{◌%◌, ◌^◌}
@@ -22,7 +22,7 @@ use Rattle.llb_ops.specs.declared.records.Record.{Record as Held}
 use Rattle.llb_ops.specs.declared.records.Front.{Front}
 use Rattle.llb_ops.specs.Limits.{field_limit}
 
--- the fields that a message names, each a number and a form
+-- the fields that a message names: for each field, its number and its form
 abbrev pub Shape : Type 0
 Shape = List (ℕ × Form)
 
@@ -40,7 +40,7 @@ views rs = map view rs
 abbrev pub form_of : Shape → ℕ → Option Form
 form_of shape number = option_map (λ n. n.1) (find (λ n. n.0 == number) shape)
 
--- whether a field may have this wire type: any for a field that the message does not name, else the wire type of its form
+-- whether a field of this form may have this wire type; a field that the message does not name has no form, and may have any wire type
 abbrev pub wire_fits : Option Form → WireType → Bool
 wire_fits None w = true
 wire_fits (Some Number) wire.Varint = true
@@ -83,16 +83,16 @@ Starts shape bytes (Err e) = records_from shape 0 bytes ≡ Err e
 
 -- ---- after the last record: its texts are UTF-8
 
--- whether a payload is in UTF-8, if its form asks for that
+-- whether a payload is UTF-8, if its field is a text; true for any other field
 abbrev pub text_ok : Option Form → List ℕ → Bool
 text_ok (Some Text) payload = is_utf8 payload
 text_ok o payload = true
 
--- whether a record of a text field is in UTF-8
+-- whether a record is UTF-8, if its field is a text; true for any other field
 abbrev pub text_fits : Shape → Record → Bool
 text_fits shape r = text_ok (form_of shape r.number) r.payload
 
--- whether all text fields are in UTF-8
+-- whether all records of text fields are UTF-8
 abbrev pub texts_fit : Shape → List Record → Bool
 texts_fit shape rs = list_all (text_fits shape) rs
 
@@ -106,7 +106,7 @@ parts shape bytes = records_from shape 0 bytes >>= λ rs. if texts_fit shape rs 
 abbrev pub wires_fit : Shape → List Record → Bool
 wires_fit shape rs = list_all (λ r. wire_fits (form_of shape r.number) r.wire) rs
 
--- these records, if each record of a named field has the field's wire type and texts are in UTF-8; else the fault
+-- these records, if each record of a named field has the field's wire type and all texts are UTF-8; else the fault
 abbrev pub fitting : Shape → List Record → Result (List Record) OpFault
 fitting shape rs = if wires_fit shape rs then (if texts_fit shape rs then Ok rs else Err NotUtf8) else Err WrongWireType
 
@@ -132,19 +132,19 @@ number rs = option_map_or (λ r. r.value) (last_of rs) 0
 abbrev pub payload : List Record → List ℕ
 payload rs = option_map_or (λ r. r.payload) (last_of rs) []
 
--- uint32: the low 32 bits
+-- the value of a uint32 field with this number: the low 32 bits
 abbrev pub uint32 : ℕ → ℕ
 uint32 n = n % 2 ^ 32
 
--- int32 and enums: the low 32 bits, as two's complement
+-- the value of an int32 or enum field with this number: the low 32 bits, as two's complement
 abbrev pub int32 : ℕ → ℤ
 int32 n = cast_signed w32 (n % 2 ^ 32)
 
--- int64: the low 64 bits, as two's complement
+-- the value of an int64 field with this number: the low 64 bits, as two's complement
 abbrev pub int64 : ℕ → ℤ
 int64 n = cast_signed w64 (n % 2 ^ 64)
 
--- any number but 0 is true
+-- the value of a bool field with this number: true for any number but 0
 abbrev pub flag : ℕ → Bool
 flag n = not (n == 0)
 
@@ -152,11 +152,11 @@ flag n = not (n == 0)
 abbrev pub payloads : List Record → List (List ℕ)
 payloads rs = map (λ r. r.payload) rs
 
--- the payloads one after the other; a singular message is read from all of them together
+-- the payloads of records, joined one after the other; a singular message is read from these bytes
 abbrev pub joined : List Record → List ℕ
 joined rs = flat_map (λ r. r.payload) rs
 
--- a singular message, if it has a record; or the fault of reading it
+-- a singular message, read from its joined payloads; none if it has no record; or the first fault
 unfoldable pub one : {A : Type 0} → (List ℕ → Result A OpFault) → List Record → Result (Option A) OpFault
 one read rs = if length rs == 0 then Ok None else (read (joined rs) >>= λ m. Ok (Some m))
 
@@ -175,11 +175,11 @@ unnamed shape rs = flat_map (λ r. r.text) (filter (λ r. is_none (form_of shape
 abbrev pub is_member : List ℕ → Record → Bool
 is_member members r = list_any (λ m. m == r.number) members
 
--- the member of a oneof that is set: the member to which the last of all its members' records belongs
+-- the number of the member of a oneof that is set: that of the last of all records that belong to its members
 abbrev pub chosen : List ℕ → List Record → Option ℕ
 chosen members rs = option_map (λ r. r.number) (last_of (filter (is_member members) rs))
 
--- the kept records once a further record is read: none if it passes the test, else it is added to them
+-- the records that are kept after one more record: none if that record passes the test, else the record is added
 abbrev pub kept : (Record → Bool) → List Record → Record → List Record
 kept p rs r = if p r then [] else rs ++ r ∷ []
 
@@ -191,7 +191,7 @@ since p rs = fold (kept p) [] rs
 abbrev pub is_other : List ℕ → ℕ → Record → Bool
 is_other members n r = is_member members r && not (r.number == n)
 
--- the records that count for member n if it is set: its records after the last one of another member
+-- the records from which member n of a oneof is read if it is set: the records of field n after the last record of another member
 abbrev pub member : List ℕ → ℕ → List Record → List Record
 member members n rs = all n (since (is_other members n) rs)
 

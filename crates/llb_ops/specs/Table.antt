@@ -16,7 +16,7 @@ use Rattle.llb_ops.specs.declared.table.FieldRow.{FieldRow}
 abbrev pub Row : Type 0
 Row = List ℕ × NamedField
 
--- a row of the code's table, with its name as the bytes of the text
+-- a row of the code's table, with the name as a list of bytes
 abbrev pub row_seen : FieldRow → Row
 row_seen r = (r.name.now, r.field)
 
@@ -36,7 +36,7 @@ member name n kind = (name, record { number = n; kind = kind; repeated = false; 
 abbrev pub of_entry : List ℕ → ℕ → FieldKind → Row
 of_entry name n kind = (name, record { number = n; kind = kind; repeated = false; member = false; of_entry = true })
 
--- the fields of a message that have names here, in ascending order of their numbers; records of other numbers are kept as extra bytes
+-- the rows of a message: its named fields, in ascending order of their numbers; records of other numbers are kept as extra bytes
 abbrev pub rows_of : MessageName → List Row
 rows_of message.Definition =
     each (codes "def") 1 Bytes ∷
@@ -163,11 +163,11 @@ by_number n rows = find (λ r. r.1.number == n) rows
 abbrev pub by_name : List ℕ → List Row → Option Row
 by_name name rows = find (λ r. pointwise nat_eq r.0 name) rows
 
--- the row of a message with this number
+-- the row of a message that has this field number
 unfoldable pub row_numbered : MessageName → ℕ → Option Row
 row_numbered m n = by_number n (rows_of m)
 
--- the row of a message with this name
+-- the row of a message that has this field name
 unfoldable pub row_named : MessageName → List ℕ → Option Row
 row_named m name = by_name name (rows_of m)
 
@@ -180,7 +180,7 @@ pub record IsApart (m : MessageName) (row : Row) : Type 0 where
 abbrev pub AreRowsApart : MessageName → Type 0
 AreRowsApart m = AllByRecursion (IsApart m) (rows_of m)
 
--- how a field of this kind is read
+-- how the payload of a field of this kind is read
 abbrev pub form_of_kind : FieldKind → Form
 form_of_kind Int64 = form.Number
 form_of_kind Int32 = form.Number

@@ -1,4 +1,4 @@
--- The limits: how many values a repeated field has, how many entries a definition has, and how long they are.
+-- What is within the limits: repeated fields with few values, and definitions with few entries, none of them too long.
 use Rattle.std.specs.Prelude.{ℕ, ◌≤◌, List, length, Option, Some, None}
 use Rattle.std.specs.List.{All}
 use Rattle.llb_ops.specs.declared.op.Op.{Op}
@@ -16,18 +16,18 @@ use Rattle.llb_ops.specs.Limits.{field_limit, entries_limit, entry_limit}
 abbrev pub IsFew : {A : Type 0} → List A → Type 0
 IsFew xs = length xs ≤ field_limit
 
--- a `Meta`: it has few arguments and variables, and no argument is longer than an entry may be
+-- a `Meta` is within the limits: it has few arguments and variables, and no argument is longer than the limit of an entry
 pub record IsMetaWithin (m : Meta) : Type 0 where
   pub args : IsFew m.args
   pub env : IsFew m.env
   pub short : All (λ a. length a ≤ entry_limit) m.args
 
--- a `Meta` is within the limits, if there is one
+-- if there is a `Meta`, it is within the limits
 abbrev pub IsMetaOptWithin : Option Meta → Type 0
 IsMetaOptWithin None = Unit {0}
 IsMetaOptWithin (Some m) = IsMetaWithin m
 
--- an `ExecOp`: its `Meta` is within the limits, and it has few mounts and secrets
+-- an `ExecOp` is within the limits: so is its `Meta`, if it has one, and it has few mounts and secrets
 pub record IsExecWithin (m : ExecOp) : Type 0 where
   pub meta : IsMetaOptWithin m.meta
   pub mounts : IsFew m.mounts
@@ -66,7 +66,7 @@ pub record IsWithinLimits (op : Op) : Type 0 where
   pub inputs : IsFew op.inputs
   pub kind : IsKindWithin op.kind
 
--- there are few entries, and each is short: no more and no longer than the limits of a definition
+-- entries are within the limits of a definition: they are not too many, and none of them is too long
 pub record AreWithinLimits (entries : List (List ℕ)) : Type 0 where
   pub few : length entries ≤ entries_limit
   pub short : All (λ e. length e ≤ entry_limit) entries

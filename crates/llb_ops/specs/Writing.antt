@@ -1,6 +1,6 @@
--- The canonical bytes of each message: named fields in ascending order of their numbers in their shortest spelling, without those that are
--- 0 or empty; then the extra bytes. Messages, the set member of a oneof, each item of a repeated field, and the key and the value of a map's
--- entry are written always.
+-- The canonical bytes of each message: named fields in ascending order of their numbers in their shortest spelling, without those that are 0
+-- or empty; then the extra bytes. Messages, the set member of a oneof, each item of a repeated field, and the key and the value of a map's
+-- entry are written even if they are 0 or empty.
 use Rattle.std.specs.Prelude.{ℕ, ℤ, List, [], ◌++◌, length, map, Option, Some, None, Bool, true, false, ◌==◌, if◌then◌else◌}
 use Rattle.std.specs.List.{flat_map}
 use Rattle.std.specs.Int.{w64, cast_unsigned}
@@ -33,11 +33,11 @@ use Rattle.llb_ops.specs.declared.source.SourceOp.{SourceOp}
 use Rattle.llb_ops.specs.declared.source.AttributeEntry.{AttributeEntry}
 use Rattle.llb_ops.specs.Attributes.{entry_of}
 
--- the record of field n with the number v, also if v is 0
+-- the record of field n with the number v, even if v is 0
 unfoldable pub set_number : ℕ → ℕ → List ℕ
 set_number n v = record_text n wire.Varint v []
 
--- the record of field n with these bytes, also if there are none
+-- the record of field n with these bytes, even if there are none
 unfoldable pub set_bytes : ℕ → List ℕ → List ℕ
 set_bytes n bytes = record_text n wire.Len 0 bytes
 
@@ -62,16 +62,16 @@ bit false = 0
 abbrev pub flag_field : ℕ → Bool → List ℕ
 flag_field n b = number_field n (bit b)
 
--- the record of a singular message, which is written also if it is empty; nothing if there is no message
+-- the record of a singular message, which is written even if the message is empty; nothing if there is no message
 unfoldable pub message_field : {A : Type 0} → (A → List ℕ) → ℕ → Option A → List ℕ
 message_field write n None = []
 message_field write n (Some m) = set_bytes n (write m)
 
--- the records of a repeated message, also for those that are empty
+-- a record for each message of a repeated field, even for an empty message
 unfoldable pub messages_field : {A : Type 0} → (A → List ℕ) → ℕ → List A → List ℕ
 messages_field write n ms = flat_map (λ m. set_bytes n (write m)) ms
 
--- the records of a repeated text or bytes field, also for items that are empty
+-- a record for each item of a repeated text or bytes field, even for an empty item
 unfoldable pub each_field : ℕ → List (List ℕ) → List ℕ
 each_field n items = flat_map (λ bytes. set_bytes n bytes) items
 
@@ -84,12 +84,12 @@ one_of_field write (Some m) = write m
 unfoldable pub input_bytes : Input → List ℕ
 input_bytes m = bytes_field 1 m.digest ++ signed_field 2 m.index ++ m.extra
 
--- the canonical record of a user
+-- the canonical record of a user: field 1 has the name, field 2 the number
 unfoldable pub user_bytes : User → List ℕ
 user_bytes (ByName name) = set_bytes 1 name
 user_bytes (ById id) = set_number 2 id
 
--- the canonical bytes of a `UserOpt`: the member of its oneof that is set, also if it is empty or 0
+-- the canonical bytes of a `UserOpt`: the member of its oneof that is set is written, even if it is empty or 0
 unfoldable pub user_opt_bytes : UserOpt → List ℕ
 user_opt_bytes m = one_of_field user_bytes m.user ++ m.extra
 
@@ -126,7 +126,7 @@ action_kind_bytes (action.MkFile m) = set_bytes 5 (mk_file_bytes m)
 action_kind_bytes (action.MkDir m) = set_bytes 6 (mk_dir_bytes m)
 action_kind_bytes (action.Rm m) = set_bytes 7 (rm_bytes m)
 
--- the canonical bytes of a `FileAction`: inputs and output are written unless they are 0, and what the action does, if anything
+-- the canonical bytes of a `FileAction`: inputs and output are written unless they are 0, and the member of its oneof if one is set
 unfoldable pub action_bytes : Action → List ℕ
 action_bytes m = signed_field 1 m.input ++ signed_field 2 m.secondary_input ++ signed_field 3 m.output
     ++ one_of_field action_kind_bytes m.kind ++ m.extra
@@ -163,7 +163,7 @@ exec_op_bytes m = message_field meta_bytes 1 m.meta ++ messages_field mount_byte
 unfoldable pub merge_input_bytes : MergeInput → List ℕ
 merge_input_bytes m = signed_field 1 m.input ++ m.extra
 
--- the canonical bytes of a `MergeOp`: its inputs are written in order, also an input that is 0
+-- the canonical bytes of a `MergeOp`: a record for each of its inputs, in order, even for input 0
 unfoldable pub merge_op_bytes : MergeOp → List ℕ
 merge_op_bytes m = messages_field merge_input_bytes 1 m.inputs ++ m.extra
 

@@ -156,7 +156,7 @@ pub struct CopyFile {
     pub src: Text,
     pub dest: Text,
     pub owner: Option<Boxed<ChownOpt>>,
-    /// -1 leaves each entry its mode.
+    /// -1 keeps the mode of each entry that is copied.
     pub mode: i32,
     pub follow_symlink: bool,
     pub dir_copy_contents: bool,

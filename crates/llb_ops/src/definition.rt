@@ -1,4 +1,4 @@
-//! A definition: its entries, in order. What an entry means is read elsewhere.
+//! Reads and writes a definition as a list of entries. `read_op` reads the op of an entry.
 
 ghost use Rattle.std.specs.Prelude.{◌≡◌, ◌<◌, ◌≤◌, ◌==◌, ◌++◌, ◌∷◌, [], if◌then◌else◌, Ok, length, true, IfOk, OnOk};
 ghost use Rattle.llb_wire.specs.Answer.{MemoryLast};
@@ -68,7 +68,7 @@ impl Entries {
     }
 }
 
-// Counts one more record: returns how many entries there are with it, and whether none of them is too long.
+// Counts one more record: returns the number of entries so far, and whether none of them is too long.
 fn with_record(count: usize, short: bool, part: &Record<'_>) -> (usize, bool)
     requires { count < 67_108_864 }
     ensures { result ≡ one_more (count, short) (view part.now) }
@@ -98,7 +98,7 @@ fn tally(bytes: &[u8]) -> Result<(usize, bool), OpFault>
     Ok((count, short))
 }
 
-// Appends the entry of a record, if the record has one.
+// Appends the entry that a record of field 1 has; a record of another field has none.
 fn put_entry(alloc: Global, entries: &mut Vec<Bytes>, part: &Record<'_>) -> Result<(), Memory>
     ensures { OnOk result (entries.new.items ≡ (if part.now.number == 1 then entries.old.items ++ part.now.payload.now ∷ [] else entries.old.items)) }
 {

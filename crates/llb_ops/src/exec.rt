@@ -1,4 +1,4 @@
-//! Executions, their mounts and caches, as `ops.proto` of BuildKit names them. Enums are numbers here.
+//! Execs, their mounts and the options of caches, with the names of `ops.proto` of BuildKit. An enum is kept as its number.
 
 use crate::fault::OpFault;
 use crate::message::{Message, each, one};
@@ -14,13 +14,13 @@ use crate::writing::{
 use llb_wire::{Bytes, Many, Memory, Text};
 use std::alloc::Global;
 
-/// Commands that run with mounts.
+/// `ExecOp`: commands, and the mounts on which they run.
 pub struct ExecOp {
     pub meta: Option<Meta>,
     pub mounts: Many<Mount>,
     pub network: i32,
     pub security: i32,
-    /// The payloads of messages that are not read.
+    /// The secrets of the environment: payloads of messages that are not read.
     pub secretenv: Many<Bytes>,
     pub extra: Bytes,
 }
@@ -39,7 +39,7 @@ impl Drop for ExecOp {
     }
 }
 
-/// What is run, and where.
+/// `Meta`: the words that are run, and their environment, directory and user.
 pub struct Meta {
     pub args: Many<Text>,
     pub env: Many<Text>,
@@ -61,12 +61,12 @@ impl Drop for Meta {
     }
 }
 
-/// A tree that is shown at a path to the commands of an exec.
+/// `Mount`: a tree that the commands of an exec see at the path `dest`.
 pub struct Mount {
     pub input: i64,
     pub selector: Text,
     pub dest: Text,
-    /// The number of the output that the mount's tree becomes, -1 for none.
+    /// The number of the output that the mount's tree becomes; -1 if it becomes none.
     pub output: i64,
     pub readonly: bool,
     /// 0 bind, 1 secret, 2 SSH, 3 cache, 4 tmpfs.
@@ -93,7 +93,7 @@ impl Drop for Mount {
     }
 }
 
-/// The options of a tmpfs mount: its size in bytes.
+/// `TmpfsOpt`: the size of a tmpfs mount in bytes.
 pub struct TmpfsOpt {
     pub size: i64,
     pub extra: Bytes,
@@ -106,7 +106,7 @@ impl Drop for TmpfsOpt {
     }
 }
 
-/// The options of a cache mount.
+/// `CacheOpt`: the options of a cache mount.
 pub struct CacheOpt {
     pub id: Text,
     /// 0 shared, 1 private, 2 locked.

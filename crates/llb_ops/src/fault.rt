@@ -7,12 +7,12 @@ use llb_wire::{Memory, WireFault};
 use std::alloc::AllocFailed;
 use std::{error, fmt};
 
-/// Why a message could not be read: the first fault, in the order in which messages are read.
+/// Why a message could not be read: the first fault in the order in which its bytes are checked.
 #[derive(Clone, Copy, Debug, PartialEq, Eq)]
 pub enum OpFault {
     /// 1 to 4: a record is not readable.
     Wire(WireFault),
-    /// 11: a named field has another wire type than its kind has.
+    /// 11: a field that the message names has the wrong wire type.
     WrongWireType,
     /// 12: the bytes of a string are not UTF-8.
     NotUtf8,

@@ -1,4 +1,4 @@
-//! File ops and their actions, as `ops.proto` of BuildKit names them.
+//! File ops and their actions, with the names of `ops.proto` of BuildKit.
 
 ghost use Rattle.std.specs.Prelude.{◌≡◌, ◌==◌, Ok, IfOk, length};
 ghost use Rattle.llb_ops.specs.Faults.{Gives};
@@ -14,7 +14,7 @@ use std::alloc::Global;
 use std::marker::Model;
 use std::sync::Arc;
 
-/// Actions on trees, done in their order.
+/// `FileOp`: actions on trees, which are done in their order.
 pub struct FileOp {
     pub actions: Actions,
     pub extra: Bytes,
@@ -30,7 +30,7 @@ impl Drop for FileOp {
     }
 }
 
-/// The actions of a file op, which its copies share. Contracts see the list of them.
+/// The actions of a file op. Copies of the op share them. Contracts see the list of actions.
 pub struct Actions {
     shared: Arc<Vec<Action>>,
 }
@@ -42,7 +42,7 @@ impl Drop for Actions {
     }
 }
 
-/// `FileAction`: one action, its inputs, and the number of the output that its result becomes, -1 for none.
+/// `FileAction`: one action, its inputs, and the number of the output that its result becomes; -1 if the result becomes none.
 pub struct Action {
     pub input: i64,
     pub secondary_input: i64,
@@ -85,7 +85,7 @@ impl Model for Actions {
 }
 
 impl Actions {
-    /// Makes a list of these actions, which its copies share. Fails with 5 `Memory` alone.
+    /// Makes a list of these actions. Copies of the list share the actions. Fails with 5 `Memory` alone.
     pub fn new(alloc: Global, actions: Vec<Action>) -> Result<Actions, Memory>
         ensures { IfOk result (λ a. a ≡ actions.items) }
     {

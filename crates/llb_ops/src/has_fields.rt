@@ -1,9 +1,10 @@
-//! The law that canonical bytes consist of the table's fields.
+//! The law that canonical bytes consist of fields of the table.
 
 ghost use Rattle.llb_ops.specs.Fields.{EntryHasFields};
 
-/// Proves that the canonical bytes of an op that was read are the table's fields: named ones in ascending order of their numbers, of the table's kinds, without
-/// defaults, none more often than its limit, and after them the records of fields that the message doesn't name. The same holds of nested messages.
+/// Proves that the canonical bytes of an op that was read consist of fields of the table, in ascending order of their numbers, and after them of the records of
+/// fields that the message doesn't name. Each value is of its field's kind, defaults that canonical bytes leave out are not there, and no field occurs more
+/// than 1,024 times. The same holds of nested messages.
 pub fn entry_has_fields(bytes: &[u8])
     ensures { EntryHasFields bytes.now }
 {

@@ -1,10 +1,11 @@
 //! Messages: an op is read from the records of its entry, and written in its canonical bytes, by one table of fields. It is built on
 //! `llb_wire`.
 //!
-//! Types: `Op` with `Kind` (a source, a file op, a merge, an exec, or what is refused later), `Entries` (of a definition), `FieldRow` (a row of
-//! the table), `OpFault`.
-//! Promise: `read_op` (`gives`, `within`) returns exactly the op that an entry is by the definitions, field by field, or its first fault. `read_definition`
-//! (`gives`, `last`) does so for a definition. Laws say that what was read is read again from its canonical bytes, and which fields these have.
+//! Types: `Op` with `Kind` (a source, a file op, a merge, an exec, or a build or a diff, which `llb_loader` refuses), `Entries` (of a definition),
+//! `FieldRow` (a row of the table), `OpFault`.
+//! Promise: `read_op` (`gives`, `within`) returns exactly the op that the definitions say an entry is read as, or the entry's first fault. `read_definition`
+//! (`gives`, `last`) does the same for the entries of a definition. Laws say that an op that was read is read again from its canonical bytes, and which
+//! fields these bytes have.
 //!
 //! A caller:
 //!

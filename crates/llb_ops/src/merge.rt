@@ -1,4 +1,4 @@
-//! Merges of trees, as `ops.proto` of BuildKit names them.
+//! Merges of trees, with the names of `ops.proto` of BuildKit.
 
 use crate::fault::OpFault;
 use crate::message::{Message, each};
@@ -8,7 +8,7 @@ use crate::writing::{put_extra, put_messages, put_signed};
 use llb_wire::{Bytes, Many, Memory};
 use std::alloc::Global;
 
-/// Trees that are laid one over another, in their order.
+/// `MergeOp`: trees that are laid one over another, in their order.
 pub struct MergeOp {
     pub inputs: Many<MergeInput>,
     pub extra: Bytes,
@@ -24,7 +24,7 @@ impl Drop for MergeOp {
     }
 }
 
-/// One tree: an input of the op, or -1 for the empty tree.
+/// `MergeInput`: one of the trees, by the number of an input of the op; -1 is the empty tree.
 pub struct MergeInput {
     pub input: i64,
     pub extra: Bytes,

@@ -1,4 +1,4 @@
-//! Messages as functions of their records, and how one message is a field of another: singular, repeated, or a member of a oneof.
+//! How a message is read from its records and written, and how it is read as a field of another message: singular, repeated, or a member of a oneof.
 
 ghost use Rattle.std.specs.Prelude.{◌≡◌, List, ℕ, Result, IfOk, true};
 ghost use Rattle.llb_wire.specs.Records.{Record as Read};
@@ -58,7 +58,7 @@ impl<M: Message> Message for Boxed<M> {
     }
 }
 
-/// The members of a oneof: how the member with a number is read from its records, and its canonical bytes.
+/// The members of a oneof: how the member with a given field number is read from its records, and the canonical bytes of a member.
 pub trait Member: Drop {
     ghost reading: { ℕ → List Read → Result Self OpFault };
 
@@ -73,7 +73,7 @@ pub trait Member: Drop {
         ensures { IfOk result (λ v. v.items ≡ writing self.now) };
 }
 
-/// Reads a message from its bytes, which it splits into records. Fails with the first fault, or with 14 `Memory`.
+/// Splits bytes into records, and reads a message from the records. Fails with the first fault, or with 14 `Memory`.
 #[tactic(auto, unfolding(crate::specs::Records::message_of))]
 pub fn read_message<M: Message>(alloc: Global, bytes: &[u8]) -> Result<M, OpFault>
     ensures { Gives (λ m. m) result (message_of M.shape M.reading bytes.now) }
@@ -82,8 +82,8 @@ pub fn read_message<M: Message>(alloc: Global, bytes: &[u8]) -> Result<M, OpFaul
     M::read(alloc, &records)
 }
 
-/// Reads a message from the payloads of its records, joined one after the other. The payload of a single record is not copied. Fails with the first fault, or
-/// with 14 `Memory`.
+/// Reads a message from the payloads of its records, joined one after the other. If there is only one record, its payload is not copied. Fails with the first
+/// fault, or with 14 `Memory`.
 pub fn joined_message<M: Message>(
     alloc: Global,
     records: &[Record<'_>],
@@ -98,8 +98,8 @@ pub fn joined_message<M: Message>(
     read_message(alloc, &bytes)
 }
 
-/// Reads a singular message from its payloads, one after the other; returns `None` if it has no record. Fails with the
-/// first fault, or with 14 `Memory`.
+/// Reads a singular message from its payloads, joined one after the other; returns `None` if it has no record. Fails
+/// with the first fault, or with 14 `Memory`.
 #[tactic(auto, unfolding(crate::specs::Records::one))]
 pub fn one<M: Message>(
     alloc: Global,

@@ -1,4 +1,4 @@
-//! An op and its inputs, as `ops.proto` of BuildKit names them, read from their bytes and written to them.
+//! An op and its inputs, with the names of `ops.proto` of BuildKit: read from bytes, and written as bytes.
 
 ghost use Rattle.std.specs.Prelude.{◌≡◌, Ok, IfOk};
 ghost use Rattle.llb_ops.specs.Faults.{Gives};
@@ -23,7 +23,7 @@ use crate::writing::{
 use llb_wire::{Boxed, Bytes, Many, Memory, Text};
 use std::alloc::Global;
 
-/// A vertex of the build graph, as its entry has it.
+/// `Op`: a vertex of the build graph, as its entry spells it.
 pub struct Op {
     pub inputs: Many<Input>,
     /// The member of the oneof that is set, if any.
@@ -43,8 +43,8 @@ impl Drop for Op {
     }
 }
 
-/// What an op does. A build and a diff are kept as their joined payloads. `ExecOp` and `SourceOp`, which are large, are
-/// on the heap, so that an op of another kind is small.
+/// What an op does. For a build or a diff, the joined payloads are kept unread. `ExecOp` and `SourceOp`, which are
+/// large, are on the heap, so that an op of another kind is small.
 #[derive(Drop)]
 pub enum Kind {
     Exec(Boxed<ExecOp>),
@@ -55,7 +55,7 @@ pub enum Kind {
     Diff(Bytes),
 }
 
-/// An output of another op: the digest of that op's bytes, and which of its outputs.
+/// `Input`: an output of another op, by the digest of that op's bytes and the index of the output.
 pub struct Input {
     pub digest: Text,
     pub index: i64,
@@ -235,8 +235,8 @@ pub fn op_is_read_of_records(bytes: &[u8])
     let _ = bytes;
 }
 
-/// Proves that what was read as an op is read as that op again from its canonical bytes, if these are within the limit
-/// of an entry.
+/// Proves that an op that was read is read again, as the same op, from its canonical bytes, if these are within the
+/// limit of an entry.
 pub fn op_is_read_again(op: &Op)
     ensures { IsReadAgain op.now }
 {

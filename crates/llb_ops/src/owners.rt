@@ -1,4 +1,4 @@
-//! Owners of what a file action makes: users and groups, read from their records, and their canonical bytes.
+//! Owners of what a file action makes: users and groups. They are read from their records, and written as their canonical bytes.
 
 use crate::fault::OpFault;
 use crate::message::{Member, Message, one, one_of};
@@ -59,7 +59,7 @@ impl Message for ChownOpt {
     }
 }
 
-/// A user or a group.
+/// `UserOpt`: a user or a group; no `user` if no member of the oneof is set.
 pub struct UserOpt {
     pub user: Option<User>,
     pub extra: Bytes,
@@ -105,7 +105,7 @@ impl Message for UserOpt {
     }
 }
 
-/// By name (the joined payloads of a message that is not read) or by number.
+/// A user or a group, by name (the joined payloads of a message that is not read) or by number.
 #[derive(Drop)]
 pub enum User {
     ByName(Bytes),

@@ -1,4 +1,4 @@
-//! The records of a message, and how the value of each kind of field is read from them. Nothing here knows a message.
+//! The records of a message, and how the value of each kind of field is read from them. The same calls serve all messages.
 
 ghost use Rattle.std.specs.Prelude.{◌≡◌, ◌+◌, ◌≤◌, ◌<◌, ◌==◌, Option, Some, Ok, [], length, drop, take, map, IfOk, option_map, is_none, not, true};
 ghost use Rattle.std.specs.Option.{IfSome};
@@ -38,7 +38,7 @@ pub struct Front<'a> {
     pub after: &'a [u8],
 }
 
-// Returns the form of the field of that number, if the message names it.
+// Returns the form of the field with this number, if the message names it.
 fn form(message: MessageName, number: u32) -> Option<Form>
     ensures { result ≡ form_of (shape_of message) number }
 {
@@ -48,7 +48,7 @@ fn form(message: MessageName, number: u32) -> Option<Form>
     }
 }
 
-// Returns whether the record has the wire type of its field, if the message names it.
+// Returns whether the record has the wire type of its field; true if the message does not name the field.
 fn fits(message: MessageName, field: &Field) -> bool
     ensures { result ≡ wire_fits (form_of (shape_of message) field.now.number) field.now.wire }
 {
@@ -80,8 +80,8 @@ fn front_of<'a>(bytes: &'a [u8], field: &Field) -> Front<'a>
 }
 
 /// Returns the record at the start of a message's bytes, and the bytes after it; `None` at the end. Fails with 1 to 4
-/// `Wire` if the record is not readable, with 11 `WrongWireType` if the message names the field and it has another wire
-/// type.
+/// `Wire` if the record is not readable, with 11 `WrongWireType` if the message names its field, and the record has
+/// another wire type than the field.
 pub fn next_part<'a>(message: MessageName, bytes: &'a [u8]) -> Result<Option<Front<'a>>, OpFault>
     ensures { Starts (shape_of message) bytes.now result }
 {
@@ -141,8 +141,8 @@ fn texts_are_utf8(message: MessageName, records: &[Record<'_>]) -> bool
     true
 }
 
-/// Splits the bytes of a message into its records: each named field has its wire type, and texts are UTF-8. Fails as
-/// `split` does, and then with 12 `NotUtf8`.
+/// Splits the bytes of a message into its records, and checks that each named field has its wire type and that texts
+/// are UTF-8. Fails as `split` does, and then with 12 `NotUtf8`.
 #[tactic(auto, unfolding(crate::specs::Records::parts))]
 pub fn parts<'a>(
     alloc: Global,
@@ -172,7 +172,7 @@ fn last<'a>(records: &[Record<'a>], number: u32) -> Option<Record<'a>>
     last
 }
 
-// Returns the number of a field, which is in its last record; 0 if there is none.
+// Returns the number in the last record of a field; 0 if the field has no record.
 fn last_number(records: &[Record<'_>], number: u32) -> u64
     ensures { result ≡ number_of (all_of number (views records.now)) }
 {
@@ -182,21 +182,21 @@ fn last_number(records: &[Record<'_>], number: u32) -> u64
     }
 }
 
-/// Returns the number of a field as a signed one of 64 bits; 0 if there is none.
+/// Returns the number of a field as a signed 64-bit number; 0 if the field has no record.
 pub fn last_int64(records: &[Record<'_>], number: u32) -> i64
     ensures { result ≡ int64 (number_of (all_of number (views records.now))) }
 {
     last_number(records, number).cast_signed()
 }
 
-/// Returns the low 32 bits of the number of a field.
+/// Returns the low 32 bits of the number of a field; 0 if the field has no record.
 pub fn last_uint32(records: &[Record<'_>], number: u32) -> u32
     ensures { result ≡ uint32 (number_of (all_of number (views records.now))) }
 {
     (last_number(records, number) % 0x1_0000_0000) as u32
 }
 
-/// Returns the low 32 bits of the number of a field as a signed number.
+/// Returns the low 32 bits of the number of a field as a signed number; 0 if the field has no record.
 pub fn last_int32(records: &[Record<'_>], number: u32) -> i32
     ensures { result ≡ int32 (number_of (all_of number (views records.now))) }
 {
@@ -210,7 +210,7 @@ pub fn last_flag(records: &[Record<'_>], number: u32) -> bool
     last_number(records, number) != 0
 }
 
-/// Returns the payload of a field's last record.
+/// Returns the payload of a field's last record; no bytes if the field has no record.
 fn last_payload<'a>(records: &[Record<'a>], number: u32) -> &'a [u8]
     ensures { result.now ≡ payload_of (all_of number (views records.now)) }
 {
@@ -220,15 +220,15 @@ fn last_payload<'a>(records: &[Record<'a>], number: u32) -> &'a [u8]
     }
 }
 
-/// Returns the bytes of a field, none if it is not there. Fails with 5 `Memory` alone.
+/// Returns the bytes of a field: the payload of its last record, or no bytes if it has no record. Fails with 5 `Memory` alone.
 pub fn last_bytes(alloc: Global, records: &[Record<'_>], number: u32) -> Result<Bytes, Memory>
     ensures { IfOk result (λ b. b ≡ payload_of (all_of number (views records.now))) }
 {
     Bytes::from_slice(alloc, last_payload(records, number))
 }
 
-/// Returns the text of a field, empty if it is not there; it was found to be UTF-8 when the records were read. Fails
-/// with 5 `Memory` alone.
+/// Returns the text of a field; empty if it has no record. The records of texts were checked to be UTF-8 when they
+/// were read. Fails with 5 `Memory` alone.
 pub fn last_text(
     alloc: Global,
     message: MessageName,
@@ -250,7 +250,7 @@ pub fn count(records: &[Record<'_>], number: u32) -> usize
     records.iter().filter(|r| r.number == number).count()
 }
 
-/// Makes a list with room for an item of each record of a field, for 1,024 at most. Fails with 5 `Memory` alone.
+/// Makes an empty list with room for one item per record of a field, but for at most 1,024 items. Fails with 5 `Memory` alone.
 pub fn room_for<T: Drop>(
     alloc: Global,
     records: &[Record<'_>],
@@ -263,7 +263,7 @@ pub fn room_for<T: Drop>(
     Ok(items)
 }
 
-/// Returns the texts of a field that is repeated, in order. Fails with 5 `Memory` alone.
+/// Returns the texts of a repeated field, in order. Fails with 5 `Memory` alone.
 pub fn each_text(
     alloc: Global,
     message: MessageName,
@@ -284,7 +284,7 @@ pub fn each_text(
     Ok(Many::new(items))
 }
 
-/// Returns the payload of a field that has exactly one record.
+/// Returns the payload of a field's record, if the field has exactly one record.
 #[tactic(auto, using(crate::proofs::Joined::of_one))]
 pub fn lone_payload<'a>(records: &[Record<'a>], number: u32) -> Option<&'a [u8]>
     ensures { IfSome result (λ payload. payload.now ≡ joined_of (all_of number (views records.now))) }
@@ -295,7 +295,7 @@ pub fn lone_payload<'a>(records: &[Record<'a>], number: u32) -> Option<&'a [u8]>
     Some(last_payload(records, number))
 }
 
-/// Returns the payloads of a field, one after the other. Fails with 5 `Memory` alone.
+/// Returns the payloads of a field, joined one after the other. Fails with 5 `Memory` alone.
 pub fn joined(alloc: Global, records: &[Record<'_>], number: u32) -> Result<Vec<u8>, Memory>
     ensures { IfOk result (λ v. v.items ≡ joined_of (all_of number (views records.now))) }
 {
@@ -308,7 +308,7 @@ pub fn joined(alloc: Global, records: &[Record<'_>], number: u32) -> Result<Vec<
     Ok(out)
 }
 
-/// Returns the byte strings of a field that is repeated, in order. Fails with 5 `Memory` alone.
+/// Returns the byte strings of a repeated field, in order. Fails with 5 `Memory` alone.
 pub fn each_bytes(alloc: Global, records: &[Record<'_>], number: u32) -> Result<Many<Bytes>, Memory>
     ensures { IfOk result (λ bs. bs ≡ payloads (all_of number (views records.now))) }
 {
@@ -353,7 +353,7 @@ fn is_other(members: &[u32], number: u32, part: &Record<'_>) -> bool
     members.contains(&part.number) && part.number != number
 }
 
-/// Returns the records after the last one of another member of a oneof.
+/// Returns the records after the last record of any member of a oneof other than the member `number`.
 pub fn since<'r, 'a>(records: &'r [Record<'a>], members: &[u32], number: u32) -> &'r [Record<'a>]
     ensures { views result.now ≡ since_of (is_other_of members.now number) (views records.now) }
 {

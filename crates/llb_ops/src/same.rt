@@ -1,5 +1,5 @@
-//! Equality by value of ops and of the messages in them: all fields are compared, also those that no message names. Attributes
-//! of a source are compared as a list of keys and attributes, in order. Nothing here allocates.
+//! Equality by value of ops and of the messages in them: all fields and the extra bytes are compared. The attributes of a
+//! source are compared as a list of keys and attributes, in order. Nothing here allocates.
 
 ghost use Rattle.std.specs.Prelude.{◌≡◌, ◌↔◌, IsTrue, slice_get};
 
@@ -51,7 +51,7 @@ impl Same for SourceOp {
     }
 }
 
-// Returns whether two maps have the same attribute under the same key at an index.
+// Returns whether two maps have the same attribute under the same key at an index, or both have nothing there.
 fn same_entry(
     held: &IndexMap<Text, Attribute>,
     others: &IndexMap<Text, Attribute>,

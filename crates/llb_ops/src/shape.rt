@@ -11,14 +11,14 @@ pub enum Form {
     Text,
 }
 
-/// How many bytes a definition may have.
+/// The largest number of bytes that a definition may have.
 pub const DEFINITION_LIMIT: usize = 67_108_864;
 
-/// How many entries a definition may have.
+/// The largest number of entries that a definition may have.
 pub const ENTRIES_LIMIT: usize = 65_536;
 
-/// How many bytes an entry may have.
+/// The largest number of bytes that an entry may have.
 pub const ENTRY_LIMIT: usize = 16_777_216;
 
-/// How many records a repeated field may have in one message.
+/// The largest number of records that a repeated field may have in one message.
 pub const FIELD_LIMIT: usize = 1_024;

@@ -1,4 +1,4 @@
-//! Sources and their attributes, as `ops.proto` of BuildKit names them.
+//! Sources and their attributes, with the names of `ops.proto` of BuildKit.
 
 ghost use Rattle.std.specs.Prelude.{◌≡◌, ◌++◌, IfOk, OnOk, map};
 ghost use Rattle.llb_ops.specs.Attributes.{entry_of, settled};
@@ -14,7 +14,7 @@ use llb_wire::{Bytes, Many, Memory, Text};
 use std::alloc::Global;
 use std::marker::Model;
 
-/// A tree from outside, named by its identifier.
+/// `SourceOp`: a tree from outside the graph, named by `identifier`.
 pub struct SourceOp {
     pub identifier: Text,
     pub attrs: Attributes,
@@ -32,8 +32,8 @@ impl Drop for SourceOp {
     }
 }
 
-/// The attributes of a source by their keys: for each key the last entry given, at the index of the first one given. Contracts see the list of keys and
-/// attributes.
+/// The attributes of a source by their keys. If several entries have the same key, the last one counts, at the index of the first one. Contracts see
+/// the list of keys and attributes.
 pub struct Attributes {
     held: IndexMap<Text, Attribute>,
 }
@@ -90,7 +90,7 @@ impl Attributes {
         &self.held
     }
 
-    // Returns for each key the last entry given, at the index of the first one given.
+    // Returns the attributes of these entries. If several entries have the same key, the last one counts, at the index of the first one.
     pub(crate) fn settled(
         alloc: Global,
         entries: Many<AttributeEntry>,
@@ -137,7 +137,7 @@ impl Message for AttributeEntry {
     }
 }
 
-// Returns the bytes of an entry: key and value are both written, also if they are empty.
+// Returns the bytes of an entry of the map: key and value are both written, even if they are empty.
 #[tactic(auto, unfolding(crate::specs::Writing::attribute_entry_bytes))]
 fn written_entry(alloc: Global, key: &Text, value: &Text, extra: &Bytes) -> Result<Vec<u8>, Memory>
     ensures { IfOk result (λ v. v.items ≡ attribute_entry_bytes (record { key = key.now; value = value.now; extra = extra.now })) }
@@ -149,7 +149,7 @@ fn written_entry(alloc: Global, key: &Text, value: &Text, extra: &Bytes) -> Resu
     Ok(out)
 }
 
-// Writes the attributes, as the entries of field 2.
+// Writes each attribute as an entry of the map, in a record of field 2.
 fn put_attributes(alloc: Global, out: &mut Vec<u8>, attrs: &Attributes) -> Result<(), Memory>
     ensures { OnOk result (out.new.items ≡ out.old.items ++ messages_field attribute_entry_bytes 2 (map entry_of attrs.now)) }
 {

@@ -1,5 +1,5 @@
-//! The table of messages: the fields of each message of `ops.proto` of BuildKit, by name, number and kind. It
-//! says how a field is read, and in which order the fields are in canonical bytes.
+//! The table of messages: the fields of each message of `ops.proto` of BuildKit, by name, number and kind. The table
+//! says how each field is read, and in which order canonical bytes have the fields.
 
 ghost use Rattle.std.specs.Prelude.{◌≡◌, map, option_map};
 ghost use Rattle.llb_ops.specs.Table.{form_of_kind, rows_of, row_seen, row_numbered, row_named, AreRowsApart};
@@ -46,7 +46,7 @@ pub enum FieldKind {
 }
 
 impl FieldKind {
-    // Returns how a field of the kind is read.
+    // Returns how the payload of a field of this kind is read.
     pub(crate) fn form(self) -> Form
         ensures { result ≡ form_of_kind self }
     {
@@ -70,7 +70,7 @@ pub struct NamedField {
     pub repeated: bool,
     /// Whether the field is a member of the message's oneof.
     pub member: bool,
-    /// Whether the field is in an entry of a map, whose key and value are written also if they are empty.
+    /// Whether the field is the key or the value in an entry of a map, which are written even if they are empty.
     pub of_entry: bool,
 }
 
@@ -280,7 +280,7 @@ pub fn fields_of(message: MessageName) -> &'static [FieldRow]
     }
 }
 
-/// Returns the field with this number; `None` if the message names none.
+/// Returns the field with this number; `None` if the message names no such field.
 #[tactic(auto, unfolding(crate::specs::Table::row_numbered))]
 pub fn field_numbered(message: MessageName, number: u32) -> Option<FieldRow>
     ensures { option_map row_seen result ≡ row_numbered message number }
@@ -293,7 +293,7 @@ pub fn field_numbered(message: MessageName, number: u32) -> Option<FieldRow>
     None
 }
 
-/// Returns the field with this name; `None` if the message has none.
+/// Returns the field with this name; `None` if the message has no such field.
 #[tactic(auto, unfolding(crate::specs::Table::row_named))]
 pub fn field_named(message: MessageName, name: &[u8]) -> Option<FieldRow>
     ensures { option_map row_seen result ≡ row_named message name.now }

@@ -1,5 +1,5 @@
-//! Fields in their canonical bytes, one after the other. Each call that appends to `out` fails with 5 `Memory` alone;
-//! then some of its bytes may be appended.
+//! Writes fields in their canonical bytes, one after the other. Each call that appends to `out` fails with 5 `Memory`
+//! alone; some of the call's bytes may be in `out` then.
 
 ghost use Rattle.std.specs.Prelude.{◌≡◌, ◌<◌, ◌++◌, ◌≤◌, IfOk, OnOk};
 ghost use Rattle.llb_ops.specs.Writing.{set_number, set_bytes, number_field, bytes_field, signed_field, flag_field, message_field};
@@ -9,7 +9,7 @@ use crate::message::{Member, Message};
 use llb_wire::{Bytes, Memory, Text, Wire, write_record};
 use std::alloc::Global;
 
-/// Writes a number, also if it is 0.
+/// Writes a number, even if it is 0.
 #[tactic(auto, unfolding(crate::specs::Writing::set_number))]
 pub fn put_set_number(out: &mut Vec<u8>, number: u32, value: u64) -> Result<(), Memory>
     requires some { 0 < number }
@@ -20,7 +20,7 @@ pub fn put_set_number(out: &mut Vec<u8>, number: u32, value: u64) -> Result<(), 
     Ok(())
 }
 
-/// Writes bytes, also if there are none.
+/// Writes bytes, even if there are none.
 #[tactic(auto, unfolding(crate::specs::Writing::set_bytes))]
 pub fn put_set_bytes(out: &mut Vec<u8>, number: u32, bytes: &[u8]) -> Result<(), Memory>
     requires some { 0 < number }
@@ -31,7 +31,7 @@ pub fn put_set_bytes(out: &mut Vec<u8>, number: u32, bytes: &[u8]) -> Result<(),
     Ok(())
 }
 
-/// Returns the record of a field with these bytes, also if there are none. Fails with 5 `Memory` alone.
+/// Returns the record of a field with these bytes, even if there are none. Fails with 5 `Memory` alone.
 pub fn bytes_record(alloc: Global, number: u32, bytes: &[u8]) -> Result<Vec<u8>, Memory>
     requires some { 0 < number }
     requires small { number ≤ 536_870_911 }
@@ -56,7 +56,7 @@ pub fn message_record<M: Message>(
     bytes_record(alloc, number, &bytes)
 }
 
-/// Writes a number, but not 0.
+/// Writes a number; writes nothing if the number is 0.
 #[tactic(auto, unfolding(crate::specs::Writing::number_field))]
 fn put_number(out: &mut Vec<u8>, number: u32, value: u64) -> Result<(), Memory>
     requires some { 0 < number }
@@ -69,7 +69,7 @@ fn put_number(out: &mut Vec<u8>, number: u32, value: u64) -> Result<(), Memory>
     Ok(())
 }
 
-/// Writes a signed number, but not 0.
+/// Writes a signed number; writes nothing if the number is 0.
 pub fn put_signed(out: &mut Vec<u8>, number: u32, value: i64) -> Result<(), Memory>
     requires some { 0 < number }
     requires small { number ≤ 536_870_911 }
@@ -78,7 +78,7 @@ pub fn put_signed(out: &mut Vec<u8>, number: u32, value: i64) -> Result<(), Memo
     put_number(out, number, value.cast_unsigned())
 }
 
-/// Writes a flag, but not false.
+/// Writes a flag; writes nothing if the flag is false.
 pub fn put_flag(out: &mut Vec<u8>, number: u32, value: bool) -> Result<(), Memory>
     requires some { 0 < number }
     requires small { number ≤ 536_870_911 }
@@ -87,7 +87,7 @@ pub fn put_flag(out: &mut Vec<u8>, number: u32, value: bool) -> Result<(), Memor
     put_number(out, number, u64::from(value))
 }
 
-/// Writes bytes, if there are any.
+/// Writes bytes; writes nothing if there are none.
 #[tactic(auto, unfolding(crate::specs::Writing::bytes_field))]
 pub fn put_bytes(out: &mut Vec<u8>, number: u32, bytes: &[u8]) -> Result<(), Memory>
     requires some { 0 < number }
@@ -100,7 +100,7 @@ pub fn put_bytes(out: &mut Vec<u8>, number: u32, bytes: &[u8]) -> Result<(), Mem
     Ok(())
 }
 
-/// Writes a message, if there is one.
+/// Writes a message, even an empty one; writes nothing if there is no message.
 #[tactic(auto, unfolding(crate::specs::Writing::message_field))]
 pub fn put_message<M: Message>(
     alloc: Global,
@@ -119,7 +119,7 @@ pub fn put_message<M: Message>(
     Ok(())
 }
 
-/// Writes messages that are repeated.
+/// Writes the messages of a repeated field, each in a record.
 pub fn put_messages<M: Message>(
     alloc: Global,
     out: &mut Vec<u8>,
@@ -137,7 +137,7 @@ pub fn put_messages<M: Message>(
     Ok(())
 }
 
-/// Writes byte strings that are repeated.
+/// Writes the byte strings of a repeated field, each in a record.
 pub fn put_each_bytes(out: &mut Vec<u8>, number: u32, items: &[Bytes]) -> Result<(), Memory>
     requires some { 0 < number }
     requires small { number ≤ 536_870_911 }
@@ -149,7 +149,7 @@ pub fn put_each_bytes(out: &mut Vec<u8>, number: u32, items: &[Bytes]) -> Result
     Ok(())
 }
 
-/// Writes texts that are repeated.
+/// Writes the texts of a repeated field, each in a record.
 pub fn put_each_text(out: &mut Vec<u8>, number: u32, items: &[Text]) -> Result<(), Memory>
     requires some { 0 < number }
     requires small { number ≤ 536_870_911 }
@@ -161,7 +161,7 @@ pub fn put_each_text(out: &mut Vec<u8>, number: u32, items: &[Text]) -> Result<(
     Ok(())
 }
 
-/// Writes the member that is set, if there is one.
+/// Writes the member of a oneof that is set; writes nothing if none is set.
 pub fn put_one_of<M: Member>(
     alloc: Global,
     out: &mut Vec<u8>,
@@ -176,7 +176,7 @@ pub fn put_one_of<M: Member>(
     Ok(())
 }
 
-/// Writes the records of fields that the message doesn't name, as they are.
+/// Writes the extra bytes, unchanged: the records of fields that the message doesn't name.
 pub fn put_extra(out: &mut Vec<u8>, extra: &Bytes) -> Result<(), Memory>
     ensures { OnOk result (out.new.items ≡ out.old.items ++ extra.now) }
 {

@@ -9,10 +9,10 @@ use thiserror::Error;
 /// Why a graph is not evaluated: the first cause that applies.
 #[derive(Debug, Drop, Error)]
 pub enum PlainFault {
-    /// 101: no tree is given for this local source, the first such by vertex.
+    /// 101: no tree is given for a local source; the first such name, by vertex, follows.
     #[error("101 {0}")]
     MissingLocal(Text),
-    /// 102: this vertex mounts a cache (of several, the least).
+    /// 102: a vertex mounts a cache; the number of the first such vertex follows.
     #[error("102 {0}")]
     HasCache(u32),
     /// 103: memory was refused.

@@ -1,6 +1,6 @@
-//! The entries of the definitions in tests, each after a line with `== `, its name and a description. They are in the lines of the assembler's text, with ` | `
-//! in place of some line ends. `%0` is the first entry of the definition that an entry is in, so each has to be at the position that its name or its
-//! description says; a digest of one letter names a row.
+//! The entries of the definitions in tests. Above each entry is a line with `== `, the entry's name and a description. The entry is in the lines of the
+//! assembler's text; ` | ` replaces some line ends. `%0`, `%1` and `%2` name the first three entries of the definition in which the entry is used:
+//! `MERGES_0_1` merges the first two entries, whatever they are. A digest of one letter names a row of a test.
 
 pub(crate) const ENTRIES: &str = concat!(
     r#"

@@ -26,7 +26,7 @@ d 0755 0 0 /sub
 f 0644 0 0 6869 /sub/f
 ";
 
-// The trees above with a token in place of the content of `/sub/f`: the byte 255, and the number 1 in four bytes.
+// The trees of `EMPTY_AND_SUB`, but the content of `/sub/f` is a token: the byte 255, and the number 1 in four bytes.
 const SUB_BY_A_TOKEN: &str = "== p
 d 0755 0 0 /
 == q
@@ -62,7 +62,7 @@ fn is_added(locals: &mut Locals, alloc: Global, name: &str, text: &str) -> bool 
     }
 }
 
-/// Returns the local trees that a text gives.
+/// Returns the local trees of a text; `None` if one of them can't be read or added.
 pub fn locals_of(alloc: Global, given: &str) -> Option<Locals> {
     let mut locals = Locals::new(alloc);
     for local in given.split("== ") {

@@ -5,7 +5,7 @@ use llb_treetext::print_tree;
 use llb_wire::Over;
 use std::alloc::{AllocError, Global};
 
-/// Appends a path to a text, as its names with `/` before each.
+/// Appends a path to a text: each of the path's names, with `/` before it.
 pub fn push_path(text: &mut String, path: &Path) -> Result<(), AllocError> {
     for name in path.names() {
         text.push_str("/")?;

@@ -87,17 +87,17 @@ f 0644 2 2 7570 /c/d
 f 0644 2 2 7570 /z
 ";
 
-/// Returns the text of the tree with this name; if there is none, the name itself, which is then a text.
+/// Returns the text of the tree with this name; if there is no such tree, returns `name` itself, as the text of a tree.
 pub fn tree_text<'a>(name: &'a str) -> &'a str {
     block(TREES, name).unwrap_or(name)
 }
 
-/// Returns the tree of a text.
+/// Returns the tree of a text; `None` if the text can't be read.
 pub fn tree_from(alloc: Global, text: &str) -> Option<Tree> {
     read_tree(alloc, text.as_bytes()).ok()
 }
 
-// Returns a directory `/d` with the empty files `000` to `999`.
+// Returns the text of a tree with a directory `/d`, in which are the empty files `000` to `999`.
 fn wide_text(alloc: Global) -> Result<String, AllocError> {
     let mut text = String::new(alloc);
     text.push_str("d 0755 0 0 /\nd 0755 0 0 /d\n")?;

@@ -1,9 +1,9 @@
-//! Definitions from short texts: their entries, with `; ` between them.
+//! Definitions from short texts. A short text has the entries of a definition, with `; ` between them.
 //!
-//! An entry is a name of `entries`; `RESULT_N` or `RESULT N`, the terminal that names entry N; `sh: SCRIPT`, a script on the empty tree at `/`; a script with
-//! the cache `k` at `/c` besides, after the mode of the cache: `locked: SCRIPT`, `private: SCRIPT` or `shared: SCRIPT`; or lines of the
-//! assembler's text. A new instance of the cache begins empty, or, if ` on 0` follows the mode, with the output of the first entry. A `;`
-//! in a script is written as `\x3b`.
+//! An entry is one of these: a name in `entries`; `RESULT_N` or `RESULT N`, the terminal that names entry N; `sh: SCRIPT`, an exec of the script on the empty
+//! tree at `/`; `locked: SCRIPT`, `private: SCRIPT` or `shared: SCRIPT`, the same exec with the cache `k` of this mode at `/c`; or lines of the assembler's
+//! text. A new instance of the cache begins empty; if ` on 0` follows the mode, as in `locked on 0: SCRIPT`, it begins with the output of the first entry. A
+//! `;` in a script is written as `\x3b`.
 
 use crate::entries::ENTRIES;
 use llb_asm::assemble;
@@ -12,7 +12,7 @@ use llb_ops::{Entries, write_definition};
 use llb_wire::Bytes;
 use std::alloc::{AllocError, Global};
 
-/// Returns the lines after the one with `== ` and this name; a description may follow the name after `: `.
+/// Returns the lines below the line `== NAME` or `== NAME: DESCRIPTION`, where NAME is the wanted name; `None` if there is no such line.
 pub fn block<'a>(text: &'a str, wanted: &str) -> Option<&'a str> {
     for block in text.split("== ") {
         if let Some((head, lines)) = block.split_once('\n') {
@@ -72,7 +72,7 @@ fn push_result(text: &mut String, on: &str) -> Result<(), AllocError> {
     write!(text, "op {{\ninputs {{\ndigest %{on}\n}}\n}}\n")
 }
 
-// Appends the text of an entry that has no name.
+// Appends the text of an entry that is no name in `entries`.
 fn push_made(text: &mut String, entry: &str) -> Result<(), AllocError> {
     if let Some(on) = entry.strip_prefix("RESULT") {
         return push_result(text, on.strip_prefix('_').unwrap_or(on).trim());

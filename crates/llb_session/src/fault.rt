@@ -6,10 +6,10 @@ use thiserror::Error;
 /// Why a conversation ends early.
 #[derive(Clone, Copy, Debug, PartialEq, Eq, Error)]
 pub enum SessionFault {
-    /// 181: a read failed; it holds the error.
+    /// 181: a read failed; the fault holds the error.
     #[error("181")]
     Failed(ErrorKind),
-    /// 181: the bound on reads was met; it holds how many reads were interrupted.
+    /// 181: the bound on reads was met; the fault has how many reads were interrupted.
     #[error("181")]
     Unending(u64),
     /// 182: the writer failed.

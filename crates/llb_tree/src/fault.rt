@@ -7,19 +7,19 @@ use thiserror::Error;
 /// Why a call on a tree or a path is refused.
 #[derive(Clone, Copy, Debug, PartialEq, Eq, Error)]
 pub enum TreeFault {
-    /// 21: nothing is there, or a parent is missing.
+    /// 21: nothing is at the path, or a parent is missing.
     #[error("21")]
     NotFound,
-    /// 22: a parent is a file, or a file is where a directory is needed.
+    /// 22: a parent is a file, or a file is at a path that has to be a directory.
     #[error("22")]
     NotDir,
-    /// 23: a directory is where a file is to be.
+    /// 23: a directory is in the way of a file.
     #[error("23")]
     IsDir,
-    /// 24: a file is where a directory is to be.
+    /// 24: a file is in the way of a directory.
     #[error("24")]
     Conflict,
-    /// 25: the root is where this can't be done.
+    /// 25: the path is the root, where this can't be done.
     #[error("25")]
     Root,
     /// 26: a part of a text is no name, or a path would have more than 128 names.

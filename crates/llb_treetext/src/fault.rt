@@ -11,11 +11,11 @@ use std::{error, fmt};
 /// Why a text is not read as a tree, or a tree has no digest. Lines are counted from 1.
 #[derive(Clone, Copy, Debug, PartialEq, Eq)]
 pub enum TextFault {
-    /// 31 N: line N is no line of an entry, or it has no end.
+    /// 31 N: line N does not spell an entry, or does not end in a line feed.
     BadLine(u64),
-    /// 32 N: the path of line N is not after that of the line before, or line 1 is not that of the root.
+    /// 32 N: the path of line N is not after the path of the line before, or line 1 is not for the root.
     Order(u64),
-    /// 33 N: the directory that the path of line N is in has no line before it.
+    /// 33 N: no earlier line is for the parent of the path of line N.
     NoParent(u64),
     /// 34: memory was refused.
     Memory,
