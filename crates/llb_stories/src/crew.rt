@@ -1,8 +1,8 @@
 //! Two workers, each in a thread of its own, with a gate that holds each until the other has arrived.
 
 use super::calls::{breaks_at, goes_back, replayed};
-use super::runs::TWO_FILES;
 use super::checks::{is_so, row_holds};
+use super::runs::TWO_FILES;
 use super::written::board_of;
 use llb_board::{Board, Event, Gate, Status, Stopped, WorkerStatus};
 use llb_stepper::{Break, Stepper, Stop};

@@ -2,9 +2,9 @@
 //! is a command; the lines after it are what the command prints. A line that begins with `# ` describes the story. Spaces before and after a line are
 //! not read. Stories of calls (`checks`), of plain outcomes (`plain`) and of shared vertices (`sharing`) have the same form.
 
+use super::checks::is_answered;
 use super::plain::are_outcomes;
 use super::sharing::are_shared;
-use super::checks::is_answered;
 use super::written::board_in;
 use llb_session::converse;
 use llb_stepper::Stepper;
@@ -39,7 +39,12 @@ fn say(rt: &impl Abort, alloc: Global, stepper: &mut Stepper, line: &str, out: &
 }
 
 // Returns whether the commands of a transcript print the lines that follow them.
-pub(crate) fn is_transcript(rt: &impl Abort, alloc: Global, stepper: &mut Stepper, story: &str) -> bool {
+pub(crate) fn is_transcript(
+    rt: &impl Abort,
+    alloc: Global,
+    stepper: &mut Stepper,
+    story: &str,
+) -> bool {
     let mut out = Vec::new(alloc);
     for line in story.lines() {
         say(rt, alloc, stepper, line.trim(), &mut out);
