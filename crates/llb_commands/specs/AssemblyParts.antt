@@ -1,4 +1,4 @@
--- The steps of assembling and disassembling, and what the result of each says of the input.
+-- The steps of assembling and disassembling, and what the result of each step says of the input.
 use Rattle.std.specs.Prelude.{◌≡◌, ◌⊎◌, ℕ, List, Option, Result, Ok, Err, IfSome, if◌then◌else◌}
 use Rattle.llb_ops.specs.declared.fault.OpFault.{OpFault}
 use Rattle.llb_ops.specs.Faults as ops
@@ -46,7 +46,7 @@ abbrev pub IsDefinitionIn : Option (List ℕ) → Result (List ℕ) ProgramFault
 IsDefinitionIn input (Ok definition) = IfSome input (λ text. IsAssembled text definition)
 IsDefinitionIn input (Err e) = TellsRefusal IsNoText input e
 
--- the entries of an input, or why it has none
+-- the entries of an input that is a definition, or why the input can't be read as a definition
 abbrev pub AreEntriesIn : Option (List ℕ) → Result (List (List ℕ)) ProgramFault → Type 0
 AreEntriesIn input (Ok entries) = IfSome input (λ bytes. definition_of bytes ≡ Ok entries)
 AreEntriesIn input (Err e) = TellsRefusal IsUnread input e

@@ -38,7 +38,7 @@ PerformsAs files Disassemble line locals io = Disassembles io
 abbrev pub Performs : Shelf → Line → List Local → Io → ℕ → Type 0
 Performs files line = PerformsAs files line.command line
 
--- The words are refused: their line is written, and below it the page that they ask for.
+-- The words are refused: the line of the fault is written, and below it the page that the words ask for, if any.
 pub record IsRefusedByWords (words : List Text) (io : Io) (status : ℕ) : Type 0 where
   pub fault : WordsFault
   pub page : Text
@@ -54,7 +54,7 @@ pub record LacksSource (files : Shelf) (line : Line) (io : Io) (status : ℕ) : 
   pub none : IsKept io.output
   pub told : TellsSource io.errors.before io.errors.after fault status
 
--- All local sources have their trees, and the command has ended on these.
+-- All local sources have their trees, and the command has ended on these trees with this status.
 pub record IsDone (files : Shelf) (line : Line) (io : Io) (status : ℕ) : Type 0 where
   pub locals : List Local
   pub gathered : Gathers files line.locals [] (Ok locals)
@@ -67,6 +67,6 @@ pub record IsAsked (files : Shelf) (words : List Text) (io : Io) (status : ℕ) 
   pub says : Says (subcommand_of llbm_app words) line
   pub does : LacksSource files line io status ⊎ IsDone files line io status
 
--- how the whole program ends: the words are refused, or their command has ended
+-- how the whole program ends: the words are refused; or a local source has no tree; or the command that the words ask for has ended
 abbrev pub IsProgram : Shelf → List Text → Io → ℕ → Type 0
 IsProgram files words io status = IsRefusedByWords words io status ⊎ IsAsked files words io status

@@ -50,7 +50,7 @@ abbrev pub is_memory : OutputFault → Bool
 is_memory Memory = true
 is_memory Write = false
 
--- a call returns what its rule returns, or it fails for want of memory
+-- a call returns the result that its definition has for it, or it fails for want of memory
 abbrev pub Gives : {X Y : Type 0} → (X → Y) → Result X OutputFault → Result Y OutputFault → Type 0
 Gives = answer.Gives is_memory
 

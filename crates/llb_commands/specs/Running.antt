@@ -1,4 +1,4 @@
--- The steps of a run, and what the result of each says of the input's bytes.
+-- The steps of a run, and what the result of each step says of the input's bytes.
 use Rattle.std.specs.Prelude.{◌≡◌, ◌⊎◌, ℕ, List, [], length, Option, Some, None, Result, Ok, Err, IfSome, ⊤, if◌then◌else◌}
 use Rattle.llb_tree.specs.Tree.{TreeMap}
 use Rattle.llb_loader.specs.Graph.{Numbered}
@@ -91,7 +91,8 @@ Answers workers locals input output (Ok (Failed b)) = IsKept output × IfSome in
 Answers workers locals input output (Err e) =
     (IsKept output × TellsRefusal (IsNotRun workers locals) input e) ⊎ ((¬ IsRefusal e) × IfSome input (YieldsPart workers locals output))
 
--- the exit status and the lines on standard error: 0 if the text is written, 1 if there is no tree, 2 for a refusal; 3 for any other fault, even a late one
+-- The exit status and the lines on standard error: 0 if the text is written, 1 if there is no tree, 2 for a refusal; 3 for any other fault, also one that
+-- comes after the text is written.
 abbrev pub Ends : Stream → Stream → Result Ended ProgramFault → ℕ → Type 0
 Ends output errors (Ok Printed) status = IsKept output × (((status ≡ 0) × IsKept errors) ⊎ (status ≡ 3))
 Ends output errors (Ok (Failed b)) status =

@@ -43,7 +43,7 @@ abbrev pub Adds : List ℕ → Option (List ℕ) → List given.Local → List g
 Adds name known old new (Ok u) = (t : TreeMap) × Reads known (Ok t) × (new ≡ with_local old name t)
 Adds name known old new (Err e) = Reads known (Err e) × (new ≡ old)
 
--- the trees of local sources, read from their files one after another: the first fault, or all trees added to those given before
+-- the result of reading the trees of local sources from their files, one after another: the first fault, or the given trees with all these trees added
 abbrev pub Gathers : (List ℕ → Option (List ℕ)) → List Local → List given.Local → Result (List given.Local) SourceFault → Type 0
 Gathers files [] trees r = r ≡ Ok trees
 Gathers files (l ∷ ls) trees r = ((e : SourceFault) × Reads (files l.file.now) (Err e) × (r ≡ Err e))

@@ -28,8 +28,8 @@ pub enum ReadFault {
     Memory,
 }
 
-/// Reads the rest of an input, if it has no more than `limit` bytes and its end is met in `reads` reads. An interrupted read
-/// is done again, and counts.
+/// Reads the rest of an input, if it has no more than `limit` bytes and its end is met in `reads` reads. An interrupted read is
+/// done again, and counts as a read.
 pub fn read_bounded<R: Read>(
     alloc: Global,
     input: &mut R,

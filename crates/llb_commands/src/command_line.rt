@@ -36,7 +36,7 @@ use llb_wire::Many;
 use std::alloc::{AllocError, Global};
 use std::convert::AsStr;
 
-// Returns the rule of the words for local sources.
+// Returns `clap`'s description of the words for local sources.
 fn local_arg<'a>(alloc: Global) -> Arg<'a>
     ensures rule { rule_of result ≡ local_rule }
     ensures plain { result.global ≡ false }
@@ -47,7 +47,7 @@ fn local_arg<'a>(alloc: Global) -> Arg<'a>
         .action(ArgAction::Append)
 }
 
-// Returns the rule of the word for the file of the definition, which is required.
+// Returns `clap`'s description of the word for the file of the definition, which is required.
 fn file_arg<'a>(alloc: Global) -> Arg<'a>
     ensures rule { rule_of result ≡ file_rule }
     ensures plain { result.global ≡ false }
@@ -59,7 +59,7 @@ fn file_arg<'a>(alloc: Global) -> Arg<'a>
         .action(ArgAction::Set)
 }
 
-// Returns the rule of the option for the number of workers.
+// Returns `clap`'s description of the option for the number of workers.
 fn workers_arg<'a>(alloc: Global, help: &'a str) -> Arg<'a>
     ensures rule { rule_of result ≡ workers_rule }
     ensures plain { result.global ≡ false }
@@ -103,7 +103,7 @@ fn plain_command<'a>(alloc: Global, name: &'a str, about: &'a str) -> clap::Comm
     clap::Command::new(alloc, name).about(about)
 }
 
-// Returns the program without its commands.
+// Returns the program's command line without its commands.
 fn base_command<'a>(alloc: Global) -> Result<clap::Command<'a>, AllocError>
     ensures app { IfOk result (λ c. app_of c ≡ base_app) }
     ensures plain { IfOk result (λ c. (fields_of c).has_globals ≡ false) }
@@ -117,7 +117,7 @@ fn base_command<'a>(alloc: Global) -> Result<clap::Command<'a>, AllocError>
         .bin_name("llbm")
 }
 
-// Returns the program with the commands `run`, `show` and `step`.
+// Returns the program's command line with the commands `run`, `show` and `step`.
 fn graph_commands<'a>(alloc: Global) -> Result<clap::Command<'a>, AllocError>
     ensures { IfOk result (λ c. app_of c ≡ graph_app) }
 {
@@ -270,8 +270,8 @@ pub(crate) fn line_or_page<'a, S: AsStr>(
     }
 }
 
-/// Returns what the words after the program's name ask for; no words are `run`. Fails with 183 and no word if `clap` refuses the words; words that ask for help
-/// or for the version are refused too; with 183 and the first word that should be a local source and has no `=`; or with 184 if memory is refused.
+/// Returns what the words after the program's name ask for; no words at all mean `run`. Fails with 183 and no word if `clap` refuses the words, also if they
+/// ask for help or for the version; with 183 and the first word that should be a local source but has no `=`; or with 184 if memory is refused.
 pub fn command_of<'a, S: AsStr>(alloc: Global, words: &'a [S]) -> Result<Line<'a>, WordsFault<'a>>
     ensures says { IfOk result (Says (subcommand_of llbm_app (map S.text words.entry.now))) }
     ensures refuses { IsByWords (fault_of llbm_app (map S.text words.entry.now))

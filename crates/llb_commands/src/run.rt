@@ -42,9 +42,9 @@ impl Gate for Open {
 // How a run ended, if no fault cut it short.
 #[derive(Drop)]
 enum Ended {
-    // The text of its result is written.
+    // The text of the run's result is written.
     Printed,
-    // A vertex failed, so that there is no tree of the result; the board has all vertices that failed.
+    // A vertex failed, so the result is no tree; the board has all vertices that failed.
     Failed(Board),
 }
 
@@ -216,8 +216,8 @@ pub fn run_over<R: Read, W: Write, E: Write>(
 }
 
 /// Does what `run_over` does with this number of workers; if there are several, each has a thread, and the call waits for them. If no cache is mounted, the
-/// text is the one that the plain outcomes give, for any number of workers. The status is 2 also if the number is 0, or more than 64 (`fault 122`), and 3 also
-/// if a thread could not be started (`fault 153`).
+/// text is that of the result by the plain outcomes, for any number of workers. The status is 2 also if the number of workers is 0, or more than 64 (`fault
+/// 122`), and 3 also if a thread could not be started (`fault 153`).
 pub fn run_many_over<T: Threads + Wait + Sync, R: Read, W: Write, E: Write>(
     rt: &T,
     alloc: Global,

@@ -104,7 +104,7 @@ pub fn add_local<R: Read>(
     }
 }
 
-// Adds the tree of a local source, whose text is in its file.
+// Reads the file of a local source as a tree, and adds the tree.
 fn add_file<F: Sources>(
     alloc: Global,
     files: &F,

@@ -108,7 +108,7 @@ pub fn words_refusal<E: Write>(fault: &WordsFault<'_>, err: &mut E) -> u8
     fault.status()
 }
 
-/// Refused words: why, and the page that they ask for, an empty one if they ask for none.
+/// The refusal of words: the fault, and the page that the words ask for, which is empty if they ask for none.
 #[derive(Clone, Copy, Debug)]
 pub(crate) struct Refusal<'a> {
     pub(crate) fault: WordsFault<'a>,

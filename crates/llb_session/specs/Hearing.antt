@@ -8,7 +8,7 @@ use Rattle.llb_session.specs.Answers.{Answers, Quits}
 use Rattle.llb_session.specs.Streams.{Stream, IsKept, IsWritten, IsPartWritten}
 use Rattle.llb_session.specs.Conversation.{Talks, Talked, Standing, Answered, Quit, CutShort, AtLineEnd, last_line}
 
--- the state of a conversation, by what the code keeps of it
+-- the state of a conversation by its stepper and by what the code keeps: how many lines got a reply, and the bytes of the next line
 abbrev pub standing : Stepping → Pending → Standing
 standing s p = record { session = s; number = p.answered + 1; line = p.line.items }
 
@@ -33,7 +33,7 @@ IsLast p t out (Err (Unending interrupted)) = ⊥
 IsLast p t out (Err Memory) = ⊥
 IsLast p t out (Err TooLong) = ⊥
 
--- after some bytes: the replies to the lines that they complete are written
+-- the replies to the lines that some bytes complete are written; p is the state before these bytes, and q the state after them
 pub record Went (p : Standing) (bytes : List ℕ) (q : Standing) (out : Stream) : Type 0 where
   pub text : List ℕ
   pub talked : Talked p bytes text q
