@@ -20,7 +20,7 @@ const ENDED: u8 = 1;
 
 const NO_SESSION: u8 = 4;
 
-/// Copies what fits to the front of a buffer, and returns how many bytes there are.
+/// Copies as many bytes as fit to the front of a buffer, and returns how many bytes there are in all.
 pub(crate) fn copy_out(bytes: &[u8], out: &mut [u8]) -> usize
     ensures copied { out.new ≡ copied bytes.now out.old }
     ensures all { result ≡ length bytes.now }

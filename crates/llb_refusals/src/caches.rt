@@ -119,7 +119,7 @@ fn instances_of(rt: &impl Abort, alloc: Global, written: &'static str) -> Vec<In
 }
 
 impl OnCaches {
-    // Returns the number of the lease, the number of the instance for the lease's first need, and how many leases are current.
+    // Returns the number of a lease, the number of the instance that the lease has for its first need, and how many leases are current.
     fn lease_told(&self, rt: &impl Abort, alloc: Global, lease: Lease) -> String {
         let number = lease.number();
         let mut instance = u32::MAX;

@@ -20,7 +20,7 @@ enum Answer {
     Outcomes(Result<Outcomes, PlainFault>),
 }
 
-// A definition, its rows, and its graph and local trees, with equal copies of the graph and of the local trees; names and trees for two calls that take them.
+// A definition, its rows, its graph and local trees, with an equal copy of the graph and of the local trees; and names and trees for two calls that take them.
 #[derive(Drop)]
 struct OnGraph {
     call: &'static str,

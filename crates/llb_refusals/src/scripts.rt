@@ -20,7 +20,8 @@ enum Answer {
     Ran(Result<u8, llb_applet::Memory>),
 }
 
-// The arguments of a script, its commands, where they run, and a view with an equal copy; mounts for two calls that take them.
+// The arguments of a script, its commands, where they run, and a view with an equal copy; and mounts for two calls that take
+// mounts.
 #[derive(Drop)]
 struct OnView {
     call: &'static str,
@@ -151,7 +152,7 @@ fn ran(alloc: Global, script: &Script, setting: &Setting, view: &mut View) -> An
     }
 }
 
-// Returns the trees of a view, each after a bar.
+// Returns the trees of a view, each after a `|`.
 fn view_told(rt: &impl Abort, alloc: Global, view: &View) -> String {
     let mut text = String::new(alloc);
     for shown in view.mounts() {

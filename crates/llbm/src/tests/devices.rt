@@ -13,7 +13,7 @@ pub(crate) struct Ran {
 }
 
 impl Ran {
-    /// Returns whether this is the result.
+    /// Returns whether the call ended with this status, and wrote exactly `out` to standard output and `err` to standard error.
     pub(crate) fn is(&self, status: u8, out: &str, err: &str) -> bool {
         let texts = self.out.as_slice() == out.as_bytes() && self.err.as_slice() == err.as_bytes();
         self.status == status && texts

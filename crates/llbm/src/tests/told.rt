@@ -48,7 +48,7 @@ impl<'a> Sources for Shelf<'a> {
     }
 }
 
-// A call, as its line gives it.
+// A call, as its line in a transcript describes it.
 #[derive(Clone, Copy)]
 struct Call<'a> {
     words: &'a str,
@@ -70,7 +70,7 @@ fn call_in(line: &str) -> Call<'_> {
     }
 }
 
-// Returns a text in which each of these marks is replaced by a line end.
+// Returns a text in which each `|` is replaced by a line end.
 fn lines_ended(rt: &impl Abort, alloc: Global, text: &str) -> Bytes {
     let mut lines = Vec::new(alloc);
     for byte in text.as_bytes() {
@@ -168,7 +168,7 @@ pub(crate) fn tried<R: Abort + Threads + Wait + Sync>(
     ran(rt, alloc, &call_in(call), rooms)
 }
 
-// Appends what was written, and a line that says so if it has no line end.
+// Appends what was written; if it does not end with a line end, appends a line that says so.
 fn say_bytes(rt: &impl Abort, text: &mut String, bytes: &[u8]) {
     let written = str::from_utf8(bytes).unwrap_or("no text\n");
     text.push_str(written).expect(rt, "memory");
