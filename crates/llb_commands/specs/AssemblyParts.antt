@@ -13,7 +13,7 @@ use Rattle.llb_commands.specs.Io.{Stream, IsKept}
 use Rattle.llb_commands.specs.Running.{IsRefusal, TellsRefusal}
 use Rattle.llb_commands.specs.Assembly.{IsOut, IsPartOut, IsAssembled, IsNoText, IsUnread}
 
--- the program's fault for a fault of the assembler; a refused line keeps its number and its rule
+-- the program's fault for a fault of the assembler; the fault of a refused line keeps the line's number and the rule
 abbrev pub assembling_fault : AsmFault → ProgramFault
 assembling_fault (asm.Line n rule) = fault.Assembling (asm.Line n rule)
 assembling_fault (asm.UnknownLabel n) = fault.Assembling (asm.UnknownLabel n)

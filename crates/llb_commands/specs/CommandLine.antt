@@ -50,15 +50,15 @@ run_app = with_rule (with_rule (new_app (codes "run")) workers_rule) local_rule
 abbrev pub step_app : App
 step_app = with_rule (with_rule (with_rule (new_app (codes "step")) workers_rule) file_rule) local_rule
 
--- the app with one more command, which takes no words
+-- the app (what `clap` reads the words by) with one more command, which takes no words
 abbrev pub with_plain : App → Text → App
 with_plain app name = with_subcommand app (new_app name).top
 
--- the commands `run`, `show` and `step`
+-- the program with the commands `run`, `show` and `step`
 abbrev pub graph_app : App
 graph_app = with_subcommand (with_plain (with_subcommand base_app run_app.top) (codes "show")) step_app.top
 
--- all commands: `run` takes workers and local sources, `step` a file, workers and local sources, and the others take no words
+-- the program with all commands: `run` takes workers and local sources, `step` a file, workers and local sources, and the others take no words
 abbrev pub llbm_app : App
 llbm_app = with_plain (with_plain graph_app (codes "asm")) (codes "dis")
 
@@ -94,7 +94,7 @@ AreSplit words locals = map split_word words ≡ map named_file locals
 abbrev pub is_unsplit : Text → Bool
 is_unsplit word = not (is_some (split_word word))
 
--- the word is the first that has no `=`
+-- the word is the first word that has no `=`
 abbrev pub IsUnsplit : List Text → Text → Type 0
 IsUnsplit words word = find is_unsplit words ≡ Some word
 

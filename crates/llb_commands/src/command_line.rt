@@ -149,7 +149,7 @@ pub fn llbm_command<'a>(alloc: Global) -> Result<clap::Command<'a>, AllocError>
     graph_commands(alloc)?.subcommand(asm)?.subcommand(dis)
 }
 
-// Returns the command with this name; there is one.
+// Returns the command with this name; the caller promises that the name is a command's.
 fn command_named(name: &str) -> Command
     requires { IsName name.now }
     ensures { name_of result ≡ name.now }
@@ -157,7 +157,7 @@ fn command_named(name: &str) -> Command
     named(name).unwrap_or(Command::Run)
 }
 
-// Splits each word at its first `=`.
+// Splits each word for a local source at its first `=`; fails with the first word that has no `=`.
 fn split_words<'a>(alloc: Global, words: &[&'a str]) -> Result<Many<Local<'a>>, WordsFault<'a>>
     ensures split { IfOk result (AreSplit (map (λ w. w.now) words.now)) }
     ensures refuses { IfErr result (RefusesWord (map (λ w. w.now) words.now)) }
@@ -172,7 +172,7 @@ fn split_words<'a>(alloc: Global, words: &[&'a str]) -> Result<Many<Local<'a>>, 
     Ok(Many::new(locals))
 }
 
-// Returns the local sources in the matches of a command.
+// Returns the local sources in what `clap` found for a command (the command's matches).
 fn locals_in<'a>(alloc: Global, matches: &ArgMatches<'a>) -> Result<Many<Local<'a>>, WordsFault<'a>>
     ensures split { IfOk result (AreSplit (local_words (rows_of (found_of matches.now)))) }
     ensures refuses { IfErr result (RefusesWord (local_words (rows_of (found_of matches.now)))) }
@@ -222,7 +222,7 @@ fn line_of<'a>(
     })
 }
 
-// Returns the `Line` of `run` without local sources.
+// Returns the `Line` for no words at all: `run` with one worker and without local sources.
 fn bare_run<'a>(alloc: Global) -> Line<'a>
     ensures { Says None result }
 {

@@ -1,4 +1,4 @@
-//! Laws of texts, definitions and runs together.
+//! Laws that relate texts, definitions and runs.
 
 ghost use Rattle.std.specs.Prelude.{IfOk};
 ghost use Rattle.llb_loader.specs.Graph.{Numbered};

@@ -3,7 +3,7 @@
 //! and streams are in `llbm`.
 //!
 //! Types: `Line` and `Command` (what words ask for), `Sources` (files by name), `Streams`, `ProgramFault`, `SourceFault`, `WordsFault`.
-//! Promise: `laws::aim` is the aim of the whole machine (docs/CLAIMS.md). `program` is all of the program but its process: what it writes to
+//! Promise: `laws::aim` is the aim of the whole machine (docs/CLAIMS.md). `program` is the program without its process: what it writes to
 //! each stream, and its status, follow from the words, the files and the input. `run_many_over` prints the text of the result, and status 0
 //! says that all of it is written.
 //!

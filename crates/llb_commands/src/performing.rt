@@ -30,7 +30,7 @@ pub struct Streams<R, W, E> {
     pub err: E,
 }
 
-// Opens the board of the definition in a file, which is read to its end and closed. Fails with 181 if the file can't be opened.
+// Reads the definition in a file to its end, closes the file, and opens a board on the definition's graph. Fails with 181 if the file can't be opened.
 fn board_of<S: Sources>(
     alloc: Global,
     sources: &S,

@@ -116,7 +116,7 @@ fn print_output<W: Write>(
     }
 }
 
-// Writes the text of the result of a run that has ended, wherever its definition was read from.
+// Writes the text of the result of a run that has ended on a board; returns the fault if there is no board.
 fn print_result<W: Write>(
     alloc: Global,
     board: Result<Board, ProgramFault>,
@@ -153,7 +153,7 @@ fn print_failures<E: Write>(board: &Board, err: &mut E) -> io::Result<()>
     Ok(())
 }
 
-// Writes the lines for the end of a run, and returns its exit status.
+// Writes the lines of the failures, or the line of the fault, with which a run ended, and returns the exit status.
 fn exit_status<W: Write, E: Write>(
     ended: Result<Ended, ProgramFault>,
     out: &mut W,

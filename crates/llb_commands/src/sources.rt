@@ -81,8 +81,8 @@ fn told(read: Result<Tree, TextFault>) -> Result<Tree, SourceFault>
 }
 
 /// Reads a text to its end as a tree, and adds it as the local tree of this name; a tree that the name had before is replaced. Fails with 181 if a read fails,
-/// or the end is not met in 2^27 reads; with 185 past 67,108,864 bytes; with 31 to 34 and 184; with 92 only if the text is a tree's. After a fault no tree is
-/// added.
+/// or the end is not met in 2^27 reads; with 185 past 67,108,864 bytes; with 31 to 33 if the text is no tree's; and with 34, 92 or 184 if memory is refused (92
+/// only if the text is a tree's). After a fault no tree is added.
 pub fn add_local<R: Read>(
     alloc: Global,
     name: &str,
@@ -120,7 +120,7 @@ fn add_file<F: Sources>(
 }
 
 /// Reads the trees of local sources, in their order; if two sources have the same name, the tree of the later one is kept. Stops at the first source that has
-/// no tree, and fails with its fault: 31 to 34, 92, 181, 184 or 185.
+/// no tree, and fails with the fault of that source: 31 to 34, 92, 181, 184 or 185.
 pub(crate) fn locals_of<F: Sources>(
     alloc: Global,
     files: &F,

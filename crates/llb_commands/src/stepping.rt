@@ -27,7 +27,7 @@ fn session_fault(fault: SessionFault) -> ProgramFault
     }
 }
 
-// Holds the whole session on a board, wherever its definition was read from.
+// Runs a session on a board to its end; fails if no board was opened, or if the session ends with a fault.
 fn stepped<C: Read, W: Write>(
     alloc: Global,
     board: Result<Board, ProgramFault>,

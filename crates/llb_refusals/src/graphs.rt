@@ -96,7 +96,7 @@ fn locals_told(rt: &impl Abort, alloc: Global, locals: &Locals) -> String {
     text
 }
 
-// Returns the first output of the last vertex.
+// Returns the text of the first output of the last vertex.
 fn outcomes_told(rt: &impl Abort, alloc: Global, outcomes: &Outcomes) -> String {
     match outcomes.as_slice().last() {
         Some(outcome) => match outcome.output(0) {

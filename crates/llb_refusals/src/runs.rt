@@ -271,7 +271,8 @@ fn threads<R: Abort + Threads + Wait + Sync>(rt: &R, alloc: Global, row: &Row) -
     panic!(rt; "no end of threads");
 }
 
-// For each of these boards, each thread in turn can't be started. All workers but the first run something; in the last row only the second and the last.
+// For each of these boards, each thread in turn can't be started. All workers but the first run something; in the last row only the second and the last worker
+// run something.
 const THREADS: &[Row] = &[
     (
         "run_workers",

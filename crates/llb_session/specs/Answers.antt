@@ -111,7 +111,7 @@ pub record PrintsRefusal (r : Request) (s : Stepping) (text : List ℕ) (t : Ste
   pub printed : text ≡ fault_line fault
   pub same : t ≡ s
 
--- for a line that is no request, the reply is fault 173 with the line's number, or fault 174 if memory for that was refused; the stepper stays as it was
+-- for a line that is no request, the reply is fault 173 with the line's number, or fault 174 if memory for this reply was refused; the stepper is unchanged
 pub record PrintsNumber (s : Stepping) (n : ℕ) (text : List ℕ) (t : Stepping) : Type 0 where
   pub printed : (text ≡ fault_line (BadCommand n)) ⊎ (text ≡ fault_line Memory)
   pub same : t ≡ s
@@ -137,8 +137,8 @@ RespondsAs (Some r) s n text t = Grants r s text t ⊎ PrintsRefusal r s text t
 abbrev pub Quits : List ℕ → Type 0
 Quits line = request_in line ≡ Some ask.Quit
 
--- The result of line n of a session: its whole reply, or no reply if it ends the session; t is the stepper afterwards. Or memory was refused for the line of
--- a refusal: then nothing is changed, and the line is neither `clear` nor `quit`.
+-- The result of line n of a session: its whole reply, or no reply if the line ends the session; t is the stepper afterwards. Or memory was refused for the line
+-- of a refusal; then nothing is changed, and line n is neither `clear` nor `quit`.
 abbrev pub Responds : Stepping → ℕ → List ℕ → Stepping → Result (Option (Vec ℕ Global)) AllocError → Type 0
 Responds s n line t (Ok (Some text)) = (¬ Quits line) × RespondsAs (request_in line) s n text.items t
 Responds s n line t (Ok None) = Quits line × (t ≡ s)

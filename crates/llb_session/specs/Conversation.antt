@@ -19,7 +19,7 @@ abbrev pub with_line_ends : List (List ℕ) → List ℕ
 with_line_ends [] = []
 with_line_ends (line ∷ lines) = line ++ 10 ∷ with_line_ends lines
 
--- the bytes are some lines, each followed by a line end, and then a rest without one
+-- the bytes are some lines, each followed by a line end, and then a rest without a line end
 pub record Spelled (lines : List (List ℕ)) (rest bytes : List ℕ) : Type 0 where
   pub are : bytes ≡ with_line_ends lines ++ rest
   pub each : All IsLine lines
@@ -83,7 +83,7 @@ pub record CutShort (p : Standing) (bytes : List ℕ) (t : Stepping) (out : Stre
   pub split : said ≡ front ++ rest
   pub printed : IsWritten out (text ++ front)
 
--- the bytes end with a line end, and P holds of the bytes before it
+-- the bytes end with a line end, and P holds for the bytes before this line end
 abbrev pub AtLineEnd : List ℕ → (List ℕ → Type 0) → Type 0
 AtLineEnd heard P = (before : List ℕ) × (heard ≡ before ++ 10 ∷ []) × P before
 

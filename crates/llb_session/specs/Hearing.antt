@@ -39,7 +39,7 @@ pub record Went (p : Standing) (bytes : List ℕ) (q : Standing) (out : Stream) 
   pub talked : Talked p bytes text q
   pub printed : IsWritten out text
 
--- how the use of bytes ends: `heard` were used, and `unheard`, which follow them, were not
+-- how the use of bytes ends: the bytes `heard` were used, and the bytes `unheard`, which follow them, were not used
 abbrev pub IsHeard : Standing → List ℕ → List ℕ → Standing → Stream → Result Bool SessionFault → Type 0
 IsHeard p heard unheard q out (Ok true) = (unheard ≡ []) × Went p heard q out
 IsHeard p heard unheard q out (Ok false) = AtLineEnd heard (λ bytes. Quit p bytes q.session out)
@@ -49,7 +49,7 @@ IsHeard p heard unheard q out (Err (Failed kind)) = ⊥
 IsHeard p heard unheard q out (Err (Unending interrupted)) = ⊥
 IsHeard p heard unheard q out (Err TooLong) = ⊥
 
--- the bytes are used from the start, as `IsHeard` says; some at their end may remain unused
+-- the bytes are used from the start, as `IsHeard` says; some bytes at the end may remain unused
 pub record Hears (p : Standing) (bytes : List ℕ) (q : Standing) (out : Stream) (result : Result Bool SessionFault) : Type 0 where
   pub heard : List ℕ
   pub unheard : List ℕ

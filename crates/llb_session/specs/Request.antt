@@ -56,7 +56,7 @@ work_by rest None = option_map (λ (p : ℕ × ℕ). ask.WorkTree p.0 p.1) (pair
 abbrev pub work_in : List ℕ → Option Request
 work_in rest = work_by rest (number_in rest)
 
--- the request of a line by its first word and the text after it
+-- the request of a line by its first word and the text after this word
 abbrev pub word_with_rest : List ℕ → List ℕ → Option Request
 word_with_rest word rest =
     if is_text word (codes "break") then break_in rest

@@ -1,4 +1,4 @@
--- The invariant of a stepper: each event that it did can be taken back, and its reply is the table's on the board before it.
+-- The invariant of a stepper: each event that it did can be taken back, and the kept reply to the event is the table's reply on the board before the event.
 use Rattle.std.specs.Prelude.{◌≡◌, List, [], ◌∷◌, reverse, Some}
 use Rattle.llb_events.specs.declared.event.Event.{Event}
 use Rattle.llb_model.specs.Table.{Reply}

@@ -37,7 +37,7 @@ failed_text v = decimal v ++ codes " failed"
 abbrev pub pair_text : ℕ → ℕ → List ℕ
 pair_text a b = decimal a ++ (codes " " ++ decimal b)
 
--- the text for a micro-step that faulted: the fault of an action, or, for a command, that it ran with its status
+-- the text for a micro-step that failed: for an action its fault, and for a command the word `ran`, its number and its status
 abbrev pub fault_text : VertexFault → List ℕ
 fault_text (vertex.Action a n) = codes "fault " ++ pair_text a n
 fault_text (vertex.Exit c s) = codes "ran " ++ pair_text c s

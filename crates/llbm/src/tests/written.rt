@@ -2,9 +2,9 @@
 //!
 //! An entry is a name of `definitions`, `execution_definitions` or `spelled`, or else the content of an op, in pieces with ` | ` between them. A piece is a
 //! name of `pieces`, or a line of the assembler's text, or a mount: its input, its dest, and the names of pieces whose lines follow these two in the mount.
-//! `RESULT` is the terminal that names the entry before it. `act KIND | FIELD | ..` is an op with that one action on the output of the entry before it, whose
-//! second tree is the output of the first entry; and `sh TEXT` is an execution of that text, with the output of the entry before it at the root, or the empty
-//! tree if there is none.
+//! `RESULT` is the terminal that names the entry before it. `act KIND | FIELD | ..` is an op with that one action on the output of the entry before it; the
+//! second tree of the action is the output of the first entry. `sh TEXT` is an execution of that text, with the output of the entry before it at the root, or
+//! the empty tree if there is none.
 
 use super::definitions::ENTRIES;
 use super::execution_definitions::EXECUTIONS;
