@@ -21,7 +21,8 @@ use Rattle.llb_commands.specs.declared.words.WordsFault.TheVariants.{Words}
 abbrev pub Shelf : Type 0
 Shelf = List ℕ → Option (List ℕ)
 
--- a session over the definition in a file; if no file is named, or it can't be opened or read, nothing is written but the line that says so
+-- a session over the definition in a file; if no file is named, or the file can't be opened or read, nothing is written but the line that
+-- says so
 abbrev pub StepsAt : Shelf → Option (Bor (List ℕ)) → ℕ → List Local → Io → ℕ → Type 0
 StepsAt files None workers locals io status = IsKept io.output × TellsWords io.errors.before io.errors.after (Words None) status
 StepsAt files (Some file) workers locals io status = Steps workers locals (files file.now) io status
@@ -60,7 +61,7 @@ pub record IsDone (files : Shelf) (line : Line) (io : Io) (status : ℕ) : Type 
   pub gathered : Gathers files line.locals [] (Ok locals)
   pub done : Performs files line locals io status
 
--- The words ask for a command: either it has ended, or one of its local sources has no tree.
+-- The words ask for a command: either the command has ended, or one of its local sources has no tree.
 pub record IsAsked (files : Shelf) (words : List Text) (io : Io) (status : ℕ) : Type 0 where
   pub line : Line
   pub taken : IsByWords (fault_of llbm_app words) (named_local_words (subcommand_of llbm_app words)) (Ok line)

@@ -29,7 +29,7 @@ ReadsTree bytes (Err Read) = Unit {0}
 ReadsTree bytes (Err Reading) = Unit {0}
 ReadsTree bytes (Err Adding) = (length bytes ≤ limit) × ((t : TreeMap) × Answers bytes (Ok t))
 
--- the result of reading a tree's text, as the result of reading a local source
+-- the result of reading a tree's text, turned into the result of reading a local source
 abbrev pub told : Result TreeMap TextFault → Result TreeMap SourceFault
 told (Ok t) = Ok t
 told (Err e) = Err (Text e)

@@ -41,7 +41,7 @@ KeepsRest old new = (new.locals ≡ old.locals) × (new.session ≡ old.session)
 abbrev pub EndsBy : (Io → ℕ → Type 0) → List ℕ → Held → Held → ℕ → Type 0
 EndsBy Ends bytes old new status = KeepsRest old new × ((rest : Option (List ℕ)) × Ends (streams bytes rest new) status)
 
--- a definition is run on the local trees with one worker
+-- a definition is run on the local trees with one worker, as `llbm run` does
 abbrev pub Ran : List ℕ → Held → Held → ℕ → Type 0
 Ran definition old new status = EndsBy (Runs 1 old.locals) definition old new status
 
@@ -49,11 +49,11 @@ Ran definition old new status = EndsBy (Runs 1 old.locals) definition old new st
 abbrev pub Shown : List ℕ → Held → Held → ℕ → Type 0
 Shown = EndsBy Draws
 
--- a text is assembled
+-- a text is assembled, as `llbm asm` does
 abbrev pub Assembled : List ℕ → Held → Held → ℕ → Type 0
 Assembled = EndsBy Assembles
 
--- a definition is disassembled
+-- a definition is disassembled, as `llbm dis` does
 abbrev pub Disassembled : List ℕ → Held → Held → ℕ → Type 0
 Disassembled = EndsBy Disassembles
 
@@ -101,7 +101,7 @@ RepliesOn line s old new status =
     × ((MayFail (request_in line) × Tells (Some []) (Some new.messages.items) fault.Memory status)
     ⊎ ((old.lines ≡ 18446744073709551615) × Tells (Some []) (Some new.messages.items) fault.TooLong status))))
 
--- a line is sent to the session; if none is open, the status is 4 and nothing is changed
+-- a line is sent to the session; if no session is open, the status is 4 and nothing is changed
 abbrev pub Replied : List ℕ → Held → Held → ℕ → Type 0
 Replied line old new status = (new.locals ≡ old.locals) × MatchOption old.session
     ((status ≡ 4) × KeepsRest old new × (new.output.items ≡ []) × (new.messages.items ≡ []))

@@ -102,7 +102,8 @@ pub(crate) fn reply(alloc: Global, held: &mut Held, line: &[u8]) -> u8
     }
 }
 
-/// Runs a definition on the local trees with one worker.
+/// Runs a definition on the local trees with one worker, and writes the text of the result to the output; returns the
+/// status of `llbm run`.
 pub(crate) fn run(alloc: Global, held: &mut Held, definition: &[u8]) -> u8
     ensures { Ran definition.now held.old held.new result }
 {
@@ -120,7 +121,7 @@ pub(crate) fn run(alloc: Global, held: &mut Held, definition: &[u8]) -> u8
     )
 }
 
-/// Shows the graph of a definition.
+/// Writes the text of a definition's graph to the output, and returns the status of `llbm show`.
 pub(crate) fn show(alloc: Global, held: &mut Held, definition: &[u8]) -> u8
     ensures { Shown definition.now held.old held.new result }
 {
@@ -129,7 +130,7 @@ pub(crate) fn show(alloc: Global, held: &mut Held, definition: &[u8]) -> u8
     show_over(alloc, &mut input, &mut held.output, &mut held.messages)
 }
 
-/// Assembles a text to a definition.
+/// Assembles a text, and writes the definition to the output; returns the status of `llbm asm`.
 pub(crate) fn assemble(alloc: Global, held: &mut Held, text: &[u8]) -> u8
     ensures { Assembled text.now held.old held.new result }
 {
@@ -138,7 +139,7 @@ pub(crate) fn assemble(alloc: Global, held: &mut Held, text: &[u8]) -> u8
     asm_over(alloc, &mut input, &mut held.output, &mut held.messages)
 }
 
-/// Disassembles a definition to a text.
+/// Disassembles a definition, and writes the text to the output; returns the status of `llbm dis`.
 pub(crate) fn disassemble(alloc: Global, held: &mut Held, definition: &[u8]) -> u8
     ensures { Disassembled definition.now held.old held.new result }
 {

@@ -269,37 +269,37 @@ impl Stepper {
     }
 }
 
-/// A law: the chosen event is refused only for want of memory.
+/// Proves that the chosen event is refused only for want of memory.
 pub fn chosen_is_done(stepper: &Stepper)
     ensures { ChosenIsDone stepper.now }
 {
     chosen_is_granted(&stepper.board);
 }
 
-/// A law: doing any event and taking it back restores the board.
+/// Proves that doing any event and taking it back restores the stepper.
 pub fn there_and_back(stepper: &Stepper)
     ensures { ThereAndBack stepper.now }
 {
     let _ = &stepper.board;
 }
 
-/// A law: the board before the last `n` events is the board to which the record without its last `n` events leads, however these events were done.
+/// Proves that the board before the last `n` events is the board to which the record without its last `n` events leads, however these events were done.
 pub fn past_is_the_records(stepper: &Stepper)
     ensures { PastIsTheRecords stepper.now }
 {
     let _ = &stepper.board;
 }
 
-/// A law: the events and replies in the lines of a record are the events and replies of the run of the whole record from the board's opening.
+/// Proves that the events and replies in the lines of a record are the events and replies of the run of the whole record from the board's opening.
 pub fn record_is_the_run(stepper: &Stepper)
     ensures { RecordIsTheRun stepper.now }
 {
     let _ = &stepper.board;
 }
 
-/// A law: the record of a board, done again event by event on the board as it was opened, leads to the board, however the events were first done. So a stepper
-/// without breakpoints that begins with the board as it was opened and replays the record ends on the board, with a line for each event of the record and its
-/// reply.
+/// Proves that the record of a board, done again event by event on the board as it was opened, leads to the board, however the events were first done. So a
+/// stepper without breakpoints that begins with the board as it was opened and replays the record ends on the board, with a line for each event of the record
+/// and its reply.
 pub fn replay_is_the_run(board: &Board)
     ensures leads { IsReplayed board.now }
     ensures lines { ReplaysOnAStepper board.now }
@@ -307,8 +307,8 @@ pub fn replay_is_the_run(board: &Board)
     board.replays();
 }
 
-/// A law: the reply that a call on a board returns is the last reply in the record of the board after the call. The calls are `claim`, `step`, `settle`,
-/// `cancel`, and `land`; with `land` the replies of its steps come before the reply of its settle.
+/// Proves that the reply that a call on a board returns is the last reply in the record of the board after the call. The calls are `claim`, `step`, `settle`,
+/// `cancel` and `land`; after `land` the last replies are those to the steps, and then the reply to the settle.
 pub fn replies_are_recorded(board: &Board)
     ensures { RepliesAreRecorded board.now }
 {

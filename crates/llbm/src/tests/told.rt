@@ -80,7 +80,7 @@ fn lines_ended(rt: &impl Abort, alloc: Global, text: &str) -> Bytes {
     Bytes::new(lines)
 }
 
-/// Returns the definition that is the input of a call: that of the entries in the call, or that of the bytes in the call.
+/// Returns the input of a call as bytes: the definition of the entries in the call, or the bytes or the text that the call has in place of entries.
 pub(crate) fn definition_of(rt: &impl Abort, alloc: Global, entries: &str) -> Bytes {
     if let Some(digits) = entries.strip_prefix("=") {
         return read_hex(alloc, digits)
