@@ -123,7 +123,7 @@ IsWorkers Run rows n = n ≡ unwrap_or (option_and_then number_of (one_of (codes
 IsWorkers Step rows n = n ≡ unwrap_or (option_and_then number_of (one_of (codes "workers") rows)) 2
 IsWorkers _ rows n = n ≡ 1
 
--- the file is the one that the words name; only `step` takes a file
+-- the file is the file that the words name; only `step` takes a file
 abbrev pub IsFile : Command → List Row → Option (Bor Text) → Type 0
 IsFile Step rows file = option_map (λ w. w.now) file ≡ first_of (codes "file") rows
 IsFile _ rows file = file ≡ None

@@ -97,7 +97,7 @@ fn print_over<W: Write>(alloc: Global, tree: &Tree, out: &mut W) -> Result<(), P
     print_tree(alloc, tree, &mut sink)
 }
 
-// Writes the text of an output; if the vertex is not done and so has no tree for it, returns the board.
+// Writes the text of the tree of an output; returns the board if the vertex is not done, and so has no such tree.
 fn print_output<W: Write>(
     alloc: Global,
     board: Board,

@@ -1,5 +1,5 @@
 //! The trees of local sources, read from the texts of their files. Files are opened through the trait `Sources`. Contracts speak of the bytes that an
-//! implementation of the trait gives; no contract says that these are the bytes of the machine's files.
+//! implementation of the trait returns; no contract says that these bytes are the bytes of the machine's files.
 
 ghost use Rattle.std.specs.Prelude.{◌≡◌, ℕ, List, [], Option, Some, IfOk, IfSome};
 ghost use Rattle.llb_commands.specs.Faults.{source_text};

@@ -62,7 +62,7 @@ fn op_text(rt: &impl Abort, alloc: Global, action: &str) -> String {
     text
 }
 
-// Returns the op of a call that is an action; for any other call an op that is not used.
+// Returns the op of the action that a call does; for a call that does no action, an op that is not used.
 fn op_of(rt: &impl Abort, alloc: Global, call: &str) -> Op {
     let action = if call.contains(": ") {
         call

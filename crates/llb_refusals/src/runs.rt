@@ -55,7 +55,7 @@ struct OnRun {
 }
 
 impl OnRun {
-    // Returns the board to be run: first the one that was made, and then the one with which the first run ended.
+    // Returns the board to be run: first the board that was made, and then the board with which the first run ended.
     fn taken(&mut self) -> Option<Board> {
         match self.end.take() {
             Some(

@@ -117,7 +117,7 @@ abbrev pub PastIsTheRecords : Stepping → Type 0
 PastIsTheRecords s = (k : ℕ) (c : BoardValue) → slice_get s.past k ≡ Some c
     → run_on (at_first s.board) (take (length s.board.events - (k + 1)) s.board.events) ≡ Some c
 
--- the present board and those before it, the latest first
+-- the present board and the boards before it, the latest first
 abbrev pub timeline : Stepping → List BoardValue
 timeline s = s.board ∷ s.past
 

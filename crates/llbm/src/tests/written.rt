@@ -12,7 +12,7 @@ use super::pieces::PIECES;
 use super::spelled::SPELLED;
 use std::process::Abort;
 
-/// Returns the lines after the one with `== ` and this name; a description may follow the name after `:`.
+/// Returns the lines after the line with `== ` and this name; in that line a description may follow the name after `:`.
 pub(crate) fn block<'a>(text: &'a str, wanted: &str) -> Option<&'a str> {
     for block in text.split("== ") {
         if let Some((head, lines)) = block.split_once('\n') {
