@@ -1,4 +1,5 @@
--- The aim of the whole project, phrase by phrase: for a text, a definition and its entries, the graph that it is loaded as, a board and a stepper.
+-- The aim of the whole project as one record, `Aim`, with a field for each phrase. The record is about a text, a definition with its entries, the graph that
+-- the definition is loaded as, a board and a stepper.
 use Rattle.std.specs.Prelude.{◌≡◌, ◌≤◌, ◌<◌, ℕ, List, length, Some, Ok}
 use Rattle.llb_ops.specs.Definition.{definition_of}
 use Rattle.llb_asm.specs.Lines.{kept}
@@ -17,31 +18,31 @@ use Rattle.llb_stepper.specs.Stepping.{Stepping, PastIsTheRecords, IsReplayed}
 use Rattle.llb_session.specs.Told.{GoPrintsTheRun}
 use Rattle.llb_commands.specs.Assembly.{IsAssembled}
 
--- The definition is accepted: it is loaded as the graph. The machine's board is over the graph, with some local trees, and so is the stepper's.
+-- The definition is accepted: it is loaded as the graph. The machine's board and the stepper's board are both over this graph, each with some local trees.
 pub record IsAccepted (definition : List ℕ) (graph : Numbered) (board : BoardValue) (stepper : Stepping) : Type 0 where
   pub loaded : IsGraphIn definition graph
   pub board_over : board.build.graph ≡ graph
   pub stepper_over : stepper.board.build.graph ≡ graph
 
--- Each board over the graph whose state a run of the table reaches from the board's opening has the property: on all local trees, with any number of workers
--- and after every interleaving of events.
+-- The property holds for every board over the graph whose state the table reaches from the board's opening state by the board's events: on all local trees,
+-- with any number of workers, and after every interleaving of events.
 abbrev pub AfterAll : Numbered → (BoardValue → Type 0) → Type 0
 AfterAll graph Holds = (b : BoardValue) (replies : List Reply) → b.build.graph ≡ graph
     → run b.build (opening b.build b.opening) b.events ≡ Some (b.state, replies) → Holds b
 
--- If a text is read as the entries of the definition, then the bytes that it is assembled to are loaded as the graph, and as no other.
+-- If a text is read as the entries of the definition, then the bytes that the text is assembled to are loaded as the graph, and as no other graph.
 abbrev pub LoadsAsOne : List ℕ → List ℕ → List (List ℕ) → Numbered → Type 0
 LoadsAsOne text definition entries graph = SpellsEntries (kept text) entries → definition_of definition ≡ Ok entries → (assembled : List ℕ) (other : Numbered)
     → IsAssembled text assembled → IsGraphIn assembled graph × (IsGraphIn assembled other → other ≡ graph)
 
--- what is proved about a text, a definition with its entries, the graph that it is loaded as, a board and a stepper
+-- what is proved about a text, a definition with its entries, the graph that the definition is loaded as, a board and a stepper
 pub record Aim (text definition : List ℕ) (entries : List (List ℕ)) (graph : Numbered) (board : BoardValue) (stepper : Stepping) : Type 0 where
   -- any number of workers, from 1 to 64
   pub some_workers : 0 < length board.state.workers
   pub few_workers : length board.state.workers ≤ 64
-  -- after every interleaving of atomic steps the machine's state and replies are the written table's on the recorded events: the record is a run of the table
-  -- from the opening state to this one, with a reply for each event; what a call returns by its own clause `gives` is the last of the replies of the record
-  -- after it
+  -- After every interleaving of atomic steps the machine's state and replies are the written table's on the recorded events: the record is a run of the table
+  -- from the opening state to the board's state, with a reply for each event. The reply that a call returns (its clause `gives`) is the last reply of the
+  -- record after the call.
   pub replays : Replays board
   pub replies : RepliesAreRecorded board
   -- no two executions hold one locked cache at once
@@ -50,13 +51,13 @@ pub record Aim (text definition : List ℕ) (entries : List (List ℕ)) (graph :
   pub plain : AfterAll graph SettledArePlain
   -- assembled text and loaded bytes are read as one graph
   pub one_graph : LoadsAsOne text definition entries graph
-  -- and the stepper is on the same graph: its state is the table's on its record, each board that `back` can reach is the board after the record without its
-  -- last events, its lines are the events and replies of the record's run, and so are the lines that a session's `go` prints
+  -- The stepper is on the same graph. Its state is the table's on the stepper's record. Each board that `back` can reach is the board after the record without
+  -- the record's last events. The lines of the record, and the lines that a session's `go` prints, are the events and replies of the record's run.
   pub stepper_state : Replays stepper.board
   pub stepper_past : PastIsTheRecords stepper
   pub stepper_lines : RecordIsTheRun stepper
   pub session_lines : GoPrintsTheRun stepper
-  -- and each event of the machine's record is granted again on the machine's board as it was opened: a stepper without breakpoints over that board that
-  -- replays the record is then on the machine's board, and its lines are the events and replies of the machine's run
+  -- Each event of the machine's record is granted again on the machine's board as it was opened. A stepper without breakpoints that starts on the board as it
+  -- was opened and replays the record ends on the machine's board, and its lines are the events and replies of the machine's run.
   pub record_replays : IsReplayed board
   pub stepper_replays : ReplaysOnAStepper board

@@ -37,13 +37,14 @@ build_of locals g = record { graph = g; locals = locals }
 abbrev pub run_opening : ℕ → Opening
 run_opening workers = record { workers = workers; store = no_instances }
 
--- The events are those of a run of chosen events by one worker, which ends in state s as the order of its claims says; and every such run ends in state s.
+-- The events are a run by one worker of which each event is the chosen one (`chosen` of llb_model). In its last state, s, each vertex and each instance is as
+-- if the vertices had been run one after another, in the order of their claims. Every such run ends in state s.
 pub record IsAlone (b : Build) (s : State) (events : List Event) : Type 0 where
   pub ends : EndsInClaimOrder b (run_opening 1) events s
   pub only : (es : List Event) (t : State) → EndsInClaimOrder b (run_opening 1) es t → t ≡ s
 
--- A state in which a run of a build by this number of workers ends: granted events lead to it, and the run is complete. Without caches each vertex has its
--- plain outcome there, for any number of workers; with one worker it is as `IsAlone` says.
+-- A state in which a run of a build by this number of workers ends: granted events lead to the state, and the run is complete. Without caches each vertex has
+-- its plain outcome in this state, for any number of workers; with one worker the events are as `IsAlone` says.
 pub record IsEnd (workers : ℕ) (b : Build) (s : State) : Type 0 where
   pub events : List Event
   pub replies : List Reply
@@ -52,7 +53,7 @@ pub record IsEnd (workers : ℕ) (b : Build) (s : State) : Type 0 where
   pub plain : HasNoCaches b → (v : ℕ) → v < length b.graph.vertices → StandsPlainly (slice_get s.statuses v) (outcome b v)
   pub alone : workers ≡ 1 → IsAlone b s events
 
--- the tree of a graph's result in a state: none if its vertex is not done
+-- the tree of a graph's result in a state: none if the result's vertex is not done
 abbrev pub result_in : State → Numbered → Option TreeMap
 result_in s g = output_in (ending_at s.statuses g.result.vertex) g.result.index
 
@@ -60,8 +61,8 @@ result_in s g = output_in (ending_at s.statuses g.result.vertex) g.result.index
 abbrev pub plain_result : Build → Option TreeMap
 plain_result b = output_in (ending_in (outcome b b.graph.result.vertex)) b.graph.result.index
 
--- bytes that are the definition of a graph; a run of it on these local trees by these workers has ended, and the result is a tree with this text. No vertex has
--- failed then, and without caches the tree is the result's tree by the plain outcomes
+-- The bytes are the definition of a graph. A run of the graph on these local trees by this number of workers has ended, and its result is a tree with this
+-- text. No vertex has failed then. Without caches the tree is also the result's tree by the plain outcomes.
 pub record Yields (workers : ℕ) (locals : List Local) (bytes text : List ℕ) : Type 0 where
   pub graph : Numbered
   pub loaded : IsGraphIn bytes graph
@@ -80,7 +81,7 @@ pub record FailsBy (s : State) (v : ℕ) : Type 0 where
   pub fault : VertexFault
   pub failed : ending_at s.statuses vertex ≡ Some (Failed fault)
 
--- bytes that are the definition of a graph; after a run of it the result is no tree, because a vertex has failed
+-- The bytes are the definition of a graph. A run of the graph has ended, and its result is no tree, because a vertex has failed.
 pub record YieldsNone (workers : ℕ) (locals : List Local) (bytes : List ℕ) : Type 0 where
   pub graph : Numbered
   pub loaded : IsGraphIn bytes graph
@@ -93,13 +94,14 @@ pub record YieldsNone (workers : ℕ) (locals : List Local) (bytes : List ℕ) :
 abbrev pub IsRefused : ProgramFault → List ℕ → Type 0
 IsRefused p bytes = (e : LoadFault) × IsRefusalIn bytes e × (p ≡ fault.Refused e)
 
--- no board can be opened on the graph, and why: the first local source without a tree; or all have one, and the number of workers is 0 or more than 64
+-- No board can be opened on the graph, and the fault says why: it names the first local source without a tree; or all local sources have a tree, and the number
+-- of workers is 0 or more than 64.
 abbrev pub IsUnopened : List Local → Numbered → ℕ → ProgramFault → Type 0
 IsUnopened locals g workers (fault.MissingLocal name) = missing_local locals g.vertices ≡ Some name
 IsUnopened locals g workers fault.Workers = (missing_local locals g.vertices ≡ None) × (may_work workers ≡ false)
 IsUnopened locals g workers _ = ⊥
 
--- the fault of bytes on which no run begins: they are refused as a definition, or no board can be opened on the graph whose definition they are
+-- the fault of bytes on which no run begins: the bytes are refused as a definition, or no board can be opened on their graph
 abbrev pub IsNotRun : ℕ → List Local → ProgramFault → List ℕ → Type 0
 IsNotRun workers locals p bytes = IsRefused p bytes ⊎ ((g : Numbered) × IsGraphIn bytes g × IsUnopened locals g workers p)
 
@@ -118,7 +120,7 @@ abbrev pub failed_line : ℕ → Option Status → List ℕ
 failed_line v (Some (look.Failed f)) = codes "failed " ++ (decimal v ++ (codes " " ++ (failure_text f ++ codes "\n")))
 failed_line v _ = []
 
--- a line for each vertex that has failed, of the vertices with lower numbers than this
+-- the lines of the failed vertices whose numbers are lower than the given number, by number
 unfoldable pub failed_lines : Build → State → ℕ → List ℕ
 failed_lines b s zero = []
 failed_lines b s (suc v) = failed_lines b s v ++ failed_line v (look_at b s v)

@@ -24,7 +24,7 @@ pub record IsAssembled (text definition : List ℕ) : Type 0 where
   pub stands : SpellsEntries (kept text) entries
   pub same : definition ≡ definition_bytes entries
 
--- whether a fault of the assembler refuses a line
+-- whether a fault of the assembler is the refusal of a line
 abbrev pub refuses_a_line : AsmFault → Bool
 refuses_a_line (Line n rule) = true
 refuses_a_line (UnknownLabel n) = true
@@ -60,8 +60,8 @@ IsOut Comes output input = (text : List ℕ) × Comes input text × IsWritten ou
 abbrev pub IsPartOut : (List ℕ → List ℕ → Type 0) → Stream → List ℕ → Type 0
 IsPartOut Comes output input = (text : List ℕ) × Comes input text × IsPartWritten output text
 
--- How a command ends that writes what it makes from its input. Status 0: all of it is written, and nothing else. 2: the input is refused, and nothing is
--- written but the line that says why. 3: a device or memory failed; nothing is written, or a prefix of it.
+-- How a command ends that makes a text from its input and writes the text. Status 0: the whole text is written, and nothing else. 2: the input is refused, and
+-- nothing is written but the line that says why. 3: a device or memory failed; nothing is written, or a prefix of the text.
 abbrev pub Ends : (List ℕ → List ℕ → Type 0) → (ProgramFault → List ℕ → Type 0) → Io → ℕ → Type 0
 Ends Comes IsRefused io status =
     ((status ≡ 0) × IsKept io.errors × IfSome io.input.before (IsOut Comes io.output))
@@ -76,7 +76,8 @@ Assembles = Ends IsAssembled IsNoText
 abbrev pub Disassembles : Io → ℕ → Type 0
 Disassembles = Ends IsDisassembled IsUnread
 
--- runs by one worker yield the same text of the result for the definition that a text is assembled to, and for any bytes whose entries are those of the text
+-- Take the definition that a text is assembled to, and any bytes whose entries are the entries of the text. If runs of both by one worker, on the same local
+-- trees, yield a text of the result, then they yield the same text.
 abbrev pub RunsAlike : List ℕ → List (List ℕ) → List ℕ → Type 0
 RunsAlike text entries bytes =
     SpellsEntries (kept text) entries → definition_of bytes ≡ Ok entries → (locals : List Local) (definition one other : List ℕ)

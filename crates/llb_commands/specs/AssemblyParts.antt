@@ -1,4 +1,4 @@
--- The steps of assembling and disassembling, and what the result of each says of the input.
+-- The steps of assembling and disassembling, and what the result of each step says of the input.
 use Rattle.std.specs.Prelude.{◌≡◌, ◌⊎◌, ℕ, List, Option, Result, Ok, Err, IfSome, if◌then◌else◌}
 use Rattle.llb_ops.specs.declared.fault.OpFault.{OpFault}
 use Rattle.llb_ops.specs.Faults as ops
@@ -13,7 +13,7 @@ use Rattle.llb_commands.specs.Io.{Stream, IsKept}
 use Rattle.llb_commands.specs.Running.{IsRefusal, TellsRefusal}
 use Rattle.llb_commands.specs.Assembly.{IsOut, IsPartOut, IsAssembled, IsNoText, IsUnread}
 
--- the program's fault for a fault of the assembler; a refused line keeps its number and its rule
+-- the program's fault for a fault of the assembler; the fault of a refused line keeps the line's number and the rule
 abbrev pub assembling_fault : AsmFault → ProgramFault
 assembling_fault (asm.Line n rule) = fault.Assembling (asm.Line n rule)
 assembling_fault (asm.UnknownLabel n) = fault.Assembling (asm.UnknownLabel n)
@@ -46,7 +46,7 @@ abbrev pub IsDefinitionIn : Option (List ℕ) → Result (List ℕ) ProgramFault
 IsDefinitionIn input (Ok definition) = IfSome input (λ text. IsAssembled text definition)
 IsDefinitionIn input (Err e) = TellsRefusal IsNoText input e
 
--- the entries of an input, or why it has none
+-- the entries of an input that is a definition, or why the input can't be read as a definition
 abbrev pub AreEntriesIn : Option (List ℕ) → Result (List (List ℕ)) ProgramFault → Type 0
 AreEntriesIn input (Ok entries) = IfSome input (λ bytes. definition_of bytes ≡ Ok entries)
 AreEntriesIn input (Err e) = TellsRefusal IsUnread input e

@@ -50,15 +50,15 @@ run_app = with_rule (with_rule (new_app (codes "run")) workers_rule) local_rule
 abbrev pub step_app : App
 step_app = with_rule (with_rule (with_rule (new_app (codes "step")) workers_rule) file_rule) local_rule
 
--- the app with one more command, which takes no words
+-- the app (what `clap` reads the words by) with one more command, which takes no words
 abbrev pub with_plain : App → Text → App
 with_plain app name = with_subcommand app (new_app name).top
 
--- the commands `run`, `show` and `step`
+-- the program with the commands `run`, `show` and `step`
 abbrev pub graph_app : App
 graph_app = with_subcommand (with_plain (with_subcommand base_app run_app.top) (codes "show")) step_app.top
 
--- all commands: `run` takes workers and local sources, `step` a file, workers and local sources, and the others take no words
+-- the program with all commands: `run` takes workers and local sources, `step` a file, workers and local sources, and the others take no words
 abbrev pub llbm_app : App
 llbm_app = with_plain (with_plain graph_app (codes "asm")) (codes "dis")
 
@@ -94,7 +94,7 @@ AreSplit words locals = map split_word words ≡ map named_file locals
 abbrev pub is_unsplit : Text → Bool
 is_unsplit word = not (is_some (split_word word))
 
--- the word is the first that has no `=`
+-- the word is the first word that has no `=`
 abbrev pub IsUnsplit : List Text → Text → Type 0
 IsUnsplit words word = find is_unsplit words ≡ Some word
 
@@ -107,7 +107,7 @@ named (Some p) = p.0
 abbrev pub local_words : List Row → List Text
 local_words rows = unwrap_or (all_of (codes "local") rows) []
 
--- the words for local sources among the matches of the named command; none without a command
+-- the words for local sources among the matches of the named command; none if no command is named
 abbrev pub named_local_words : Option (Text × List Row) → List Text
 named_local_words None = []
 named_local_words (Some p) = local_words p.1
@@ -116,35 +116,36 @@ named_local_words (Some p) = local_words p.1
 abbrev pub number_of : Text → Option ℕ
 number_of text = if is_unsigned_in 0 4294967295 text then Some (digits_value 10 (without_leading_plus text)) else None
 
--- The number of workers is the one that the words give; if they give none, 1 for `run` and 2 for `step`. For any other command it is 1. After a hyphen `clap`
--- accepts the number 0 alone (`--workers=-0`), and hands it on without the hyphen.
+-- The number of workers is the number in the words; if the words have no number, it is 1 for `run` and 2 for `step`. For any other command it is 1. The only
+-- number after a hyphen that `clap` accepts is 0 (`--workers=-0`), which `clap` hands on without the hyphen.
 abbrev pub IsWorkers : Command → List Row → ℕ → Type 0
 IsWorkers Run rows n = n ≡ unwrap_or (option_and_then number_of (one_of (codes "workers") rows)) 1
 IsWorkers Step rows n = n ≡ unwrap_or (option_and_then number_of (one_of (codes "workers") rows)) 2
 IsWorkers _ rows n = n ≡ 1
 
--- the file is the one that the words name; only `step` takes a file
+-- the file is the file that the words name; only `step` takes a file
 abbrev pub IsFile : Command → List Row → Option (Bor Text) → Type 0
 IsFile Step rows file = option_map (λ w. w.now) file ≡ first_of (codes "file") rows
 IsFile _ rows file = file ≡ None
 
--- the command line asks for the command of this name, with what these matches give
+-- the line has the command of this name; its workers, its file and its local sources are those in these matches of `clap`
 pub record SaysCommand (name : Text) (rows : List Row) (line : Line) : Type 0 where
   pub command : name_of line.command ≡ name
   pub workers : IsWorkers line.command rows line.workers
   pub file : IsFile line.command rows line.file
   pub locals : AreSplit (local_words rows) line.locals
 
--- the matches of the named command; none without a command
+-- the matches of the named command; none if no command is named
 abbrev pub matches_named : Option (Text × List Row) → List Row
 matches_named None = []
 matches_named (Some p) = p.1
 
--- what the words ask for, by the subcommand in the matches
+-- the line is what the words ask for, by the subcommand that `clap` found in the words
 abbrev pub Says : Option (Text × List Row) → Line → Type 0
 Says met line = SaysCommand (named met) (matches_named met) line
 
--- A fault without a word is for words that `clap` refuses. A fault with a word is for words that it accepts: the first local source without `=`.
+-- `Words` without a word: `clap` refuses the words. `Words` with a word: `clap` accepts the words, and this word is the first word for a local source that has
+-- no `=`.
 abbrev pub Refuses : Kinds → List Text → WordsFault → Type 0
 Refuses kinds words (Words None) = kinds ≢ []
 Refuses kinds words (Words (Some w)) = (kinds ≡ []) × IsUnsplit words w.now

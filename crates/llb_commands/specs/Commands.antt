@@ -21,7 +21,8 @@ use Rattle.llb_commands.specs.declared.words.WordsFault.TheVariants.{Words}
 abbrev pub Shelf : Type 0
 Shelf = List ℕ → Option (List ℕ)
 
--- a session over the definition in a file; if no file is named, or it can't be opened or read, nothing is written but the line that says so
+-- a session over the definition in a file; if no file is named, or the file can't be opened or read, nothing is written but the line that
+-- says so
 abbrev pub StepsAt : Shelf → Option (Bor (List ℕ)) → ℕ → List Local → Io → ℕ → Type 0
 StepsAt files None workers locals io status = IsKept io.output × TellsWords io.errors.before io.errors.after (Words None) status
 StepsAt files (Some file) workers locals io status = Steps workers locals (files file.now) io status
@@ -38,7 +39,7 @@ PerformsAs files Disassemble line locals io = Disassembles io
 abbrev pub Performs : Shelf → Line → List Local → Io → ℕ → Type 0
 Performs files line = PerformsAs files line.command line
 
--- The words are refused: their line is written, and below it the page that they ask for.
+-- The words are refused: the line of the fault is written, and below it the page that the words ask for, if any.
 pub record IsRefusedByWords (words : List Text) (io : Io) (status : ℕ) : Type 0 where
   pub fault : WordsFault
   pub page : Text
@@ -54,19 +55,19 @@ pub record LacksSource (files : Shelf) (line : Line) (io : Io) (status : ℕ) : 
   pub none : IsKept io.output
   pub told : TellsSource io.errors.before io.errors.after fault status
 
--- All local sources have their trees, and the command has ended on these.
+-- All local sources have their trees, and the command has ended on these trees with this status.
 pub record IsDone (files : Shelf) (line : Line) (io : Io) (status : ℕ) : Type 0 where
   pub locals : List Local
   pub gathered : Gathers files line.locals [] (Ok locals)
   pub done : Performs files line locals io status
 
--- The words ask for a command: either it has ended, or one of its local sources has no tree.
+-- The words ask for a command: either the command has ended, or one of its local sources has no tree.
 pub record IsAsked (files : Shelf) (words : List Text) (io : Io) (status : ℕ) : Type 0 where
   pub line : Line
   pub taken : IsByWords (fault_of llbm_app words) (named_local_words (subcommand_of llbm_app words)) (Ok line)
   pub says : Says (subcommand_of llbm_app words) line
   pub does : LacksSource files line io status ⊎ IsDone files line io status
 
--- how the whole program ends: the words are refused, or their command has ended
+-- how the whole program ends: the words are refused; or a local source has no tree; or the command that the words ask for has ended
 abbrev pub IsProgram : Shelf → List Text → Io → ℕ → Type 0
 IsProgram files words io status = IsRefusedByWords words io status ⊎ IsAsked files words io status

@@ -24,16 +24,16 @@ abbrev pub inputs_text : List Edge → List ℕ
 inputs_text [] = codes " -"
 inputs_text (e ∷ es) = flat_map input_text (e ∷ es)
 
--- the line of a vertex
+-- the line of the vertex with this number
 abbrev pub vertex_line : ℕ → Vertex → List ℕ
 vertex_line number v = decimal number ++ (codes " " ++ (kind_text v.op.kind ++ (codes " steps " ++ (decimal v.steps
     ++ (codes " outputs " ++ (decimal v.outputs ++ (codes " inputs" ++ (inputs_text v.inputs ++ codes "\n"))))))))
 
--- the line of a vertex with its number
+-- the line of a vertex that is paired with its number
 abbrev pub numbered_line : ℕ × Vertex → List ℕ
 numbered_line v = vertex_line v.0 v.1
 
--- the lines of the vertices with their numbers
+-- the lines of the vertices, numbered from 0
 abbrev pub vertex_lines : List Vertex → List ℕ
 vertex_lines vertices = flat_map numbered_line (enumerate_from 0 vertices)
 
@@ -50,7 +50,7 @@ abbrev pub is_memory : OutputFault → Bool
 is_memory Memory = true
 is_memory Write = false
 
--- a call returns what its rule returns, or it fails for want of memory
+-- a call returns the result that its definition has for it, or it fails for want of memory
 abbrev pub Gives : {X Y : Type 0} → (X → Y) → Result X OutputFault → Result Y OutputFault → Type 0
 Gives = answer.Gives is_memory
 

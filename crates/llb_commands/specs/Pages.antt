@@ -38,7 +38,7 @@ help_page (Some Step) = STEP_PAGE.now
 help_page (Some Assemble) = ASM_PAGE.now
 help_page (Some Disassemble) = DIS_PAGE.now
 
--- the page for a kind of refusal by `clap`; only a request for help or the version has one
+-- the page for a kind of refusal by `clap`: the page of help or of the version if the words ask for it, else the empty text
 abbrev pub page_for : ErrorKind → Option Command → Text
 page_for DisplayHelp command = help_page command
 page_for DisplayVersion command = VERSION_PAGE.now

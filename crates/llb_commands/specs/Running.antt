@@ -1,4 +1,4 @@
--- The steps of a run, and what the result of each says of the input's bytes.
+-- The steps of a run, and what the result of each step says of the input's bytes.
 use Rattle.std.specs.Prelude.{◌≡◌, ◌⊎◌, ℕ, List, [], length, Option, Some, None, Result, Ok, Err, IfSome, ⊤, if◌then◌else◌}
 use Rattle.llb_tree.specs.Tree.{TreeMap}
 use Rattle.llb_loader.specs.Graph.{Numbered}
@@ -48,12 +48,12 @@ IsRefusal _ = ⊥
 abbrev pub TellsRefusal : (ProgramFault → List ℕ → Type 0) → Option (List ℕ) → ProgramFault → Type 0
 TellsRefusal IsSo input e = IsRefusal e → IfSome input (IsSo e)
 
--- the graph of the input, or why there is none
+-- the graph that the input defines, or why there is none
 abbrev pub Loads : Option (List ℕ) → Result Numbered ProgramFault → Type 0
 Loads input (Ok g) = IfSome input (λ bytes. IsGraphIn bytes g)
 Loads input (Err e) = TellsRefusal IsRefused input e
 
--- the board that is opened on the graph of the input, or why there is none
+-- the board that is opened on the graph of the input, or why no board is opened
 abbrev pub Opens : ℕ → List Local → Option (List ℕ) → Result BoardValue ProgramFault → Type 0
 Opens workers locals input (Ok b) = (g : Numbered) × IfSome input (λ bytes. IsGraphIn bytes g) × (b ≡ opened (build_of locals g) workers [])
 Opens workers locals input (Err e) = TellsRefusal (IsNotRun workers locals) input e
@@ -64,7 +64,7 @@ pub record IsFinished (workers : ℕ) (locals : List Local) (g : Numbered) (b : 
   pub ended : IsEnd workers (build_of locals g) b.state
   pub here : IsConsistent (build_of locals g) b.state
 
--- the board on which a run of the graph of the input has ended, or why there is none
+-- the board on which a run of the graph of the input has ended, or why there is no such board
 abbrev pub Finishes : ℕ → List Local → Option (List ℕ) → Result BoardValue ProgramFault → Type 0
 Finishes workers locals input (Ok b) = (g : Numbered) × IfSome input (λ bytes. IsGraphIn bytes g) × IsFinished workers locals g b
 Finishes workers locals input (Err e) = TellsRefusal (IsNotRun workers locals) input e
@@ -91,7 +91,8 @@ Answers workers locals input output (Ok (Failed b)) = IsKept output × IfSome in
 Answers workers locals input output (Err e) =
     (IsKept output × TellsRefusal (IsNotRun workers locals) input e) ⊎ ((¬ IsRefusal e) × IfSome input (YieldsPart workers locals output))
 
--- the exit status and the lines on standard error: 0 if the text is written, 1 if there is no tree, 2 for a refusal; 3 for any other fault, even a late one
+-- The exit status and the lines on standard error: 0 if the text is written, 1 if there is no tree, 2 for a refusal; 3 for any other fault, also one that
+-- comes after the text is written.
 abbrev pub Ends : Stream → Stream → Result Ended ProgramFault → ℕ → Type 0
 Ends output errors (Ok Printed) status = IsKept output × (((status ≡ 0) × IsKept errors) ⊎ (status ≡ 3))
 Ends output errors (Ok (Failed b)) status =

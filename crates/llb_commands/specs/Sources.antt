@@ -15,12 +15,12 @@ use Rattle.llb_commands.specs.declared.sources.SourceFault.TheVariants.{Read, To
 abbrev pub limit : ℕ
 limit = 67108864
 
--- the most reads that may be made to the end of an input
+-- the most reads that may be made until the end of an input is met
 abbrev pub most_reads : ℕ
 most_reads = 134217728
 
--- The result of reading bytes: the tree whose text they are, or why there is none. `Read` (a device failed) and `Reading` (no memory for the bytes) may come
--- for any bytes; `Adding` (no memory to add the tree) only if the bytes are the text of a tree.
+-- The result of reading bytes: the tree whose text the bytes are, or why there is no tree. `Read` (a device failed) and `Reading` (no memory for the bytes)
+-- may be the fault for any bytes; `Adding` (no memory to add the tree) only if the bytes are the text of a tree.
 abbrev pub ReadsTree : List ℕ → Result TreeMap SourceFault → Type 0
 ReadsTree bytes (Ok t) = (length bytes ≤ limit) × Answers bytes (Ok t)
 ReadsTree bytes (Err TooLong) = limit < length bytes
@@ -29,7 +29,7 @@ ReadsTree bytes (Err Read) = Unit {0}
 ReadsTree bytes (Err Reading) = Unit {0}
 ReadsTree bytes (Err Adding) = (length bytes ≤ limit) × ((t : TreeMap) × Answers bytes (Ok t))
 
--- the result of reading a tree's text, as the result of reading a local source
+-- the result of reading a tree's text, turned into the result of reading a local source
 abbrev pub told : Result TreeMap TextFault → Result TreeMap SourceFault
 told (Ok t) = Ok t
 told (Err e) = Err (Text e)
@@ -38,12 +38,12 @@ told (Err e) = Err (Text e)
 abbrev pub Reads : Option (List ℕ) → Result TreeMap SourceFault → Type 0
 Reads known r = IfSome known (λ bytes. ReadsTree bytes r)
 
--- the bytes are read as a tree, which is added under the name; or they are not, and nothing is added
+-- the bytes are read as a tree, which is added under the name; or the bytes are not read as a tree, and nothing is added
 abbrev pub Adds : List ℕ → Option (List ℕ) → List given.Local → List given.Local → Result (Unit {0}) SourceFault → Type 0
 Adds name known old new (Ok u) = (t : TreeMap) × Reads known (Ok t) × (new ≡ with_local old name t)
 Adds name known old new (Err e) = Reads known (Err e) × (new ≡ old)
 
--- the trees of local sources, read from their files one after another: the first fault, or all trees added to those given before
+-- the result of reading the trees of local sources from their files, one after another: the first fault, or the given trees with all these trees added
 abbrev pub Gathers : (List ℕ → Option (List ℕ)) → List Local → List given.Local → Result (List given.Local) SourceFault → Type 0
 Gathers files [] trees r = r ≡ Ok trees
 Gathers files (l ∷ ls) trees r = ((e : SourceFault) × Reads (files l.file.now) (Err e) × (r ≡ Err e))

@@ -21,7 +21,7 @@ use Rattle.llb_commands.specs.declared.fault.ProgramFault.TheVariants as fault
 abbrev pub begun : List Local → Numbered → ℕ → Stepping
 begun locals g workers = record { board = opened (build_of locals g) workers []; past = []; breaks = [] }
 
--- a conversation on a stepper over a graph, within the bounds on commands and on reads
+-- a conversation on a stepper over a graph, with the program's bounds on the bytes of the commands and on the reads
 abbrev pub conversation : List Local → Numbered → ℕ → Stepping → Stream → Stream → Conversation
 conversation locals graph workers end commands output = record {
   limit = limit;

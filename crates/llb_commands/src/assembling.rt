@@ -13,7 +13,7 @@ use llb_wire::{Bytes, Over, write_all};
 use std::alloc::Global;
 use std::io::{Read, Write};
 
-// Returns the program's fault for a fault of the assembler; the fault of a line keeps its number and its rule.
+// Returns the program's fault for a fault of the assembler; the fault of a line keeps the line's number and the rule.
 fn assembling_fault(fault: AsmFault) -> ProgramFault
     ensures { result ≡ assembling_fault fault }
 {

@@ -10,7 +10,8 @@ use std::io::{ErrorKind, Read};
 /// The most bytes that a definition, the text of a tree or a text of entries may have.
 pub(crate) const LIMIT: usize = 67_108_864;
 
-/// The most reads that may be made of a definition, the text of a tree or a text of entries, with the read that meets the end.
+/// The most reads that may be made of a definition, the text of a tree or a text of entries; the read that meets the end counts
+/// too.
 pub(crate) const READS: u64 = 134_217_728;
 
 const PIECE: usize = 4096;
@@ -28,8 +29,8 @@ pub enum ReadFault {
     Memory,
 }
 
-/// Reads the rest of an input, if it has no more than `limit` bytes and its end is met in `reads` reads. An interrupted read
-/// is done again, and counts.
+/// Reads the rest of an input, if it has no more than `limit` bytes and its end is met in `reads` reads. An interrupted read is
+/// done again, and counts as a read.
 pub fn read_bounded<R: Read>(
     alloc: Global,
     input: &mut R,

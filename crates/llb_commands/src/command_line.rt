@@ -36,7 +36,7 @@ use llb_wire::Many;
 use std::alloc::{AllocError, Global};
 use std::convert::AsStr;
 
-// Returns the rule of the words for local sources.
+// Returns `clap`'s description of the words for local sources.
 fn local_arg<'a>(alloc: Global) -> Arg<'a>
     ensures rule { rule_of result ≡ local_rule }
     ensures plain { result.global ≡ false }
@@ -47,7 +47,7 @@ fn local_arg<'a>(alloc: Global) -> Arg<'a>
         .action(ArgAction::Append)
 }
 
-// Returns the rule of the word for the file of the definition, which is required.
+// Returns `clap`'s description of the word for the file of the definition, which is required.
 fn file_arg<'a>(alloc: Global) -> Arg<'a>
     ensures rule { rule_of result ≡ file_rule }
     ensures plain { result.global ≡ false }
@@ -59,7 +59,7 @@ fn file_arg<'a>(alloc: Global) -> Arg<'a>
         .action(ArgAction::Set)
 }
 
-// Returns the rule of the option for the number of workers.
+// Returns `clap`'s description of the option for the number of workers.
 fn workers_arg<'a>(alloc: Global, help: &'a str) -> Arg<'a>
     ensures rule { rule_of result ≡ workers_rule }
     ensures plain { result.global ≡ false }
@@ -103,7 +103,7 @@ fn plain_command<'a>(alloc: Global, name: &'a str, about: &'a str) -> clap::Comm
     clap::Command::new(alloc, name).about(about)
 }
 
-// Returns the program without its commands.
+// Returns the program's command line without its commands.
 fn base_command<'a>(alloc: Global) -> Result<clap::Command<'a>, AllocError>
     ensures app { IfOk result (λ c. app_of c ≡ base_app) }
     ensures plain { IfOk result (λ c. (fields_of c).has_globals ≡ false) }
@@ -117,7 +117,7 @@ fn base_command<'a>(alloc: Global) -> Result<clap::Command<'a>, AllocError>
         .bin_name("llbm")
 }
 
-// Returns the program with the commands `run`, `show` and `step`.
+// Returns the program's command line with the commands `run`, `show` and `step`.
 fn graph_commands<'a>(alloc: Global) -> Result<clap::Command<'a>, AllocError>
     ensures { IfOk result (λ c. app_of c ≡ graph_app) }
 {
@@ -149,7 +149,7 @@ pub fn llbm_command<'a>(alloc: Global) -> Result<clap::Command<'a>, AllocError>
     graph_commands(alloc)?.subcommand(asm)?.subcommand(dis)
 }
 
-// Returns the command with this name; there is one.
+// Returns the command with this name; the caller promises that the name is a command's.
 fn command_named(name: &str) -> Command
     requires { IsName name.now }
     ensures { name_of result ≡ name.now }
@@ -157,7 +157,7 @@ fn command_named(name: &str) -> Command
     named(name).unwrap_or(Command::Run)
 }
 
-// Splits each word at its first `=`.
+// Splits each word for a local source at its first `=`; fails with the first word that has no `=`.
 fn split_words<'a>(alloc: Global, words: &[&'a str]) -> Result<Many<Local<'a>>, WordsFault<'a>>
     ensures split { IfOk result (AreSplit (map (λ w. w.now) words.now)) }
     ensures refuses { IfErr result (RefusesWord (map (λ w. w.now) words.now)) }
@@ -172,7 +172,7 @@ fn split_words<'a>(alloc: Global, words: &[&'a str]) -> Result<Many<Local<'a>>, 
     Ok(Many::new(locals))
 }
 
-// Returns the local sources in the matches of a command.
+// Returns the local sources in what `clap` found for a command (the command's matches).
 fn locals_in<'a>(alloc: Global, matches: &ArgMatches<'a>) -> Result<Many<Local<'a>>, WordsFault<'a>>
     ensures split { IfOk result (AreSplit (local_words (rows_of (found_of matches.now)))) }
     ensures refuses { IfErr result (RefusesWord (local_words (rows_of (found_of matches.now)))) }
@@ -222,7 +222,7 @@ fn line_of<'a>(
     })
 }
 
-// Returns the `Line` of `run` without local sources.
+// Returns the `Line` for no words at all: `run` with one worker and without local sources.
 fn bare_run<'a>(alloc: Global) -> Line<'a>
     ensures { Says None result }
 {
@@ -270,8 +270,8 @@ pub(crate) fn line_or_page<'a, S: AsStr>(
     }
 }
 
-/// Returns what the words after the program's name ask for; no words are `run`. Fails with 183 and no word if `clap` refuses the words; words that ask for help
-/// or for the version are refused too; with 183 and the first word that should be a local source and has no `=`; or with 184 if memory is refused.
+/// Returns what the words after the program's name ask for; no words at all mean `run`. Fails with 183 and no word if `clap` refuses the words, also if they
+/// ask for help or for the version; with 183 and the first word that should be a local source but has no `=`; or with 184 if memory is refused.
 pub fn command_of<'a, S: AsStr>(alloc: Global, words: &'a [S]) -> Result<Line<'a>, WordsFault<'a>>
     ensures says { IfOk result (Says (subcommand_of llbm_app (map S.text words.entry.now))) }
     ensures refuses { IsByWords (fault_of llbm_app (map S.text words.entry.now))

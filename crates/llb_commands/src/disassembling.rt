@@ -25,7 +25,7 @@ fn entries_fault(fault: OpFault) -> ProgramFault
     }
 }
 
-// Returns the entries of a definition that is read to its end.
+// Reads a definition to its end, and returns its entries.
 fn entries_from<R: Read>(alloc: Global, input: &mut R) -> Result<Entries, ProgramFault>
     ensures { AreEntriesIn (R.remaining input.old) result }
 {

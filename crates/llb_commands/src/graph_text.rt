@@ -19,7 +19,7 @@ fn push_input(line: &mut String, input: Edge) -> Result<(), OutputFault>
     Ok(())
 }
 
-// Appends the inputs in their order, and a dash for none.
+// Appends the inputs in their order, or a dash if there are none.
 fn push_inputs(line: &mut String, inputs: &[Edge]) -> Result<(), OutputFault>
     ensures { Gives (λ _. string_bytes line.new) result (Ok (string_bytes line.old ++ inputs_text inputs.now)) }
 {
@@ -100,8 +100,8 @@ fn print_vertices<W: Sink>(
 }
 
 /// Writes the text of a graph to a sink: a line for each vertex by number, `V KIND steps S outputs O inputs LIST`, and the
-/// line `result V.I`. LIST is the inputs as `V.I`, a dash for none. Fails with 182 only if the writer failed, and with 184;
-/// a prefix of the text is written then.
+/// line `result V.I`. LIST is the inputs as `V.I`, or a dash if there are none. Fails with 182 only if the writer failed, or
+/// with 184 if memory is refused; then a prefix of the text is written.
 pub(crate) fn print_graph<W: Sink>(
     alloc: Global,
     graph: &Graph,

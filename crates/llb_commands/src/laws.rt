@@ -1,4 +1,4 @@
-//! Laws of texts, definitions and runs together.
+//! Laws that relate texts, definitions and runs.
 
 ghost use Rattle.std.specs.Prelude.{IfOk};
 ghost use Rattle.llb_loader.specs.Graph.{Numbered};
@@ -18,7 +18,7 @@ use llb_stepper::{
 use llb_wire::Bytes;
 use std::alloc::Global;
 
-/// Proves that, for a text of some entries, the definition that it is assembled to and any bytes that have the same entries run to the same text of the result,
+/// Proves that the definition that a text is assembled to, and any bytes that have the entries of the text, run to the same text of the result: by one worker,
 /// on the same local trees.
 pub fn assembled_runs_alike(text: &[u8], entries: &Entries, bytes: &Bytes)
     ensures { RunsAlike text.now entries.now bytes.now }
@@ -29,11 +29,10 @@ pub fn assembled_runs_alike(text: &[u8], entries: &Entries, bytes: &Bytes)
     bytes.is_bytes();
 }
 
-/// Proves the aim of the machine. For every definition that is loaded as a graph, and a board and a stepper over it, on all local trees and by any
-/// number of workers: after every interleaving of events the board's state and replies are the written table's on its record; no two
-/// executions hold one locked cache at once; every settled vertex with no cache mount at or before it has the graph's plain outcome; and a
-/// text that is read as the definition's entries is assembled to bytes that load as this graph, over which the stepper's state
-/// and lines are the table's.
+/// Proves the aim of the machine. Take a definition that is loaded as a graph, and a board and a stepper over this graph, on any local trees and with any
+/// number of workers. After every interleaving of events the board's state and replies are the written table's on the board's record. No two executions hold
+/// one locked cache at once. Every settled vertex with no cache mount at or before it has the graph's plain outcome. A text that is read as the definition's
+/// entries is assembled to bytes that load as this graph. The stepper's state and lines on this graph are the table's.
 pub fn aim(
     text: &[u8],
     definition: &Bytes,

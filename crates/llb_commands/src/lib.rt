@@ -1,9 +1,9 @@
-//! What the program's commands do, over readers and writers whose bytes contracts know: `run`, `show`, `step`, `asm`, `dis`, the words that ask
-//! for them, and the exit status of each. It is built on `llb_asm`, `llb_session` and `llb_work`; the process's own words, files and streams
-//! are in `llbm`.
+//! The program's commands (`run`, `show`, `step`, `asm`, `dis`) over readers and writers whose bytes contracts know; the words that ask for a
+//! command, and the exit status of each command. The crate is built on `llb_asm`, `llb_session` and `llb_work`; the process's own words, files
+//! and streams are in `llbm`.
 //!
 //! Types: `Line` and `Command` (what words ask for), `Sources` (files by name), `Streams`, `ProgramFault`, `SourceFault`, `WordsFault`.
-//! Promise: `laws::aim` is the aim of the whole machine (docs/CLAIMS.md). `program` is all of the program but its process: what it writes to
+//! Promise: `laws::aim` is the aim of the whole machine (docs/CLAIMS.md). `program` is the program without its process: what it writes to
 //! each stream, and its status, follow from the words, the files and the input. `run_many_over` prints the text of the result, and status 0
 //! says that all of it is written.
 //!

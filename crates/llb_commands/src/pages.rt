@@ -1,5 +1,5 @@
-//! The pages that follow the line of words that ask for help or for the version. They are the texts that `clap` renders for the command line; no contract says
-//! what `clap` renders, so the pages are constants here, and a test of the program compares them with `clap`'s.
+//! The pages of help and of the version. If words ask for a page, it is written below the line of their fault. The pages are the texts that `clap` renders for
+//! the command line. No contract says what `clap` renders, so the pages are constants here, and a test of the program compares them with `clap`'s.
 
 ghost use Rattle.std.specs.Prelude.{◌≡◌, map};
 ghost use Rattle.llb_commands.specs.Pages.{command_named, help_page, named_first, page_for};
@@ -123,7 +123,7 @@ fn help_page(command: Option<Command>) -> &'static str
     }
 }
 
-/// Returns the page that words ask for, by the kind of `clap`'s refusal and the command that the first word names; an empty one if they ask for none.
+/// Returns the page that words ask for, by the kind of `clap`'s refusal and the command that the first word names; an empty text if they ask for no page.
 pub(crate) fn page_for(kind: ErrorKind, command: Option<Command>) -> &'static str
     ensures { result.now ≡ page_for kind command }
 {

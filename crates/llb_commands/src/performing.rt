@@ -22,7 +22,7 @@ use std::io::{Read, Write};
 use std::sync::Wait;
 use std::thread::Threads;
 
-/// What the program reads, what it writes, and what it writes the lines of faults and failures to.
+/// What the program reads from, what it writes its output to, and what it writes the lines of faults and failures to.
 #[derive(Drop)]
 pub struct Streams<R, W, E> {
     pub input: R,
@@ -30,7 +30,7 @@ pub struct Streams<R, W, E> {
     pub err: E,
 }
 
-// Opens the board of the definition in a file, which is read to its end and closed. Fails with 181 if the file can't be opened.
+// Reads the definition in a file to its end, closes the file, and opens a board on the definition's graph. Fails with 181 if the file can't be opened.
 fn board_of<S: Sources>(
     alloc: Global,
     sources: &S,
@@ -46,10 +46,10 @@ fn board_of<S: Sources>(
     }
 }
 
-// Does what the line says on the local trees, which are those of its local sources, and returns the exit status of the command's own call. For a session the
-// definition is first read, to its end, from the file that the line names; after that the commands of the session are read. If the line names no file, the
-// program writes `fault 183` and the status is 2; if the file can't be opened, it writes `fault 181` and the status is 3. It may wait for threads if the
-// command is `run` with more than one worker.
+// Does the command of the line on the local trees, which are the trees of the line's local sources, and returns the status of the command. For `step` the
+// definition is first read, to its end, from the file that the line names; then the commands of the session are read. If the line names no file, the program
+// writes `fault 183` and the status is 2; if the file can't be opened, it writes `fault 181` and the status is 3. The call may wait for threads if the command
+// is `run` with more than one worker.
 fn perform<T: Threads + Wait + Sync, S: Sources, R: Read, W: Write, E: Write>(
     rt: &T,
     alloc: Global,
@@ -80,10 +80,10 @@ fn perform<T: Threads + Wait + Sync, S: Sources, R: Read, W: Write, E: Write>(
     }
 }
 
-/// Runs the program: does what the words after its name ask for, and returns the exit status. If the words are refused, it writes a line (183, 184) and ends;
-/// if they ask for help or for the version, it writes that page below the line. If a local source has no tree, it writes a line for the first such source (31
-/// to 34, 92, 181, 184, 185) and ends. Otherwise it does the command on the trees of the local sources, and the status is the command's. It may wait for
-/// threads if the command is `run` with more than one worker.
+/// Runs the program: does what the words after its name ask for, and returns the exit status. If the words are refused, the program writes a line (183, 184)
+/// and ends; if they ask for help or for the version, it writes the page that they ask for below this line. If a local source has no tree, it writes a line for
+/// the first such source (31 to 34, 92, 181, 184, 185) and ends. Otherwise it does the command on the trees of the local sources, and the status is the
+/// command's. The call may wait for threads if the command is `run` with more than one worker.
 pub fn program<T: Threads + Wait + Sync, A: AsStr, S: Sources, R: Read, W: Write, E: Write>(
     rt: &T,
     alloc: Global,

@@ -42,9 +42,9 @@ impl Gate for Open {
 // How a run ended, if no fault cut it short.
 #[derive(Drop)]
 enum Ended {
-    // The text of its result is written.
+    // The text of the run's result is written.
     Printed,
-    // A vertex failed, so that there is no tree of the result; the board has all vertices that failed.
+    // A vertex failed, so the result is no tree; the board has all vertices that failed.
     Failed(Board),
 }
 
@@ -97,7 +97,7 @@ fn print_over<W: Write>(alloc: Global, tree: &Tree, out: &mut W) -> Result<(), P
     print_tree(alloc, tree, &mut sink)
 }
 
-// Writes the text of an output; if the vertex is not done and so has no tree for it, returns the board.
+// Writes the text of the tree of an output; returns the board if the vertex is not done, and so has no such tree.
 fn print_output<W: Write>(
     alloc: Global,
     board: Board,
@@ -116,7 +116,7 @@ fn print_output<W: Write>(
     }
 }
 
-// Writes the text of the result of a run that has ended, wherever its definition was read from.
+// Writes the text of the result of a run that has ended on a board; returns the fault if there is no board.
 fn print_result<W: Write>(
     alloc: Global,
     board: Result<Board, ProgramFault>,
@@ -153,7 +153,7 @@ fn print_failures<E: Write>(board: &Board, err: &mut E) -> io::Result<()>
     Ok(())
 }
 
-// Writes the lines for the end of a run, and returns its exit status.
+// Writes the lines of the failures, or the line of the fault, with which a run ended, and returns the exit status.
 fn exit_status<W: Write, E: Write>(
     ended: Result<Ended, ProgramFault>,
     out: &mut W,
@@ -216,8 +216,8 @@ pub fn run_over<R: Read, W: Write, E: Write>(
 }
 
 /// Does what `run_over` does with this number of workers; if there are several, each has a thread, and the call waits for them. If no cache is mounted, the
-/// text is the one that the plain outcomes give, for any number of workers. The status is 2 also if the number is 0, or more than 64 (`fault 122`), and 3 also
-/// if a thread could not be started (`fault 153`).
+/// text is that of the result by the plain outcomes, for any number of workers. The status is 2 also if the number of workers is 0, or more than 64 (`fault
+/// 122`), and 3 also if a thread could not be started (`fault 153`).
 pub fn run_many_over<T: Threads + Wait + Sync, R: Read, W: Write, E: Write>(
     rt: &T,
     alloc: Global,

@@ -1,5 +1,5 @@
 //! The trees of local sources, read from the texts of their files. Files are opened through the trait `Sources`. Contracts speak of the bytes that an
-//! implementation of the trait gives; no contract says that these are the bytes of the machine's files.
+//! implementation of the trait returns; no contract says that these bytes are the bytes of the machine's files.
 
 ghost use Rattle.std.specs.Prelude.{◌≡◌, ℕ, List, [], Option, Some, IfOk, IfSome};
 ghost use Rattle.llb_commands.specs.Faults.{source_text};
@@ -81,8 +81,8 @@ fn told(read: Result<Tree, TextFault>) -> Result<Tree, SourceFault>
 }
 
 /// Reads a text to its end as a tree, and adds it as the local tree of this name; a tree that the name had before is replaced. Fails with 181 if a read fails,
-/// or the end is not met in 2^27 reads; with 185 past 67,108,864 bytes; with 31 to 34 and 184; with 92 only if the text is a tree's. After a fault no tree is
-/// added.
+/// or the end is not met in 2^27 reads; with 185 past 67,108,864 bytes; with 31 to 33 if the text is no tree's; and with 34, 92 or 184 if memory is refused (92
+/// only if the text is a tree's). After a fault no tree is added.
 pub fn add_local<R: Read>(
     alloc: Global,
     name: &str,
@@ -104,7 +104,7 @@ pub fn add_local<R: Read>(
     }
 }
 
-// Adds the tree of a local source, whose text is in its file.
+// Reads the file of a local source as a tree, and adds the tree.
 fn add_file<F: Sources>(
     alloc: Global,
     files: &F,
@@ -120,7 +120,7 @@ fn add_file<F: Sources>(
 }
 
 /// Reads the trees of local sources, in their order; if two sources have the same name, the tree of the later one is kept. Stops at the first source that has
-/// no tree, and fails with its fault: 31 to 34, 92, 181, 184 or 185.
+/// no tree, and fails with the fault of that source: 31 to 34, 92, 181, 184 or 185.
 pub(crate) fn locals_of<F: Sources>(
     alloc: Global,
     files: &F,

@@ -108,7 +108,7 @@ pub fn words_refusal<E: Write>(fault: &WordsFault<'_>, err: &mut E) -> u8
     fault.status()
 }
 
-/// Refused words: why, and the page that they ask for, an empty one if they ask for none.
+/// The refusal of words: the fault, and the page that the words ask for, which is empty if they ask for none.
 #[derive(Clone, Copy, Debug)]
 pub(crate) struct Refusal<'a> {
     pub(crate) fault: WordsFault<'a>,
@@ -136,8 +136,8 @@ impl From<AllocError> for Refusal<'_> {
     }
 }
 
-/// Writes the line of refused words, and below it the page that they ask for; returns the fault's status, or 3 if they can't be
-/// written.
+/// Writes the line of refused words, and below it the page that they ask for; returns the fault's status, or 3 if the line and
+/// the page can't be written.
 pub(crate) fn tell_refusal<E: Write>(refusal: &Refusal<'_>, err: &mut E) -> u8
     ensures { TellsWithPage (E.contents err.old) (E.contents err.new) refusal.now.fault refusal.now.page.now result }
 {

@@ -4,15 +4,15 @@ use Rattle.llb_embed.specs.declared.held.Held.{Held}
 use Rattle.llb_embed.specs.declared.handle.Llb.{Llb}
 use Rattle.llb_embed.specs.Kept.{IsKept}
 
--- the value, if there is one
+-- the value that a handle holds, if there is one
 abbrev pub held_in : Llb → Option Held
 held_in h = if h.is_set then h.kept.value else None
 
--- if the handle says that a value is set, it has a value
+-- a handle whose flag `is_set` is true has a value
 abbrev pub IsSound : Llb → Type 0
 IsSound h = h.is_set ≡ true → IsKept h.kept.value
 
--- no trees, no session, and no output or messages
+-- a value without local trees, session, output and messages
 pub record IsEmpty (h : Held) : Type 0 where
   pub locals : h.locals ≡ []
   pub session : h.session ≡ None
@@ -31,7 +31,7 @@ abbrev pub Calls : (Held → Held → ℕ → Type 0) → Option Held → Option
 Calls Leads old None status = (status ≡ 3) × (old ≡ None)
 Calls Leads old (Some new) status = (start : Held) × StartsWith old start × Leads start new status
 
--- the output and the messages of the last call; empty if the handle holds nothing
+-- the output of the last call (`output_in`) and its messages (`messages_in`); both are empty if the handle holds nothing
 abbrev pub output_in : Option Held → List ℕ
 output_in None = []
 output_in (Some h) = h.output.items

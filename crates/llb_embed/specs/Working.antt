@@ -1,4 +1,4 @@
--- What each call does to the value in the handle, by the definition of the program's own command: the value before and after the call, and the status.
+-- What each call does to the value in the handle, in terms of the definition of the program's command: the value before and after the call, and the status.
 use Rattle.std.specs.Prelude.{◌≡◌, ◌+◌, ◌⊎◌, ℕ, List, [], Option, Some, None, Ok, Err, MatchOption, IsUtf8}
 use Rattle.llb_tree.specs.Tree.{TreeMap}
 use Rattle.llb_loader.specs.Graph.{Numbered}
@@ -19,11 +19,11 @@ use Rattle.llb_commands.specs.Sources.{ReadsTree, TellsSource}
 use Rattle.llb_commands.specs.Stepping.{begun}
 use Rattle.llb_embed.specs.declared.held.Held.{Held}
 
--- bytes written to a stream that was empty
+-- a stream that was empty before the call, and to which these bytes are written
 abbrev pub written : List ℕ → Stream
 written bytes = record { before = Some []; after = Some bytes }
 
--- what a command reads and writes: it reads these bytes, of which the rest remains, and writes the output and messages of the new value
+-- the streams of a command: its input has these bytes before the command, and `rest` after it; it writes the output and the messages of the new value
 abbrev pub streams : List ℕ → Option (List ℕ) → Held → Io
 streams bytes rest new = record {
   input = record { before = Some bytes; after = rest };
@@ -37,11 +37,11 @@ KeepsRest old new = (new.locals ≡ old.locals) × (new.session ≡ old.session)
 
 -- ---- whole commands
 
--- a command on these bytes has ended with this status, and the local trees and the session are unchanged
+-- A command that reads these bytes has ended with this status, and the local trees and the session are unchanged.
 abbrev pub EndsBy : (Io → ℕ → Type 0) → List ℕ → Held → Held → ℕ → Type 0
 EndsBy Ends bytes old new status = KeepsRest old new × ((rest : Option (List ℕ)) × Ends (streams bytes rest new) status)
 
--- a definition is run on the local trees with one worker
+-- a definition is run on the local trees with one worker, as `llbm run` does
 abbrev pub Ran : List ℕ → Held → Held → ℕ → Type 0
 Ran definition old new status = EndsBy (Runs 1 old.locals) definition old new status
 
@@ -49,23 +49,24 @@ Ran definition old new status = EndsBy (Runs 1 old.locals) definition old new st
 abbrev pub Shown : List ℕ → Held → Held → ℕ → Type 0
 Shown = EndsBy Draws
 
--- a text is assembled
+-- a text is assembled, as `llbm asm` does
 abbrev pub Assembled : List ℕ → Held → Held → ℕ → Type 0
 Assembled = EndsBy Assembles
 
--- a definition is disassembled
+-- a definition is disassembled, as `llbm dis` does
 abbrev pub Disassembled : List ℕ → Held → Held → ℕ → Type 0
 Disassembled = EndsBy Disassembles
 
 -- ---- local trees
 
--- why no tree is added, with its line and status: the name is not UTF-8, or the text could not be read as a tree
+-- why no tree is added, which the messages and the status say: the name is not UTF-8, or the text could not be read as a tree
 abbrev pub TellsWhyNot : List ℕ → List ℕ → Held → ℕ → Type 0
 TellsWhyNot name text new status =
     ((¬ (IsUtf8 name)) × TellsWords (Some []) (Some new.messages.items) (Words None) status)
     ⊎ ((e : SourceFault) × ReadsTree text (Err e) × TellsSource (Some []) (Some new.messages.items) e status)
 
--- Status 0: the tree of the text is added under the name. Any other: the local trees are unchanged, and the messages have a line that says why.
+-- Status 0: the tree of the text is added under the name. Any other status: the local trees are unchanged, and the messages have a line that says why (if the
+-- line could not be written, the status is 3).
 abbrev pub Added : List ℕ → List ℕ → Held → Held → ℕ → Type 0
 Added name text old new status = (new.session ≡ old.session) × (new.lines ≡ old.lines) × (new.output.items ≡ []) × (
     ((status ≡ 0) × (new.messages.items ≡ []) × ((t : TreeMap) × ReadsTree text (Ok t) × (new.locals ≡ with_local old.locals name t)))
@@ -73,23 +74,25 @@ Added name text old new status = (new.session ≡ old.session) × (new.lines ≡
 
 -- ---- sessions
 
--- a session is begun on the graph of the definition, with the local trees and this number of workers, and none of its lines is sent yet
+-- a session is begun on the graph of the definition, with the local trees and this number of workers, and no line was sent to it yet
 abbrev pub IsBegun : List ℕ → ℕ → Held → Held → Type 0
 IsBegun definition workers old new = (g : Numbered) × IsGraphIn definition g × (new.session ≡ Some (begun old.locals g workers)) × (new.lines ≡ 0)
 
--- Status 0: a session is begun. 2: none is begun, and the messages have a line that says why. With status 2 or 3 a session from before stays as it was.
+-- Status 0: a session is begun. 2: no session is begun, and the messages have a line that says why. With status 2 or 3 a session that was open before is
+-- unchanged.
 abbrev pub Opened : List ℕ → ℕ → Held → Held → ℕ → Type 0
 Opened definition workers old new status = (new.locals ≡ old.locals) × (new.output.items ≡ []) × (
     ((status ≡ 0) × (new.messages.items ≡ []) × IsBegun definition workers old new)
     ⊎ ((new.session ≡ old.session) × (new.lines ≡ old.lines)
     × (((status ≡ 2) × TellsWhy (IsNotRun workers old.locals) (Some definition) (written new.messages.items)) ⊎ (status ≡ 3))))
 
--- line n of session s does not end it, and the output is the whole reply
+-- line n does not end session s, and the output is the whole reply to the line
 abbrev pub GoesOn : List ℕ → Stepping → ℕ → Held → Type 0
 GoesOn line s n new = (t : Stepping) × (new.session ≡ Some t) × (new.lines ≡ n) × (¬ Quits line) × RespondsAs (request_in line) s n new.output.items t
 
--- A line is sent to session s. Status 0: its reply is the output. 1: the line ends the session, and no session is open then. Else nothing is changed, and the
--- messages have a line that says why: memory was refused for the line of a refusal; or the line would be one more than the 2^64 - 1 lines that a session has.
+-- A line is sent to session s. Status 0: the output is the line's reply. 1: the line ends the session, and no session is open then. Any other status: nothing
+-- is changed, and the messages have a line that says why: memory was refused for the line of a refusal, or the session has already got 2^64 - 1 lines (if the
+-- messages' line could not be written, the status is 3).
 abbrev pub RepliesOn : List ℕ → Stepping → Held → Held → ℕ → Type 0
 RepliesOn line s old new status =
     ((status ≡ 0) × (new.messages.items ≡ []) × GoesOn line s (old.lines + 1) new)
@@ -98,7 +101,7 @@ RepliesOn line s old new status =
     × ((MayFail (request_in line) × Tells (Some []) (Some new.messages.items) fault.Memory status)
     ⊎ ((old.lines ≡ 18446744073709551615) × Tells (Some []) (Some new.messages.items) fault.TooLong status))))
 
--- a line is sent to the session; if none is open, the status is 4 and nothing is changed
+-- a line is sent to the session; if no session is open, the status is 4 and nothing is changed
 abbrev pub Replied : List ℕ → Held → Held → ℕ → Type 0
 Replied line old new status = (new.locals ≡ old.locals) × MatchOption old.session
     ((status ≡ 4) × KeepsRest old new × (new.output.items ≡ []) × (new.messages.items ≡ []))

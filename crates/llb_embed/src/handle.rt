@@ -1,4 +1,4 @@
-//! The handle that a caller keeps: a struct of zeroes, or what a call left there.
+//! The handle that a caller keeps: a struct of zeroes at first, and later what the last call left in it.
 
 ghost use Rattle.std.specs.Prelude.{◌≡◌, Some, None, false, true, IsTrue, option_map, MatchOption};
 ghost use Rattle.llb_embed.specs.Handle.{held_in, IsSound, StartsWith};
@@ -16,7 +16,7 @@ pub struct Llb {
     kept: Kept,
 }
 
-/// Takes out the value that the handle holds, if any.
+/// Takes the value out of the handle, and returns it, if the handle holds one.
 pub(crate) fn take(it: &mut Llb, alloc: Global) -> Option<Box<Held>>
     requires { IsSound it.old }
     ensures sound { IsSound it.new }
@@ -40,7 +40,8 @@ pub(crate) fn put(it: &mut Llb, held: Box<Held>)
     it.is_set = true;
 }
 
-/// Takes out the value that the handle holds, or makes an empty one if it holds none; returns `None` if memory for that is refused.
+/// Takes out the value that the handle holds, or makes an empty value if it holds none; returns `None` if memory for an empty value
+/// is refused.
 pub(crate) fn start(it: &mut Llb, alloc: Global) -> Option<Box<Held>>
     requires { IsSound it.old }
     ensures sound { IsSound it.new }

@@ -1,4 +1,4 @@
-//! A value behind a pointer that C keeps: no value, or the content of a box whose pointer was taken.
+//! A value behind a pointer that C keeps: no value, or the value of a box that was turned into its pointer.
 
 ghost use Rattle.std.specs.Prelude.{◌≡◌};
 ghost use Rattle.std.specs.declared.option.Option.{Option};
@@ -11,7 +11,7 @@ use crate::held::Held;
 use std::alloc::Global;
 use std::marker::Model;
 
-/// No value, or one whose memory is at the pointer. Contracts see the value.
+/// No value, or a value whose memory is at the pointer. Contracts see the value.
 #[repr(C)]
 #[derive(Drop)]
 pub struct Kept {
@@ -25,7 +25,7 @@ impl Model for Kept {
 }
 
 impl Kept {
-    /// Takes the pointer of a box; the value stays where it is.
+    /// Turns a box into its pointer; the value stays where it is in memory.
     pub fn of(value: Box<Held>) -> Kept
         ensures { result.value ≡ Some value.value }
     {

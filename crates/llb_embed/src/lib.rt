@@ -2,8 +2,8 @@
 //! command. It is built on `llb_commands`, and is linked as a static library; what its caller has to promise is in bindings/llbm.h.
 //!
 //! Types: `Llb`, a handle: a struct of zeroes until a call puts a value into it.
-//! Promise: each export does what the program's command does, on the bytes handed in and what the handle holds (`ran`, `opened`, `replied` and
-//! the like); output and messages are copied as far as they fit, and the length of the whole is returned (`copied`, `all`).
+//! Promise: each export does what the program's command does, on the bytes handed in and what the handle holds (`ran`, `opened`, `replied` and the like); as
+//! much of the output and of the messages as fits is copied, and the whole length is returned (`copied`, `all`).
 //!
 //! A caller:
 //!
@@ -28,11 +28,12 @@ use handle::{put, start, take};
 use std::alloc::Global;
 use working::{assemble, copy_out, disassemble, local, open, reply, run, show};
 
-/// Memory for what the handle holds was refused.
+/// The status if memory for what the handle holds was refused.
 const NO_MEMORY: u8 = 3;
 
-/// Adds the tree of a text as the local tree of a name; a tree that the name had before is replaced. Returns 0 if it is added; 2 if the text is refused (31 to
-/// 33, 185) or the name is not UTF-8 (183); 3 if memory is refused (34, 92, 184). With 2 or 3 there is a line in the messages, and no tree is added.
+/// Adds the tree that a text spells as the local tree of a name; a tree that the name had before is replaced. Returns 0 if the tree is added; 2 if the text is
+/// refused (31 to 33, 185) or the name is not UTF-8 (183); 3 if memory is refused (34, 92, 184). With 2 or 3 no tree is added, and the messages have a line
+/// (with 3 they have none if memory for the line is refused).
 #[unsafe(no_mangle)]
 pub extern "C" fn llb_local(alloc: Global, it: &mut Llb, name: &[u8], text: &[u8]) -> u8
     requires { IsSound it.old }
@@ -47,9 +48,9 @@ pub extern "C" fn llb_local(alloc: Global, it: &mut Llb, name: &[u8], text: &[u8
     status
 }
 
-/// Opens a session on a definition, with this number of workers, on the local trees. Returns 0 if it is open; 2 if the definition is refused (81 to 90), a
-/// local source has no tree (121), or the number of workers is not 1 to 64 (122); 3 if memory is refused (91, 92, 123, 184). With 2 or 3 there is a line in the
-/// messages, and the session that was open before, if any, is as it was.
+/// Opens a session on a definition, with this number of workers, on the local trees. Returns 0 if the session is open; 2 if the definition is refused (81 to
+/// 90), a local source has no tree (121), or the number of workers is not 1 to 64 (122); 3 if memory is refused (91, 92, 123, 184). With 2 or 3 a session that
+/// was open before is unchanged, and the messages have a line (with 3 they have none if memory for the line is refused).
 #[unsafe(no_mangle)]
 pub extern "C" fn llb_open(alloc: Global, it: &mut Llb, definition: &[u8], workers: u32) -> u8
     requires { IsSound it.old }
@@ -64,9 +65,10 @@ pub extern "C" fn llb_open(alloc: Global, it: &mut Llb, definition: &[u8], worke
     status
 }
 
-/// Sends a line, without its end, to the session; the output is its reply. Returns 0 if the session goes on; 1 if the line ends it, and then no session is
-/// open; 4 if no session was open; 3 if memory for the line of a refusal is refused (184); 2 past 2^64 - 1 lines (185). With 2 or 3 there is a line in the
-/// messages, and the session is as it was. A refusal of what the line asks for is a reply (171 to 174).
+/// Sends a line, without its line end, to the session; the output is the reply. Returns 0 if the session goes on; 1 if the line ends the session, and then no
+/// session is open; 4 if no session was open; 3 if memory for the line of a refusal is refused (184); 2 past 2^64 - 1 lines (185). With 2 or 3 the session is
+/// unchanged, and the messages have a line (with 3 they have none if memory for the line is refused). If what the line asks for is refused (171 to 174), that
+/// refusal is the reply.
 #[unsafe(no_mangle)]
 pub extern "C" fn llb_line(alloc: Global, it: &mut Llb, line: &[u8]) -> u8
     requires { IsSound it.old }
@@ -81,9 +83,9 @@ pub extern "C" fn llb_line(alloc: Global, it: &mut Llb, line: &[u8]) -> u8
     status
 }
 
-/// Runs a definition on the local trees with one worker; the output is the text of its result. Returns the status of `llbm run`: 0; 1 if a vertex failed, with
-/// its line in the messages; 2 if the definition is refused, or a local source has no tree; 3 if memory is refused. With 2 or 3 there is a line in the
-/// messages.
+/// Runs a definition on the local trees with one worker; the output is the text of the result. Returns the status of `llbm run`: 0 if the output is the whole
+/// text; 1 if a vertex failed, and then the messages have a line for each failed vertex; 2 if the definition is refused, or a local source has no tree; 3 if
+/// memory is refused. With 2 or 3 the messages have a line (with 3 they have none if memory for the line is refused).
 #[unsafe(no_mangle)]
 pub extern "C" fn llb_run(alloc: Global, it: &mut Llb, definition: &[u8]) -> u8
     requires { IsSound it.old }
@@ -143,7 +145,7 @@ pub extern "C" fn llb_dis(alloc: Global, it: &mut Llb, definition: &[u8]) -> u8
     status
 }
 
-/// Copies what fits of the last call's output to the front of a buffer, and returns the length of the whole.
+/// Copies as much of the last call's output as fits to the front of a buffer, and returns the length of the whole output.
 #[unsafe(no_mangle)]
 pub extern "C" fn llb_output(alloc: Global, it: &mut Llb, out: &mut [u8]) -> usize
     requires { IsSound it.old }
@@ -162,7 +164,7 @@ pub extern "C" fn llb_output(alloc: Global, it: &mut Llb, out: &mut [u8]) -> usi
     }
 }
 
-/// Copies what fits of the last call's messages to the front of a buffer, and returns the length of the whole.
+/// Copies as much of the last call's messages as fits to the front of a buffer, and returns the length of all messages.
 #[unsafe(no_mangle)]
 pub extern "C" fn llb_messages(alloc: Global, it: &mut Llb, out: &mut [u8]) -> usize
     requires { IsSound it.old }

@@ -20,7 +20,7 @@ const ENDED: u8 = 1;
 
 const NO_SESSION: u8 = 4;
 
-/// Copies what fits to the front of a buffer, and returns how many bytes there are.
+/// Copies as many bytes as fit to the front of a buffer, and returns how many bytes there are in all.
 pub(crate) fn copy_out(bytes: &[u8], out: &mut [u8]) -> usize
     ensures copied { out.new ≡ copied bytes.now out.old }
     ensures all { result ≡ length bytes.now }
@@ -43,7 +43,7 @@ fn clear(held: &mut Held)
     held.messages.clear();
 }
 
-/// Adds a local tree; if that fails, writes the reason to the messages.
+/// Adds a local tree; if no tree can be added, writes the reason to the messages.
 pub(crate) fn local(alloc: Global, held: &mut Held, name: &[u8], text: &[u8]) -> u8
     ensures { Added name.now text.now held.old held.new result }
 {
@@ -58,7 +58,8 @@ pub(crate) fn local(alloc: Global, held: &mut Held, name: &[u8], text: &[u8]) ->
     }
 }
 
-/// Opens a session in place of the one that is open, if any; if that fails, writes the reason to the messages.
+/// Opens a session, in place of the open session if there is one; if no session can be opened, writes the reason to the
+/// messages.
 pub(crate) fn open(alloc: Global, held: &mut Held, definition: &[u8], workers: u32) -> u8
     ensures { Opened definition.now workers held.old held.new result }
 {
@@ -77,7 +78,7 @@ pub(crate) fn open(alloc: Global, held: &mut Held, definition: &[u8], workers: u
     }
 }
 
-/// Replies to a line of the session that is open, if any; if that fails, writes the reason to the messages.
+/// Replies to a line of the open session, if there is one; if there can be no reply, writes the reason to the messages.
 pub(crate) fn reply(alloc: Global, held: &mut Held, line: &[u8]) -> u8
     ensures { Replied line.now held.old held.new result }
 {
@@ -102,7 +103,8 @@ pub(crate) fn reply(alloc: Global, held: &mut Held, line: &[u8]) -> u8
     }
 }
 
-/// Runs a definition on the local trees with one worker.
+/// Runs a definition on the local trees with one worker, and writes the text of the result to the output; returns the
+/// status of `llbm run`.
 pub(crate) fn run(alloc: Global, held: &mut Held, definition: &[u8]) -> u8
     ensures { Ran definition.now held.old held.new result }
 {
@@ -120,7 +122,7 @@ pub(crate) fn run(alloc: Global, held: &mut Held, definition: &[u8]) -> u8
     )
 }
 
-/// Shows the graph of a definition.
+/// Writes the text of a definition's graph to the output, and returns the status of `llbm show`.
 pub(crate) fn show(alloc: Global, held: &mut Held, definition: &[u8]) -> u8
     ensures { Shown definition.now held.old held.new result }
 {
@@ -129,7 +131,7 @@ pub(crate) fn show(alloc: Global, held: &mut Held, definition: &[u8]) -> u8
     show_over(alloc, &mut input, &mut held.output, &mut held.messages)
 }
 
-/// Assembles a text to a definition.
+/// Assembles a text, and writes the definition to the output; returns the status of `llbm asm`.
 pub(crate) fn assemble(alloc: Global, held: &mut Held, text: &[u8]) -> u8
     ensures { Assembled text.now held.old held.new result }
 {
@@ -138,7 +140,7 @@ pub(crate) fn assemble(alloc: Global, held: &mut Held, text: &[u8]) -> u8
     asm_over(alloc, &mut input, &mut held.output, &mut held.messages)
 }
 
-/// Disassembles a definition to a text.
+/// Disassembles a definition, and writes the text to the output; returns the status of `llbm dis`.
 pub(crate) fn disassemble(alloc: Global, held: &mut Held, definition: &[u8]) -> u8
     ensures { Disassembled definition.now held.old held.new result }
 {

@@ -20,7 +20,8 @@ enum Answer {
     LaidOver(Result<(), Memory>),
 }
 
-// Two trees, each with another that is equal to it; copies of the first tree, for two calls that take one; and an op with one action.
+// Two trees, each with another tree that is equal to it; copies of the first tree, one for each of two calls that take a tree; and an op with
+// one action.
 #[derive(Drop)]
 struct OnTrees {
     call: &'static str,
@@ -48,7 +49,8 @@ fn op_in(rt: &impl Abort, alloc: Global, written: &str) -> Op {
     read_op(alloc, entry.as_slice()).expect(rt, "an op")
 }
 
-// Returns the text of an op with one action: the action's member of the oneof, and its fields with a comma between them.
+// Returns the text of an op with one action. `action` is the action's member of the oneof, then `: ` and the action's fields with a comma
+// between them.
 fn op_text(rt: &impl Abort, alloc: Global, action: &str) -> String {
     let mut text = String::new(alloc);
     let (kind, fields) = action.split_once(": ").unwrap_or((action, ""));
@@ -60,7 +62,7 @@ fn op_text(rt: &impl Abort, alloc: Global, action: &str) -> String {
     text
 }
 
-// Returns the op of a call that is an action; for any other call an op that is not used.
+// Returns the op of the action that a call does; for a call that does no action, an op that is not used.
 fn op_of(rt: &impl Abort, alloc: Global, call: &str) -> Op {
     let action = if call.contains(": ") {
         call

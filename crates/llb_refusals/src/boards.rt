@@ -254,7 +254,7 @@ fn openings(rt: HostRuntime) {
     are_refused::<OnParts>(&rt, rt.alloc(), OPENINGS);
 }
 
-// A board, one that is equal to it, and one on which the event of the call was done; and jobs for calls that take one.
+// A board, another board that is equal to it, and a board on which the event of the call was done; and jobs for calls that take a job.
 #[derive(Drop)]
 struct OnBoard {
     call: &'static str,
@@ -313,12 +313,12 @@ fn board_called(board: &mut Board, call: &str) -> Answer {
     }
 }
 
-// Returns which worker works at which vertex, and whether the board is as it should be then.
+// Returns in words that worker `w` works at vertex `v`, and then `name`, which says whether the board is as it should be.
 fn printed_work(rt: &impl Abort, alloc: Global, w: u32, v: u32, name: &str) -> String {
     format!(in alloc; "{w} at {v}, {name}").expect(rt, "memory")
 }
 
-// Returns in words what a micro-step did, and then the name that is given.
+// Returns in words what a micro-step did, and then `name`, which says whether the board is as it should be.
 fn printed_stepped(rt: &impl Abort, alloc: Global, stepped: Stepped, name: &str) -> String {
     format!(in alloc; "{stepped:?}, {name}").expect(rt, "memory")
 }
@@ -419,9 +419,7 @@ impl Trial for OnBoard {
             Answer::Claimed(Err(fault)) => printed_fault(rt, alloc, fault),
             Answer::Stepped(Err(fault)) => printed_fault(rt, alloc, fault),
             Answer::Worked(Err(fault)) => printed_fault(rt, alloc, fault),
-            Answer::Copied(Err(fault)) | Answer::Events(Err(fault)) => printed_fault(
-                rt, alloc, fault,
-            ),
+            Answer::Copied(Err(fault)) | Answer::Events(Err(fault)) => printed_fault(rt, alloc, fault),
             _ => printed_text(rt, alloc, "nothing"),
         }
     }

@@ -1,7 +1,7 @@
 //! Leases of caches. A need is the ID and the mode of its key, with the tree that a new instance begins with; there is a comma between two needs.
 
 use super::growths::{Row, Trial, are_refused};
-use super::printed::{printed_fault, printed_text, text_of};
+use super::printed::{printed_fault, text_of, printed_text};
 use super::written::tree_named;
 use llb_cache::{Caches, Instance, Key, Lease, LeaseFault, Lent, Many, Memory, Mode, Need, Seed};
 use std::alloc::Global;
@@ -119,7 +119,7 @@ fn instances_of(rt: &impl Abort, alloc: Global, written: &'static str) -> Vec<In
 }
 
 impl OnCaches {
-    // Returns the number of the lease, the number of the instance for the lease's first need, and how many leases are current.
+    // Returns the number of a lease, the number of the instance that the lease has for its first need, and how many leases are current.
     fn printed_lease(&self, rt: &impl Abort, alloc: Global, lease: Lease) -> String {
         let number = lease.number();
         let mut instance = u32::MAX;
@@ -175,9 +175,7 @@ impl Trial for OnCaches {
             Answer::Copied(Ok(copy)) => printed_text(rt, alloc, self.printed_copy(copy)),
             Answer::Ready(Ok(_)) => printed_text(rt, alloc, "a lease that is ready"),
             Answer::Lease(Err(fault)) => printed_fault(rt, alloc, fault),
-            Answer::Copied(Err(fault)) | Answer::Ready(Err(fault)) => printed_fault(
-                rt, alloc, fault,
-            ),
+            Answer::Copied(Err(fault)) | Answer::Ready(Err(fault)) => printed_fault(rt, alloc, fault),
         }
     }
 

@@ -1,7 +1,7 @@
 //! Definitions as graphs, local trees, and plain outcomes.
 
 use super::growths::{Row, Trial, are_refused};
-use super::printed::{printed_fault, printed_numbers, printed_text, printed_tree, say, text_of};
+use super::printed::{printed_fault, printed_numbers, say, text_of, printed_text, printed_tree};
 use super::written::{definition_of, entries_of, graph_of, locals_of, tree_named};
 use llb_loader::{Graph, LoadFault, Locals, Memory, Row as Linked, link, load};
 use llb_plain::{Outcomes, PlainFault, evaluate};
@@ -20,7 +20,7 @@ enum Answer {
     Outcomes(Result<Outcomes, PlainFault>),
 }
 
-// A definition, its rows, and its graph and local trees, with equal copies of the graph and of the local trees; names and trees for two calls that take them.
+// A definition, its rows, its graph and local trees, with an equal copy of the graph and of the local trees; and names and trees for two calls that take them.
 #[derive(Drop)]
 struct OnGraph {
     call: &'static str,
@@ -96,7 +96,7 @@ fn printed_locals(rt: &impl Abort, alloc: Global, locals: &Locals) -> String {
     text
 }
 
-// Returns the first output of the last vertex.
+// Returns the text of the first output of the last vertex.
 fn printed_outcomes(rt: &impl Abort, alloc: Global, outcomes: &Outcomes) -> String {
     match outcomes.as_slice().last() {
         Some(outcome) => match outcome.output(0) {

@@ -6,9 +6,9 @@ use llb_samples::tree_text;
 use std::alloc::Global;
 use std::process::Abort;
 
-/// A call in words; what it is called on; its result in words if memory is refused; and its result if not. For a call that does not allocate the third text is
-/// empty. If the third text has several faults with ` and ` between them, each has to come; with ` or `, any may. The last text may be the name of a tree
-/// instead of the tree's text.
+/// A call in words; what it is called on; its result in words if memory is refused; and its result if no memory is refused. For a call that does not allocate
+/// the third text is empty. If the third text has several faults with ` and ` between them, each of them has to come; with ` or ` between them, any of them may
+/// come. The last text may be the name of a tree instead of the tree's text.
 pub(crate) type Row = (&'static str, &'static str, &'static str, &'static str);
 
 /// A call with what it needs, and its latest result.
@@ -22,7 +22,7 @@ pub(crate) trait Trial: Sized + Drop {
     /// Returns the result of the call in words.
     fn printed(&self, rt: &impl Abort, alloc: Global) -> String;
 
-    /// Returns whether what the call was made on is unchanged, by comparing it with another that was made in the same steps.
+    /// Returns whether what the call was made on is unchanged, by comparing it with an equal value that was made in the same steps.
     fn is_as_before(&mut self, rt: &impl Abort, alloc: Global) -> bool;
 }
 
@@ -35,17 +35,17 @@ const TELL: usize = 0x2000_0000_0000_0000;
 /// More growths than any call takes.
 pub(crate) const MOST: usize = 100_000;
 
-/// From now on refuses the growth with this number, if the library is loaded; else refuses none.
+/// Refuses, from now on, the growth with this number if the library is loaded; else refuses no growth.
 pub(crate) fn refuse(alloc: Global, k: usize) {
     let _ = Vec::<u8>::with_capacity(alloc, ASK | k);
 }
 
-/// From now on refuses the start of the thread with this number, if the library is loaded; else refuses none.
+/// Refuses, from now on, the start of the thread with this number if the library is loaded; else refuses no start.
 pub(crate) fn refuse_thread(alloc: Global, k: usize) {
     let _ = Vec::<u8>::with_capacity(alloc, START | k);
 }
 
-/// Returns whether a growth or a start of a thread was refused, and from now on refuses none.
+/// Returns whether a growth or a start of a thread was refused; from now on nothing is refused.
 pub(crate) fn was_refused(alloc: Global) -> bool {
     Vec::<u8>::with_capacity(alloc, TELL).is_ok()
 }
@@ -65,7 +65,8 @@ pub(crate) fn is_lack(printed: &str, lacks: &str) -> bool {
     false
 }
 
-// Returns the result in words if the growth with this number was refused, else `None`. Checks that a refusal changes nothing and the same call then succeeds.
+// Returns the result in words if the growth with this number was refused, else `None`. Checks that the refusal changes nothing, and that the same call then
+// succeeds.
 fn told_at<T: Trial>(rt: &impl Abort, alloc: Global, row: &Row, k: usize) -> Option<String> {
     let (call, on, lacks, wanted) = *row;
     let mut trial = T::ready(rt, alloc, row);
@@ -108,7 +109,7 @@ fn all_came(lacks: &str, came: &[String]) -> bool {
     true
 }
 
-// Refuses one growth after another, each in a call of its own, until the call has no such growth; returns the results.
+// Refuses one growth after another, each in a new call, until the call has no growth of that number; returns the results.
 fn growths<T: Trial>(rt: &impl Abort, alloc: Global, row: &Row) -> Vec<String> {
     let mut came = Vec::new(alloc);
     for k in 1..MOST {
@@ -120,7 +121,7 @@ fn growths<T: Trial>(rt: &impl Abort, alloc: Global, row: &Row) -> Vec<String> {
     panic!(rt; "no end of growths");
 }
 
-/// Prints how many growths were refused, the number of the fault or `none`, and the call.
+/// Prints how many growths of the call were refused, the number of the fault or `none`, and the call.
 pub(crate) fn print_count(rt: &impl Print, count: usize, row: &Row) {
     let (call, on, lacks, _) = *row;
     let number = if lacks.is_empty() { "none" } else { lacks };

@@ -1,7 +1,7 @@
 //! The program's commands, over readers and writers in memory that have room for all that is written.
 
 use super::growths::{MOST, Row, Trial, are_refused, is_lack, print_count, refuse, was_refused};
-use super::printed::{is_same, printed_bytes, printed_text, say};
+use super::printed::{printed_bytes, is_same, say, printed_text};
 use super::written::{definition_of, entries_text, locals_of};
 use llb_commands::{
     ReadFault, WordsFault, asm_over, command_of, dis_over, read_bounded, run_many_over, run_over,
@@ -55,7 +55,8 @@ impl Ran {
         None
     }
 
-    // Returns a status other than 0 with what is on `err`, else the first refusal that is written, else all that is written.
+    // Returns a status other than 0 with what is on `err`; for status 0 returns the first refusal that is written, or all that is written if there is no
+    // refusal.
     fn printed(&self, rt: &impl Abort, alloc: Global, is_text: bool) -> String {
         let (status, err) = (
             self.status,
@@ -177,7 +178,8 @@ impl Trial for OnInput {
     }
 }
 
-// Returns whether a session printed the beginning of what it should, or a refusal for want of memory followed by what the later commands then print.
+// Returns whether a session printed the beginning of what it should print, or printed a refusal for want of memory and then what the later commands print
+// after it.
 fn is_session(out: &str, wanted: &str) -> bool {
     match out.split_once("fault ") {
         None => wanted.starts_with(out),
@@ -196,7 +198,7 @@ fn is_text(text: &str, other: &str) -> bool {
     text == other
 }
 
-// Returns whether a row has this text before a refusal, the refusal, and this text after it.
+// Returns whether a row of `GONE_ON` has this text before a refusal, the refusal, and this text after it.
 fn is_row(before: &str, fault: &str, after: &str) -> bool {
     for (wanted, lacks, behind) in GONE_ON {
         if is_text(before, wanted) && is_lack(fault, lacks) && is_text(after, behind) {
@@ -236,22 +238,23 @@ const SETTLED: &str =
     "1 claim 0 0 -> file 1\n2 step 0 -> acted 0\n3 settle 0 -> 0 done\nstop\nback 2\n0 running 0\n\
     3 settle 0 -> 0 done\n";
 
-// For each command of the session: what is printed before it, the faults with which it fails if memory is refused, and what the later commands then print.
+// For each command of the session: what is printed before it, the faults with which it fails if memory is refused, and what the later commands print after
+// that.
 const GONE_ON: &[(&str, &str, &str)] = &[
-    // Without the breakpoint the run goes to its end.
+    // The refused `break` added no breakpoint, so the run goes to its end.
     (
         "",
         "174",
         "1 claim 0 0 -> file 1\n2 step 0 -> acted 0\n3 settle 0 -> 0 done\nend\nback 2\n0 running 0\n\
         3 settle 0 -> 0 done\nd 0755 0 0 /\nf 0644 0 0 6869 /a\n",
     ),
-    // Nothing was done.
+    // The refused `go` did no event.
     (
         "",
         "171 141 or 174",
         "fault 172\n0 ready\n1 claim 0 0 -> file 1\nnone\n",
     ),
-    // The settle was not taken back.
+    // The refused `back` did not take the settle back.
     (
         GONE,
         "174",
@@ -262,10 +265,10 @@ const GONE_ON: &[(&str, &str, &str)] = &[
         "174",
         "3 settle 0 -> 0 done\nd 0755 0 0 /\nf 0644 0 0 6869 /a\n",
     ),
-    // The vertex is not settled.
+    // The refused `next` did not settle the vertex.
     (LOOKED, "171 141 or 174", "none\n"),
     (SETTLED, "174", ""),
-    // The event was not done.
+    // The refused `next` did no event.
     (
         "",
         "171 141 or 174",
@@ -365,7 +368,7 @@ fn commands(rt: HostRuntime) {
     are_refused::<OnInput>(&rt, rt.alloc(), ROWS);
 }
 
-// The words of a command line, or bytes that are read up to a bound. Of the result only its text is kept.
+// The words of a command line, or bytes that are read up to a bound; and the result of the call in words.
 #[derive(Drop)]
 struct OnWords {
     call: &'static str,
@@ -443,7 +446,7 @@ fn run_many<R: Threads + Wait + Sync>(
     *status = run_many_over(rt, alloc, &mut input, out, err, locals, workers);
 }
 
-// Returns whether growth `k` of a run by two workers was refused. The status is then 3, or the run could do without that memory.
+// Returns whether growth `k` of a run by two workers was refused. If it was, the status is 3, or the run did without that memory.
 fn is_growth<R: Abort + Threads + Wait + Sync>(rt: &R, alloc: Global, row: &Row, k: usize) -> bool {
     let (_, on, lacks, wanted) = *row;
     let input = input_of(rt, alloc, "run_many_over", on);

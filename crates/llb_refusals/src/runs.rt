@@ -4,7 +4,7 @@ use super::boards::{Open, TWO_FILES, are_same, board_in, board_of, board_on};
 use super::growths::{
     MOST, Row, Trial, are_refused, is_lack, print_count, refuse, refuse_thread, was_refused,
 };
-use super::printed::{is_same, printed_fault, printed_text, printed_tree};
+use super::printed::{printed_fault, is_same, printed_text, printed_tree};
 use llb_board::{Board, Status, WorkerStatus};
 use llb_ready::{ReadyFault, ReadyQueue};
 use llb_samples::tree_text;
@@ -23,8 +23,8 @@ fn replayed(stepper: &mut Stepper, board: &Board) -> bool {
     stepper.replay(board.events().as_slice()).is_ok()
 }
 
-// Returns whether the record of a run leads from a board that was opened in the same way to the board at its end, and its length is the length of the record
-// before the run plus the workers' counts.
+// Returns whether the record of a run, replayed on a board that was opened in the same way, leads to the board at the run's end, and whether the record's
+// length is its length before the run plus the counts of the workers.
 fn is_replayed(alloc: Global, end: &RunEnd, opened: Board, before: usize) -> bool {
     let mut stepper = Stepper::new(alloc, opened);
     let mut made = before as u64;
@@ -36,7 +36,7 @@ fn is_replayed(alloc: Global, end: &RunEnd, opened: Board, before: usize) -> boo
         && made == end.board.events().len() as u64
 }
 
-// Returns the tree of the result of a run, or its fault.
+// Returns the tree of the result of a run, or the fault of the run.
 fn printed_end(rt: &impl Abort, alloc: Global, end: &RunEnd) -> String {
     let edge = end.board.graph().result();
     match (&end.fault, end.board.output(edge.vertex, edge.index)) {
@@ -55,7 +55,7 @@ struct OnRun {
 }
 
 impl OnRun {
-    // Returns the board to be run: first the one that was made, and then the one with which the first run ended.
+    // Returns the board to be run: first the board that was made, and then the board with which the first run ended.
     fn taken(&mut self) -> Option<Board> {
         match self.end.take() {
             Some(
@@ -92,7 +92,8 @@ impl Trial for OnRun {
         }
     }
 
-    // Returns whether the record is as it should be; events that were done before a refusal stay in it.
+    // Returns whether the record, replayed on a board that was opened in the same way, leads to the board at the end; the record keeps the events that were
+    // done before a refusal.
     fn is_as_before(&mut self, rt: &impl Abort, alloc: Global) -> bool {
         let opened = board_on(rt, alloc, &board_in(rt, self.on));
         match &self.end {
@@ -146,8 +147,8 @@ pub(crate) fn printed_alone(rt: &impl Abort, alloc: Global, board: Board) -> Str
     printed_end(rt, alloc, &alone(board))
 }
 
-// Returns whether growth `k` of a run in threads was refused. Such a run ends because of that, or can do without the memory; its record is right, and one
-// driver finishes it.
+// Returns whether growth `k` of a run in threads was refused. If it was, the run ends because of that, or does without the memory; its record is right, and
+// one driver finishes it.
 fn is_growth<R: Abort + Threads + Wait + Sync>(rt: &R, alloc: Global, row: &Row, k: usize) -> bool {
     let (_, on, lacks, wanted) = *row;
     let board = board_on(rt, alloc, &board_in(rt, on));
@@ -168,11 +169,7 @@ fn is_growth<R: Abort + Threads + Wait + Sync>(rt: &R, alloc: Global, row: &Row,
         made: _,
         fault: _,
     } = end;
-    is_same(
-        rt,
-        printed_alone(rt, alloc, board).as_str(),
-        tree_text(wanted),
-    );
+    is_same(rt, printed_alone(rt, alloc, board).as_str(), tree_text(wanted));
     is_refused
 }
 
@@ -239,8 +236,8 @@ fn run_by(board: &Board, k: usize) -> Option<u32> {
     }
 }
 
-// Returns whether thread `k` of a run could not be started. Such a run ends because of that; the vertex of the thread's worker is done, the record is right,
-// and one driver finishes the run.
+// Returns whether thread `k` of a run could not be started. If it could not, the run ends because of that; the vertex of the thread's worker is done, the
+// record is right, and one driver finishes the run.
 fn is_thread<R: Abort + Threads + Wait + Sync>(rt: &R, alloc: Global, row: &Row, k: usize) -> bool {
     let (_, on, fault, wanted) = *row;
     let written = board_in(rt, on);
@@ -251,11 +248,7 @@ fn is_thread<R: Abort + Threads + Wait + Sync>(rt: &R, alloc: Global, row: &Row,
     let end = crew(rt, alloc, board);
     let is_refused = was_refused(alloc);
     let printed = printed_end(rt, alloc, &end);
-    is_same(
-        rt,
-        printed.as_str(),
-        if is_refused { fault } else { wanted },
-    );
+    is_same(rt, printed.as_str(), if is_refused { fault } else { wanted });
     let opened = board_on(rt, alloc, &written);
     assert!(rt; is_replayed(alloc, &end, opened, before), "thread {k}");
     assert!(rt; is_done(&end.board, part), "thread {k}");
@@ -278,7 +271,8 @@ fn threads<R: Abort + Threads + Wait + Sync>(rt: &R, alloc: Global, row: &Row) -
     panic!(rt; "no end of threads");
 }
 
-// For each of these boards, each thread in turn can't be started. All workers but the first run something; in the last row only the second and the last.
+// For each of these boards, each thread in turn can't be started. All workers but the first run something; in the last row only the second and the last worker
+// run something.
 const THREADS: &[Row] = &[
     (
         "run_workers",

@@ -1,7 +1,7 @@
 //! Views, scripts, and commands on views.
 
 use super::growths::{Row, Trial, are_refused};
-use super::printed::{path_of, printed_fault, printed_text, printed_tree, say, text_of};
+use super::printed::{printed_fault, path_of, say, text_of, printed_text, printed_tree};
 use super::written::tree_named;
 use llb_applet::{Command, Joined, Script, ScriptFault, Setting, View, read_script, run_command};
 use llb_mount::Shown;
@@ -20,7 +20,8 @@ enum Answer {
     Ran(Result<u8, llb_applet::Memory>),
 }
 
-// The arguments of a script, its commands, where they run, and a view with an equal copy; mounts for two calls that take them.
+// The arguments of a script, its commands, where they run, and a view with an equal copy; and mounts for two calls that take
+// mounts.
 #[derive(Drop)]
 struct OnView {
     call: &'static str,
@@ -151,7 +152,7 @@ fn ran(alloc: Global, script: &Script, setting: &Setting, view: &mut View) -> An
     }
 }
 
-// Returns the trees of a view, each after a bar.
+// Returns the trees of a view, each after a `|`.
 fn printed_view(rt: &impl Abort, alloc: Global, view: &View) -> String {
     let mut text = String::new(alloc);
     for shown in view.mounts() {
@@ -243,9 +244,7 @@ impl Trial for OnView {
             Answer::Script(Err(fault)) | Answer::Command(Err(fault)) => {
                 printed_fault(rt, alloc, fault)
             }
-            Answer::Setting(Err(fault)) | Answer::Ran(Err(fault)) => printed_fault(
-                rt, alloc, fault,
-            ),
+            Answer::Setting(Err(fault)) | Answer::Ran(Err(fault)) => printed_fault(rt, alloc, fault),
         }
     }
 

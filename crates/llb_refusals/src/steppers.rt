@@ -18,7 +18,7 @@ enum Answer {
     Line(Result<Option<Text>, StepperFault>),
 }
 
-// A stepper, one that is equal to it, and events to be replayed.
+// A stepper, another stepper that is equal to it, and events to be replayed.
 #[derive(Drop)]
 struct OnStepper {
     call: &'static str,
@@ -99,7 +99,7 @@ impl OnStepper {
         }
     }
 
-    // Returns whether `go` leads to the same board on the stepper and on the one that is equal to it; takes the events back.
+    // Returns whether `go` leads to the same board on the stepper and on the stepper that is equal to it; then takes the events back.
     fn goes_alike(&mut self) -> bool {
         match (stop_of(&mut self.stepper), stop_of(&mut self.twin)) {
             (Some(stop), Some(other)) => {

@@ -35,7 +35,7 @@ GrantsNext (Some e) s text t = GrantsEvent e s text t
 abbrev pub stop_line : Bool → List ℕ
 stop_line at_break = if at_break then codes "stop\n" else codes "end\n"
 
--- a granted `go` changes stepper s to stepper t, and prints the lines of the events that it did, then how it ended
+-- a granted `go` changes stepper s to stepper t, and prints the lines of the events that the `go` did, and then the line that says how it ended
 pub record GrantsGo (s : Stepping) (text : List ℕ) (t : Stepping) : Type 0 where
   pub stop : Stop
   pub goes : IsGo s t stop
@@ -76,8 +76,8 @@ Refuses ask.Caches s fault = ⊥
 Refuses (ask.Cache k i) s fault = ⊥
 Refuses ask.Quit s fault = ⊥
 
--- The request may fail with this fault if memory is refused. `clear` and `quit` can't fail so. An event, `next` and `go` may fail with the board's `Memory`
--- or the stepper's; each other request may fail with the stepper's alone.
+-- The request may fail with this fault if memory is refused. `clear` and `quit` never fail for want of memory. An event, `next` and `go` may fail with the
+-- board's `Memory` (171 141) or the stepper's (174); every other request may fail with the stepper's alone.
 abbrev pub Wants : Request → StepperFault → Type 0
 Wants ask.Clear fault = ⊥
 Wants ask.Quit fault = ⊥
@@ -93,7 +93,7 @@ Wants (ask.WorkTree w i) fault = fault ≡ Memory
 Wants ask.Caches fault = fault ≡ Memory
 Wants (ask.Cache k i) fault = fault ≡ Memory
 
--- a request fails with this fault: memory was refused to the request, or there is another cause
+-- a request fails with this fault: for want of memory, as `Wants` says, or for another cause, as `Refuses` says
 abbrev pub FailsWith : Request → Stepping → StepperFault → Type 0
 FailsWith r s fault = (stepper_memory fault ≡ true → Wants r fault) × (stepper_memory fault ≡ false → Refuses r s fault)
 
@@ -111,12 +111,13 @@ pub record PrintsRefusal (r : Request) (s : Stepping) (text : List ℕ) (t : Ste
   pub printed : text ≡ fault_line fault
   pub same : t ≡ s
 
--- for a line that is no request, the reply is fault 173 with the line's number, or fault 174 if memory for that was refused; the stepper stays as it was
+-- for a line that is no request, the reply is fault 173 with the line's number, or fault 174 if memory for this reply was refused; the stepper is unchanged
 pub record PrintsNumber (s : Stepping) (n : ℕ) (text : List ℕ) (t : Stepping) : Type 0 where
   pub printed : (text ≡ fault_line (BadCommand n)) ⊎ (text ≡ fault_line Memory)
   pub same : t ≡ s
 
--- the reply to line n: for a request what it prints if it is granted, else the line of its refusal; for any other line fault 173 with n, or fault 174
+-- The reply to line n. A request that is granted prints its text, and one that is refused prints the line of its refusal. Any other line prints fault 173 with
+-- n, or fault 174.
 abbrev pub AnswersAs : Option Request → Stepping → ℕ → List ℕ → Stepping → Type 0
 AnswersAs None s n text t = PrintsNumber s n text t
 AnswersAs (Some r) s n text t = Grants r s text t ⊎ PrintsRefusal r s text t
@@ -126,7 +127,8 @@ abbrev pub MayFail : Option Request → Type 0
 MayFail None = ⊤
 MayFail (Some r) = Wants r Memory
 
--- the whole reply to line n, by its request if it is one; a line that is no request prints fault 173 with n, and changes nothing
+-- The whole reply to line n. A request that is granted prints its text, and one that is refused prints the line of its refusal. A line that is no request
+-- prints fault 173 with n, and changes nothing.
 abbrev pub RespondsAs : Option Request → Stepping → ℕ → List ℕ → Stepping → Type 0
 RespondsAs None s n text t = (text ≡ fault_line (BadCommand n)) × (t ≡ s)
 RespondsAs (Some r) s n text t = Grants r s text t ⊎ PrintsRefusal r s text t
@@ -135,14 +137,14 @@ RespondsAs (Some r) s n text t = Grants r s text t ⊎ PrintsRefusal r s text t
 abbrev pub Quits : List ℕ → Type 0
 Quits line = request_in line ≡ Some ask.Quit
 
--- The result of line n of a session: its whole reply, or no reply if it ends the session; t is the stepper afterwards. Or memory was refused for the line of
--- a refusal: then nothing is changed, and the line is neither `clear` nor `quit`.
+-- The result of line n of a session: its whole reply, or no reply if the line ends the session; t is the stepper afterwards. Or memory was refused for the line
+-- of a refusal; then nothing is changed, and line n is neither `clear` nor `quit`.
 abbrev pub Responds : Stepping → ℕ → List ℕ → Stepping → Result (Option (Vec ℕ Global)) AllocError → Type 0
 Responds s n line t (Ok (Some text)) = (¬ Quits line) × RespondsAs (request_in line) s n text.items t
 Responds s n line t (Ok None) = Quits line × (t ≡ s)
 Responds s n line t (Err e) = MayFail (request_in line) × (t ≡ s)
 
--- line n of a session, counted from 1, if it does not end the session: what it prints, and the stepper after it
+-- line n of a session, counted from 1, does not end the session: the text is its reply, and t is the stepper after it
 pub record Answers (s : Stepping) (n : ℕ) (line text : List ℕ) (t : Stepping) : Type 0 where
   pub goes_on : ¬ Quits line
   pub answers : AnswersAs (request_in line) s n text t

@@ -14,12 +14,12 @@ use Rattle.llb_session.specs.Answers.{Answers, Quits}
 abbrev pub IsLine : List ℕ → Type 0
 IsLine line = All (λ b. b ≢ 10) line
 
--- lines, each followed by a line end
+-- the bytes of some lines, each followed by a line end
 abbrev pub with_line_ends : List (List ℕ) → List ℕ
 with_line_ends [] = []
 with_line_ends (line ∷ lines) = line ++ 10 ∷ with_line_ends lines
 
--- the bytes are some lines, each followed by a line end, and then a rest without one
+-- the bytes are some lines, each followed by a line end, and then a rest without a line end
 pub record Spelled (lines : List (List ℕ)) (rest bytes : List ℕ) : Type 0 where
   pub are : bytes ≡ with_line_ends lines ++ rest
   pub each : All IsLine lines
@@ -38,7 +38,7 @@ Talks s n [] text t = (text ≡ []) × (t ≡ s)
 Talks s n (line ∷ lines) text t =
     (said : List ℕ) × (more : List ℕ) × (u : Stepping) × Answers s n line said u × Talks u (n + 1) lines more t × (text ≡ said ++ more)
 
--- the state of a conversation: the stepper, the number of the line that is being read, and the bytes of it so far
+-- the state of a conversation: the stepper, the number of the line that is being read, and the bytes of this line so far
 pub record Standing : Type 0 where
   pub session : Stepping
   pub number : ℕ
@@ -48,7 +48,8 @@ pub record Standing : Type 0 where
 abbrev pub opening : Stepping → Standing
 opening s = record { session = s; number = 1; line = [] }
 
--- after some bytes: the lines that they complete have got their replies, and the rest belongs to the line that is being read
+-- State p becomes state q by some bytes: the lines that the bytes complete have got their replies, and the bytes after the last line end belong to the line
+-- that is being read.
 pub record Talked (p : Standing) (bytes text : List ℕ) (q : Standing) : Type 0 where
   pub lines : List (List ℕ)
   pub spelled : Spelled lines q.line (p.line ++ bytes)
@@ -82,11 +83,11 @@ pub record CutShort (p : Standing) (bytes : List ℕ) (t : Stepping) (out : Stre
   pub split : said ≡ front ++ rest
   pub printed : IsWritten out (text ++ front)
 
--- the bytes end with a line end, and P holds of the bytes before it
+-- the bytes end with a line end, and P holds for the bytes before this line end
 abbrev pub AtLineEnd : List ℕ → (List ℕ → Type 0) → Type 0
 AtLineEnd heard P = (before : List ℕ) × (heard ≡ before ++ 10 ∷ []) × P before
 
--- all lines of an input have got their replies, also a last line without a line end
+-- all lines of an input have got their replies, and so has a last line without a line end
 pub record Concluded (s : Stepping) (input : List ℕ) (t : Stepping) (out : Stream) : Type 0 where
   pub lines : List (List ℕ)
   pub rest : List ℕ
@@ -110,8 +111,8 @@ pub record Conversation : Type 0 where
 abbrev pub AllHeard : Stream → List ℕ → Type 0
 AllHeard commands unheard = (unheard ≡ []) × IsAtEnd commands.after
 
--- How a conversation ends, by the bytes that it used and those that it read but did not use. A last line without a line end counts if it is not empty. If
--- the bound on reads was met, each read returned a byte or was interrupted.
+-- How a conversation ends, by the bytes that it used and the bytes that it read but did not use. A last line without a line end counts if it is not empty.
+-- If the bound on reads was met, each read returned at least one byte or was interrupted.
 abbrev pub EndsSo : Conversation → List ℕ → List ℕ → Result (Unit {0}) SessionFault → Type 0
 EndsSo c heard unheard (Ok u) =
     (AllHeard c.commands unheard × Concluded c.before heard c.after c.replies)
@@ -126,8 +127,8 @@ EndsSo c heard unheard (Err (Unending interrupted)) =
 EndsSo c heard unheard (Err Memory) = Answered (opening c.before) heard c.after c.replies
 EndsSo c heard unheard (Err TooLong) = (length heard ≡ c.limit) × (0 < length unheard) × Answered (opening c.before) heard c.after c.replies
 
--- A conversation reads bytes, in no more reads than `reads`, and uses them from the start, at most `limit` of them. Without a fault it
--- ends with the input or with a line that ends the session.
+-- A conversation reads some bytes and uses them from the start, at most `limit` of them. Without a fault it ends with the input or with a line that ends
+-- the session.
 pub record Converses (c : Conversation) (result : Result (Unit {0}) SessionFault) : Type 0 where
   pub heard : List ℕ
   pub unheard : List ℕ

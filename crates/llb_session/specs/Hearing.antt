@@ -8,7 +8,7 @@ use Rattle.llb_session.specs.Answers.{Answers, Quits}
 use Rattle.llb_session.specs.Streams.{Stream, IsKept, IsWritten, IsPartWritten}
 use Rattle.llb_session.specs.Conversation.{Talks, Talked, Standing, Answered, Quit, CutShort, AtLineEnd, last_line}
 
--- the state of a conversation, by what the code keeps of it
+-- the state of a conversation by its stepper and by what the code keeps: how many lines got a reply, and the bytes of the next line
 abbrev pub standing : Stepping → Pending → Standing
 standing s p = record { session = s; number = p.answered + 1; line = p.line.items }
 
@@ -33,13 +33,13 @@ IsLast p t out (Err (Unending interrupted)) = ⊥
 IsLast p t out (Err Memory) = ⊥
 IsLast p t out (Err TooLong) = ⊥
 
--- after some bytes: the replies to the lines that they complete are written
+-- the replies to the lines that some bytes complete are written; p is the state before these bytes, and q the state after them
 pub record Went (p : Standing) (bytes : List ℕ) (q : Standing) (out : Stream) : Type 0 where
   pub text : List ℕ
   pub talked : Talked p bytes text q
   pub printed : IsWritten out text
 
--- how the use of bytes ends: `heard` were used, and `unheard`, which follow them, were not
+-- how the use of bytes ends: the bytes `heard` were used, and the bytes `unheard`, which follow them, were not used
 abbrev pub IsHeard : Standing → List ℕ → List ℕ → Standing → Stream → Result Bool SessionFault → Type 0
 IsHeard p heard unheard q out (Ok true) = (unheard ≡ []) × Went p heard q out
 IsHeard p heard unheard q out (Ok false) = AtLineEnd heard (λ bytes. Quit p bytes q.session out)
@@ -49,7 +49,7 @@ IsHeard p heard unheard q out (Err (Failed kind)) = ⊥
 IsHeard p heard unheard q out (Err (Unending interrupted)) = ⊥
 IsHeard p heard unheard q out (Err TooLong) = ⊥
 
--- the bytes are used from the start, as `IsHeard` says; some at their end may remain unused
+-- the bytes are used from the start, as `IsHeard` says; some bytes at the end may remain unused
 pub record Hears (p : Standing) (bytes : List ℕ) (q : Standing) (out : Stream) (result : Result Bool SessionFault) : Type 0 where
   pub heard : List ℕ
   pub unheard : List ℕ

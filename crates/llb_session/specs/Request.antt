@@ -13,7 +13,7 @@ use Rattle.llb_session.specs.declared.request.Request.TheVariants as ask
 abbrev pub is_space : ℕ → Bool
 is_space b = b == 32
 
--- the word before the first space of a text, and the rest after it
+-- the word before the first space of a text, and the text after that space; nothing if there is no space
 abbrev pub parted : List ℕ → Option (List ℕ × List ℕ)
 parted text = if nat_lt (position_or_len is_space text) (length text) then Some (before_first is_space text, after_first is_space text) else None
 
@@ -25,7 +25,7 @@ number_in text = then_in (magnitude text) (below (2 ^ 32))
 abbrev pub pair_in : List ℕ → Option (ℕ × ℕ)
 pair_in text = then_in (parted text) (λ p. then_in (number_in p.0) (λ a. option_map (λ b. (a, b)) (number_in p.1)))
 
--- the request of a line of one word
+-- the request that a line of one word spells, if any
 abbrev pub alone : List ℕ → Option Request
 alone word =
     if is_text word (codes "clear") then Some ask.Clear
@@ -37,18 +37,18 @@ alone word =
     else if is_text word (codes "quit") then Some ask.Quit
     else None
 
--- a breakpoint at a vertex, by its word and the text after it
+-- the request for a breakpoint at a vertex, by the word `claim` or `settle` and the text after this word
 abbrev pub break_at : List ℕ → List ℕ → Option Request
 break_at word rest =
     if is_text word (codes "claim") then option_map (λ v. ask.Break (Claims v)) (number_in rest)
     else if is_text word (codes "settle") then option_map (λ v. ask.Break (Settles v)) (number_in rest)
     else None
 
--- the breakpoint by the text after `break`
+-- the request for a breakpoint, by the text after `break`
 abbrev pub break_in : List ℕ → Option Request
 break_in rest = if is_text rest (codes "fail") then Some (ask.Break Fails) else then_in (parted rest) (λ p. break_at p.0 p.1)
 
--- the request by the text after `work`: for a worker if the text is one number, for a worker and a tree if it is two
+-- the request by the text after `work`: one number is a worker, and two numbers are a worker and one of its trees
 abbrev pub work_by : List ℕ → Option ℕ → Option Request
 work_by rest (Some w) = Some (ask.Work w)
 work_by rest None = option_map (λ (p : ℕ × ℕ). ask.WorkTree p.0 p.1) (pair_in rest)
@@ -56,7 +56,7 @@ work_by rest None = option_map (λ (p : ℕ × ℕ). ask.WorkTree p.0 p.1) (pair
 abbrev pub work_in : List ℕ → Option Request
 work_in rest = work_by rest (number_in rest)
 
--- the request of a line by its first word and the text after it
+-- the request of a line by its first word and the text after this word
 abbrev pub word_with_rest : List ℕ → List ℕ → Option Request
 word_with_rest word rest =
     if is_text word (codes "break") then break_in rest
@@ -69,7 +69,7 @@ word_with_rest word rest =
     else if is_text word (codes "cache") then option_map (λ (p : ℕ × ℕ). ask.Cache p.0 p.1) (pair_in rest)
     else None
 
--- the request of a line, of one word or more
+-- the request of a line: by the line itself if it is one word, else by its first word and the text after this word
 abbrev pub by_words : List ℕ → Option (List ℕ × List ℕ) → Option Request
 by_words line None = alone line
 by_words line (Some p) = word_with_rest p.0 p.1

@@ -3,7 +3,8 @@ use Rattle.std.specs.Prelude.{ℕ, List, Option}
 use Rattle.std.specs.Io.KnownBytes.{Appends, Keeps}
 use Rattle.llb_wire.specs.Sink.{PartOut}
 
--- what a stream holds before and after a call, if that is known: an input the bytes still to be read, an output the bytes written so far
+-- what a stream holds before and after a call, if that is known: an input holds the bytes still to be read, and an output the bytes
+-- written so far
 pub record Stream : Type 0 where
   pub before : Option (List ℕ)
   pub after : Option (List ℕ)

@@ -39,7 +39,7 @@ abbrev pub status_line_of : ℕ → Option Status → List ℕ
 status_line_of v None = []
 status_line_of v (Some look) = status_line v look
 
--- the lines of the vertices with lower numbers than this
+-- the lines of the vertices whose numbers are lower than the given number
 unfoldable pub status_lines : BoardValue → ℕ → List ℕ
 status_lines b zero = []
 status_lines b (suc v) = status_lines b v ++ status_line_of v (look_at b.build b.state v)
@@ -63,7 +63,7 @@ abbrev pub tree_lines : Option TreeMap → List ℕ
 tree_lines None = codes "none\n"
 tree_lines (Some t) = tree_text t
 
--- the words for a tree that a worker works on
+-- the words for the role of a tree that a worker works on
 abbrev pub role_text : Role → List ℕ
 role_text Local = codes "local"
 role_text Input = codes "input"
@@ -80,16 +80,16 @@ abbrev pub role_line_of : ℕ → Option Role → List ℕ
 role_line_of i None = []
 role_line_of i (Some role) = role_line i role
 
--- the lines of a worker's trees with lower numbers than this
+-- the lines of a worker's trees whose numbers are lower than the given number
 unfoldable pub role_lines : List Role → ℕ → List ℕ
 role_lines roles zero = []
 role_lines roles (suc i) = role_lines roles i ++ role_line_of i (slice_get roles i)
 
--- a line for each of these trees; `none` if there are none
+-- a line for each tree of a worker, by the roles of the trees; `none` if there are no trees
 abbrev pub part_lines : List Role → List ℕ
 part_lines roles = if length roles == 0 then codes "none\n" else role_lines roles (length roles)
 
--- a line for each tree of what a worker runs; `none` if there are none
+-- a line for each tree that a worker works on; `none` if there are none
 abbrev pub work_lines : Option Workspace → List ℕ
 work_lines None = codes "none\n"
 work_lines (Some own) = part_lines (roles_of own)
@@ -100,12 +100,12 @@ mode_word Shared = codes "shared"
 mode_word Private = codes "private"
 mode_word Locked = codes "locked"
 
--- the text of a seed; `-` if there is none
+-- the text of a seed (the output that a new instance begins with); `-` if there is none
 abbrev pub seed_text : Option Seed → List ℕ
 seed_text None = codes "-"
 seed_text (Some s) = s.digest ++ (codes "." ++ decimal s.index)
 
--- the line for key k, which has n instances
+-- the line for key k of the caches, which has n instances
 abbrev pub key_line : ℕ → Key → ℕ → List ℕ
 key_line k key n =
     decimal k
@@ -117,7 +117,7 @@ abbrev pub key_line_of : List Row → ℕ → Option Key → List ℕ
 key_line_of rows k None = []
 key_line_of rows k (Some key) = key_line k key (length (trees_of rows key))
 
--- the lines of the keys with lower numbers than this
+-- the lines of the keys whose numbers are lower than the given number
 unfoldable pub key_lines : List Row → ℕ → List ℕ
 key_lines rows zero = []
 key_lines rows (suc k) = key_lines rows k ++ key_line_of rows k (slice_get (keys_of rows) k)

@@ -1,4 +1,4 @@
--- What a session's `go` prints, by the run of the whole record.
+-- What a session's `go` prints, in terms of the events and replies of the run of the whole record.
 use Rattle.std.specs.Prelude.{◌≡◌, ◌<◌, ◌-◌, ◌++◌, ℕ, Bool, List, length, codes, Some, slice_get}
 use Rattle.llb_model.specs.State.{opening}
 use Rattle.llb_events.specs.declared.event.Event.{Event}
@@ -9,20 +9,21 @@ use Rattle.llb_stepper.specs.Stepping.{Stepping}
 use Rattle.llb_session.specs.Answers.{GrantsGo, stop_line}
 use Rattle.llb_session.specs.Texts.{record_line, record_lines}
 
--- After a `go` from s to t: the record of t is a run from the board's opening to its state, and the line of each event that the `go` appended has the
--- event, its number, and its reply in that run.
+-- After a `go` from s to t: the record of t is a run from the board's opening to the board's state, and the line of each event that the `go` appended
+-- has the event, its number, and its reply in that run.
 pub record LinesOfTheRun (s t : Stepping) : Type 0 where
   pub replies : List Reply
   pub runs : run t.board.build (opening t.board.build t.board.opening) t.board.events ≡ Some (t.board.state, replies)
   pub each : (i : ℕ) (e : Event) (r : Reply) → length s.board.events < i → slice_get t.board.events (i - 1) ≡ Some e → slice_get replies (i - 1) ≡ Some r
       → record_line t i ≡ record_text t.board.build.graph.vertices i (e, r) ++ codes "\n"
 
--- The text is the lines of the run of t's whole record, one for each event that was appended to the record of s, and then `stop` or `end`.
+-- The text has a line for each event that was appended to the record of s, with the event's reply in the run of t's whole record, and then the line
+-- `stop` or `end`.
 pub record PrintsTheRun (s : Stepping) (text : List ℕ) (t : Stepping) : Type 0 where
   pub lines : LinesOfTheRun s t
   pub at_break : Bool
   pub printed : text ≡ record_lines t (length s.board.events) (length t.board.events - length s.board.events) ++ stop_line at_break
 
--- Whenever a `go` is granted on stepper s, its text is the lines of the run of the whole record, for the events that it did.
+-- Whenever a `go` is granted on stepper s, its text has the lines that the run of the whole record has for the events of the `go`.
 abbrev pub GoPrintsTheRun : Stepping → Type 0
 GoPrintsTheRun s = (text : List ℕ) (t : Stepping) → GrantsGo s text t → PrintsTheRun s text t

@@ -39,7 +39,7 @@ fn do_event(alloc: Global, stepper: &mut Stepper, event: Event) -> Result<Vec<u8
     }
 }
 
-// Does the chosen event, if there is one, and returns its line.
+// Does the chosen event and returns its line; returns the line `end` if there is no chosen event.
 fn do_next(alloc: Global, stepper: &mut Stepper) -> Result<Vec<u8>, StepperFault>
     ensures { IsPerformed ask.Next stepper.old stepper.new result }
 {
@@ -59,7 +59,7 @@ fn bytes_of(alloc: Global, text: &str) -> Result<Vec<u8>, AllocError>
     Ok(bytes)
 }
 
-// Returns the lines of a `go`, and how it ended.
+// Returns the lines of a `go`, with the last line, which says how the `go` ended.
 fn go_text(
     alloc: Global,
     stepper: &Stepper,
@@ -75,7 +75,7 @@ fn go_text(
     Ok(text)
 }
 
-// Does the chosen events up to a stop, and returns their lines; if memory for the lines is refused, takes them back.
+// Does the chosen events up to a stop, and returns their lines; if memory for the lines is refused, takes the events back.
 fn go(alloc: Global, stepper: &mut Stepper) -> Result<Vec<u8>, StepperFault>
     ensures { IsPerformed ask.Go stepper.old stepper.new result }
 {
@@ -107,7 +107,7 @@ fn status(alloc: Global, stepper: &mut Stepper) -> Result<Vec<u8>, StepperFault>
     Ok(status_text(alloc, stepper.board())?.into_bytes())
 }
 
-// Returns an output as text.
+// Returns the text of output `i` of vertex `v`, or the line `none` if there is no such tree.
 fn tree(alloc: Global, stepper: &mut Stepper, v: u32, i: u32) -> Result<Vec<u8>, StepperFault>
     ensures { IsPerformed (ask.Tree v i) stepper.old stepper.new result }
 {
@@ -121,7 +121,7 @@ fn work(alloc: Global, stepper: &mut Stepper, w: u32) -> Result<Vec<u8>, Stepper
     Ok(work_text(alloc, stepper.board().workspace(w))?.into_bytes())
 }
 
-// Returns a tree that a worker works on as text.
+// Returns the text of tree `i` that worker `w` works on, or the line `none` if there is no such tree.
 fn work_tree(alloc: Global, stepper: &mut Stepper, w: u32, i: u32) -> Result<Vec<u8>, StepperFault>
     ensures { IsPerformed (ask.WorkTree w i) stepper.old stepper.new result }
 {
@@ -135,14 +135,14 @@ fn caches(alloc: Global, stepper: &mut Stepper) -> Result<Vec<u8>, StepperFault>
     Ok(caches_text(alloc, stepper.board())?.into_bytes())
 }
 
-// Returns the tree of an instance as text.
+// Returns the text of the tree of instance `i` of key `k`, or the line `none` if there is no such tree.
 fn cache(alloc: Global, stepper: &mut Stepper, k: u32, i: u32) -> Result<Vec<u8>, StepperFault>
     ensures { IsPerformed (ask.Cache k i) stepper.old stepper.new result }
 {
     tree_text(alloc, stepper.board().cached(k, i))
 }
 
-// Does what is asked for, and returns what it prints; `clear` and `quit` never fail.
+// Does what a request asks for, and returns what it prints; `clear` and `quit` never fail.
 fn perform(alloc: Global, stepper: &mut Stepper, request: Request) -> Result<Vec<u8>, StepperFault>
     ensures performed { IsPerformed request stepper.old stepper.new result }
     ensures fails { IfErr result (λ _. Wants request refusal.Memory) }
@@ -167,8 +167,8 @@ fn perform(alloc: Global, stepper: &mut Stepper, request: Request) -> Result<Vec
     }
 }
 
-// Does what a line asks for, and returns what it prints; for a line that is no request, that is `fault 173` and the line's number. If memory for the line of a
-// refusal is refused, nothing is changed; neither `clear` nor `quit` is refused.
+// Does what a line asks for, and returns what it prints; for a line that is no request, returns `fault 173` and the line's number. If memory for the line of a
+// refusal is refused, the call fails and changes nothing; this never happens for `clear` and `quit`.
 fn respond_to(
     alloc: Global,
     stepper: &mut Stepper,
@@ -189,10 +189,10 @@ fn respond_to(
     Ok(fault_line(alloc, &fault)?.into_bytes())
 }
 
-/// Replies to line `number` of a session, counted from 1, on the stepper, and returns the whole reply: no text if the line is granted and prints nothing;
-/// `fault 173` and its number if the line is no request; `fault` and 171, 172 or 174 if what it asks for is refused, and then nothing is changed. Returns
-/// `None` if the line ends the session. Fails if memory for the line of a refusal is refused, and then nothing is changed either; neither `clear` nor a line
-/// that ends the session fails.
+/// Replies to line `number` of a session, counted from 1, on the stepper, and returns the whole reply. The reply is empty if the line is granted and prints
+/// nothing; it is `fault 173` and the number if the line is no request; it is `fault` and 171, 172 or 174 if the request is refused, and then nothing is
+/// changed. Returns `None` if the line ends the session. Fails if memory for the line of a refusal is refused, and then nothing is changed either; neither
+/// `clear` nor a line that ends the session fails.
 pub fn respond(
     alloc: Global,
     stepper: &mut Stepper,

@@ -42,7 +42,7 @@ fn say<W: Write>(
     }
 }
 
-// Takes one more byte. Returns false if it completes a line that ends the session.
+// Uses one more byte of the commands. Returns false if the byte completes a line that ends the session.
 fn hear<W: Write>(
     alloc: Global,
     session: &mut Stepper,
@@ -67,7 +67,7 @@ fn hear<W: Write>(
     Ok(goes_on)
 }
 
-// Takes bytes one by one, up to the end of a line that ends the session. Returns false if there is such a line.
+// Uses bytes one by one, up to the end of a line that ends the session. Returns false if there is such a line.
 fn hear_all<W: Write>(
     alloc: Global,
     session: &mut Stepper,
@@ -88,7 +88,7 @@ fn hear_all<W: Write>(
     Ok(true)
 }
 
-// Replies, at the end of the input, to a last line without its end.
+// Replies, at the end of the input, to a last line without a line end.
 fn conclude<W: Write>(
     alloc: Global,
     session: &mut Stepper,
@@ -105,9 +105,9 @@ fn conclude<W: Write>(
     Ok(())
 }
 
-/// Replies to the lines that are read from `commands`, each as soon as it has ended, under its number from 1, and flushes each reply before
-/// more is read. A last line without its end counts, unless it is empty. A line `quit` ends the session.
-/// At most `limit` bytes are used, and `reads` reads are made; an interrupted read is done again, and counts.
+/// Replies to the lines that are read from `commands` and numbered from 1, each as soon as its line end is read, and flushes each reply
+/// before it reads more. A last line without a line end counts, unless it is empty. A line `quit` ends the session. At most `limit` bytes are
+/// used, and at most `reads` reads are made; an interrupted read is done again, and counts as a read.
 pub fn converse<R: Read, W: Write>(
     alloc: Global,
     session: &mut Stepper,

@@ -11,11 +11,11 @@ use std::str::from_utf8;
 /// What a line of a session asks for.
 #[derive(Clone, Copy, Debug, PartialEq, Eq)]
 pub enum Request {
-    /// Adds that breakpoint.
+    /// Adds a breakpoint.
     Break(Break),
     /// Removes all breakpoints.
     Clear,
-    /// Does that event.
+    /// Does an event.
     Event(Event),
     /// Does the chosen event.
     Next,
@@ -39,7 +39,7 @@ pub enum Request {
     Quit,
 }
 
-// Returns a number of 32 bits, by its decimal digits.
+// Returns the number of 32 bits that a text spells in decimal digits.
 fn number(text: &str) -> Option<u32>
     ensures { result ≡ number_in text.now }
 {
@@ -83,7 +83,7 @@ fn alone(word: &str) -> Option<Request>
     }
 }
 
-// Returns a breakpoint at a vertex.
+// Returns the request for a breakpoint at a vertex, by the word `claim` or `settle` and the text after this word.
 fn break_at(word: &str, rest: &str) -> Option<Request>
     ensures { result ≡ break_at word.now rest.now }
 {
@@ -120,7 +120,7 @@ fn work_in(rest: &str) -> Option<Request>
     Some(Request::WorkTree(w, i))
 }
 
-// Returns what a line asks for by its first word and the rest after it.
+// Returns what a line asks for by its first word and the text after this word.
 fn word_with_rest(word: &str, rest: &str) -> Option<Request>
     ensures { result ≡ word_with_rest word.now rest.now }
 {
@@ -151,7 +151,7 @@ fn word_with_rest(word: &str, rest: &str) -> Option<Request>
     }
 }
 
-// Returns what a line asks for by its words.
+// Returns what a line of one word or more asks for.
 fn by_words(line: &str) -> Option<Request>
     ensures { result ≡ by_words line.now (parted line.now) }
 {

@@ -47,7 +47,7 @@ pub(crate) fn status_text(alloc: Global, board: &Board) -> Result<String, Steppe
     Ok(text)
 }
 
-// Appends the line of an event of the record, if it has one.
+// Appends the line of an event of the record; appends nothing if `Stepper::record_line` has no line for it.
 fn push_record(text: &mut String, stepper: &Stepper, number: u64) -> Result<(), StepperFault>
     ensures line { IfOk result (λ _. string_bytes text.new ≡ string_bytes text.old ++ record_line stepper.now number) }
     ensures memory { IfErr result (λ e. e ≡ refusal.Memory) }
@@ -58,7 +58,8 @@ fn push_record(text: &mut String, stepper: &Stepper, number: u64) -> Result<(), 
     Ok(())
 }
 
-/// Returns the line of an event of the record; `None` past its end, at 0, and for events that the board had when the stepper was made.
+/// Returns the line of an event of the record; an empty text past the end of the record, at 0, and for events that the board had when
+/// the stepper was made.
 pub(crate) fn line_text(
     alloc: Global,
     stepper: &Stepper,
@@ -154,7 +155,7 @@ fn parts_text(alloc: Global, workspace: &Workspace) -> Result<String, StepperFau
     Ok(text)
 }
 
-/// Returns a line for each tree of what a worker runs, or the line `none`.
+/// Returns a line for each tree that a worker works on, or the line `none` if there are none.
 pub(crate) fn work_text(
     alloc: Global,
     workspace: Option<&Workspace>,

@@ -1,4 +1,5 @@
--- The sets in which the breakpoints that an event meets are looked up, so that breakpoints are not tried one by one.
+-- The breakpoints of a stepper as sets, one for each kind of breakpoint at a vertex. The vertex of an event is looked up
+-- in these sets, so breakpoints are not tried one by one.
 use Rattle.std.specs.Prelude.{◌≡◌, ℕ, ◌==◌, ◌||◌, Bool, true, false, List}
 use Rattle.std.specs.List.{list_any}
 use Rattle.std.specs.Ordering.{nat_cmp}

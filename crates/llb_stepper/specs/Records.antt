@@ -37,7 +37,7 @@ failed_text v = decimal v ++ codes " failed"
 abbrev pub pair_text : ℕ → ℕ → List ℕ
 pair_text a b = decimal a ++ (codes " " ++ decimal b)
 
--- the text for a micro-step that faulted: the fault of an action, or, for a command, that it ran with its status
+-- the text for a micro-step that failed: for an action its fault, and for a command the word `ran`, its number and its status
 abbrev pub fault_text : VertexFault → List ℕ
 fault_text (vertex.Action a n) = codes "fault " ++ pair_text a n
 fault_text (vertex.Exit c s) = codes "ran " ++ pair_text c s
@@ -85,13 +85,13 @@ replied None e = None
 replied (Some b) None = None
 replied (Some b) (Some e) = option_map (λ (p : BoardValue × Reply). (e, p.1)) (answered b e)
 
--- event i of the board's record, counted from 1, with its reply; none if the board already had the event when the stepper was made
+-- event i of the board's record, counted from 1, with its reply; none if there is no event i, or the board already had it when the stepper was made
 abbrev pub record_at : Stepping → ℕ → Option (Event × Reply)
 record_at s i =
     if nat_le 1 i && nat_le i (length s.board.events) then replied (slice_get s.past (length s.board.events - i)) (slice_get s.board.events (i - 1)) else None
 
--- Each event and reply that `record_at` returns are those that the run of the whole record from the board's opening has there, and `record_at` returns an event
--- and a reply for each event that the stepper did.
+-- Each event and reply that `record_at` returns is the event and reply at that place in the run of the whole record from the board's opening; and `record_at`
+-- returns an event and a reply for each event that the stepper did.
 pub record RecordIsTheRun (s : Stepping) : Type 0 where
   pub sound : (i : ℕ) (e : Event) (r : Reply) (t : State) (replies : List Reply)
       → run s.board.build (opening s.board.build s.board.opening) s.board.events ≡ Some (t, replies) → record_at s i ≡ Some (e, r)

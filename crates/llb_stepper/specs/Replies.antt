@@ -6,8 +6,9 @@ use Rattle.llb_model.specs.Run.{run}
 use Rattle.llb_board.specs.Seen.{BoardValue, replies_in}
 use Rattle.llb_board.specs.Rules.{claim_of, step_of, settle_of, cancel_of}
 
--- For each call that does an event on board b: the reply that the call returns is the last of the replies of the record of the board after it. A call that
--- lands records n steps of worker w and its settle, which lead to board t: the replies to these events are the last ones of the record of t.
+-- For each call that does an event on board b: the reply that the call returns is the last of the replies of the record after the call. A call that lands an
+-- outcome appends n steps of worker w, and the worker's settle, to the record: the replies to these events are the last replies of the record of t, the
+-- board after the call.
 pub record RepliesAreRecorded (b : BoardValue) : Type 0 where
   pub claim : (w v : ℕ) (t : BoardValue) (r : Reply) → claim_of b w v ≡ Ok (t, r) → replies_in t ≡ replies_in b ++ r ∷ []
   pub step : (w : ℕ) (t : BoardValue) (r : Reply) → step_of b w ≡ Ok (t, r) → replies_in t ≡ replies_in b ++ r ∷ []

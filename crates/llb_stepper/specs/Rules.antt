@@ -21,11 +21,11 @@ stepper_memory fault.NothingBefore = false
 stepper_memory (fault.BadCommand n) = false
 stepper_memory fault.Memory = true
 
--- a call returns what its rule returns, or it fails for want of memory
+-- a call returns the result that its definition has for it, or it fails for want of memory
 abbrev pub GivesEvent : {X Y : Type 0} → (X → Y) → Result X StepperFault → Result Y StepperFault → Type 0
 GivesEvent = answer.Gives stepper_memory
 
--- the stepper after one event, or the board's refusal of it
+-- the stepper after one event, or the board's refusal of the event
 abbrev pub done_by : Stepping → Result (BoardValue × short.Reply) WalkFault → Result Stepping StepperFault
 done_by s (Ok p) = Ok (onward s p.0)
 done_by s (Err e) = Err (fault.Board e)

@@ -33,7 +33,7 @@ onward s b = record s { board = b; past = s.board ∷ s.past }
 abbrev pub lesser : ℕ → ℕ → ℕ
 lesser a b = if nat_lt a b then a else b
 
--- t is the stepper after the last event of s is taken back: over the same build, and with the same breakpoints
+-- t is the stepper after the last event of s is taken back: it has the same graph, local trees and breakpoints as s
 pub record GoesBack (s t : Stepping) : Type 0 where
   pub past : s.past ≡ t.board ∷ t.past
   pub build : t.board.build ≡ s.board.build
@@ -64,13 +64,14 @@ has_failed (Claimed job) = false
 has_failed (HasStepped s) = false
 has_failed (HasCancelled c) = false
 
--- whether an event with its reply meets a breakpoint: a claim of the vertex, a settle of the vertex, or a settle of a vertex that failed
+-- whether an event with its reply meets a breakpoint: it is a claim of the breakpoint's vertex, a settle of the breakpoint's vertex, or a settle of a failed
+-- vertex
 abbrev pub meets : Event → Reply → Break → Bool
 meets e r (stop.Claims v) = claims v e
 meets e r (stop.Settles v) = settles v r
 meets e r stop.Fails = has_failed r
 
--- whether an event meets one of the breakpoints, given what it leads to; a refused event meets none
+-- whether an event meets one of the breakpoints, by the board and the reply to which the event leads; a refused event meets none
 abbrev pub meets_by : List Break → Event → Option (BoardValue × Reply) → Bool
 meets_by breaks e None = false
 meets_by breaks e (Some p) = list_any (meets e p.1) breaks
@@ -96,13 +97,14 @@ abbrev pub meets_from : Option (BoardValue × Reply) → (BoardValue → Bool) �
 meets_from None go = false
 meets_from (Some p) go = go p.0
 
--- whether event k of a list, counted from 0, meets a breakpoint after the events before it; false if there is no event k, or it or one before it is refused
+-- whether event k of a list, counted from 0, meets a breakpoint after the events before it; false if there is no event k, or if event k or an event before it
+-- is refused
 unfoldable pub meets_at : List Break → BoardValue → List Event → ℕ → Bool
 meets_at breaks b [] k = false
 meets_at breaks b (e ∷ es) zero = meets_any breaks b e
 meets_at breaks b (e ∷ es) (suc k) = meets_from (answered b e) (λ c. meets_at breaks c es k)
 
--- the board as it was opened, with no event done yet
+-- the board as it was opened, before any event
 abbrev pub at_first : BoardValue → BoardValue
 at_first b = record b { state = opening b.build b.opening; rows = b.first; events = [] }
 
@@ -115,7 +117,7 @@ abbrev pub PastIsTheRecords : Stepping → Type 0
 PastIsTheRecords s = (k : ℕ) (c : BoardValue) → slice_get s.past k ≡ Some c
     → run_on (at_first s.board) (take (length s.board.events - (k + 1)) s.board.events) ≡ Some c
 
--- the present board and those before it, the latest first
+-- the present board and the boards before it, the latest first
 abbrev pub timeline : Stepping → List BoardValue
 timeline s = s.board ∷ s.past
 
@@ -124,8 +126,8 @@ abbrev pub EndsAt : Bool → List Break → BoardValue → List Event → ℕ �
 EndsAt true breaks b es n = (k : ℕ) × ((n ≡ k + 1) × (meets_at breaks b es k ≡ true))
 EndsAt false breaks b es n = (n ≡ length es) × ((k : ℕ) → k < n → meets_at breaks b es k ≡ false)
 
--- Stepper t is s after the shortest non-empty prefix of a list of events whose last event meets a breakpoint, or after the whole list if no event meets one;
--- its breakpoints are those of s.
+-- Stepper t is s after the shortest non-empty prefix of a list of events whose last event meets a breakpoint, or after the whole list if no event of the list
+-- meets a breakpoint; the breakpoints of t are those of s.
 pub record IsStop (s : Stepping) (es : List Event) (t : Stepping) (p : Stop) : Type 0 where
   pub leads : run_on s.board (take p.events es) ≡ Some t.board
   pub past : drop p.events (timeline t) ≡ timeline s
@@ -145,7 +147,7 @@ unfoldable pub AreChosen : BoardValue → List Event → Type 0
 AreChosen b [] = Unit {0}
 AreChosen b (e ∷ es) = (chosen b.build b.state ≡ Some e) × ChosenThen (answered b e) (λ c. AreChosen c es)
 
--- Stepper t is s after a `go`: chosen events were done, up to a stop; if none of them meets a breakpoint, no event is chosen any more on the board after them.
+-- Stepper t is s after a `go`: chosen events were done, up to a stop. If none of these events meets a breakpoint, the board after them has no chosen event.
 pub record IsGo (s t : Stepping) (p : Stop) : Type 0 where
   pub events : List Event
   pub are : AreChosen s.board events

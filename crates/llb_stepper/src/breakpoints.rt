@@ -1,5 +1,5 @@
-//! The breakpoints of a stepper: the list of them, and for each kind of breakpoint a set of vertices, in which the vertex of an event is looked up. So a
-//! look-up takes time in the logarithm of the number of breakpoints at most.
+//! The breakpoints of a stepper, as a list and as sets: a set of vertices for breakpoints at claims, and one for breakpoints at settles. The vertex of an
+//! event is looked up in these sets, so a look-up takes at most logarithmic time in the number of breakpoints.
 
 ghost use Rattle.std.specs.Prelude.{◌≡◌, ◌++◌, ◌∷◌, [], OnOk, OnErr};
 ghost use Rattle.std.specs.List.{list_any};
@@ -44,7 +44,7 @@ impl Model for Breakpoints {
 }
 
 impl Kinds {
-    // Returns the sets of no breakpoints.
+    // Returns sets without breakpoints.
     fn new(alloc: Global) -> Kinds
         ensures { AreKinds [] result }
     {
@@ -102,7 +102,7 @@ impl Kinds {
 }
 
 impl Breakpoints {
-    /// Returns a list of no breakpoints. Does not allocate.
+    /// Returns an empty list of breakpoints. Does not allocate.
     pub(crate) fn new(alloc: Global) -> Breakpoints
         ensures { result ≡ [] }
     {

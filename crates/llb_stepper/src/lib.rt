@@ -1,7 +1,7 @@
 //! Steps through a run, forwards and back: event by event, up to breakpoints, or over a given record. Each event that the stepper did can be taken back without
 //! allocating. It is built on `llb_board`, and changes the board only by its calls.
 //!
-//! Types: `Stepper` (a board, what takes back each event that was done on it, and breakpoints), `Break`, `Stop`, `StepperFault` (171 to 174).
+//! Types: `Stepper` (a board, what undoes each event that the stepper did on it, and breakpoints), `Break`, `Stop`, `StepperFault` (171 to 174).
 //! Promise: `Stepper::back` (`ok`, `fewer`, `none`) restores exactly the board before the last event. `Stepper::go` (`goes`, `err`) and
 //! `Stepper::replay` (`stops`, `err`) stop at the first event that meets a breakpoint. Laws: `record_is_the_run`, `past_is_the_records`,
 //! `replay_is_the_run`, `replies_are_recorded`.

@@ -1,4 +1,4 @@
-//! The stepper: the board, what takes back each event that the stepper did, and the breakpoints.
+//! The stepper: a board, what undoes each event that the stepper did, and the breakpoints.
 
 ghost use Rattle.std.specs.Prelude.{◌≡◌, ◌≤◌, ◌+◌, ◌++◌, ◌∷◌, [], length, drop, Bool, true, map, option_map, false, IfOk, IfErr};
 ghost use Rattle.std.specs.Prelude.{OnOk, OnErr, Some, string_bytes};
@@ -20,8 +20,8 @@ use llb_wire::Text;
 use std::alloc::Global;
 use std::marker::Model;
 
-/// A board, what takes back each event that the stepper did on it, and breakpoints. Contracts see the board, the boards before each of these events (the board
-/// before the last event comes first), and the breakpoints.
+/// A board, what undoes each event that the stepper did on it, and breakpoints. Contracts see the board, the breakpoints, and the board before each of these
+/// events (the board before the last event comes first).
 pub struct Stepper {
     alloc: Global,
     board: Board,
@@ -29,7 +29,7 @@ pub struct Stepper {
     breaks: Breakpoints,
 }
 
-// Written by hand, so that it is proved once; a derived one is proved again in every function that drops such a value.
+// Written by hand, so that it is proved once; a derived `drop` is proved again in every function that drops a stepper.
 impl Drop for Stepper {
     fn drop(self) {
         let Stepper {
@@ -112,7 +112,7 @@ impl Stepper {
         self.board.chosen()
     }
 
-    /// Goes back to the board before the last event; breakpoints stay. Fails with 172 if the stepper did no event, or all are taken back. Does not allocate.
+    /// Takes the last event back; breakpoints stay. Fails with 172 if the stepper did no event, or if all its events are taken back. Does not allocate.
     pub fn back(&mut self) -> Result<(), StepperFault>
         ensures ok { OnOk result (GoesBack self.old self.new) }
         ensures fewer { OnOk result (length self.old.board.events ≡ length self.new.board.events + 1) }
@@ -129,8 +129,8 @@ impl Stepper {
         }
     }
 
-    /// Returns the line of event `i` of the board's record, counted from 1, with its reply: `None` past the end, at 0, and for events that the board
-    /// had when the stepper was made. Fails with 174 alone.
+    /// Returns the line of event `i` of the board's record, counted from 1, with its reply: `None` past the end of the record, at 0, and for events that the
+    /// board had when the stepper was made. Fails with 174 alone.
     pub fn record_line(&self, i: u64) -> Result<Option<Text>, StepperFault>
         ensures line { IfOk result (λ o. option_map (λ t. t) o ≡ option_map (record_text self.now.board.build.graph.vertices i) (record_at self.now i)) }
         ensures memory { IfErr result (λ e. e ≡ fault.Memory) }
@@ -142,7 +142,7 @@ impl Stepper {
         Ok(Some(Text::new(line)))
     }
 
-    // Returns event `i` with its reply.
+    // Returns event `i` of the record with its reply; `None` if `record_line` returns no line for it.
     fn recorded(&self, i: u64) -> Option<(Event, Reply)>
         ensures { result ≡ option_map told_pair (record_at self.now i) }
     {
@@ -206,8 +206,8 @@ impl Stepper {
         self.back_by(if count < depth { count } else { depth });
     }
 
-    /// Does the chosen events, up to the first that meets a breakpoint, or until the board is complete; at least one event if the board is not complete before.
-    /// Fails with 171 141 or 174 alone; then all events that the call did are taken back.
+    /// Does the chosen events, up to the first that meets a breakpoint, or until the board is complete; does at least one event, unless the board is complete
+    /// at the start. Fails with 171 141 or 174 alone; then all events that the call did are taken back.
     pub fn go(&mut self) -> Result<Stop, StepperFault>
         ensures goes { IfOk result (IsGo self.old self.new) }
         ensures refused { IfErr result (λ e. stepper_memory e ≡ true) }
@@ -269,36 +269,37 @@ impl Stepper {
     }
 }
 
-/// A law: the chosen event is refused only for want of memory.
+/// Proves that the chosen event is refused only for want of memory.
 pub fn chosen_is_done(stepper: &Stepper)
     ensures { ChosenIsDone stepper.now }
 {
     chosen_is_granted(&stepper.board);
 }
 
-/// A law: doing any event and taking it back restores the board.
+/// Proves that doing any event and taking it back restores the stepper.
 pub fn there_and_back(stepper: &Stepper)
     ensures { ThereAndBack stepper.now }
 {
     let _ = &stepper.board;
 }
 
-/// A law: the board before the last `n` events is the one to which the record without its last `n` events leads, however those events were done.
+/// Proves that the board before the last `n` events is the board to which the record without its last `n` events leads, however these events were done.
 pub fn past_is_the_records(stepper: &Stepper)
     ensures { PastIsTheRecords stepper.now }
 {
     let _ = &stepper.board;
 }
 
-/// A law: the events and replies in the lines of a record are the events and replies of the run of the whole record from the board's opening.
+/// Proves that the events and replies in the lines of a record are the events and replies of the run of the whole record from the board's opening.
 pub fn record_is_the_run(stepper: &Stepper)
     ensures { RecordIsTheRun stepper.now }
 {
     let _ = &stepper.board;
 }
 
-/// A law: the record of a board, done again event by event on the board as it was opened, leads to the board, however its events were first done. So a stepper
-/// without breakpoints that begins with that opening board and replays the record is then on the board, with a line for each event of the record and its reply.
+/// Proves that the record of a board, done again event by event on the board as it was opened, leads to the board, however the events were first done. So a
+/// stepper without breakpoints that begins with the board as it was opened and replays the record ends on the board, with a line for each event of the record
+/// and its reply.
 pub fn replay_is_the_run(board: &Board)
     ensures leads { IsReplayed board.now }
     ensures lines { ReplaysOnAStepper board.now }
@@ -306,8 +307,8 @@ pub fn replay_is_the_run(board: &Board)
     board.replays();
 }
 
-/// A law: the reply that a call on a board returns is the last reply in the record of the board after the call. The calls are `claim`, `step`, `settle`,
-/// `cancel`, and `land`; with `land` the replies of its steps come before the reply of its settle.
+/// Proves that the reply that a call on a board returns is the last reply in the record of the board after the call. The calls are `claim`, `step`, `settle`,
+/// `cancel` and `land`; after `land` the last replies are those to the steps, and then the reply to the settle.
 pub fn replies_are_recorded(board: &Board)
     ensures { RepliesAreRecorded board.now }
 {

@@ -4,7 +4,7 @@ use std::alloc::Global;
 use std::io;
 use std::io::{ErrorKind, Read, Write};
 
-/// The result of a run.
+/// The result of a call: its status, and what it wrote.
 #[derive(Drop)]
 pub(crate) struct Ran {
     pub status: u8,
@@ -13,19 +13,21 @@ pub(crate) struct Ran {
 }
 
 impl Ran {
-    /// Returns whether this is the result.
+    /// Returns whether the call ended with this status, and wrote exactly `out` to standard output and `err` to standard error.
     pub(crate) fn is(&self, status: u8, out: &str, err: &str) -> bool {
         let texts = self.out.as_slice() == out.as_bytes() && self.err.as_slice() == err.as_bytes();
         self.status == status && texts
     }
 
-    /// Returns whether the run ended with status 3 and this line on standard error, after the first `length` bytes of the text.
+    /// Returns whether the call ended with status 3 and wrote the first `length` bytes of the text to standard output, and then
+    /// this line to standard error.
     pub(crate) fn is_cut(&self, text: &str, length: usize, line: &str) -> bool {
         let printed = self.out.len() == length && self.err.as_slice() == line.as_bytes();
         self.status == 3 && printed && text.as_bytes().starts_with(self.out.as_slice())
     }
 
-    /// Returns whether the run ended with status 3 and wrote only the first `length` bytes of the line, to standard error.
+    /// Returns whether the call ended with status 3 and wrote nothing but the first `length` bytes of the line, to standard
+    /// error.
     pub(crate) fn is_cut_line(&self, line: &str, length: usize) -> bool {
         let printed = self.out.is_empty() && self.err.len() == length;
         self.status == 3 && printed && line.as_bytes().starts_with(self.err.as_slice())

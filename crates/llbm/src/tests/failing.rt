@@ -33,7 +33,7 @@ fn needed(case: &Case) -> usize {
     }
 }
 
-// Returns devices of which only this one fails, after so many reads, writes or flushes.
+// Returns devices of which only `device` fails, after `room` reads, writes or flushes.
 pub(crate) fn rooms_of(device: Device, room: usize) -> Rooms {
     let mut rooms = AMPLE;
     match device {
@@ -47,7 +47,7 @@ pub(crate) fn rooms_of(device: Device, room: usize) -> Rooms {
     rooms
 }
 
-// Returns whether a call ended as it should if its device failed after so many reads, writes or flushes, which were too few.
+// Returns whether a call ended as it should, given that its device failed after `room` reads, writes or flushes, fewer than the call needs.
 fn is_failure(ran: &Ran, case: &Case, room: usize) -> bool {
     let (device, _, _, out, err) = case;
     match device {
@@ -232,7 +232,7 @@ fn commands_that_fail_have_their_whole_lines_answered(rt: HostRuntime) {
     assert!(rt; ends_after(&rt, alloc, rooms, 7, (0, "")));
 }
 
-// Each reply is flushed before the next line is read; `quit` has none.
+// Each reply is flushed before the next line is read; `quit` has no reply.
 #[test]
 fn answers_that_are_not_flushed_end_a_session(rt: HostRuntime) {
     let (alloc, flush) = (rt.alloc(), Device::Flush("fault 182\n"));

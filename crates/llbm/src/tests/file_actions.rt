@@ -1,4 +1,5 @@
-//! File actions: the tree after each, or the fault with which it fails. A copy takes its sources from the local tree `p`.
+//! File actions: the tree after each action, or the fault with which the action fails. A copy takes its sources from the
+//! local tree `p`.
 
 use super::transcripts::is_transcript;
 

@@ -85,7 +85,7 @@ fn nothing_follows_another_refusal(rt: HostRuntime) {
     }
 }
 
-// Words, and the beginning of their message that is written if standard error takes no more bytes than that.
+// Words, and the beginning of their message; standard error takes only as many bytes as this beginning has.
 const NARROW: &[(&str, &str)] = &[
     ("--help", "fau"),
     ("run -h", "fault 183\nRu"),

@@ -14,7 +14,7 @@ pub(crate) const SPELLED: &str = concat!(
     "== WRONG_WIRE_TYPE\nraw 0800\n",
     // A digest is not UTF-8.
     "== NOT_UTF8\nraw 0a030a01ff\n",
-    // `true` in a mount at the root; the cwd is written although it is empty.
+    // An exec of `true` with a mount at the root; its cwd is written although it is empty.
     "== EMPTY_CWD\nraw ",
     "121a",                   // exec, of 26 bytes
     "0a08",                   // meta, of 8
@@ -48,7 +48,7 @@ pub(crate) const SPELLED: &str = concat!(
     "0a0161",                 // ID "a"
     "1000",                   // sharing 0
     "\n",
-    // A copy with a pattern after a field that has no name here.
+    // A copy with a pattern that comes after a field for which the assembler has no name.
     "== PATTERN_LAST\nraw ",
     "221f",                   // file, of 31 bytes
     "121d",                   // actions, of 29
@@ -58,7 +58,7 @@ pub(crate) const SPELLED: &str = concat!(
     "7001",                   // field 14, which has no name
     "620161",                 // include_patterns "a"
     "\n",
-    // A copy with a pattern, and after the pattern the field that says to unpack archives.
+    // A copy with a pattern, and after the pattern the field that says that archives are to be unpacked.
     "== UNPACKING_LAST\nraw ",
     "221f",                   // file, of 31 bytes
     "121d",                   // actions, of 29

@@ -48,7 +48,7 @@ impl<'a> Sources for Shelf<'a> {
     }
 }
 
-// A call, as its line gives it.
+// A call, as its line in a transcript describes it.
 #[derive(Clone, Copy)]
 struct Call<'a> {
     words: &'a str,
@@ -70,7 +70,7 @@ fn call_in(line: &str) -> Call<'_> {
     }
 }
 
-// Returns a text in which each of these marks is replaced by a line end.
+// Returns a text in which each `|` is replaced by a line end.
 fn lines_ended(rt: &impl Abort, alloc: Global, text: &str) -> Bytes {
     let mut lines = Vec::new(alloc);
     for byte in text.as_bytes() {
@@ -80,7 +80,7 @@ fn lines_ended(rt: &impl Abort, alloc: Global, text: &str) -> Bytes {
     Bytes::new(lines)
 }
 
-/// Returns the definition of the entries that are written in a call, or its bytes.
+/// Returns the input of a call as bytes: the definition of the entries in the call, or the bytes or the text that the call has in place of entries.
 pub(crate) fn definition_of(rt: &impl Abort, alloc: Global, entries: &str) -> Bytes {
     if let Some(digits) = entries.strip_prefix("=") {
         return read_hex(alloc, digits)
@@ -109,7 +109,7 @@ fn lines_of(rt: &impl Abort, alloc: Global, commands: &str) -> String {
     text
 }
 
-// Returns devices that do so many reads, writes and flushes before they fail; standard input has these bytes.
+// Returns devices that fail after the numbers of reads, writes and flushes in `rooms`; standard input has these bytes.
 fn streams_of(alloc: Global, bytes: &[u8], rooms: Rooms) -> Streams<Slow<'_>, Narrow, Narrow> {
     let room = rooms.input;
     let mut out = Narrow::new(alloc, rooms.out);
@@ -158,7 +158,7 @@ pub(crate) fn ran_words<R: Abort + Threads + Wait + Sync>(
     ran(rt, alloc, &call_in(words), AMPLE)
 }
 
-/// Returns the result of a call whose devices do so many reads, writes and flushes before they fail.
+/// Returns the result of a call whose devices fail after the numbers of reads, writes and flushes in `rooms`.
 pub(crate) fn tried<R: Abort + Threads + Wait + Sync>(
     rt: &R,
     alloc: Global,
@@ -168,7 +168,7 @@ pub(crate) fn tried<R: Abort + Threads + Wait + Sync>(
     ran(rt, alloc, &call_in(call), rooms)
 }
 
-// Appends what was written, and a line that says so if it has no line end.
+// Appends what was written; if it does not end with a line end, appends a line that says so.
 fn say_bytes(rt: &impl Abort, text: &mut String, bytes: &[u8]) {
     let written = str::from_utf8(bytes).unwrap_or("no text\n");
     text.push_str(written).expect(rt, "memory");
@@ -212,7 +212,7 @@ fn say_call<R: Abort + Threads + Wait + Sync>(
     say_status(rt, text, ran.status);
 }
 
-// Appends a line of a transcript, and after a call its result.
+// Appends a line of a transcript; if the line is a call, appends the result of the call too.
 fn say_line<R: Abort + Threads + Wait + Sync>(
     rt: &R,
     alloc: Global,

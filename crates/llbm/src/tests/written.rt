@@ -2,9 +2,9 @@
 //!
 //! An entry is a name of `definitions`, `execution_definitions` or `spelled`, or else the content of an op, in pieces with ` | ` between them. A piece is a
 //! name of `pieces`, or a line of the assembler's text, or a mount: its input, its dest, and the names of pieces whose lines follow these two in the mount.
-//! `RESULT` is the terminal that names the entry before it. `act KIND | FIELD | ..` is an op with that one action on the output of the entry before it, whose
-//! second tree is the output of the first entry; and `sh TEXT` is an execution of that text, with the output of the entry before it at the root, or the empty
-//! tree if there is none.
+//! `RESULT` is the terminal that names the entry before it. `act KIND | FIELD | ..` is an op with that one action on the output of the entry before it; the
+//! second tree of the action is the output of the first entry. `sh TEXT` is an execution of that text, with the output of the entry before it at the root, or
+//! the empty tree if there is none.
 
 use super::definitions::ENTRIES;
 use super::execution_definitions::EXECUTIONS;
@@ -12,7 +12,7 @@ use super::pieces::PIECES;
 use super::spelled::SPELLED;
 use std::process::Abort;
 
-/// Returns the lines after the one with `== ` and this name; a description may follow the name after `:`.
+/// Returns the lines after the line with `== ` and this name; in that line a description may follow the name after `:`.
 pub(crate) fn block<'a>(text: &'a str, wanted: &str) -> Option<&'a str> {
     for block in text.split("== ") {
         if let Some((head, lines)) = block.split_once('\n') {
