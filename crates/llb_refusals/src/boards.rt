@@ -419,7 +419,9 @@ impl Trial for OnBoard {
             Answer::Claimed(Err(fault)) => printed_fault(rt, alloc, fault),
             Answer::Stepped(Err(fault)) => printed_fault(rt, alloc, fault),
             Answer::Worked(Err(fault)) => printed_fault(rt, alloc, fault),
-            Answer::Copied(Err(fault)) | Answer::Events(Err(fault)) => printed_fault(rt, alloc, fault),
+            Answer::Copied(Err(fault)) | Answer::Events(Err(fault)) => printed_fault(
+                rt, alloc, fault,
+            ),
             _ => printed_text(rt, alloc, "nothing"),
         }
     }

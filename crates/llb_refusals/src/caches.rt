@@ -1,7 +1,7 @@
 //! Leases of caches. A need is the ID and the mode of its key, with the tree that a new instance begins with; there is a comma between two needs.
 
 use super::growths::{Row, Trial, are_refused};
-use super::printed::{printed_fault, text_of, printed_text};
+use super::printed::{printed_fault, printed_text, text_of};
 use super::written::tree_named;
 use llb_cache::{Caches, Instance, Key, Lease, LeaseFault, Lent, Many, Memory, Mode, Need, Seed};
 use std::alloc::Global;
@@ -175,7 +175,9 @@ impl Trial for OnCaches {
             Answer::Copied(Ok(copy)) => printed_text(rt, alloc, self.printed_copy(copy)),
             Answer::Ready(Ok(_)) => printed_text(rt, alloc, "a lease that is ready"),
             Answer::Lease(Err(fault)) => printed_fault(rt, alloc, fault),
-            Answer::Copied(Err(fault)) | Answer::Ready(Err(fault)) => printed_fault(rt, alloc, fault),
+            Answer::Copied(Err(fault)) | Answer::Ready(Err(fault)) => printed_fault(
+                rt, alloc, fault,
+            ),
         }
     }
 

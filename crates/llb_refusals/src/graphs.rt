@@ -1,7 +1,7 @@
 //! Definitions as graphs, local trees, and plain outcomes.
 
 use super::growths::{Row, Trial, are_refused};
-use super::printed::{printed_fault, printed_numbers, say, text_of, printed_text, printed_tree};
+use super::printed::{printed_fault, printed_numbers, printed_text, printed_tree, say, text_of};
 use super::written::{definition_of, entries_of, graph_of, locals_of, tree_named};
 use llb_loader::{Graph, LoadFault, Locals, Memory, Row as Linked, link, load};
 use llb_plain::{Outcomes, PlainFault, evaluate};

@@ -1,7 +1,7 @@
 //! The program's commands, over readers and writers in memory that have room for all that is written.
 
 use super::growths::{MOST, Row, Trial, are_refused, is_lack, print_count, refuse, was_refused};
-use super::printed::{printed_bytes, is_same, say, printed_text};
+use super::printed::{is_same, printed_bytes, printed_text, say};
 use super::written::{definition_of, entries_text, locals_of};
 use llb_commands::{
     ReadFault, WordsFault, asm_over, command_of, dis_over, read_bounded, run_many_over, run_over,

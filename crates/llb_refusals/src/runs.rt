@@ -4,7 +4,7 @@ use super::boards::{Open, TWO_FILES, are_same, board_in, board_of, board_on};
 use super::growths::{
     MOST, Row, Trial, are_refused, is_lack, print_count, refuse, refuse_thread, was_refused,
 };
-use super::printed::{printed_fault, is_same, printed_text, printed_tree};
+use super::printed::{is_same, printed_fault, printed_text, printed_tree};
 use llb_board::{Board, Status, WorkerStatus};
 use llb_ready::{ReadyFault, ReadyQueue};
 use llb_samples::tree_text;
@@ -169,7 +169,11 @@ fn is_growth<R: Abort + Threads + Wait + Sync>(rt: &R, alloc: Global, row: &Row,
         made: _,
         fault: _,
     } = end;
-    is_same(rt, printed_alone(rt, alloc, board).as_str(), tree_text(wanted));
+    is_same(
+        rt,
+        printed_alone(rt, alloc, board).as_str(),
+        tree_text(wanted),
+    );
     is_refused
 }
 
@@ -248,7 +252,11 @@ fn is_thread<R: Abort + Threads + Wait + Sync>(rt: &R, alloc: Global, row: &Row,
     let end = crew(rt, alloc, board);
     let is_refused = was_refused(alloc);
     let printed = printed_end(rt, alloc, &end);
-    is_same(rt, printed.as_str(), if is_refused { fault } else { wanted });
+    is_same(
+        rt,
+        printed.as_str(),
+        if is_refused { fault } else { wanted },
+    );
     let opened = board_on(rt, alloc, &written);
     assert!(rt; is_replayed(alloc, &end, opened, before), "thread {k}");
     assert!(rt; is_done(&end.board, part), "thread {k}");

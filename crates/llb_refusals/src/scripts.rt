@@ -1,7 +1,7 @@
 //! Views, scripts, and commands on views.
 
 use super::growths::{Row, Trial, are_refused};
-use super::printed::{printed_fault, path_of, say, text_of, printed_text, printed_tree};
+use super::printed::{path_of, printed_fault, printed_text, printed_tree, say, text_of};
 use super::written::tree_named;
 use llb_applet::{Command, Joined, Script, ScriptFault, Setting, View, read_script, run_command};
 use llb_mount::Shown;
@@ -244,7 +244,9 @@ impl Trial for OnView {
             Answer::Script(Err(fault)) | Answer::Command(Err(fault)) => {
                 printed_fault(rt, alloc, fault)
             }
-            Answer::Setting(Err(fault)) | Answer::Ran(Err(fault)) => printed_fault(rt, alloc, fault),
+            Answer::Setting(Err(fault)) | Answer::Ran(Err(fault)) => printed_fault(
+                rt, alloc, fault,
+            ),
         }
     }
 
