@@ -1,5 +1,5 @@
-//! Why a call on a board is refused, other than the single events: an opening, a landing, an event of a walk, or refused memory. A fault prints
-//! its number, and after it the name of a missing tree. Whatever a refused call returns to its caller is in its fault.
+//! Why a call on a board fails, other than a single event: an opening, a landing, a call of `walk`, or a call that lacks memory. A fault prints
+//! its number, and after it the name of a missing tree. What was handed to a refused call comes back in the fault.
 
 ghost use Rattle.std.specs.Prelude.{Some};
 ghost use Rattle.llb_board.specs.Faults.{walk_text};
@@ -45,7 +45,7 @@ impl fmt::Debug for LandFault {
 /// Why a graph is not opened. The graph, the local trees and the caches are in the fault.
 #[derive(Drop, Error)]
 pub enum OpenFault {
-    /// 121: no tree is given for a local source; its name (the least such vertex's).
+    /// 121: a local source has no tree; the name of the first such source, by vertex.
     #[error("121 {0}")]
     MissingLocal(Text, Graph, Locals, Caches),
     /// 122: the number of workers is 0 or more than 64.
@@ -62,7 +62,7 @@ impl fmt::Debug for OpenFault {
     }
 }
 
-/// Why an event of a walk is refused: the fault of the claim, the step, the settle or the cancel, or `Memory`, whichever call ran out.
+/// Why `walk` refuses an event: the fault of the claim, the step, the settle or the cancel, or `Memory`, whichever call ran out of memory.
 #[derive(Debug, Drop)]
 pub enum WalkFault {
     /// 131 to 135.
@@ -151,7 +151,7 @@ impl From<Memory> for WalkFault {
     }
 }
 
-/// Converts the fault of keeping the parts of a view that a step can change.
+/// Converts the fault of copying the parts of a view that a step can change.
 impl From<llb_wire::Memory> for WalkFault {
     ghost use Rattle.std.specs.Prelude.{◌≡◌};
     ghost use Rattle.llb_board.specs.declared.fault.WalkFault.TheVariants as walk;
@@ -213,7 +213,7 @@ impl From<CancelFault> for WalkFault {
     }
 }
 
-/// Converts the fault of making room for events.
+/// Converts the fault of reserving room for events.
 impl From<Memory> for ClaimFault {
     ghost use Rattle.std.specs.Prelude.{◌≡◌};
     ghost use Rattle.llb_events.specs.declared.refusal.ClaimFault.TheVariants as claim;

@@ -1,4 +1,4 @@
-//! The record of events: a list that grows by one event at a time, in room that was reserved before.
+//! The record of events: a list that grows by one event at a time, in memory that was reserved before.
 
 ghost use Rattle.std.specs.Prelude.{◌≡◌, ◌==◌, ◌≤◌, ◌<◌, ◌∷◌, ◌++◌, [], length, IfOk, OnOk, OnErr, ◌+◌, ◌-◌};
 ghost use Rattle.llb_board.specs.History.{front, last_of};
@@ -11,7 +11,7 @@ use std::marker::Model;
 /// Events in their order. Contracts see the list of events, and for how many events memory is reserved.
 pub struct Events {
     items: Vec<Event>,
-    // For how many events memory is reserved, at least.
+    // Memory is reserved for at least this number of events.
     room: usize,
 }
 
@@ -77,7 +77,7 @@ impl Events {
         Ok(())
     }
 
-    /// Gives up room for `more` events.
+    /// Releases room for `more` events.
     pub(crate) fn give_room(&mut self, more: usize)
         ensures list { self.new.list ≡ self.old.list }
         ensures room { self.new.room ≡ self.old.room - more }
@@ -119,7 +119,7 @@ impl Events {
         self.items.is_empty()
     }
 
-    /// Returns a copy of the events alone, without further room. Fails with 141 `Memory` alone.
+    /// Returns a copy of the events, with no room for further ones. Fails with 141 `Memory` alone.
     pub fn copy(&self) -> Result<Events, Memory>
         ensures { IfOk result (λ e. e.list ≡ self.now.list) }
     {
