@@ -3,7 +3,7 @@ use Rattle.std.specs.Prelude.{ℕ, zero, suc, ◌+◌, ◌-◌, List, length, ta
 use Rattle.llb_events.specs.declared.event.Event.{Event}
 use Rattle.llb_events.specs.declared.event.Event.TheVariants.{Claim, Step, Settle, Cancel}
 
--- the events so far, and the number of events, these included, for which memory is reserved
+-- the events so far, and the number of events for which memory is reserved, the events so far included
 pub record Recorded : Type 0 where
   pub list : List Event
   pub room : ℕ
@@ -18,7 +18,7 @@ pub record HistoryValue : Type 0 where
   pub list : List Event
   pub space : Space
 
--- the room that a claim reserves for a vertex that takes at most `events` events and was cancelled n times: none at its first claim
+-- the room that a claim reserves for a vertex that takes at most `events` events and was cancelled n times: none if n is 0
 abbrev pub taken : ℕ → ℕ → ℕ
 taken events zero = 0
 taken events (suc n) = events
@@ -53,7 +53,7 @@ front xs = take (length xs - 1) xs
 abbrev pub last_of : {A : Type 0} → List A → Option A
 last_of xs = slice_get xs (length xs - 1)
 
--- the room and the counts before the last event, which is of vertex v, given those after it: the room of a claim is taken off, a cancel is no longer counted
+-- the room and the counts before the last event, an event of vertex v, given those after it: a claim's room is taken off, and a cancel is no longer counted
 abbrev pub space_back : Option Event → ℕ → ℕ → Space → Space
 space_back (Some (Claim w u)) v events s = unclaimed v events s
 space_back (Some (Step w)) v events s = s

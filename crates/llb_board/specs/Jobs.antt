@@ -1,4 +1,4 @@
--- The job that remains for a worker, and its seat (what it runs) after the job's micro-steps.
+-- The job that remains for a worker, and the worker's seat (what it runs) after the job's micro-steps.
 use Rattle.std.specs.Prelude.{◌≡◌, ℕ, ◌+◌, Bool, true, false, map, Option, Some, None}
 use Rattle.std.specs.List.{list_any}
 use Rattle.llb_cache.specs.declared.key.Mode.{Mode}
@@ -12,7 +12,7 @@ use Rattle.llb_execution.specs.Parts.{work_with}
 use Rattle.llb_board.specs.declared.workers.seat.Seat.{Seat}
 use Rattle.llb_board.specs.declared.workers.seat.Seat.TheVariants as seat
 
--- whether this mode lets several leases have one instance at once
+-- whether several leases can hold one instance of this mode at once
 abbrev pub is_shared : Mode → Bool
 is_shared Shared = true
 is_shared Private = false
@@ -22,7 +22,7 @@ is_shared Locked = false
 abbrev pub has_shared : Execution → Bool
 has_shared x = list_any (λ (p : Instance). is_shared p.key.mode) x.places
 
--- the job that remains for a worker: its present work, in the form in which a claim hands out a job
+-- the job that remains for a worker: the worker's present work, in the form in which a claim hands out a job
 abbrev pub job_now : Build → Store → ℕ → Execution → Job
 job_now b store w x = record {
   worker = w;
@@ -33,7 +33,7 @@ job_now b store w x = record {
   instances = map (λ (p : Instance). p.number) x.places;
 }
 
--- the job has the numbers of this worker and of the vertex that it runs, as many micro-steps are done in the job as by the worker, and none has faulted
+-- the job has the numbers of worker w and of the vertex that w runs, and the count of micro-steps that w has done; and none of these has faulted
 pub record IsBegun (w : ℕ) (x : Execution) (job : Job) : Type 0 where
   pub worker : job.worker ≡ w
   pub vertex : job.vertex ≡ x.vertex
