@@ -46,7 +46,7 @@ walk_memory (walk.Step e) = false
 walk_memory (walk.Settle e) = false
 walk_memory (walk.Cancel e) = false
 
--- the event by which a worker gives up its vertex: a settle or a cancel
+-- the event that ends an execution: a settle or a cancel
 abbrev pub end_of : End → ℕ → own_event.Event
 end_of end.Settle w = event.Settle w
 end_of end.Cancel w = event.Cancel w
@@ -61,16 +61,17 @@ abbrev pub not_running : End → WalkFault
 not_running end.Settle = walk.Settle no_settle.NotRunning
 not_running end.Cancel = walk.Cancel no_cancel.NotRunning
 
--- ---- what an event displaces (changes, and has to be kept to take the event back)
+-- ---- what an event displaces: what it changes, and what has to be kept to take the event back
 
 -- For a claim: the worker, the vertex, and what the claim's lease added to the caches. For a step: the worker, what the step can change in its workspace, and
--- the trees of its instances. For a settle or a cancel: which of the two, the worker, what it ran, and a prepared lease of its instances, if it had any.
+-- the trees of its instances. For a settle or a cancel: which of the two, the worker, what it ran, and, if it held instances, a lease of them that can be
+-- made without memory.
 pub data Back : Type 0 where
   Unclaim : ℕ → ℕ → List Growth → Back
   Unstep : ℕ → Mark → List TreeMap → Back
   Resume : End → ℕ → Left → Option LentValue → Back
 
--- what an event displaced, from which the event is taken back
+-- what an event displaced; this is enough to take the event back
 pub record Displaced : Type 0 where
   pub back : Back
 
@@ -137,7 +138,7 @@ pub record IsLeft (workers : List WorkerStatus) (w : ℕ) (left : Left) (lent : 
   pub keys : Distinct (map (λ (p : Instance). p.key) left.execution.places)
   pub ready : lent ≡ lent_of left.execution.places (length workers + 1)
 
--- the condition on the event's worker under which the event can be taken back: after a claim, the worker exists; after a step, `IsStepped`; else `IsLeft`
+-- the condition on the event's worker for taking the event back: after a claim, the worker exists; after a step, `IsStepped` holds; else `IsLeft` holds
 abbrev pub IsBehind : Back → List WorkerStatus → Type 0
 IsBehind (Unclaim w v growths) workers = w < length workers
 IsBehind (Unstep w mark trees) workers = IsStepped workers w mark trees

@@ -12,13 +12,13 @@ use Rattle.llb_execution.specs.Parts.{work_with}
 use Rattle.llb_board.specs.declared.workers.seat.Seat.{Seat}
 use Rattle.llb_board.specs.declared.workers.seat.Seat.TheVariants as seat
 
--- whether several leases can hold one instance of this mode at once
+-- whether several leases can hold one instance of a cache of this mode at once
 abbrev pub is_shared : Mode → Bool
 is_shared Shared = true
 is_shared Private = false
 is_shared Locked = false
 
--- whether an execution holds an instance that others may hold too
+-- whether an execution holds an instance that other executions may hold too
 abbrev pub has_shared : Execution → Bool
 has_shared x = list_any (λ (p : Instance). is_shared p.key.mode) x.places
 
@@ -45,7 +45,7 @@ pub record IsRunOf (b : Build) (store : Store) (w : ℕ) (x : Execution) (job : 
   pub clean : x.fault ≡ None
   pub same : job ≡ job_now b store w x
 
--- the seat of a worker after n more micro-steps with this result
+-- the seat of a worker after n more micro-steps, which left this fault and this workspace
 abbrev pub seat_left : ℕ → Option VertexFault → Workspace → Option Seat → Seat
 seat_left n fault view (Some (seat.Runs l x)) = seat.Runs l (record x { done = x.done + n; fault = fault; view = view })
 seat_left n fault view (Some seat.Idle) = seat.Idle

@@ -27,7 +27,7 @@ pub record CanLand (b : BoardValue) (w : ℕ) (job : Job) : Type 0 where
   pub alone : has_shared x ≡ false
   pub own : IsRunOf b.build b.state.store w x job
 
--- the worker runs a vertex and holds no instance of a shared cache, but the job is not what remains for it
+-- the worker runs a vertex and holds no instance of a shared cache, but the job is not the one that remains for the worker
 pub record RunsAlone (b : BoardValue) (w : ℕ) (job : Job) : Type 0 where
   pub x : Execution
   pub runs : slice_get b.state.workers w ≡ Some (Runs x)

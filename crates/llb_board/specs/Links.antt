@@ -89,7 +89,7 @@ AreRaised users old new = (length new ≡ length old) × ((x : ℕ) → x < leng
 abbrev pub is_marked : List Bool → ℕ → Bool
 is_marked marks x = get_or marks x false
 
--- a set that contains a vertex contains all users of that vertex too
+-- the set is closed: if it contains a vertex, it contains all users of that vertex
 abbrev pub IsClosed : List (List ℕ) → (ℕ → Bool) → Type 0
 IsClosed users p = (y x : ℕ) → p y ≡ true → Contains (get_or users y []) x → p x ≡ true
 

@@ -33,7 +33,7 @@ abbrev pub unless_held : List Need → Option Key → Result (List Need) ClaimFa
 unless_held needs None = Ok needs
 unless_held needs (Some k) = Err (claim.Held k)
 
--- a need of the model from a wanted cache (a cache that a mount of the vertex shows)
+-- the model's need for a wanted cache (a cache that a mount of the vertex shows)
 abbrev pub need_of : Wanted → Need
 need_of w = record { mount = w.mount; key = w.key; input = w.input }
 

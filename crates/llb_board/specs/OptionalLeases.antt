@@ -31,7 +31,7 @@ given_back c l = record c { out = out_without c.out l }
 abbrev pub taken_back : cache.CachesValue → Option ℕ → List Growth → cache.CachesValue
 taken_back c l gs = record (given_back c l) { rows = unmade c.rows (leased_places c.out l) gs }
 
--- a prepared lease of these instances; none if there are no instances
+-- a prepared lease of these instances (one that can be made without memory); none if there are no instances
 abbrev pub lent_of : List Instance → ℕ → Option LentValue
 lent_of [] room = None
 lent_of (p ∷ ps) room = Some (record { places = p ∷ ps; room = room })

@@ -10,8 +10,8 @@ use Rattle.llb_model.specs.Run.{run}
 use Rattle.llb_board.specs.Vertices.{VerticesValue}
 use Rattle.llb_board.specs.Workers.{WorkersValue, state_in}
 
--- what contracts see of a board: its build; what it was opened with; the rows of the caches, as handed in (`first`) and as they are now
--- (`rows`); the machine's state, which has the trees of the caches too; and the events so far
+-- what contracts see of a board: its build (the graph and its local trees); what it was opened with; the rows of the caches, as handed in
+-- (`first`) and as they are now (`rows`); the machine's state, which has the trees of the caches too; and the events so far
 pub record BoardValue : Type 0 where
   pub build : Build
   pub opening : Opening

@@ -11,8 +11,7 @@ use Rattle.llb_board.specs.declared.status.WorkerStatus.TheVariants as worker
 
 -- ---- what callers see
 
--- what callers see of a vertex with this status: a waiting vertex is Ready if the first flag is set, else Blocked if the second one is,
--- else Waiting
+-- what callers see of a vertex with this status: a waiting vertex is seen as Ready if `ready` holds, else as Blocked if `blocked` holds, else as Waiting
 abbrev pub look : Bool → Bool → model.Status → Status
 look ready blocked model.Waiting = if ready then seen.Ready else if blocked then seen.Blocked else seen.Waiting
 look ready blocked (model.Running w) = seen.Running w

@@ -1,4 +1,4 @@
--- The result of `walk`, what it keeps to take the event back, and the board after the event is taken back.
+-- The result of `walk`, what `walk` keeps to take the event back, and the board after the event is taken back.
 use Rattle.std.specs.Prelude.{◌≡◌, ℕ, ◌+◌, List, [], ◌∷◌, ◌++◌, length, map, Option, Some, Result, Ok, Err, slice_get, slice_set}
 use Rattle.llb_wire.specs.Answer as answer
 use Rattle.llb_cache.specs.Growth.{LentValue}
@@ -90,7 +90,7 @@ pub record IsLast (u : Displaced) (b : BoardValue) : Type 0 where
 pub record IsBegun (b : BoardValue) (w v : ℕ) : Type 0 where
   pub runs : slice_get b.state.statuses v ≡ Some (Running w)
 
--- after a step: worker w runs a vertex, and what is put back fits it
+-- after a step: worker w runs a vertex, and the mark and the trees that are put back fit what w runs
 pub record IsStepped (b : BoardValue) (w : ℕ) (mark : Mark) (trees : List TreeMap) : Type 0 where
   pub x : Execution
   pub runs : slice_get b.state.workers w ≡ Some (Runs x)

@@ -67,8 +67,7 @@ impl History {
         self.events.push_reserved(event);
     }
 
-    /// Appends a cancel, and adds one to the count of vertex `v`. There has to be room for the event, and the count so far is at most the number of
-    /// events.
+    /// Appends a cancel, and adds one to the count of vertex `v`. There has to be room for the event, and the count so far is at most the number of events.
     pub(crate) fn record_cancel(&mut self, w: u32, v: u32)
         requires room { length self.old.list < self.old.space.room }
         requires low { v < length self.old.space.cancels }

@@ -1,5 +1,4 @@
-//! Why a queue is not made, and why a number is not put into it. A fault prints its fault number, and 146 also the number that
-//! did not fit.
+//! Why a queue is not made, and why a number is not put into it. A fault prints its fault number, and 146 also the number that did not fit.
 
 use std::alloc::AllocError;
 use thiserror::Error;

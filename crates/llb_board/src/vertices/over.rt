@@ -35,8 +35,7 @@ pub(crate) fn is_ended(stages: &[Stage], stop_marks: &[bool], v: u32) -> bool
     }
 }
 
-/// Returns a number `n` at or after `from`, such that no vertex below `n` can be claimed now or later. The caller knows this of
-/// the vertices below `from`.
+/// Returns a number `n` at or after `from`, such that no vertex below `n` can be claimed now or later. The caller knows this of the vertices below `from`.
 pub(crate) fn first_open(
     build: &Build,
     stages: &[Stage],

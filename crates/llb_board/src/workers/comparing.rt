@@ -15,8 +15,7 @@ use llb_execution::Job;
 use llb_tree::Tree;
 use llb_wire::Same;
 
-/// Returns whether a job has this worker's number, and the execution's vertex and count of micro-steps done, and no micro-step of the execution
-/// has faulted.
+/// Returns whether a job has this worker's number, and the execution's vertex and count of micro-steps done, and no micro-step of the execution has faulted.
 pub(crate) fn is_begun(w: u32, execution: &Execution, job: &Job) -> bool
     ensures { IsTrue result ↔ IsBegun w (execution_of execution.now) job.now }
 {
