@@ -95,7 +95,7 @@ impl Model for Board {
 impl Board {
     /// Opens a board on which nothing has happened. Fails, in this order, with 121 `MissingLocal` and the name of the first local source, by
     /// vertex, that has no tree, with 122 `Workers` if the number of workers is 0 or more than 64, and with 123 `Memory`. The fault holds
-    /// the graph, the local trees and the caches. No lease of the caches may be current.
+    /// the graph, the local trees and the caches. The caches must have no current lease.
     pub fn open(
         alloc: Global,
         graph: Graph,
@@ -246,9 +246,9 @@ impl Board {
         self.workers.look(&self.vertices, w)
     }
 
-    /// Returns tree `i` of the trees that a worker works on now. For a source this is its local tree; for a file op, its inputs and then its results so far;
-    /// for a merge, its inputs and then the tree laid so far; for an exec, the trees of its mounts (of a cache mount, the tree of its instance as it is now).
-    /// `None` if the worker is idle, or there is no such worker or tree. Does not allocate.
+    /// Returns tree `i` of the trees that a worker works on now. A source has one such tree, its local tree; a file op has its inputs and then its results so
+    /// far; a merge has its inputs and then the tree laid so far; an exec has the trees of its mounts (for a cache mount, the tree of its instance as it is
+    /// now). Returns `None` if the worker is idle, or there is no such worker or tree. Does not allocate.
     pub fn worked_on(&self, w: u32, i: u32) -> Option<&Tree>
         ensures { option_map (λ t. t.now) result ≡ worked_on self.now.state w i }
     {
@@ -302,7 +302,7 @@ impl Board {
     }
 
     /// Returns the caches as they are now: each key with its instances, first the keys that were handed in, then the others in the order of
-    /// their first claims. The current leases have the instances of the running workers. Does not allocate.
+    /// their first claims. The current leases hold the instances of the running workers. Does not allocate.
     pub fn caches(&self) -> &Caches
         ensures rows { result.now.rows ≡ self.now.rows }
         ensures contents { store_of result.now.rows ≡ self.now.state.store }

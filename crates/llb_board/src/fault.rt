@@ -65,13 +65,13 @@ impl fmt::Debug for OpenFault {
 /// Why `walk` refuses an event: the fault of the claim, the step, the settle or the cancel, or `Memory`, whichever call ran out of memory.
 #[derive(Debug, Drop)]
 pub enum WalkFault {
-    /// 131 to 135.
+    /// 131 to 135: a claim is refused.
     Claim(ClaimFault),
-    /// 131, 136, 137.
+    /// 131, 136, 137: a step is refused.
     Step(StepFault),
-    /// 131, 136, 138.
+    /// 131, 136, 138: a settle is refused.
     Settle(SettleFault),
-    /// 131, 136.
+    /// 131, 136: a cancel is refused.
     Cancel(CancelFault),
     /// 141: memory was refused.
     Memory,

@@ -14,8 +14,8 @@ use std::alloc::{AllocError, Global};
 use std::marker::Model;
 use std::sync::Arc;
 
-/// For each vertex of a graph: its users (the vertices that have an edge to it), ascending, each once; and its count of open inputs (of the vertices that it
-/// has an edge to, how many are not done). Copies share the lists of users. `reached` is an empty list with room for all vertices; `spread` works in it.
+/// For each vertex of a graph: its users (the vertices that have an edge to it), ascending, each once; and its count of open inputs (how many of the vertices
+/// to which it has an edge are not done). Copies share the lists of users. `reached` is an empty list with room for all vertices; `spread` works in it.
 /// Contracts see the users and the counts, as lists.
 pub(crate) struct Links {
     users: Arc<Vec<Vec<u32>>>,

@@ -35,7 +35,7 @@ abbrev pub ActsAlike : Option ActionKind → TreeMap → TreeMap → Type 0
 ActsAlike a t v = (test : List ℕ → List ℕ → Bool) (u w : TreeMap) → RelatesBody (By test) a → AreAlike (By test) t u → AreAlike (By test) v w
     → BothResults (AreAlike (By test)) (act a t v) (act a u w)
 
--- on two alike views the command fails on both or has alike results, if appending keeps the relation, and the relation relates what the command writes
+-- on two alike views the command fails on both or has alike results, if appending keeps the relation, and `RelatesTexts` holds of the command
 abbrev pub RunsAlike : Setting → List Shown → Command → Type 0
 RunsAlike s v c = (test : List ℕ → List ℕ → Bool) (w : List Shown) → IsKept (By test) → RelatesTexts (By test) s c → AreAlikeViews (By test) v w
     → BothOptions (AreAlikeViews (By test)) (run s v c) (run s w c)
@@ -105,7 +105,7 @@ spelled table bytes = spelled_from table bytes 0 0
 abbrev pub has_mark : List ℕ → Bool
 has_mark bytes = list_any (λ b. b == 255) bytes
 
--- whether a command makes a digest of contents; no other command looks at contents
+-- whether a command makes a digest of contents; other commands only copy, join or extend contents, or do not read them
 abbrev pub digests : Command → Bool
 digests (command.Sha256 path out) = true
 digests command.True = false

@@ -29,8 +29,8 @@ pub fn acts_alike(action: &Action, base: &Tree, second: &Tree)
     let _ = second;
 }
 
-/// Proves that a command on two alike views fails on both, or results in alike views, if appending keeps the relation
-/// and relates each text that the command itself writes to itself, and digests of related contents to each other.
+/// Proves that a command on two alike views fails on both, or results in alike views, if appending keeps the relation and each text that the command itself
+/// writes is related to itself (a digest of contents: to the digest of related contents).
 pub fn runs_alike(setting: &Setting, view: &View, command: &Command)
     ensures { RunsAlike setting.now view.now command.now }
 {

@@ -2,7 +2,7 @@
 //! then the outcomes differ only in related contents. The crate has no code but the laws. `tools/build` relies on these laws: it gives the program a short
 //! token in place of each content. The crate is built on `llb_board`.
 //!
-//! Types: none; `specs/Laws.antt` has the relation on trees, views and outcomes.
+//! Types: none; `specs/Alike.antt` has the relation on trees, views and outcomes.
 //! Promise: `laws::contents_are_handed_on` (`tokens`, `contents`): tokens in the sources come out as the same tokens in the outcome of a vertex, if no exec at
 //! or before the vertex makes a listing, nothing there writes the byte 255, and the sources before each exec that makes a digest have no tokens.
 //! `laws::boards_settle_alike` says that what two boards have settled differs only in related contents, too.

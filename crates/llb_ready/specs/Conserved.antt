@@ -16,19 +16,19 @@ pub record IsConserved (v : Hand) (present : List ℕ) : Type 0 where
 abbrev pub Knows : Hand → List ℕ → Type 0
 Knows v present = HasAll v → IsConserved v present × (length present ≤ v.room)
 
--- By the numbers of the whole pass the queue has room: fewer numbers were put than were taken and have room together.
+-- The whole pass shows that the queue has room: fewer numbers were put than the sum of the numbers taken and the room.
 abbrev pub HasRoom : Hand → Type 0
 HasRoom v = length v.put < length v.taken + v.room
 
--- By the numbers of the whole pass the queue is full: as many numbers were put as were taken and have room together.
+-- The whole pass shows that the queue is full: as many numbers were put as the sum of the numbers taken and the room.
 abbrev pub HasNoRoom : Hand → Type 0
 HasNoRoom v = length v.put ≡ length v.taken + v.room
 
--- By the numbers of the whole pass the queue is empty: each number was taken as often as it was put.
+-- The whole pass shows that the queue is empty: each number was taken as often as it was put.
 abbrev pub HasTakenAll : Hand → Type 0
 HasTakenAll v = (length v.taken ≡ length v.put) × ((x : ℕ) → times x v.taken ≡ times x v.put)
 
--- By the numbers of the whole pass this number is in the queue: it was put more often than it was taken.
+-- The whole pass shows that this number is in the queue: it was put more often than it was taken.
 abbrev pub HasLeft : Hand → ℕ → Type 0
 HasLeft v x = times x v.taken < times x v.put
 

@@ -54,7 +54,7 @@ impl Events {
         self.items.push_reserved(event);
     }
 
-    /// Removes and returns the last event; `None` if there is none. The room stays.
+    /// Removes and returns the last event; `None` if there is none. The reserved room stays as it was.
     pub(crate) fn take_back(&mut self) -> Option<Event>
         ensures last { result ≡ last_of self.old.list }
         ensures list { self.new.list ≡ front self.old.list }

@@ -111,7 +111,7 @@ pub(crate) fn lend_again(caches: &mut Caches, lent: Option<Lent>) -> Option<Leas
     }
 }
 
-/// Replaces the trees of a lease's instances by these trees. Without a lease there are no trees.
+/// Replaces the trees of a lease's instances by these trees. If there is no lease, `trees` is empty.
 pub(crate) fn write_back(caches: &mut Caches, lease: Option<Lease>, trees: Vec<Tree>)
     requires count { length trees.items ≡ length (leased_places caches.old.out lease) }
     requires few { length trees.items < 2 ^ 32 }

@@ -64,7 +64,7 @@ pub(crate) fn wanted_by<'a>(
     }
 }
 
-/// Returns what a claim of a vertex would add to the caches, for each cache that it mounts. Fails with 141 `Memory` alone.
+/// Returns what a claim of a vertex would add to the caches, for each cache that the vertex mounts. Fails with 141 `Memory` alone.
 pub(crate) fn growths_of(
     alloc: Global,
     caches: &Caches,
