@@ -64,8 +64,7 @@ not_running end.Cancel = walk.Cancel no_cancel.NotRunning
 -- ---- what an event displaces: what it changes, and what has to be kept to take the event back
 
 -- For a claim: the worker, the vertex, and what the claim's lease added to the caches. For a step: the worker, what the step can change in its workspace, and
--- the trees of its instances. For a settle or a cancel: which of the two, the worker, what it ran, and, if it held instances, a lease of them that can be
--- made without memory.
+-- the trees of its instances. For a settle or a cancel: which of the two, the worker, what it ran, and a prepared lease of its instances, if it held any.
 pub data Back : Type 0 where
   Unclaim : ℕ → ℕ → List Growth → Back
   Unstep : ℕ → Mark → List TreeMap → Back
@@ -83,8 +82,7 @@ back_in (back.Resume e w x lent) = Resume e w (left_in x) lent
 
 -- ---- the event taken back
 
--- an execution after its last micro-step is taken back: one micro-step fewer is done, there is no fault, and the workspace has its earlier contents (`mark`)
--- again
+-- an execution after its last micro-step is taken back: one micro-step fewer is done, there is no fault, and the workspace is as it was (from `mark`)
 abbrev pub with_view_back : Mark → Execution → Execution
 with_view_back mark x = record x { done = x.done - 1; fault = None; own = put_back mark x.own }
 

@@ -59,8 +59,7 @@ pub record IsFound (c : cache.CachesValue) (w : Wanted) : Type 0 where
 abbrev pub place_found : Wanted → Instance
 place_found w = place w.key w.found.number
 
--- the tree that an instance begins with: its own tree if the instance exists, else the tree of the input that the mount names, or the empty tree if it
--- names none
+-- the tree that an instance begins with: its own tree if the instance exists, else the tree of the input that the mount names; if none, the empty tree
 abbrev pub first_tree : List TreeMap → Wanted → TreeMap
 first_tree inputs w = unwrap_or (option_map (λ t. t.now) w.found.tree) (base_in w.input inputs)
 

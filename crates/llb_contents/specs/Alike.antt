@@ -15,8 +15,7 @@ use Rattle.llb_applet.specs.Commands.{line, listed}
 use Rattle.llb_model.specs.Program.{MicroStep, ReadLocal, Act, LayInput, Run, Workspace, LocalTree, Files, Layers, Mounted, Work, Left}
 use Rattle.llb_model.specs.Outcome.{Ending, Done, Failed, Outcome, Ended, Blocked}
 
--- the relation relates the empty content to itself, and is kept by appending: if a and b are related, and c and d, so are a with c appended and b with d
--- appended
+-- the relation relates the empty content to itself, and is kept by appending: contents made by appending related contents to related ones are related
 pub record IsKept (R : List ℕ → List ℕ → Type 0) : Type 0 where
   pub empty : R [] []
   pub appended : (a b c d : List ℕ) → R a b → R c d → R (a ++ c) (b ++ d)

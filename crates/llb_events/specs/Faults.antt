@@ -41,8 +41,7 @@ cancel_text cancel.NotRunning = codes "136"
 
 -- ---- memory that a claim may need
 
--- whether a claim with this result in the table may need memory: the table grants the claim, or it refuses the claim since a key is held, and that key has a
--- text to copy
+-- whether a claim with this result in the table may need memory: the table grants the claim, or refuses it for a held key that has a text to copy
 abbrev pub claim_may_want : {A : Type 0} → Result A ClaimFault → Bool
 claim_may_want (Ok a) = true
 claim_may_want (Err (claim.Held k)) = has_text k
