@@ -93,9 +93,9 @@ impl Model for Board {
 }
 
 impl Board {
-    /// Opens a board on which nothing has happened. Fails, in this order, with 121 `MissingLocal` and the name of the first local source, by
-    /// vertex, that has no tree, with 122 `Workers` if the number of workers is 0 or more than 64, and with 123 `Memory`. The fault holds
-    /// the graph, the local trees and the caches. The caches must have no current lease.
+    /// Opens a board on which nothing has happened. Fails with the first of these that applies: 121 `MissingLocal`, with the name of the first local source, by
+    /// vertex, that has no tree; 122 `Workers`, if the number of workers is 0 or more than 64; 123 `Memory`. The fault holds the graph, the local trees and the
+    /// caches. The caches must have no current lease.
     pub fn open(
         alloc: Global,
         graph: Graph,

@@ -105,35 +105,35 @@ impl<T: Drop> From<AllocFailed<T>> for Memory {
     }
 }
 
-/// Converts the fault of a copy of caches.
+/// Converts the fault of copying caches.
 impl From<llb_cache::Memory> for Memory {
     fn from(_: llb_cache::Memory) -> Memory {
         Memory
     }
 }
 
-/// Converts the fault of a copy of a tree, which can only lack memory.
+/// Converts the fault of copying a tree, which fails only for want of memory.
 impl From<TreeFault> for Memory {
     fn from(_: TreeFault) -> Memory {
         Memory
     }
 }
 
-/// Converts the fault of a copy of a view.
+/// Converts the fault of copying a view.
 impl From<llb_wire::Memory> for Memory {
     fn from(_: llb_wire::Memory) -> Memory {
         Memory
     }
 }
 
-/// Converts the fault of a copy of a graph and of local trees.
+/// Converts the fault of copying a graph and local trees.
 impl From<llb_loader::Memory> for Memory {
     fn from(_: llb_loader::Memory) -> Memory {
         Memory
     }
 }
 
-/// Converts the fault of a copy of the directory and variables with which commands run.
+/// Converts the fault of copying the directory and the variables with which commands run.
 impl From<llb_applet::Memory> for Memory {
     fn from(_: llb_applet::Memory) -> Memory {
         Memory

@@ -116,8 +116,8 @@ pub fn runs_in_claim_order(board: &Board)
     board.replays();
 }
 
-/// Proves that chosen events, done one after another on a board that was just opened, leave vertices and cache instances as the order of their claims says (see
-/// `runs_in_claim_order`), shared caches included.
+/// Proves a law for a list of chosen events (see `Board::chosen`) after the opening, at whose end no vertex runs: the vertices and the cache instances, shared
+/// ones included, are then as if the claimed vertices had been run one after another, in the order of their claims.
 pub fn alone_in_claim_order(board: &Board)
     ensures { machine.AloneInClaimOrder board.now.build }
 {

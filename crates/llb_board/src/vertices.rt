@@ -215,7 +215,7 @@ impl Vertices {
         })
     }
 
-    /// Returns the vertex with a number; `None` past the last vertex.
+    /// Returns vertex `v`; `None` past the last vertex.
     pub(crate) fn vertex(&self, v: u32) -> Option<&Vertex>
         ensures there { option_map (λ x. x.now) result ≡ slice_get self.now.build.graph.vertices v }
         ensures few { length (program_at (slice_get self.now.build.graph.vertices v)).steps < 2 ^ 25 }
@@ -231,8 +231,8 @@ impl Vertices {
         self.build.locals()
     }
 
-    /// Returns the vertex with a number. Fails with 133 `NoVertex` if there is none, else with 134 `NotReady` if the vertex does not wait or an input of it
-    /// is not done. Does not allocate.
+    /// Returns vertex `v`. Fails with 133 `NoVertex` if there is none, else with 134 `NotReady` if the vertex does not wait or an input of it is not done.
+    /// Does not allocate.
     pub(crate) fn ready(&self, v: u32) -> Result<&Vertex, ClaimFault>
         ensures there { IfOk result (λ x. slice_get self.now.build.graph.vertices v ≡ Some x.now) }
         ensures kind { IfOk result (λ x. IsVertexOf x.now x.now.op.kind) }

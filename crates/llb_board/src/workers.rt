@@ -150,7 +150,7 @@ impl Workers {
         })
     }
 
-    /// Returns whether each worker does the same in both values, and the caches have the same trees; all is compared by value. Does not allocate.
+    /// Returns whether the workers do the same and the caches have the same trees as in `other`, compared by value. Does not allocate.
     pub(crate) fn same(&self, other: &Workers) -> bool
         ensures { IsTrue result ↔ ((self.now.workers ≡ other.now.workers) × (self.now.rows ≡ other.now.rows)) }
     {

@@ -2,7 +2,7 @@
 use Rattle.std.specs.Prelude.{◌≡◌, ℕ, ◌+◌, ◌*◌, ◌<◌, List, [], ◌∷◌, ◌++◌}
 use Rattle.llb_ready.specs.declared.hand.Hand.{Hand}
 
--- A pass with the fraction num/den of the whole, which knows the queue's room, and has put and taken these numbers.
+-- A pass: its fraction num/den of the whole, the queue's room, and the numbers that it has put and taken.
 abbrev pub hand : ℕ → ℕ → ℕ → List ℕ → List ℕ → Hand
 hand num den room put taken = record { num = num; den = den; room = room; put = put; taken = taken }
 
@@ -34,7 +34,7 @@ with_put v x = hand v.num v.den v.room (v.put ++ x ∷ []) v.taken
 abbrev pub with_taken : Hand → ℕ → Hand
 with_taken v x = hand v.num v.den v.room v.put (v.taken ++ x ∷ [])
 
--- A pass that is split keeps half of its fraction, and its numbers.
+-- A pass that is split keeps half of its fraction, and all numbers that it put and took.
 abbrev pub halved : Hand → Hand
 halved v = hand v.num (2 * v.den) v.room v.put v.taken
 

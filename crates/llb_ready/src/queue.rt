@@ -19,7 +19,8 @@ pub struct ReadyQueue {
     queue: RuledArrayQueue<u32, Hand, Fair>,
 }
 
-/// The right to put and take, held by one thread. It has no bytes; contracts see its fraction of the whole, and the numbers that were put and taken with it.
+/// The right to put and take, held by one thread. A pass takes no memory; contracts see its fraction of the whole, and the numbers that were put and taken
+/// with it.
 #[derive(Drop)]
 pub struct ReadyPass {
     pass: Pass<u32, Hand>,

@@ -1,5 +1,5 @@
-//! What holds of vertices with the same digest, in two graphs or on two boards. If you read only one contract, read the contract of `one_digest_one_outcome`.
-//! Its premise is that the two definitions do not collide: an entry of one and an entry of the other with the same digest are the same bytes.
+//! Laws of vertices with the same digest, in two graphs or on two boards. If you read only one contract, read the contract of `one_digest_one_outcome`. Its
+//! premise is that the two definitions do not collide: an entry of one and an entry of the other with the same digest are the same bytes.
 //! `parts_do_not_collide` says for which definitions this always holds.
 
 ghost use Rattle.llb_sharing.specs.Digests.{LoadWithoutCollision, PartsDoNotCollide, ShareOutcomes, DependOnSources};

@@ -8,7 +8,7 @@ use crate::fault::WalkFault;
 use crate::workers::Undo;
 use llb_events::{Cancelled, Event, Settled, Stepped};
 
-/// The reply of an event.
+/// The reply to an event; unlike the table's reply, the reply to a claim has no job.
 #[derive(Clone, Copy, Debug, PartialEq, Eq)]
 pub enum Reply {
     Claimed,

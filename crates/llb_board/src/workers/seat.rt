@@ -50,7 +50,7 @@ pub(crate) fn idle(alloc: Global, count: u32) -> Result<Vec<Seat>, AllocError>
     Ok(seats)
 }
 
-/// Returns the state of the worker of a number; `None` if there is no such worker.
+/// Returns the state of worker `w`; `None` if there is no such worker.
 pub(crate) fn seat_at(seats: &[Seat], w: u32) -> Option<&Seat>
     ensures seat { option_map (λ s. s.now) result ≡ slice_get seats.now w }
     ensures does { option_map (λ s. at_of s.now) result ≡ slice_get (map at_of seats.now) w }
@@ -58,7 +58,7 @@ pub(crate) fn seat_at(seats: &[Seat], w: u32) -> Option<&Seat>
     seats.get(w as usize)
 }
 
-/// Returns whether all micro-steps are done, or one has faulted.
+/// Returns whether all micro-steps of an execution are done, or one has faulted.
 pub(crate) fn is_finished(execution: &Execution, steps: u32) -> bool
     ensures { result ≡ (is_some execution.now.fault || nat_le steps execution.now.done) }
 {

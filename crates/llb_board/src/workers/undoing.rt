@@ -231,7 +231,7 @@ fn not_running(end: End) -> WalkFault
     }
 }
 
-// Returns what a claim of the vertex with a number would add to the caches; nothing past the last vertex.
+// Returns what a claim of vertex `v` would add to the caches; nothing past the last vertex.
 fn growths_at(
     alloc: Global,
     vertices: &Vertices,
