@@ -92,6 +92,6 @@ pub record IsBegunAt (vs : VerticesValue) (ws : WorkersValue) (w v : ℕ) (b : B
 abbrev pub IsBegunOn : VerticesValue → WorkersValue → BegunValue → Type 0
 IsBegunOn vs ws b = IsBegunAt vs ws b.job.worker b.job.vertex b
 
--- what is prepared for a claim, as the result that `WorkerRules` has for a claim
+-- the part of a prepared claim that is in the result of a claim (`Begun`): the execution, the reply and the needs
 abbrev pub rule_of : BegunValue → Begun
 rule_of b = record { execution = b.execution; reply = Claimed b.job; needs = b.needs }

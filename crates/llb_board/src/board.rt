@@ -63,7 +63,7 @@ pub struct Board {
     history: History,
 }
 
-// Written by hand, so that it is proved once; a derived one is proved again in every function that drops such a value.
+// This `Drop` is written by hand, so it is proved once; a derived `Drop` is proved again in every function that drops such a value.
 impl Drop for Board {
     fn drop(self) {
         let Board {
@@ -168,7 +168,7 @@ impl Board {
 
     /// Makes an idle worker claim a vertex that waits and has all its inputs, with an instance of each cache that the vertex mounts. Fails with 131 `NoWorker`,
     /// 132 `Busy`, 133 `NoVertex`, 134 `NotReady`, 135 `Held` and the first locked key whose instance a running worker has, or 141 `Memory`. If memory for the
-    /// text of that key is refused, it fails with 141 in place of 135; 141 for other memory is reported only if 135 does not apply. The claim of a vertex that
+    /// text of that key is refused, the call fails with 141 in place of 135; 141 for other memory is reported only if 135 does not apply. The claim of a vertex that
     /// was cancelled before reserves room for its events once more.
     pub fn claim(&mut self, w: u32, v: u32) -> Result<Job, ClaimFault>
         ensures gives { GivesClaim (λ job. (self.new, Claimed job)) result (claim_of self.old w v) }
@@ -323,7 +323,7 @@ impl Board {
         }
     }
 
-    /// Returns the graph, the local trees and the caches as they are now, without leases. Does not allocate.
+    /// Gives back all leases, and returns the graph, the local trees and the caches as they are now. Does not allocate.
     pub fn into_parts(self) -> (Graph, Locals, Caches)
         ensures graph { result.0 ≡ self.build.graph }
         ensures locals { result.1 ≡ self.build.locals }

@@ -19,7 +19,7 @@ pub(crate) struct History {
     cancels: Vec<usize>,
 }
 
-// Written by hand, so that it is proved once; a derived one is proved again in every function that drops such a value.
+// This `Drop` is written by hand, so it is proved once; a derived `Drop` is proved again in every function that drops such a value.
 impl Drop for History {
     fn drop(self) {
         let History {

@@ -23,7 +23,7 @@ pub(crate) struct Links {
     reached: Vec<u32>,
 }
 
-// Written by hand, so that it is proved once; a derived one is proved again in every function that drops such a value.
+// This `Drop` is written by hand, so it is proved once; a derived `Drop` is proved again in every function that drops such a value.
 impl Drop for Links {
     fn drop(self) {
         let Links {

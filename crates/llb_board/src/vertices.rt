@@ -47,7 +47,7 @@ pub(crate) struct Vertices {
     first_open: u32,
 }
 
-// Written by hand, so that it is proved once; a derived one is proved again in every function that drops such a value.
+// This `Drop` is written by hand, so it is proved once; a derived `Drop` is proved again in every function that drops such a value.
 impl Drop for Vertices {
     fn drop(self) {
         let Vertices {

@@ -41,7 +41,7 @@ pub(crate) struct Workers {
     caches: Caches,
 }
 
-// Written by hand, so that it is proved once; a derived one is proved again in every function that drops such a value.
+// This `Drop` is written by hand, so it is proved once; a derived `Drop` is proved again in every function that drops such a value.
 impl Drop for Workers {
     fn drop(self) {
         let Workers {
@@ -94,7 +94,7 @@ impl Workers {
         &self.caches
     }
 
-    /// Returns the caches as they are, without leases. Does not allocate.
+    /// Gives back all leases, and returns the caches as they are now. Does not allocate.
     pub(crate) fn into_caches(self) -> Caches
         ensures rows { result.rows ≡ self.rows }
         ensures free { result.out ≡ [] }

@@ -107,7 +107,7 @@ AreAlikeWorkspaces R (Layers inputs t) (Layers others u) = BothLists (AreAlike R
 AreAlikeWorkspaces R (Mounted mounts caches last) (Mounted others numbers status) = AreAlikeViews R mounts others × (caches ≡ numbers) × (last ≡ status)
 AreAlikeWorkspaces R _ _ = ⊥
 
--- two works that are equal, except that their trees need only be alike
+-- two works (a workspace, and the trees of its cache instances) that are equal, except that their trees need only be alike
 pub record AreAlikeWorks (R : List ℕ → List ℕ → Type 0) (x y : Work) : Type 0 where
   pub own : AreAlikeWorkspaces R x.own y.own
   pub trees : BothLists (AreAlike R) x.trees y.trees

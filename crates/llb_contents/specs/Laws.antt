@@ -22,7 +22,7 @@ use Rattle.llb_contents.specs.Alike.{BothResults, AreAlikeViews, RelatesTexts, R
 
 -- ---- steps of a run
 
--- the relation of two contents that a test decides: it holds if the test returns true
+-- two contents are related if the test returns true for them
 abbrev pub By : (List ℕ → List ℕ → Bool) → List ℕ → List ℕ → Type 0
 By test a b = test a b ≡ true
 
@@ -78,7 +78,7 @@ HandsRelationsOn g = (test : List ℕ → List ℕ → Bool) → IsKept (By test
 abbrev pub ExpandsTo : (List ℕ → Option (List ℕ)) → List ℕ → List ℕ → Type 0
 ExpandsTo expand a b = expand a ≡ Some b
 
--- `HandsOn` for each expansion that appending keeps: if contents of sources expand to other contents, so do the contents of the outcomes
+-- `HandsOn` holds for each expansion that appending keeps: if contents of sources expand to others, so do the contents of the outcomes
 abbrev pub HandsExpansionsOn : Numbered → Type 0
 HandsExpansionsOn g = (expand : List ℕ → Option (List ℕ)) → IsKept (ExpandsTo expand) → HandsOn (ExpandsTo expand) g
 

@@ -4,8 +4,8 @@
 //!
 //! Types: none; `specs/Alike.antt` has the relation on trees, views and outcomes.
 //! Promise: `laws::contents_are_handed_on` (`tokens`, `contents`): tokens in the sources come out as the same tokens in the outcome of a vertex, if no exec at
-//! or before the vertex makes a listing, nothing there writes the byte 255, and the sources before each exec that makes a digest have no tokens.
-//! `laws::boards_settle_alike` says that what two boards have settled differs only in related contents, too.
+//! or before the vertex makes a listing, nothing there writes the byte 255, and the sources at or before each exec that makes a digest have no tokens.
+//! `laws::boards_settle_alike`: the outputs of a vertex that two boards have settled differ only in related contents.
 //!
 //! A caller:
 //!

@@ -15,7 +15,7 @@ pub struct Events {
     room: usize,
 }
 
-// Written by hand, so that it is proved once; a derived one is proved again in every function that drops such a value.
+// This `Drop` is written by hand, so it is proved once; a derived `Drop` is proved again in every function that drops such a value.
 impl Drop for Events {
     fn drop(self) {
         let Events { items: _, room: _ } = self;

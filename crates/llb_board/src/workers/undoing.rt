@@ -30,7 +30,7 @@ pub struct Undo {
     back: Back,
 }
 
-// Written by hand, so that it is proved once; a derived one is proved again in every function that drops such a value.
+// This `Drop` is written by hand, so it is proved once; a derived `Drop` is proved again in every function that drops such a value.
 impl Drop for Undo {
     fn drop(self) {
         let Undo { back: _ } = self;
@@ -87,8 +87,8 @@ impl Undo {
 }
 
 impl Workers {
-    /// Returns what is needed to take back an event that is about to be done. Fails with 131 `NoWorker` or 136 `NotRunning` if the event would fail with
-    /// it, and with 141 `Memory`.
+    /// Returns what is needed to take back an event that is about to be done. Fails with 131 `NoWorker` or 136 `NotRunning` if the event itself would,
+    /// and with 141 `Memory`.
     pub(crate) fn before(
         &self,
         alloc: Global,
