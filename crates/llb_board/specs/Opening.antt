@@ -25,8 +25,7 @@ open_unless None b c workers = open_with b c workers
 abbrev pub open_of : Build → CachesValue → ℕ → Result BoardValue OpenFault
 open_of b c workers = open_unless (missing_local b.locals b.graph.vertices) b c workers
 
--- whether opening may need memory (for the board, or for the name of a missing local tree), given what it returns if memory
--- suffices
+-- whether opening may need memory (for the board, or for the name of a missing local tree), given what it returns if memory suffices
 abbrev pub may_want_memory : Result BoardValue OpenFault → Bool
 may_want_memory (Ok b) = true
 may_want_memory (Err (opening.MissingLocal name g ts c)) = true

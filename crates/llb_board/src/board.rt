@@ -168,8 +168,8 @@ impl Board {
 
     /// Makes an idle worker claim a vertex that waits and has all its inputs, with an instance of each cache that the vertex mounts. Fails with 131 `NoWorker`,
     /// 132 `Busy`, 133 `NoVertex`, 134 `NotReady`, 135 `Held` and the first locked key whose instance a running worker has, or 141 `Memory`. If memory for the
-    /// text of that key is refused, the call fails with 141 in place of 135; 141 for other memory is reported only if 135 does not apply. The claim of a vertex that
-    /// was cancelled before reserves room for its events once more.
+    /// text of that key is refused, the call fails with 141 in place of 135; 141 for other memory is reported only if 135 does not apply. The claim of a vertex
+    /// that was cancelled before reserves room for its events once more.
     pub fn claim(&mut self, w: u32, v: u32) -> Result<Job, ClaimFault>
         ensures gives { GivesClaim (λ job. (self.new, Claimed job)) result (claim_of self.old w v) }
         ensures last { IfErr result (λ e. claim_memory e ≡ true → claim_may_want (claim_of self.old w v) ≡ true) }

@@ -1,4 +1,4 @@
--- The text of a failure: what follows `failed` and the number of the vertex in a line of output.
+-- The text of a failure: the end of the output line that names the failed vertex.
 use Rattle.std.specs.Prelude.{ℕ, List, ◌++◌, codes}
 use Rattle.std.specs.Fmt.{decimal}
 use Rattle.llb_events.specs.declared.fault.VertexFault.{VertexFault}

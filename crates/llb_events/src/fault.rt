@@ -1,4 +1,4 @@
-//! Why a vertex fails. The text of a failure is what follows the number of the vertex in an output line.
+//! Why a vertex fails. The text of a failure is the end of the output line that names the vertex.
 
 ghost use Rattle.std.specs.Prelude.{Some};
 ghost use Rattle.llb_events.specs.Failure.{failure_text};
