@@ -1,4 +1,4 @@
--- The job of a vertex that has no cache mount at or before it: the build and the vertex alone determine it.
+-- The job of a vertex with no cache mount at or before it: the build and the vertex alone determine this job.
 use Rattle.std.specs.Prelude.{◌≡◌, ℕ, true, [], Option, Some, None, option_map, slice_get}
 use Rattle.llb_loader.specs.declared.graph.Vertex.{Vertex}
 use Rattle.llb_model.specs.Program.{Build, Start, start_with, begin}
@@ -10,7 +10,7 @@ use Rattle.llb_board.specs.Seen.{BoardValue}
 use Rattle.llb_board.specs.Jobs.{job_now}
 use Rattle.llb_board.specs.Landing.{CanLand}
 
--- what the work on a vertex starts with: the vertex and the trees of its inputs' plain outcomes, if none of them is missing
+-- what the work on a vertex starts with: the vertex and the trees of its inputs' plain outcomes; none if one of these trees is missing
 abbrev pub plain_start : Build → Option Vertex → Option Start
 plain_start b None = None
 plain_start b (Some vertex) = option_map (start_with vertex) (inputs_from (λ k. ending_in (outcome b k)) vertex.inputs)
@@ -19,17 +19,17 @@ plain_start b (Some vertex) = option_map (start_with vertex) (inputs_from (λ k.
 abbrev pub job_from : Build → ℕ → ℕ → Start → Job
 job_from b w v start = job_on w v start.vertex (begin b start []) []
 
--- the job of a worker at a vertex with no cache mount at or before it, whatever happened before
+-- the plain job: the job of worker w at vertex v, if no cache mount is at or before v; it depends on the build, w and v alone
 abbrev pub plain_job : Build → ℕ → ℕ → Option Job
 plain_job b w v = option_map (job_from b w v) (plain_start b (slice_get b.graph.vertices v))
 
--- a worker's execution has no fault and no instances, and the work that remains is the plain job
+-- a worker's execution has no fault and holds no instances, and the job that remains for the worker is the plain job
 pub record IsBegunPlainly (b : BoardValue) (w : ℕ) (x : Execution) : Type 0 where
   pub clean : x.fault ≡ None
   pub bare : x.places ≡ []
   pub job : plain_job b.build w x.vertex ≡ Some (job_now b.build b.state.store w x)
 
--- if a worker runs a vertex with no cache mount at or before it, and has done no micro-step of it yet, its execution is as `IsBegunPlainly` says
+-- if worker w runs a vertex with no cache mount at or before it, and has done no micro-step of it yet, `IsBegunPlainly` holds of w and its execution
 abbrev pub BegunArePlain : BoardValue → Type 0
 BegunArePlain b = (w : ℕ) (x : Execution) → is_plain b.build x.vertex ≡ true → slice_get b.state.workers w ≡ Some (Runs x) → x.done ≡ 0 → IsBegunPlainly b w x
 
@@ -46,6 +46,6 @@ pub record IsKnown (b : BoardValue) (w : ℕ) (job : Job) : Type 0 where
   pub first : x.done ≡ 0
   pub same : plain_job b.build w x.vertex ≡ Some job
 
--- the outcome of a job for which `IsKnown` holds can be landed
+-- if `IsKnown` holds of a job, the outcome of the job can be landed
 abbrev pub KnownLand : BoardValue → Type 0
 KnownLand b = (w : ℕ) (job : Job) → IsKnown b w job → CanLand b w job

@@ -31,7 +31,7 @@ use Rattle.llb_board.specs.declared.workers.undoing.End.TheVariants as end
 
 -- ---- the result of an event
 
--- the table's result of an event on this state, with its refusals turned into those of `walk`
+-- the table's result of an event on this state, with a refusal turned into the fault that `walk` returns for it
 abbrev pub walk_in : VerticesValue → WorkersValue → own_event.Event → Result (State × table.Reply) WalkFault
 walk_in vs ws (event.Claim w v) = faulted walk.Claim (claim_in vs ws w v)
 walk_in vs ws (event.Step w) = faulted walk.Step (step_in vs ws w)
@@ -46,7 +46,7 @@ walk_memory (walk.Step e) = false
 walk_memory (walk.Settle e) = false
 walk_memory (walk.Cancel e) = false
 
--- the event by which a worker gives up its vertex: a settle or a cancel
+-- the event that ends an execution: a settle or a cancel
 abbrev pub end_of : End → ℕ → own_event.Event
 end_of end.Settle w = event.Settle w
 end_of end.Cancel w = event.Cancel w
@@ -61,20 +61,20 @@ abbrev pub not_running : End → WalkFault
 not_running end.Settle = walk.Settle no_settle.NotRunning
 not_running end.Cancel = walk.Cancel no_cancel.NotRunning
 
--- ---- what an event displaces (changes, and has to be kept to take the event back)
+-- ---- what an event displaces: what it changes, and what has to be kept to take the event back
 
--- For a claim: the worker, the vertex, and what its lease added to the caches. For a step: the worker, what the step can change in its workspace, and the trees
--- of its instances. For a settle or a cancel: which of the two, the worker, what it ran, and a prepared lease of its instances, if it had any.
+-- For a claim: the worker, the vertex, and what the claim's lease added to the caches. For a step: the worker, what the step can change in its workspace, and
+-- the trees of its instances. For a settle or a cancel: which of the two, the worker, what it ran, and a prepared lease of its instances, if it held any.
 pub data Back : Type 0 where
   Unclaim : ℕ → ℕ → List Growth → Back
   Unstep : ℕ → Mark → List TreeMap → Back
   Resume : End → ℕ → Left → Option LentValue → Back
 
--- what an event displaced, and what is needed to put it back
+-- what an event displaced; this is enough to take the event back
 pub record Displaced : Type 0 where
   pub back : Back
 
--- what an event displaced, as contracts see it
+-- what an event displaced, in the types that contracts see
 abbrev pub back_in : undo.Back → Back
 back_in (back.Unclaim w v growths) = Unclaim w v growths.items
 back_in (back.Unstep w mark trees) = Unstep w mark trees.items
@@ -82,11 +82,11 @@ back_in (back.Resume e w x lent) = Resume e w (left_in x) lent
 
 -- ---- the event taken back
 
--- an execution after its last micro-step is taken back: one micro-step fewer is done, there is no fault, and the mark is put back
+-- an execution after its last micro-step is taken back: one micro-step fewer is done, there is no fault, and the workspace is as it was (from `mark`)
 abbrev pub with_view_back : Mark → Execution → Execution
 with_view_back mark x = record x { done = x.done - 1; fault = None; own = put_back mark x.own }
 
--- what a worker did before its last micro-step; idle if it runs nothing
+-- what a worker did before its last micro-step, given what it does now; idle if it runs nothing
 abbrev pub step_before : Mark → Option WorkerStatus → WorkerStatus
 step_before mark (Some (Runs x)) = Runs (with_view_back mark x)
 step_before mark (Some Idle) = Idle
@@ -98,19 +98,19 @@ workers_before (Unclaim w v growths) workers = slice_set workers w Idle
 workers_before (Unstep w mark trees) workers = slice_set workers w (step_before mark (slice_get workers w))
 workers_before (Resume e w left lent) workers = slice_set workers w (Runs left.execution)
 
--- what each worker has from its claim on (`Supplies`), as it was before the event
+-- the supplies of each worker (what it has from its claim on) as they were before the event
 abbrev pub supplies_before : Back → List Supplies → List Supplies
 supplies_before (Unclaim w v growths) supplies = slice_set supplies w (supplies_for None)
 supplies_before (Unstep w mark trees) supplies = supplies
 supplies_before (Resume e w left lent) supplies = slice_set supplies w left.supplies
 
--- the rows of the caches before the event, given what the workers do after it: only the instances that the event's worker holds change
+-- the rows of the caches before the event, given what the workers do after it: only the instances that the event's worker holds are changed
 abbrev pub rows_before : Back → List WorkerStatus → List Row → List Row
 rows_before (Unclaim w v growths) workers rows = unmade rows (places_at (slice_get workers w)) growths
 rows_before (Unstep w mark trees) workers rows = put_each rows (places_at (slice_get workers w)) trees
 rows_before (Resume e w left lent) workers rows = rows
 
--- which vertex gets another status when the event is taken back, and which status that is
+-- the vertex whose status changes when the event is taken back, and its status then; none for a step
 abbrev pub change_in : Back → Option (ℕ × Status)
 change_in (Unclaim w v growths) = Some (v, Waiting)
 change_in (Unstep w mark trees) = None
@@ -122,7 +122,7 @@ change_of c = (c.vertex, status_of c.stage)
 
 -- ---- when an event can be taken back
 
--- worker w runs something, its workspace has as many mounts after the mark is put back as it has now, and there is a tree for each of its instances
+-- worker w runs something; its workspace has as many mounts once `mark` is put back as it has now; and there is a tree for each of its instances
 pub record IsStepped (workers : List WorkerStatus) (w : ℕ) (mark : Mark) (trees : List TreeMap) : Type 0 where
   pub x : Execution
   pub runs : slice_get workers w ≡ Some (Runs x)
@@ -130,19 +130,19 @@ pub record IsStepped (workers : List WorkerStatus) (w : ℕ) (mark : Mark) (tree
   pub count : length trees ≡ length x.places
   pub few : length trees < 2 ^ 32
 
--- the worker is idle, the instances that it left have distinct keys, and a lease of them is prepared, if there are any
+-- the worker is idle; the instances that it held have distinct keys; and if it held any, a lease of them is prepared
 pub record IsLeft (workers : List WorkerStatus) (w : ℕ) (left : Left) (lent : Option LentValue) : Type 0 where
   pub idle : slice_get workers w ≡ Some Idle
   pub keys : Distinct (map (λ (p : Instance). p.key) left.execution.places)
   pub ready : lent ≡ lent_of left.execution.places (length workers + 1)
 
--- what has to hold of the event's worker before the event is taken back: after a claim the worker exists; else `IsStepped` or `IsLeft` holds of it
+-- the condition on the event's worker for taking the event back: after a claim, the worker exists; after a step, `IsStepped` holds; else `IsLeft` holds
 abbrev pub IsBehind : Back → List WorkerStatus → Type 0
 IsBehind (Unclaim w v growths) workers = w < length workers
 IsBehind (Unstep w mark trees) workers = IsStepped workers w mark trees
 IsBehind (Resume e w left lent) workers = IsLeft workers w left lent
 
--- the instances that workers hold exist in the rows
+-- each instance that a worker holds exists in the rows
 abbrev pub AreHeldThere : List WorkerStatus → List Row → Type 0
 AreHeldThere workers rows = (w : ℕ) (x : Execution) (p : Instance) → slice_get workers w ≡ Some (Runs x) → Has x.places p
     → p.number < length (trees_of rows p.key)
@@ -152,7 +152,7 @@ abbrev pub AreHeldOnce : List WorkerStatus → Type 0
 AreHeldOnce workers = (w u : ℕ) (x y : Execution) (p : Instance) → slice_get workers w ≡ Some (Runs x) → slice_get workers u ≡ Some (Runs y)
     → Has x.places p → Has y.places p → IsExclusive p.key.mode → w ≡ u
 
--- `IsBehind` holds; before the event, each instance that a worker held existed, and no two workers held one instance of a locked or a private key
+-- `IsBehind` holds; and before the event, each instance that a worker held existed, and no two workers held one instance of a locked or a private key
 pub record CanPutBack (u : Displaced) (ws : WorkersValue) : Type 0 where
   pub behind : IsBehind u.back ws.workers
   pub there : AreHeldThere (workers_before u.back ws.workers) (rows_before u.back ws.workers ws.rows)
@@ -160,15 +160,15 @@ pub record CanPutBack (u : Displaced) (ws : WorkersValue) : Type 0 where
 
 -- ---- what is kept before an event
 
--- the instances that the claim of a vertex takes
+-- the instances that a claim of vertex v takes
 abbrev pub taken_at : VerticesValue → WorkersValue → ℕ → List Instance
 taken_at vs ws v = places_for (held ws.workers) (needs_at (slice_get vs.build.graph.vertices v))
 
--- u is what has to be put back to take back a claim of vertex v by worker w
+-- `u` holds what has to be put back to take back a claim of vertex v by worker w
 pub record MarksClaim (vs : VerticesValue) (ws : WorkersValue) (w v : ℕ) (u : Displaced) : Type 0 where
   pub back : u.back ≡ Unclaim w v (map (growth_at ws.rows) (taken_at vs ws v))
 
--- u is what has to be put back to take back a micro-step of worker w
+-- `u` holds what has to be put back to take back a micro-step of worker w
 pub record MarksStep (vs : VerticesValue) (ws : WorkersValue) (w : ℕ) (u : Displaced) : Type 0 where
   pub x : Execution
   pub runs : slice_get ws.workers w ≡ Some (Runs x)
@@ -176,7 +176,7 @@ pub record MarksStep (vs : VerticesValue) (ws : WorkersValue) (w : ℕ) (u : Dis
   pub mounts : mounts_in x.own ≡ length (mounts_at (slice_get vs.build.graph.vertices x.vertex))
   pub keys : map (λ (p : Instance). p.key) x.places ≡ map key_of (needs_at (slice_get vs.build.graph.vertices x.vertex))
 
--- u is what has to be put back to take back the settle or cancel of what worker w runs
+-- `u` holds what has to be put back to take back the settle or the cancel (`e`) of what worker w runs
 pub record MarksEnd (vs : VerticesValue) (ws : WorkersValue) (e : End) (w : ℕ) (u : Displaced) : Type 0 where
   pub left : Left
   pub runs : slice_get ws.workers w ≡ Some (Runs left.execution)
@@ -184,7 +184,7 @@ pub record MarksEnd (vs : VerticesValue) (ws : WorkersValue) (e : End) (w : ℕ)
   pub supplies : left.supplies ≡ supplies_for (slice_get vs.build.graph.vertices left.execution.vertex)
   pub keys : map (λ (p : Instance). p.key) left.execution.places ≡ left.supplies.keys
 
--- u is what has to be put back to take this event back
+-- `u` holds what has to be put back to take this event back
 abbrev pub MarksIn : VerticesValue → WorkersValue → own_event.Event → Displaced → Type 0
 MarksIn vs ws (event.Claim w v) u = MarksClaim vs ws w v u
 MarksIn vs ws (event.Step w) u = MarksStep vs ws w u

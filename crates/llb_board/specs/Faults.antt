@@ -1,4 +1,4 @@
--- The refusals of `walk`: the text of each, and which of them `walk` returns for each refusal of a claim or a step.
+-- The refusals of `walk`: the text of each, and which of them `walk` returns if a claim or a step is refused.
 use Rattle.std.specs.Prelude.{List, ℕ, Result, Ok, Err, codes}
 use Rattle.llb_events.specs.declared.refusal.ClaimFault.{ClaimFault}
 use Rattle.llb_events.specs.declared.refusal.ClaimFault.TheVariants as claim
@@ -16,7 +16,7 @@ walk_text (walk.Settle e) = settle_text e
 walk_text (walk.Cancel e) = cancel_text e
 walk_text walk.Memory = codes "141"
 
--- the refusal of a claim as a refusal of `walk`, which has one fault for refused memory, whatever the event was
+-- the refusal of a claim as a refusal of `walk`; refused memory is the same fault of `walk` for every event
 abbrev pub claim_refused : ClaimFault → WalkFault
 claim_refused claim.Memory = walk.Memory
 claim_refused claim.NoWorker = walk.Claim claim.NoWorker
@@ -32,7 +32,7 @@ step_refused step.NoWorker = walk.Step step.NoWorker
 step_refused step.NotRunning = walk.Step step.NotRunning
 step_refused step.NothingLeft = walk.Step step.NothingLeft
 
--- a result in which the cause of a refusal, if there is one, is turned into a fault
+-- a result in which a refusal, if there is one, is turned into a fault
 abbrev pub faulted : {A C F : Type 0} → (C → F) → Result A C → Result A F
 faulted fault (Ok x) = Ok x
 faulted fault (Err cause) = Err (fault cause)

@@ -1,4 +1,4 @@
--- The promise of the whole machine for a board, clause by clause, in the words of the machine's definitions.
+-- The promise of the whole machine for a board: `Headline` is the promise, and the definitions before it say what its clauses mean.
 use Rattle.std.specs.Prelude.{◌≡◌, ◌≢◌, ℕ, Some, option_map, slice_get}
 use Rattle.llb_cache.specs.declared.key.Mode.TheVariants.{Locked}
 use Rattle.llb_tree.specs.Tree.{TreeMap}
@@ -31,20 +31,20 @@ OthersLeave b = (w : ℕ) (p : Instance) → HoldsInstance b w p → IsExclusive
     → table b.build b.state e ≡ Some (t, r)
     → content t.store p ≡ content b.state.store p
 
--- whatever tree is put in an instance that a running worker holds exclusively, another worker's event has the same reply, and the same effect elsewhere
+-- if another tree is put in an instance that a running worker holds exclusively, another worker's event still has the same reply, and the same effect elsewhere
 abbrev pub OthersIgnore : BoardValue → Type 0
 OthersIgnore b = (w : ℕ) (p : Instance) → HoldsInstance b w p → IsExclusive p.key.mode → (e : Event) (tree : TreeMap) → worker_of e ≢ w
     → table b.build (with_content p tree b.state) e ≡ option_map (with_content_after p tree) (table b.build b.state e)
 
--- each settled vertex and each instance that nobody holds is as if the record's claims were done one after another, each whole or up to its cancel
+-- each settled vertex and each instance that nobody holds is as if the record's claims had been run one after another, each as a whole or up to its cancel
 abbrev pub StandsInClaimOrder : BoardValue → Type 0
 StandsInClaimOrder b = StandsIn b.state (order b.build (at_first b.build b.opening.store) (claims_in (replies_in b)))
 
 -- what holds of every board
 pub record Headline (b : BoardValue) : Type 0 where
-  -- the record is a run of the table from the opening state to this state, with a reply for each event, whatever the interleaving was
+  -- the table replays the record from the opening state to this state, with a reply for each event, whatever the interleaving was
   pub replays : Replays b
-  -- no two executions hold one locked cache at once, nor one instance of a private cache
+  -- no two executions hold the same locked cache at once, nor the same instance of a private cache
   pub locked_once : LockedOnce b
   pub held_once : HeldOnce b
   -- another worker's event neither changes nor reads an instance that an execution holds exclusively

@@ -3,7 +3,7 @@ use Rattle.std.specs.Prelude.{ℕ, zero, suc, ◌+◌, ◌-◌, List, length, ta
 use Rattle.llb_events.specs.declared.event.Event.{Event}
 use Rattle.llb_events.specs.declared.event.Event.TheVariants.{Claim, Step, Settle, Cancel}
 
--- the events so far, and the number of events, these included, for which memory is reserved
+-- the events so far, and the number of events for which memory is reserved, the events so far included
 pub record Recorded : Type 0 where
   pub list : List Event
   pub room : ℕ
@@ -13,12 +13,12 @@ pub record Space : Type 0 where
   pub room : ℕ
   pub cancels : List ℕ
 
--- the events in order, with the room and the counts
+-- the events in order, with the reserved room and the counts of cancels
 pub record HistoryValue : Type 0 where
   pub list : List Event
   pub space : Space
 
--- the room that a claim reserves for a vertex that takes at most `events` events and was cancelled n times: none at its first claim
+-- the room that a claim reserves for a vertex that takes at most `events` events and was cancelled n times: none if n is 0
 abbrev pub taken : ℕ → ℕ → ℕ
 taken events zero = 0
 taken events (suc n) = events
@@ -27,19 +27,19 @@ taken events (suc n) = events
 abbrev pub taken_by : ℕ → ℕ → Space → ℕ
 taken_by v events s = taken events (get_or s.cancels v 0)
 
--- the room after a claim of vertex v
+-- the reserved room after a claim of vertex v
 abbrev pub claimed : ℕ → ℕ → Space → Space
 claimed v events s = record s { room = s.room + taken_by v events s }
 
--- the room after a claim of vertex v is taken back
+-- the reserved room after a claim of vertex v is taken back
 abbrev pub unclaimed : ℕ → ℕ → Space → Space
 unclaimed v events s = record s { room = s.room - taken_by v events s }
 
--- the counts after a cancel of vertex v
+-- the counts of cancels after a cancel of vertex v
 abbrev pub cancelled : ℕ → Space → Space
 cancelled v s = record s { cancels = slice_set s.cancels v (get_or s.cancels v 0 + 1) }
 
--- the counts after a cancel of vertex v is taken back
+-- the counts of cancels after a cancel of vertex v is taken back
 abbrev pub uncancelled : ℕ → Space → Space
 uncancelled v s = record s { cancels = slice_set s.cancels v (get_or s.cancels v 0 - 1) }
 
@@ -53,7 +53,7 @@ front xs = take (length xs - 1) xs
 abbrev pub last_of : {A : Type 0} → List A → Option A
 last_of xs = slice_get xs (length xs - 1)
 
--- the room and the counts before the last event, which is of vertex v, given those after it: the room of a claim is taken off, a cancel is no longer counted
+-- the room and the counts of cancels before the last event, an event of vertex v, given those after it: a claim's room is taken off; a cancel is not counted
 abbrev pub space_back : Option Event → ℕ → ℕ → Space → Space
 space_back (Some (Claim w u)) v events s = unclaimed v events s
 space_back (Some (Step w)) v events s = s

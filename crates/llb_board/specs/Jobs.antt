@@ -1,4 +1,4 @@
--- The job that remains for a worker, and its seat (what it runs) after the job's micro-steps.
+-- The job that remains for a worker, and the worker's seat (what it runs) after the job's micro-steps.
 use Rattle.std.specs.Prelude.{◌≡◌, ℕ, ◌+◌, Bool, true, false, map, Option, Some, None}
 use Rattle.std.specs.List.{list_any}
 use Rattle.llb_cache.specs.declared.key.Mode.{Mode}
@@ -12,17 +12,17 @@ use Rattle.llb_execution.specs.Parts.{work_with}
 use Rattle.llb_board.specs.declared.workers.seat.Seat.{Seat}
 use Rattle.llb_board.specs.declared.workers.seat.Seat.TheVariants as seat
 
--- whether this mode lets several leases have one instance at once
+-- whether several leases can hold one instance of a cache of this mode at once
 abbrev pub is_shared : Mode → Bool
 is_shared Shared = true
 is_shared Private = false
 is_shared Locked = false
 
--- whether an execution holds an instance that others may hold too
+-- whether an execution holds an instance that other executions may hold too
 abbrev pub has_shared : Execution → Bool
 has_shared x = list_any (λ (p : Instance). is_shared p.key.mode) x.places
 
--- the job that remains for a worker: its present work, in the form in which a claim hands out a job
+-- the job that remains for a worker: the worker's present work, in the form in which a claim hands out a job
 abbrev pub job_now : Build → Store → ℕ → Execution → Job
 job_now b store w x = record {
   worker = w;
@@ -33,7 +33,7 @@ job_now b store w x = record {
   instances = map (λ (p : Instance). p.number) x.places;
 }
 
--- the job has the numbers of this worker and of the vertex that it runs, as many micro-steps are done in the job as by the worker, and none has faulted
+-- the job has the numbers of worker w and of the vertex that w runs, and the count of micro-steps that w has done; and none of these has faulted
 pub record IsBegun (w : ℕ) (x : Execution) (job : Job) : Type 0 where
   pub worker : job.worker ≡ w
   pub vertex : job.vertex ≡ x.vertex
@@ -45,7 +45,7 @@ pub record IsRunOf (b : Build) (store : Store) (w : ℕ) (x : Execution) (job : 
   pub clean : x.fault ≡ None
   pub same : job ≡ job_now b store w x
 
--- the seat of a worker after n more micro-steps with this result
+-- the seat of a worker after n more micro-steps, which left this fault and this workspace
 abbrev pub seat_left : ℕ → Option VertexFault → Workspace → Option Seat → Seat
 seat_left n fault view (Some (seat.Runs l x)) = seat.Runs l (record x { done = x.done + n; fault = fault; view = view })
 seat_left n fault view (Some seat.Idle) = seat.Idle

@@ -1,4 +1,4 @@
--- The result of a landing: the worker's remaining steps and its settle are done, or the landing is refused for the first cause.
+-- The result of a landing: the worker's remaining steps and its settle are done, or the landing is refused with the first cause that applies.
 use Rattle.std.specs.Prelude.{◌≡◌, ℕ, Bool, true, false, List, [], ◌∷◌, ◌++◌, Option, Some, None, slice_get, is_ok}
 use Rattle.llb_model.specs.State.{Execution, WorkerStatus, Idle, Runs}
 use Rattle.llb_model.specs.Table.{Job, Reply, settle_grant}
@@ -27,7 +27,7 @@ pub record CanLand (b : BoardValue) (w : ℕ) (job : Job) : Type 0 where
   pub alone : has_shared x ≡ false
   pub own : IsRunOf b.build b.state.store w x job
 
--- the worker runs a vertex and holds no instance of a shared cache, but the job is not what remains for it
+-- the worker runs a vertex and holds no instance of a shared cache, but the job is not the one that remains for the worker
 pub record RunsAlone (b : BoardValue) (w : ℕ) (job : Job) : Type 0 where
   pub x : Execution
   pub runs : slice_get b.state.workers w ≡ Some (Runs x)
@@ -54,7 +54,7 @@ land_fault cause.NotRunning o = fault.NotRunning o
 land_fault cause.HasShared o = fault.HasShared o
 land_fault cause.Stranger o = fault.Stranger o
 
--- e is the refusal of this outcome by its first cause
+-- e is the fault for the first cause that refuses this outcome
 pub record IsRefused (b : BoardValue) (w : ℕ) (o : OutcomeValue) (e : LandFault) : Type 0 where
   pub cause : LandCause
   pub stands : StandsInWay b w o.job cause
@@ -62,14 +62,14 @@ pub record IsRefused (b : BoardValue) (w : ℕ) (o : OutcomeValue) (e : LandFaul
 
 -- ---- what a landing does
 
--- `new` is board b after `count` steps of worker w, which are done and recorded
+-- `new` is board b after `count` steps of worker w are done and recorded
 pub record Steps (b : BoardValue) (w : ℕ) (count : ℕ) (new : BoardValue) : Type 0 where
   pub replies : List Reply
   pub runs : run b.build b.state (steps_by w count) ≡ Some (new.state, replies)
   pub rows : kept_along b.build b.state b.rows (steps_by w count) ≡ Some (new.state, new.rows)
   pub recorded : new ≡ record b { state = new.state; rows = new.rows; events = b.events ++ steps_by w count }
 
--- `new` is board b after all remaining steps of worker w and its settle, which are done and recorded; `reply` is the reply to the settle, the last one
+-- `new` is board b after all remaining steps of worker w and its settle are done and recorded; `reply` is the reply to the settle
 pub record Lands (b : BoardValue) (w : ℕ) (o : OutcomeValue) (new : BoardValue) (reply : Reply) : Type 0 where
   pub can : CanLand b w o.job
   pub replies : List Reply
@@ -77,7 +77,7 @@ pub record Lands (b : BoardValue) (w : ℕ) (o : OutcomeValue) (new : BoardValue
   pub rows : kept_along b.build b.state b.rows (landing w o.count) ≡ Some (new.state, new.rows)
   pub recorded : new ≡ record b { state = new.state; rows = new.rows; events = b.events ++ landing w o.count }
 
--- after `count` steps of worker w, what it runs is finished
+-- `new` is board b after `count` steps of worker w, and what w runs is then finished
 pub record IsThrough (b : BoardValue) (w : ℕ) (count : ℕ) (new : BoardValue) : Type 0 where
   pub steps : Steps b w count new
   pub finished : is_ok (settle_grant new.build new.state w) ≡ true

@@ -1,4 +1,4 @@
--- What holds of every board in addition to the headline; the contracts of the laws use these definitions.
+-- What holds of every board in addition to `Headline`; the contracts of the laws use these definitions.
 use Rattle.std.specs.Prelude.{◌≡◌, ◌≢◌, ℕ, true, is_some, Bool, ◌||◌, ◌&&◌, Some, slice_get}
 use Rattle.std.specs.List.{list_any, list_all}
 use Rattle.llb_loader.specs.declared.graph.Edge.{Edge}
@@ -14,11 +14,11 @@ use Rattle.llb_board.specs.Seen.{BoardValue}
 abbrev pub SettledArePlain : BoardValue → Type 0
 SettledArePlain b = (v : ℕ) (e : Ending) → is_plain b.build v ≡ true → slice_get b.state.statuses v ≡ Some (Settled e) → outcome b.build v ≡ Some (Ended e)
 
--- the chosen event is granted
+-- the table grants the chosen event: the next event of the running worker with the lowest number or, if no worker runs, a claim by worker 0
 abbrev pub ChosenIsGranted : BoardValue → Type 0
 ChosenIsGranted b = (e : Event) → chosen b.build b.state ≡ Some e → is_some (table b.build b.state e) ≡ true
 
--- a granted event does not change what the workers other than its own do
+-- a granted event does not change the state of any worker but the event's own
 abbrev pub OthersKeep : BoardValue → Type 0
 OthersKeep b = (e : Event) (a : State × Reply) → table b.build b.state e ≡ Some a → (u : ℕ) → u ≢ worker_of e
     → slice_get a.0.workers u ≡ slice_get b.state.workers u

@@ -2,11 +2,11 @@
 -- Landing (of work done away from the board), Begun (which outcomes land without a comparison) and Undo (an event is done and taken back). Laws has what else
 -- holds of every board; Kept and History say what a board keeps.
 -- The modules of a board: Links (the users of a vertex, how many of its inputs are open, and where a mark spreads), Vertices (what contracts see of the
--- vertices, and what else is kept) and Workers (what contracts see of the workers), then WorkerRules (the results of a claim, a step, a settle and a
--- cancel), OptionalLeases and Jobs.
--- Needs has what a claim takes of the caches, Supplies what each worker has from its claim on, Displaced what is kept to take an event back, Looks the
--- trees that a worker works on, Statuses how callers see a vertex and a worker, Faults the refusals of `walk`, and Views what a worker's data represents.
--- Outfits and Undoing belong to a claim and to an event that is taken back.
+-- vertices, and what else is kept) and Workers (what contracts see of the workers), then WorkerRules (the results of a claim, a step, a settle and a cancel),
+-- OptionalLeases (leases that may be absent) and Jobs (the job that remains for a worker).
+-- Needs has what a claim takes of the caches, Supplies what each worker has from its claim on, Displaced what is kept to take an event back, Looks the trees
+-- that a worker works on, Statuses how callers see a vertex and a worker, Faults the refusals of `walk`, and Views what a worker's data represents. Outfits
+-- has what a claim prepares, and Undoing what is kept of a worker before an event.
 pub mod Links
 pub mod Faults
 pub mod Statuses

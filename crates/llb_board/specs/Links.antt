@@ -11,7 +11,7 @@ use Rattle.llb_loader.specs.declared.graph.Vertex.{Vertex}
 abbrev pub leads : List Edge → ℕ → Bool
 leads edges u = list_any (λ (e : Edge). e.vertex == u) edges
 
--- the vertices that have an edge to vertex u; the first vertex of the list has number k
+-- which vertices of a list have an edge to vertex u, by number; the first vertex of the list has number k
 abbrev pub users_from : ℕ → ℕ → List Vertex → List ℕ
 users_from u k [] = []
 users_from u k (x ∷ xs) = if leads x.inputs u then k ∷ users_from u (k + 1) xs else users_from u (k + 1) xs
@@ -27,11 +27,11 @@ abbrev pub count_below : (ℕ → Bool) → ℕ → ℕ
 count_below p zero = 0
 count_below p (suc n) = (if p n then 1 else 0) + count_below p n
 
--- whether vertex x has an edge to vertex u, and u is not done
+-- whether vertex u is not done and vertex x has an edge to it
 abbrev pub waits_for : (ℕ → Bool) → Vertex → ℕ → Bool
 waits_for done x u = leads x.inputs u && not (done u)
 
--- how many vertices there are that are not done, and to which vertex x has an edge
+-- the number of vertices that are not done and to which vertex x has an edge
 abbrev pub open_inputs : List Vertex → (ℕ → Bool) → Vertex → ℕ
 open_inputs vs done x = count_below (waits_for done x) (length vs)
 
@@ -45,17 +45,17 @@ pub record IsEntered (edges : List Edge) (v : ℕ) (old new : List (List ℕ)) (
   pub lists : (u : ℕ) → u < length old → get_or new u [] ≡ (if leads edges u then get_or old u [] ++ v ∷ [] else get_or old u [])
   pub counted : count ≡ count_below (leads edges) (length old)
 
--- the links: for each vertex a list of its users, and a count of the vertices that are not done and to which it has an edge
+-- the links: for each vertex a list of its users, and a count of its open inputs (the vertices that are not done and to which it has an edge)
 pub record Linked : Type 0 where
   pub users : List (List ℕ)
   pub counts : List ℕ
 
--- no vertex is reached yet, and there is room for `count` numbers
+-- the list of reached vertices is empty, and has room for `count` numbers
 pub record HasRoom (count : ℕ) (reached : List ℕ) (room : ℕ) : Type 0 where
   pub none : reached ≡ []
   pub fits : count ≤ room
 
--- the links are right for these vertices; `done` says which of the vertices are done
+-- the links are the ones of these vertices; `done` says which of the vertices are done
 pub record IsLinked (vs : List Vertex) (done : ℕ → Bool) (l : Linked) : Type 0 where
   pub same_users : length l.users ≡ length vs
   pub same_counts : length l.counts ≡ length vs
@@ -75,11 +75,11 @@ abbrev pub times : ℕ → List ℕ → ℕ
 times x [] = 0
 times x (y ∷ ys) = (if y == x then 1 else 0) + times x ys
 
--- each count is lower by the number of times that its vertex is in the list
+-- each new count is the old one less how often the count's vertex occurs in the list of users
 abbrev pub AreLowered : List ℕ → List ℕ → List ℕ → Type 0
 AreLowered users old new = (length new ≡ length old) × ((x : ℕ) → get_or new x 0 ≡ get_or old x 0 - times x users)
 
--- each count is higher by the number of times that its vertex is in the list
+-- each new count is the old one plus how often the count's vertex occurs in the list of users
 abbrev pub AreRaised : List ℕ → List ℕ → List ℕ → Type 0
 AreRaised users old new = (length new ≡ length old) × ((x : ℕ) → x < length old → get_or new x 0 ≡ get_or old x 0 + times x users)
 
@@ -89,7 +89,7 @@ AreRaised users old new = (length new ≡ length old) × ((x : ℕ) → x < leng
 abbrev pub is_marked : List Bool → ℕ → Bool
 is_marked marks x = get_or marks x false
 
--- the set of vertices contains with each vertex all its users
+-- the set is closed: if it contains a vertex, it contains all users of that vertex
 abbrev pub IsClosed : List (List ℕ) → (ℕ → Bool) → Type 0
 IsClosed users p = (y x : ℕ) → p y ≡ true → Contains (get_or users y []) x → p x ≡ true
 
@@ -98,7 +98,7 @@ abbrev pub unmarked : List Bool → ℕ
 unmarked [] = 0
 unmarked (b ∷ bs) = (if b then 0 else 1) + unmarked bs
 
--- all of these users are marked now, those that were not marked before are appended to the reached vertices, and no other vertex is newly marked
+-- all of these users are marked now; those that were not marked before are appended to the reached vertices; no other vertex is newly marked
 pub record Visits (users : List ℕ) (old new : List Bool) (reached reached_new : List ℕ) : Type 0 where
   pub same : length new ≡ length old
   pub more : List ℕ
@@ -109,7 +109,7 @@ pub record Visits (users : List ℕ) (old new : List Bool) (reached reached_new 
   pub only : (x : ℕ) → is_marked new x ≡ true → (is_marked old x ≡ true) ⊎ Contains more x
   pub count : unmarked new + length more ≡ unmarked old
 
--- if the vertices marked before are closed, those marked now are the least closed set (`IsClosed`) with vertex v and all that were marked before
+-- if the set of vertices marked before is closed (`IsClosed`), the set of those marked now is the least closed one with vertex v and all those marked before
 pub record Spreads (users : List (List ℕ)) (v : ℕ) (old new : List Bool) : Type 0 where
   pub same : length new ≡ length old
   pub kept : (x : ℕ) → is_marked old x ≡ true → is_marked new x ≡ true

@@ -1,4 +1,4 @@
--- The trees that a worker works on now, and the trees of caches, for callers that only read.
+-- The trees that a worker works on now, and the trees of caches; callers read them with `Board::worked_on` and `Board::cached`.
 use Rattle.std.specs.Prelude.{ℕ, List, [], Option, Some, None, slice_get}
 use Rattle.std.specs.Map.{keys_of}
 use Rattle.llb_cache.specs.declared.key.Key.{Key}

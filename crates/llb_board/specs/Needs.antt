@@ -1,4 +1,4 @@
--- The caches that a vertex needs, and what a claim takes of them, in terms of leases.
+-- The caches that a vertex needs, and what a claim takes of them, given the current leases.
 use Rattle.std.specs.Prelude.{◌≡◌, pos, ℕ, Bool, ◌&&◌, List, [], ◌∷◌, map, Option, Some, None, option_map, unwrap_or, slice_get, Result, Ok, Err}
 use Rattle.std.specs.Prelude.{if◌then◌else◌}
 use Rattle.llb_cache.specs.declared.key.Key.{Key}
@@ -19,21 +19,21 @@ use Rattle.llb_events.specs.declared.refusal.ClaimFault.{ClaimFault}
 use Rattle.llb_events.specs.declared.refusal.ClaimFault.TheVariants as claim
 use Rattle.llb_board.specs.declared.workers.needs.Wanted.{Wanted}
 
--- whether a key is locked and a lease has its instance
+-- whether a key is locked and a lease holds its instance
 abbrev pub is_locked_and_held : Leases → Key → Bool
 is_locked_and_held out k = is_locked k.mode && is_held out (place k 0)
 
--- the first key among the needs that is locked and whose instance a lease has
+-- the first key among the needs that is locked and whose instance a lease holds
 abbrev pub first_held_key : Leases → List Need → Option Key
 first_held_key out [] = None
 first_held_key out (n ∷ needs) = if is_locked_and_held out n.key then Some n.key else first_held_key out needs
 
--- the needs if no key is given, else the refusal that this key is held
+-- the refusal that this key is held or, if no key is given, the needs
 abbrev pub unless_held : List Need → Option Key → Result (List Need) ClaimFault
 unless_held needs None = Ok needs
 unless_held needs (Some k) = Err (claim.Held k)
 
--- a wanted cache (one that a mount of the vertex shows) as a need of the model
+-- the model's need for a wanted cache (a cache that a mount of the vertex shows)
 abbrev pub need_of : Wanted → Need
 need_of w = record { mount = w.mount; key = w.key; input = w.input }
 
@@ -45,21 +45,21 @@ number_of p = p.number
 abbrev pub HasEdges : Vertex → Type 0
 HasEdges v = (i : ℕ) (input : Input) → slice_get v.op.inputs i ≡ Some input → (e : Edge) × (slice_get v.inputs i ≡ Some e) × (input.index ≡ pos e.index)
 
--- a key if it is locked, else nothing
+-- the key if there is one and it is locked, else nothing
 abbrev pub if_locked : Option Key → Option Key
 if_locked None = None
 if_locked (Some k) = if is_locked k.mode then Some k else None
 
--- what was looked up for a wanted cache is right: the number of the instance that a lease would take, and its tree if it exists
+-- the look-up of a wanted cache has found the number of the instance that a lease would take, and the tree of that instance if it exists
 pub record IsFound (c : cache.CachesValue) (w : Wanted) : Type 0 where
   pub number : w.found.number ≡ cache.number_for c.out w.key w.key.mode
   pub tree : option_map (λ t. t.now) w.found.tree ≡ slice_get (cache.trees_of c.rows w.key) w.found.number
 
--- the instance that a lease would take for a wanted cache, by the look-up
+-- the instance that a lease would take for a wanted cache, as the look-up found it
 abbrev pub place_found : Wanted → Instance
 place_found w = place w.key w.found.number
 
--- the tree that an instance begins with: its own tree if it exists, else the tree of the input that the mount names; the empty tree if the mount names none
+-- the tree that an instance begins with: its own tree if the instance exists, else the tree of the input that the mount names; if none, the empty tree
 abbrev pub first_tree : List TreeMap → Wanted → TreeMap
 first_tree inputs w = unwrap_or (option_map (λ t. t.now) w.found.tree) (base_in w.input inputs)
 
@@ -80,7 +80,7 @@ taken_with c inputs needs = (
   asked inputs needs,
 )
 
--- what a claim takes for these wanted caches, by the look-ups
+-- what a claim takes for these wanted caches, by what was looked up for each of them
 abbrev pub taken_by : List TreeMap → List Wanted → Taking
 taken_by inputs ws = (
   map place_found ws,

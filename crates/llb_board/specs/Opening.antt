@@ -21,11 +21,11 @@ abbrev pub open_unless : Option (List ℕ) → Build → CachesValue → ℕ →
 open_unless (Some name) b c workers = Err (opening.MissingLocal name b.graph b.locals c)
 open_unless None b c workers = open_with b c workers
 
--- the rule of opening; a missing local tree is reported before any other cause
+-- what opening a board returns if memory suffices; a missing local tree is reported before any other cause
 abbrev pub open_of : Build → CachesValue → ℕ → Result BoardValue OpenFault
 open_of b c workers = open_unless (missing_local b.locals b.graph.vertices) b c workers
 
--- whether opening may need memory, given the result of its rule: for the board, or for the name of a missing local tree
+-- whether opening may need memory (for the board, or for the name of a missing local tree), given what it returns if memory suffices
 abbrev pub may_want_memory : Result BoardValue OpenFault → Bool
 may_want_memory (Ok b) = true
 may_want_memory (Err (opening.MissingLocal name g ts c)) = true
@@ -44,6 +44,6 @@ open_memory (opening.Memory g ts c) = true
 open_memory (opening.Workers g ts c) = false
 open_memory (opening.MissingLocal name g ts c) = false
 
--- opening returns what its rule returns, or it fails for want of memory
+-- opening returns what `open_of` says, or it fails for want of memory
 abbrev pub GivesOpen : {X Y : Type 0} → (X → Y) → Result X OpenFault → Result Y OpenFault → Type 0
 GivesOpen = answer.Gives open_memory

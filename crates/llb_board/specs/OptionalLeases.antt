@@ -18,7 +18,7 @@ abbrev pub IsOutIf : Leases → Option ℕ → Type 0
 IsOutIf out (Some l) = cache.IsOut out l
 IsOutIf out None = Unit {0}
 
--- the leases without lease l, which is given back; unchanged if there is no l
+-- the current leases after lease l is given back; unchanged if there is no l
 abbrev pub out_without : Leases → Option ℕ → Leases
 out_without out (Some l) = cache.trimmed (slice_set out l None)
 out_without out None = out
@@ -27,16 +27,16 @@ out_without out None = out
 abbrev pub given_back : cache.CachesValue → Option ℕ → cache.CachesValue
 given_back c l = record c { out = out_without c.out l }
 
--- the caches after lease l is given back, if there is an l, and the instances that it added are removed
+-- the caches after lease l is given back, if there is an l, and the instances that the lease added are removed
 abbrev pub taken_back : cache.CachesValue → Option ℕ → List Growth → cache.CachesValue
 taken_back c l gs = record (given_back c l) { rows = unmade c.rows (leased_places c.out l) gs }
 
--- a prepared lease of these instances; none if there are no instances
+-- a prepared lease of these instances (one that can be made without memory); none if there are no instances
 abbrev pub lent_of : List Instance → ℕ → Option LentValue
 lent_of [] room = None
 lent_of (p ∷ ps) room = Some (record { places = p ∷ ps; room = room })
 
--- the number of a prepared lease and the caches, after it is made; if there is no prepared lease, no number and the caches unchanged
+-- the number of a prepared lease once it is made, and the caches then; without a prepared lease, no number, and the caches unchanged
 abbrev pub lent_if : cache.CachesValue → Option LentValue → Option ℕ × cache.CachesValue
 lent_if c None = (None, c)
 lent_if c (Some l) = (Some (cache.free_lease c.out), lent_again c l.places)
@@ -46,7 +46,7 @@ abbrev pub some_lease : Result (ℕ × cache.CachesValue) LeaseFault → Result 
 some_lease (Ok (l, c)) = Ok (Some l, c)
 some_lease (Err e) = Err e
 
--- the result of a lease of these needs; no lease if there are none
+-- the result of leasing for these needs; no lease if there are no needs
 abbrev pub lease_if : cache.CachesValue → List cache_need.Need → Result (Option ℕ × cache.CachesValue) LeaseFault
 lease_if c [] = Ok (None, c)
 lease_if c (n ∷ needs) = some_lease (cache.lease_of c (n ∷ needs))

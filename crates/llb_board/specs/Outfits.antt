@@ -5,13 +5,13 @@ use Rattle.llb_tree.specs.Tree.{TreeMap, empty_tree}
 use Rattle.llb_model.specs.Program as model
 use Rattle.llb_board.specs.declared.workers.outfit.Outfit.{Outfit}
 
--- what an execution has in addition to its view
+-- what an execution has in addition to its view (the trees of its mounts)
 pub record Outfitted : Type 0 where
   pub program : model.Program
   pub outputs : List TreeMap
   pub steps : List model.MicroStep
 
--- an outfit as contracts see it
+-- the value that contracts see of an outfit
 abbrev pub outfit_as : Outfit → Outfitted
 outfit_as o = record { program = o.program; outputs = o.outputs.items; steps = o.steps }
 

@@ -1,4 +1,4 @@
--- What each event returns: the table's result, with the event appended to the record, or the first cause of its refusal as a fault.
+-- What each event returns: the board with the event appended to the record, and the table's reply; or the first cause of its refusal as a fault.
 use Rattle.std.specs.Prelude.{ℕ, Result}
 use Rattle.llb_events.specs.declared.event.Event.TheVariants.{Claim, Step, Settle, Cancel}
 use Rattle.llb_model.specs.Table.{Reply, claim_grant, step_grant, settle_grant, cancel_grant}
@@ -8,18 +8,18 @@ use Rattle.llb_events.specs.declared.refusal.SettleFault.{SettleFault}
 use Rattle.llb_events.specs.declared.refusal.CancelFault.{CancelFault}
 use Rattle.llb_board.specs.Seen.{BoardValue, recorded}
 
--- the table's result of a claim; if it is granted, with the event appended to the record
+-- the board and the reply after a claim, which is appended to the record; or the table's refusal
 abbrev pub claim_of : BoardValue → ℕ → ℕ → Result (BoardValue × Reply) ClaimFault
 claim_of b w v = recorded b (Claim w v) (claim_grant b.build b.state w v)
 
--- the table's result of a step; if it is granted, with the event appended to the record
+-- the board and the reply after a step, which is appended to the record; or the table's refusal
 abbrev pub step_of : BoardValue → ℕ → Result (BoardValue × Reply) StepFault
 step_of b w = recorded b (Step w) (step_grant b.build b.state w)
 
--- the table's result of a settle; if it is granted, with the event appended to the record
+-- the board and the reply after a settle, which is appended to the record; or the table's refusal
 abbrev pub settle_of : BoardValue → ℕ → Result (BoardValue × Reply) SettleFault
 settle_of b w = recorded b (Settle w) (settle_grant b.build b.state w)
 
--- the table's result of a cancel; if it is granted, with the event appended to the record
+-- the board and the reply after a cancel, which is appended to the record; or the table's refusal
 abbrev pub cancel_of : BoardValue → ℕ → Result (BoardValue × Reply) CancelFault
 cancel_of b w = recorded b (Cancel w) (cancel_grant b.state w)

@@ -10,8 +10,8 @@ use Rattle.llb_model.specs.Run.{run}
 use Rattle.llb_board.specs.Vertices.{VerticesValue}
 use Rattle.llb_board.specs.Workers.{WorkersValue, state_in}
 
--- what contracts see of a board: its build, what it was opened with, the rows of the caches as they were handed in (`first`) and as they are now
--- (`rows`), the machine's state, which has the contents of the caches, and the events so far
+-- what contracts see of a board: its build (the graph and its local trees); what it was opened with; the rows of the caches, as handed in
+-- (`first`) and as they are now (`rows`); the machine's state, which has the trees of the caches too; and the events so far
 pub record BoardValue : Type 0 where
   pub build : Build
   pub opening : Opening
@@ -20,7 +20,7 @@ pub record BoardValue : Type 0 where
   pub rows : List Row
   pub events : List Event
 
--- the opening with this number of workers and the caches that are handed in
+-- the opening with this number of workers and the caches that were handed in
 abbrev pub opening_with : ℕ → List Row → Opening
 opening_with workers rows = record { workers = workers; store = store_of rows }
 
@@ -49,7 +49,7 @@ kept_next b (Some (s, rows)) e = option_map (λ (a : State × Reply). (a.0, rows
 abbrev pub kept_along : Build → State → List Row → List Event → Option (State × List Row)
 kept_along b s rows es = fold (kept_next b) (Some (s, rows)) es
 
--- The record is a run of the table from the opening state to the board's state, and its events change the rows that were handed in into the
+-- The table replays the record from the opening state to the board's state, and the record's events turn the rows that were handed in into the
 -- rows of the board.
 pub record Replays (b : BoardValue) : Type 0 where
   pub replies : List Reply
@@ -60,11 +60,11 @@ pub record Replays (b : BoardValue) : Type 0 where
 abbrev pub after_event : BoardValue → Event → State → BoardValue
 after_event b e s = record b { state = s; rows = rows_after b.rows s (worker_of e); events = b.events ++ e ∷ [] }
 
--- the board and the reply after an event, which is appended to the record; if it is refused, the cause as a fault
+-- the board and the reply after an event, which is appended to the record; or, if the event is refused, the cause as a fault
 abbrev pub recorded : {F : Type 0} → BoardValue → Event → Result (State × Reply) F → Result (BoardValue × Reply) F
 recorded b e (Ok (s, r)) = Ok (after_event b e s, r)
 recorded b e (Err cause) = Err cause
 
--- the replies of the record
+-- the replies to the events of the record
 abbrev pub replies_in : BoardValue → List Reply
 replies_in b = unwrap_or (option_map (λ (a : State × List Reply). a.1) (run b.build (opening b.build b.opening) b.events)) []

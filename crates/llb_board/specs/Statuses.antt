@@ -1,4 +1,4 @@
--- The statuses of vertices and workers as callers see them, by the state of the machine.
+-- The statuses of vertices and workers as callers see them, computed from the state of the machine.
 use Rattle.std.specs.Prelude.{ℕ, Bool, List, Option, Some, None, option_map, slice_get, if◌then◌else◌}
 use Rattle.llb_model.specs.Program.{Build}
 use Rattle.llb_model.specs.Outcome.{Done, Failed}
@@ -11,14 +11,14 @@ use Rattle.llb_board.specs.declared.status.WorkerStatus.TheVariants as worker
 
 -- ---- what callers see
 
--- what callers see of a vertex of this status; a waiting vertex is seen as Ready, Blocked or Waiting
+-- what callers see of a vertex with this status: a waiting vertex is seen as Ready if `ready` holds, else as Blocked if `blocked` holds, else as Waiting
 abbrev pub look : Bool → Bool → model.Status → Status
 look ready blocked model.Waiting = if ready then seen.Ready else if blocked then seen.Blocked else seen.Waiting
 look ready blocked (model.Running w) = seen.Running w
 look ready blocked (model.Settled (Done trees)) = seen.Done
 look ready blocked (model.Settled (Failed f)) = seen.Failed f
 
--- what callers see of vertex v, by the statuses of all vertices
+-- what callers see of vertex v, given the statuses of all vertices
 abbrev pub look_in : Build → List model.Status → ℕ → Option Status
 look_in b statuses v = option_map (look (model.is_ready b statuses v) (model.is_blocked b statuses v)) (slice_get statuses v)
 

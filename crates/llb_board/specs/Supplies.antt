@@ -52,12 +52,12 @@ supplies_for o = record {
   keys = map key_of (needs_at o);
 }
 
--- the supplies that a worker has now, by its seat
+-- the supplies that a worker has now, read from its seat (what it runs)
 abbrev pub ready_made : Seat → Supplies
 ready_made seat.Idle = supplies_for None
 ready_made (seat.Runs l x) = supplies_of x
 
--- the supplies that a worker has to have for what it does
+-- the supplies that a worker must have for what it runs
 abbrev pub needed : Build → WorkerStatus → Supplies
 needed b Idle = supplies_for None
 needed b (Runs x) = supplies_for (slice_get b.graph.vertices x.vertex)

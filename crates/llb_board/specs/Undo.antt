@@ -1,4 +1,4 @@
--- The result of `walk`, what it keeps to take the event back, and the board after the event is taken back.
+-- The result of `walk`, what `walk` keeps to take the event back, and the board after the event is taken back.
 use Rattle.std.specs.Prelude.{◌≡◌, ℕ, ◌+◌, List, [], ◌∷◌, ◌++◌, length, map, Option, Some, Result, Ok, Err, slice_get, slice_set}
 use Rattle.llb_wire.specs.Answer as answer
 use Rattle.llb_cache.specs.Growth.{LentValue}
@@ -28,26 +28,26 @@ use Rattle.llb_board.specs.declared.board.walk.Reply.TheVariants as reply
 
 -- ---- the result of a walked event
 
--- a reply of the table as a reply of `walk`, in which the reply to a claim has no job
+-- a reply of the table as a reply of `walk`: the same, except that the reply to a claim has no job
 abbrev pub told : table.Reply → Reply
 told (table.Claimed job) = reply.Claimed
 told (table.HasStepped s) = reply.Stepped s
 told (table.HasSettled s) = reply.Settled s
 told (table.HasCancelled c) = reply.Cancelled c
 
--- the result of an event as a result of `walk`
+-- the result of an event as a result of `walk`, with its reply and its fault converted
 abbrev pub told_as : {F : Type 0} → (F → WalkFault) → Result (BoardValue × table.Reply) F → Result (BoardValue × Reply) WalkFault
 told_as fault (Ok (b, r)) = Ok (b, told r)
 told_as fault (Err e) = Err (fault e)
 
--- what `walk` returns for an event
+-- what `walk` returns for an event if memory suffices
 abbrev pub walk_of : BoardValue → own_event.Event → Result (BoardValue × Reply) WalkFault
 walk_of b (event.Claim w v) = told_as walk.Claim (claim_of b w v)
 walk_of b (event.Step w) = told_as walk.Step (step_of b w)
 walk_of b (event.Settle w) = told_as walk.Settle (settle_of b w)
 walk_of b (event.Cancel w) = told_as walk.Cancel (cancel_of b w)
 
--- `walk` returns what its rule returns, or it fails for want of memory
+-- `walk` returns what `walk_of` says, or it fails for want of memory
 abbrev pub GivesWalk : {X Y : Type 0} → (X → Y) → Result X WalkFault → Result Y WalkFault → Type 0
 GivesWalk = answer.Gives walk_memory
 
@@ -59,7 +59,7 @@ statuses_before (Unclaim w v growths) statuses = slice_set statuses v Waiting
 statuses_before (Unstep w mark trees) statuses = statuses
 statuses_before (Resume e w left lent) statuses = slice_set statuses left.execution.vertex (Running w)
 
--- the board after the event that u is for is taken back
+-- board b before its last event; `u` holds what has to be put back
 abbrev pub undone : Displaced → BoardValue → BoardValue
 undone u b = record b {
   state = record {
@@ -79,18 +79,18 @@ event_before (Unclaim w v growths) = event.Claim w v
 event_before (Unstep w mark trees) = event.Step w
 event_before (Resume e w left lent) = end_of e w
 
--- the event that is taken back is the last one of the record, and leads from the board before it to board b
+-- the event that is taken back is the last one of the record; the table grants it on the board before the event, with board b as the result
 pub record IsLast (u : Displaced) (b : BoardValue) : Type 0 where
   pub reply : table.Reply
   pub gives : table.table b.build (undone u b).state (event_before u.back) ≡ Some (b.state, reply)
   pub events : b.events ≡ (undone u b).events ++ event_before u.back ∷ []
 
--- The next three say that the worker and its vertex are in the condition in which the event left them, and that what is put back fits. After a claim: worker w
--- runs the vertex.
+-- The next three definitions say that the worker and its vertex are in the condition in which the event left them, and that what is put back fits. After a
+-- claim: worker w runs the vertex.
 pub record IsBegun (b : BoardValue) (w v : ℕ) : Type 0 where
   pub runs : slice_get b.state.statuses v ≡ Some (Running w)
 
--- after a step: worker w runs a vertex, and what is put back fits it
+-- after a step: worker w runs a vertex, and the mark and the trees that are put back fit what w runs
 pub record IsStepped (b : BoardValue) (w : ℕ) (mark : Mark) (trees : List TreeMap) : Type 0 where
   pub x : Execution
   pub runs : slice_get b.state.workers w ≡ Some (Runs x)
@@ -98,20 +98,20 @@ pub record IsStepped (b : BoardValue) (w : ℕ) (mark : Mark) (trees : List Tree
   pub count : length trees ≡ length x.places
   pub keys : map (λ (p : Instance). p.key) x.places ≡ map key_of (needs_at (slice_get b.build.graph.vertices x.vertex))
 
--- after a settle or a cancel: worker w is idle, `left` fits the vertex that w left, and `lent` is a prepared lease of the instances that w left, if any
+-- after a settle or a cancel: worker w is idle, `left` fits the vertex that w left, and `lent` is a prepared lease of the instances that w held, if any
 pub record IsLeft (b : BoardValue) (w : ℕ) (left : Left) (lent : Option LentValue) : Type 0 where
   pub idle : slice_get b.state.workers w ≡ Some Idle
   pub supplies : left.supplies ≡ supplies_for (slice_get b.build.graph.vertices left.execution.vertex)
   pub keys : map (λ (p : Instance). p.key) left.execution.places ≡ left.supplies.keys
   pub ready : lent ≡ lent_of left.execution.places (length b.state.workers + 1)
 
--- the board is in the condition in which the event left it
+-- the worker and the vertex of the event are in the condition in which the event left them
 abbrev pub StandsBehind : Back → BoardValue → Type 0
 StandsBehind (Unclaim w v growths) b = IsBegun b w v
 StandsBehind (Unstep w mark trees) b = IsStepped b w mark trees
 StandsBehind (Resume e w left lent) b = IsLeft b w left lent
 
--- the board before the event replays its record, the event is the last one of board b, and b is in the condition in which the event left it
+-- the table replays the record of the board before the event; the event is the last one of board b; and `StandsBehind` holds of b
 pub record CanUndo (u : Displaced) (b : BoardValue) : Type 0 where
   pub replays : Replays (undone u b)
   pub last : IsLast u b

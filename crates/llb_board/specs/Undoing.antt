@@ -13,11 +13,11 @@ pub record Left : Type 0 where
   pub execution : Execution
   pub supplies : Supplies
 
--- an execution that a worker left, with its supplies
+-- an execution that a worker left, and its supplies, as contracts see them
 abbrev pub left_in : own.Execution → Left
 left_in x = record { execution = execution_of x; supplies = supplies_of x }
 
--- the seat before a micro-step: one micro-step fewer is done, there is no fault, and the mark is put back
+-- the seat before the last micro-step: one micro-step fewer is done, there is no fault, and the workspace is as it was (from `mark`)
 abbrev pub seat_before : Mark → Option Seat → Seat
 seat_before mark (Some (seat.Runs l x)) = seat.Runs l (record x { done = x.done - 1; fault = None; view = put_back mark x.view })
 seat_before mark (Some seat.Idle) = seat.Idle

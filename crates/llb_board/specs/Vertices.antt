@@ -1,4 +1,4 @@
--- What contracts see of the vertices; and what else is kept of them, which follows from what contracts see.
+-- What contracts see of the vertices, and what else is kept of them; all that is kept follows from what contracts see.
 use Rattle.std.specs.Prelude.{◌≡◌, ℕ, ◌<◌, Bool, true, false, ◌||◌, ◌&&◌, not, List, length, replicate, Option, Some, None, is_some, slice_get, slice_set}
 use Rattle.llb_loader.specs.Graph.{IsGraph}
 use Rattle.llb_loader.specs.declared.graph.Vertex.{Vertex}
@@ -12,7 +12,7 @@ use Rattle.llb_board.specs.declared.vertices.stage.Stage.TheVariants as stage
 
 -- ---- what contracts see
 
--- the build, and the status of each vertex
+-- the build (the graph and its local trees), and the status of each vertex
 pub record VerticesValue : Type 0 where
   pub build : Build
   pub statuses : List Status
@@ -21,11 +21,11 @@ pub record VerticesValue : Type 0 where
 abbrev pub all_waiting : Build → VerticesValue
 all_waiting b = record { build = b; statuses = replicate (length b.graph.vertices) Waiting }
 
--- the value in which vertex v has another status
+-- the value in which vertex v has this status instead
 abbrev pub with_status : ℕ → Status → VerticesValue → VerticesValue
 with_status v s vs = record vs { statuses = slice_set vs.statuses v s }
 
--- the status that a stage represents
+-- the status that a stage (the code's state of a vertex) represents
 abbrev pub status_of : Stage → Status
 status_of stage.Waiting = Waiting
 status_of (stage.Running w) = Running w
@@ -54,7 +54,7 @@ is_over b statuses v = is_settled (slice_get statuses v) || (is_blocked b status
 abbrev pub AreOver : Build → List Status → ℕ → Type 0
 AreOver b statuses n = (v : ℕ) → v < n → is_over b statuses v ≡ true
 
--- the count of open inputs of a vertex is 0 exactly if the trees of all its inputs are there
+-- the count of open inputs of a vertex is 0 exactly if all the trees that the vertex takes as inputs exist
 abbrev pub TellsInputs : Build → List Status → Linked → Type 0
 TellsInputs b statuses l = (v : ℕ) (x : Vertex) → slice_get b.graph.vertices v ≡ Some x → has_inputs l v ≡ is_some (inputs_from (ending_at statuses) x.inputs)
 
@@ -65,8 +65,8 @@ AreCounted true false users old new = AreRaised users old new
 AreCounted false false users old new = new ≡ old
 AreCounted true true users old new = new ≡ old
 
--- What else is kept follows from the build and the statuses: a vertex is marked if it has failed or is downstream of one that has; the links count the
--- inputs that are not done; no vertex below `first_open` can be claimed. There is a status for each vertex, and each vertex that is done has all its outputs.
+-- What else is kept follows from the build and the statuses. A vertex is marked if it has failed or is downstream of one that has. The links count the inputs
+-- that are not done. No vertex below `first_open` can be claimed now or later. Each vertex has a status, and each vertex that is done has all its outputs.
 pub record IsInStep (b : Build) (statuses : List Status) (stop_marks : List Bool) (links : Linked) (first_open : ℕ) : Type 0 where
   pub graph : IsGraph b.graph
   pub count : length statuses ≡ length b.graph.vertices

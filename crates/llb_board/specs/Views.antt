@@ -1,15 +1,15 @@
--- What a worker's data in the code represents in the model.
+-- What the code's data of a worker represents in the model.
 use Rattle.std.specs.Prelude.{ℕ, Option, Some, None}
 use Rattle.llb_model.specs.State as model
 use Rattle.llb_board.specs.declared.workers.seat.Seat.{Seat}
 use Rattle.llb_board.specs.declared.workers.seat.Seat.TheVariants as seat
 use Rattle.llb_board.specs.declared.workers.seat.Execution.{Execution}
 
--- an execution of the code as one of the model
+-- the model's execution for an execution of the code
 abbrev pub execution_of : Execution → model.Execution
 execution_of x = record { vertex = x.vertex; done = x.done; fault = x.fault; own = x.view; places = x.places.items }
 
--- what a worker with this seat does, as a status of the model
+-- the status in the model of a worker with this seat (what it runs, in the code)
 abbrev pub at_of : Seat → model.WorkerStatus
 at_of seat.Idle = model.Idle
 at_of (seat.Runs l x) = model.Runs (execution_of x)

@@ -22,13 +22,13 @@ use Rattle.llb_events.specs.declared.refusal.CancelFault.TheVariants as cancel
 
 -- ---- the result of a claim
 
--- what a claim begins: the worker's execution, the reply, and what is to be leased
+-- what a claim begins: the worker's execution, the reply, and the needs for which instances are to be leased
 pub record Begun : Type 0 where
   pub execution : Execution
   pub reply : Reply
   pub needs : List cache_need.Need
 
--- the result of a claim with these trees of the inputs and these instances
+-- the result of a claim, given the trees of the inputs and the instances that the claim takes
 abbrev pub begun_at : Build → CachesValue → ℕ → ℕ → Vertex → List TreeMap → List Instance → Begun
 begun_at b c w v vertex trees ps = record {
   execution = execution_on v (begin_at b (store_of c.rows) (start_with vertex trees) ps) ps;
@@ -36,7 +36,7 @@ begun_at b c w v vertex trees ps = record {
   needs = asked trees (needs_of vertex);
 }
 
--- the result of a claim, or the refusal that an input tree is missing
+-- the result of a claim or, if the tree of an input is missing, the refusal
 abbrev pub begun : Build → CachesValue → ℕ → ℕ → Vertex → Option (List TreeMap) → Result Begun ClaimFault
 begun b c w v vertex (Some trees) = Ok (begun_at b c w v vertex trees (places_taken c.out (needs_of vertex)))
 begun b c w v vertex None = Err claim.NotReady
@@ -53,7 +53,7 @@ pub record Worked : Type 0 where
 abbrev pub worked_to : Execution → MicroStep → Left → Worked
 worked_to x m left = record { execution = with_step x left; trees = left.work.trees; reply = step_reply x.done m x.own left }
 
--- the result of the next micro-step on these trees of the instances, or the refusal that there is none
+-- the result of a micro-step on these trees of the instances, or the refusal that no micro-step is left
 abbrev pub worked_by : Execution → List TreeMap → Option MicroStep → Result Worked StepFault
 worked_by x trees None = Err step.NothingLeft
 worked_by x trees (Some m) = Ok (worked_to x m (step_on x.done (Some m) (work_with x.own trees)))
@@ -66,7 +66,7 @@ worked steps x trees = worked_by x trees (next_step steps x)
 abbrev pub Written : Type 0
 Written = Execution × List Row × Reply
 
--- the result of a micro-step with its trees written to the rows
+-- the result of a micro-step, with the trees of its instances written to the rows
 abbrev pub written_by : List Row → List Instance → Result Worked StepFault → Result Written StepFault
 written_by rows ps (Ok w) = Ok (w.execution, put_each rows ps w.trees, w.reply)
 written_by rows ps (Err e) = Err e
@@ -77,7 +77,7 @@ worked_in b rows x = written_by rows x.places (worked (program_in b x).steps x (
 
 -- ---- the result of a settle
 
--- the vertex of the worker that settles, and the status of the vertex after the settle; or why the settle is refused
+-- the vertex of the worker that settles, and the vertex's status after the settle; or why the settle is refused
 abbrev pub left_at : Build → Option WorkerStatus → Result (ℕ × Status) SettleFault
 left_at b None = Err settle.NoWorker
 left_at b (Some Idle) = Err settle.NotRunning
@@ -85,7 +85,7 @@ left_at b (Some (Runs x)) = if is_finished (program_in b x).steps x then Ok (x.v
 
 -- ---- the result of a cancel
 
--- the vertex of the worker that cancels, and how many of its micro-steps were done; or why the cancel is refused
+-- the vertex of the worker that cancels, and how many micro-steps of it were done; or why the cancel is refused
 abbrev pub given_up_at : Option WorkerStatus → Result (ℕ × ℕ) CancelFault
 given_up_at None = Err cancel.NoWorker
 given_up_at (Some Idle) = Err cancel.NotRunning

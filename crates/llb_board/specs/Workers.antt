@@ -17,7 +17,7 @@ use Rattle.llb_board.specs.Supplies.{Supplies, supplies_for, needed}
 use Rattle.llb_board.specs.WorkerRules.{Begun}
 use Rattle.llb_board.specs.Vertices.{VerticesValue}
 
--- what contracts see of the workers: what each does, the rows of the caches, and the supplies of each
+-- what contracts see of the workers: what each worker does, the rows of the caches, and what each worker has from its claim on (its supplies)
 pub record WorkersValue : Type 0 where
   pub workers : List WorkerStatus
   pub rows : List Row
@@ -50,13 +50,13 @@ abbrev pub reply_of : {S E : Type 0} → Result (S × Reply) E → Result Reply 
 reply_of (Ok p) = Ok p.1
 reply_of (Err e) = Err e
 
--- this job is what remains for worker w
+-- this job is the one that remains for worker w
 pub record RunsJob (vs : VerticesValue) (ws : WorkersValue) (w : ℕ) (job : Job) : Type 0 where
   pub x : Execution
   pub runs : slice_get ws.workers w ≡ Some (Runs x)
   pub own : IsRunOf vs.build (store_of ws.rows) w x job
 
--- the worker's status after the micro-steps of an outcome: its execution with their count, their fault and the workspace that they left; idle if it ran nothing
+-- a worker's status after an outcome's micro-steps: its count grows by their number, and it has the fault and workspace that they left; idle if it ran nothing
 abbrev pub steps_left : OutcomeValue → Option WorkerStatus → WorkerStatus
 steps_left o (Some (Runs x)) = Runs (record x { done = x.done + o.count; fault = o.left.fault; own = o.left.work.own })
 steps_left o (Some Idle) = Idle
@@ -69,7 +69,7 @@ pub record BegunValue : Type 0 where
   pub supplies : Supplies
   pub needs : List cache_need.Need
 
--- a claim of vertex v by worker w was prepared on this state: the table grants it, and what is prepared is what the table says
+-- a claim of vertex v by worker w was prepared on this state: the table grants the claim, and what is prepared is what the table says
 pub record IsBegunAt (vs : VerticesValue) (ws : WorkersValue) (w v : ℕ) (b : BegunValue) : Type 0 where
   pub vertex : Vertex
   pub inputs : List TreeMap
@@ -92,6 +92,6 @@ pub record IsBegunAt (vs : VerticesValue) (ws : WorkersValue) (w v : ℕ) (b : B
 abbrev pub IsBegunOn : VerticesValue → WorkersValue → BegunValue → Type 0
 IsBegunOn vs ws b = IsBegunAt vs ws b.job.worker b.job.vertex b
 
--- what is prepared for a claim, as the result of the claim's rule
+-- the part of a prepared claim that is in the result of a claim (`Begun`): the execution, the reply and the needs
 abbrev pub rule_of : BegunValue → Begun
 rule_of b = record { execution = b.execution; reply = Claimed b.job; needs = b.needs }

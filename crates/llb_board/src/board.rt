@@ -1,6 +1,7 @@
-//! The board: the vertices, the workers, and the record of events since it was opened. By its invariant the record is a run of the table to the board's state.
-//! The record has room for all events to come, except those of a vertex that is claimed again after a cancel. Each running worker has what its vertex needs
-//! until its settle: the micro-steps, an empty tree for each output, and its cache instances. The invariants of vertices and workers are in their own modules.
+//! The board: the vertices, the workers, and the record of events since the board was opened. By the board's invariant the table replays the record to the
+//! board's state. The record has room for all events to come, except those of a vertex that is claimed again after a cancel: that claim reserves their room.
+//! Each running worker has what its vertex needs until the settle: the micro-steps, an empty tree for each output, and the cache instances. The invariants of
+//! vertices and workers are in their own modules.
 
 ghost use Rattle.std.specs.Prelude.{◌≡◌, ◌<◌, ◌≤◌, ◌+◌, [], length, replicate, true, is_some, option_map, Some, OnErr, IfErr, IfOk, if◌then◌else◌};
 ghost use Rattle.llb_events.specs.declared.event.Settled.TheVariants as ended;
@@ -62,7 +63,7 @@ pub struct Board {
     history: History,
 }
 
-// Written by hand, so that it is proved once; a derived one is proved again in every function that drops such a value.
+// This `Drop` is written by hand, so it is proved once; a derived `Drop` is proved again in every function that drops such a value.
 impl Drop for Board {
     fn drop(self) {
         let Board {
@@ -92,9 +93,9 @@ impl Model for Board {
 }
 
 impl Board {
-    /// Opens a board on which nothing has happened. Fails, in this order, with 121 `MissingLocal` and the name of the first local source, by
-    /// vertex, that has no tree, with 122 `Workers` if the number of workers is 0 or more than 64, and with 123 `Memory`. The fault holds
-    /// the graph, the local trees and the caches. No lease of the caches may be current.
+    /// Opens a board on which nothing has happened. Fails with the first of these that applies: 121 `MissingLocal`, with the name of the first local source, by
+    /// vertex, that has no tree; 122 `Workers`, if the number of workers is 0 or more than 64; 123 `Memory`. The fault holds the graph, the local trees and the
+    /// caches. The caches must have no current lease.
     pub fn open(
         alloc: Global,
         graph: Graph,
@@ -114,7 +115,7 @@ impl Board {
         }
     }
 
-    // Opens a board if all local trees are there.
+    // Opens a board, without a check that every local source has a tree. Fails with 122 `Workers` or 123 `Memory`.
     fn open_with(
         alloc: Global,
         graph: Graph,
@@ -167,8 +168,8 @@ impl Board {
 
     /// Makes an idle worker claim a vertex that waits and has all its inputs, with an instance of each cache that the vertex mounts. Fails with 131 `NoWorker`,
     /// 132 `Busy`, 133 `NoVertex`, 134 `NotReady`, 135 `Held` and the first locked key whose instance a running worker has, or 141 `Memory`. If memory for the
-    /// text of that key is refused, it fails with 141 in place of 135; 141 for other memory is reported only if 135 does not apply. The claim of a vertex that
-    /// was cancelled before reserves room for its events once more.
+    /// text of that key is refused, the call fails with 141 in place of 135; 141 for other memory is reported only if 135 does not apply. The claim of a vertex
+    /// that was cancelled before reserves room for its events once more.
     pub fn claim(&mut self, w: u32, v: u32) -> Result<Job, ClaimFault>
         ensures gives { GivesClaim (λ job. (self.new, Claimed job)) result (claim_of self.old w v) }
         ensures last { IfErr result (λ e. claim_memory e ≡ true → claim_may_want (claim_of self.old w v) ≡ true) }
@@ -186,9 +187,9 @@ impl Board {
         Ok(job)
     }
 
-    /// Does the next micro-step of what a worker runs. A command runs or is skipped, by its join and the last status. The micro-step reads the
-    /// caches as they are now and writes them at once. Fails with 131 `NoWorker`, 136 `NotRunning`, 137 `NothingLeft` or 141 `Memory`; a skipped
-    /// command does not allocate.
+    /// Does the next micro-step of what a worker runs. If the micro-step is a command, it runs or is skipped, as the last status and the `;`, `&&` or `||`
+    /// before it require. The micro-step reads the caches as they are now and writes its changes to them at once. Fails with 131 `NoWorker`, 136 `NotRunning`,
+    /// 137 `NothingLeft` or 141 `Memory`; a skipped command does not allocate.
     pub fn step(&mut self, w: u32) -> Result<Stepped, StepFault>
         ensures gives { GivesStep (λ r. (self.new, HasStepped r)) result (step_of self.old w) }
         ensures last { MemoryLast step_memory result (step_of self.old w) }
@@ -199,8 +200,8 @@ impl Board {
         Ok(stepped)
     }
 
-    /// Settles the vertex that a worker runs, which is finished; its cache instances are free again. Fails with 131 `NoWorker`, 136 `NotRunning` or
-    /// 138 `NotFinished`. Does not allocate.
+    /// Settles the finished vertex that a worker runs; the worker's cache instances are free again. Fails with 131 `NoWorker`, 136 `NotRunning` or 138
+    /// `NotFinished`. Does not allocate.
     pub fn settle(&mut self, w: u32) -> Result<Settled, SettleFault>
         ensures gives { GivesSettle (λ r. (self.new, HasSettled r)) result (settle_of self.old w) }
         ensures err { OnErr result (self.new ≡ self.old) }
@@ -212,8 +213,8 @@ impl Board {
         Ok(settled(v, failed))
     }
 
-    /// Cancels what a worker runs, finished or not. Its vertex waits again, its cache instances are free, and they keep what
-    /// its micro-steps have written. Fails with 131 `NoWorker` or 136 `NotRunning`. Does not allocate.
+    /// Cancels what a worker runs, finished or not. The vertex waits again. The worker's cache instances are free again, and keep what the micro-steps have
+    /// written. Fails with 131 `NoWorker` or 136 `NotRunning`. Does not allocate.
     pub fn cancel(&mut self, w: u32) -> Result<Cancelled, CancelFault>
         ensures gives { GivesCancel (λ r. (self.new, HasCancelled r)) result (cancel_of self.old w) }
         ensures err { OnErr result (self.new ≡ self.old) }
@@ -238,16 +239,16 @@ impl Board {
         self.vertices.status(v)
     }
 
-    /// Returns what a worker does; `None` past the last worker. Does not allocate.
+    /// Returns the status of a worker; `None` past the last worker. Does not allocate.
     pub fn worker(&self, w: u32) -> Option<WorkerStatus>
         ensures { result ≡ worker_look self.now.build self.now.state w }
     {
         self.workers.look(&self.vertices, w)
     }
 
-    /// Returns tree `i` of those that a worker works on now: the local tree of a source; the inputs of a file op, then its results so far; the inputs of a
-    /// merge, then what is laid so far; the trees of the mounts of an exec, where a cache mount has the tree of its instance as it is now. `None` if the worker
-    /// is idle, or there is no such worker or tree. Does not allocate.
+    /// Returns tree `i` of the trees that a worker works on now. A source has one such tree, its local tree; a file op has its inputs and then its results so
+    /// far; a merge has its inputs and then the tree laid so far; an exec has the trees of its mounts (for a cache mount, the tree of its instance as it is
+    /// now). Returns `None` if the worker is idle, or there is no such worker or tree. Does not allocate.
     pub fn worked_on(&self, w: u32, i: u32) -> Option<&Tree>
         ensures { option_map (λ t. t.now) result ≡ worked_on self.now.state w i }
     {
@@ -268,9 +269,9 @@ impl Board {
         self.vertices.users(v)
     }
 
-    /// Returns the record of events since the board was opened: for each vertex at most one claim, one settle and its micro-steps, and as many
-    /// again for each time that it was cancelled. It has room for all events still to come, except for vertices that wait after a
-    /// cancel: their claim reserves it. Does not allocate.
+    /// Returns the record of events since the board was opened. For each vertex the record has at most one claim, one settle and its micro-steps, and as many
+    /// again for each time that the vertex was cancelled. It has room for all events still to come, except those of vertices that wait after a cancel: their
+    /// next claim reserves the room. Does not allocate.
     pub fn events(&self) -> &Events
         ensures all { result.now.list ≡ self.now.events }
         ensures bound { still_to_come self.now.build self.now.state + length result.now.list ≤ most_events self.now.build (replies_in self.now) }
@@ -279,7 +280,8 @@ impl Board {
         self.history.events()
     }
 
-    /// Returns the chosen event; `None` if the board is complete. Does not allocate.
+    /// Returns the event to do next if the board is driven by one worker (the *chosen* event): the next step or settle of the running worker with the lowest
+    /// number or, if no worker runs, the claim of the first Ready vertex by worker 0. `None` if the board is complete. Does not allocate.
     pub fn chosen(&self) -> Option<Event>
         ensures { result ≡ chosen self.now.build self.now.state }
     {
@@ -300,7 +302,7 @@ impl Board {
     }
 
     /// Returns the caches as they are now: each key with its instances, first the keys that were handed in, then the others in the order of
-    /// their first claims. The current leases have the instances of the running workers. Does not allocate.
+    /// their first claims. The current leases hold the instances of the running workers. Does not allocate.
     pub fn caches(&self) -> &Caches
         ensures rows { result.now.rows ≡ self.now.rows }
         ensures contents { store_of result.now.rows ≡ self.now.state.store }
@@ -321,7 +323,7 @@ impl Board {
         }
     }
 
-    /// Returns the graph, the local trees and the caches as they are now, without leases. Does not allocate.
+    /// Gives back all leases, and returns the graph, the local trees and the caches as they are now. Does not allocate.
     pub fn into_parts(self) -> (Graph, Locals, Caches)
         ensures graph { result.0 ≡ self.build.graph }
         ensures locals { result.1 ≡ self.build.locals }
@@ -355,7 +357,7 @@ impl Board {
         let _ = self.workers.look(&self.vertices, 0);
     }
 
-    /// Proves that the record is a run of the table from the opening state to the board's state, and that this run leads from the lists of instances that were
+    /// Proves that the table replays the record from the opening state to the board's state, and that this replay leads from the lists of instances that were
     /// handed in to the lists that the board has now. So the opening and the record determine the board: two boards with the same opening and the same record
     /// are the same.
     pub fn replays(&self)
@@ -391,7 +393,7 @@ fn missing(alloc: Global, graph: &Graph, locals: &Locals) -> Result<Option<Text>
     }
 }
 
-// Returns a copy of the caches, and an empty record that has room for every event if no vertex is cancelled.
+// Returns a copy of the caches, and an empty record with room for every event of a run without cancels.
 fn fresh(alloc: Global, vertices: &Vertices, caches: &Caches) -> Result<(Caches, History), Memory>
     ensures start { IfOk result (λ r. r.0 ≡ caches.now) }
     ensures events { IfOk result (λ r. r.1.list ≡ []) }

@@ -1,5 +1,5 @@
-//! Why a call on a board is refused, other than the single events: an opening, a landing, an event of a walk, or refused memory. A fault prints
-//! its number, and after it the name of a missing tree. Whatever a refused call returns to its caller is in its fault.
+//! Why a call on a board fails, other than a single event: an opening, a landing, a call of `walk`, or a call that lacks memory. A fault prints
+//! its number, and after it the name of a missing tree. What was handed to a refused call comes back in the fault.
 
 ghost use Rattle.std.specs.Prelude.{Some};
 ghost use Rattle.llb_board.specs.Faults.{walk_text};
@@ -62,16 +62,16 @@ impl fmt::Debug for OpenFault {
     }
 }
 
-/// Why an event of a walk is refused: the fault of the claim, the step, the settle or the cancel, or `Memory`, whichever call ran out.
+/// Why `walk` refuses an event: the fault of the claim, the step, the settle or the cancel, or `Memory`, whichever call ran out of memory.
 #[derive(Debug, Drop)]
 pub enum WalkFault {
-    /// 131 to 135.
+    /// 131 to 135: a claim is refused.
     Claim(ClaimFault),
-    /// 131, 136, 137.
+    /// 131, 136, 137: a step is refused.
     Step(StepFault),
-    /// 131, 136, 138.
+    /// 131, 136, 138: a settle is refused.
     Settle(SettleFault),
-    /// 131, 136.
+    /// 131, 136: a cancel is refused.
     Cancel(CancelFault),
     /// 141: memory was refused.
     Memory,
@@ -105,35 +105,35 @@ impl<T: Drop> From<AllocFailed<T>> for Memory {
     }
 }
 
-/// Converts the fault of a copy of caches.
+/// Converts the fault of copying caches.
 impl From<llb_cache::Memory> for Memory {
     fn from(_: llb_cache::Memory) -> Memory {
         Memory
     }
 }
 
-/// Converts the fault of a copy of a tree, which can only lack memory.
+/// Converts the fault of copying a tree, which fails only for want of memory.
 impl From<TreeFault> for Memory {
     fn from(_: TreeFault) -> Memory {
         Memory
     }
 }
 
-/// Converts the fault of a copy of a view.
+/// Converts the fault of copying a view.
 impl From<llb_wire::Memory> for Memory {
     fn from(_: llb_wire::Memory) -> Memory {
         Memory
     }
 }
 
-/// Converts the fault of a copy of a graph and of local trees.
+/// Converts the fault of copying a graph and local trees.
 impl From<llb_loader::Memory> for Memory {
     fn from(_: llb_loader::Memory) -> Memory {
         Memory
     }
 }
 
-/// Converts the fault of a copy of the directory and variables with which commands run.
+/// Converts the fault of copying the directory and the variables with which commands run.
 impl From<llb_applet::Memory> for Memory {
     fn from(_: llb_applet::Memory) -> Memory {
         Memory
@@ -151,7 +151,7 @@ impl From<Memory> for WalkFault {
     }
 }
 
-/// Converts the fault of keeping the parts of a view that a step can change.
+/// Converts the fault of copying the parts of a view that a step can change.
 impl From<llb_wire::Memory> for WalkFault {
     ghost use Rattle.std.specs.Prelude.{◌≡◌};
     ghost use Rattle.llb_board.specs.declared.fault.WalkFault.TheVariants as walk;
@@ -213,7 +213,7 @@ impl From<CancelFault> for WalkFault {
     }
 }
 
-/// Converts the fault of making room for events.
+/// Converts the fault of reserving room for events.
 impl From<Memory> for ClaimFault {
     ghost use Rattle.std.specs.Prelude.{◌≡◌};
     ghost use Rattle.llb_events.specs.declared.refusal.ClaimFault.TheVariants as claim;

@@ -1,4 +1,4 @@
-//! The history of a board: the record of its events, in room that was reserved before, and how often each vertex was cancelled.
+//! The history of a board: the record of its events, for which memory is reserved in advance, and how often each vertex was cancelled.
 
 ghost use Rattle.std.specs.Prelude.{◌≡◌, ◌+◌, ◌<◌, ◌≤◌, ◌∷◌, ◌++◌, [], length, replicate, get_or, IfOk, OnOk, OnErr};
 ghost use Rattle.llb_model.specs.Landing.{steps_by};
@@ -19,7 +19,7 @@ pub(crate) struct History {
     cancels: Vec<usize>,
 }
 
-// Written by hand, so that it is proved once; a derived one is proved again in every function that drops such a value.
+// This `Drop` is written by hand, so it is proved once; a derived `Drop` is proved again in every function that drops such a value.
 impl Drop for History {
     fn drop(self) {
         let History {
@@ -67,7 +67,7 @@ impl History {
         self.events.push_reserved(event);
     }
 
-    /// Appends a cancel, for which there is room, and counts it for vertex `v`, which so far was cancelled at most as often as there are events.
+    /// Appends a cancel, and adds one to the count of vertex `v`. There has to be room for the event, and the count so far is at most the number of events.
     pub(crate) fn record_cancel(&mut self, w: u32, v: u32)
         requires room { length self.old.list < self.old.space.room }
         requires low { v < length self.old.space.cancels }
@@ -92,8 +92,8 @@ impl History {
         }
     }
 
-    /// Removes the last event, which is of vertex `v`. If it is a claim, the room that it reserved for `events` events is released; if a cancel, it is not
-    /// counted any more.
+    /// Removes the last event, which is an event of vertex `v`. If the event is a claim, the room that the claim reserved is released (room for `events`
+    /// events, if the vertex was cancelled before). If it is a cancel, the vertex's count of cancels is lowered by one.
     pub(crate) fn take_back(&mut self, v: u32, events: usize)
         ensures list { self.new.list ≡ front self.old.list }
         ensures space { self.new.space ≡ space_back (last_of self.old.list) v events self.old.space }
@@ -119,7 +119,8 @@ impl History {
         }
     }
 
-    /// Reserves room for the events of a claimed vertex if it was cancelled before. Fails with 141 `Memory` alone; then the room is as it was.
+    /// Reserves room for `events` events of a vertex that is claimed, if the vertex was cancelled before. Fails with 141 `Memory` alone; then the room is
+    /// as it was.
     pub(crate) fn reserve(&mut self, v: u32, events: usize) -> Result<(), Memory>
         ensures list { self.new.list ≡ self.old.list }
         ensures ok { OnOk result (self.new.space ≡ claimed v events self.old.space) }
@@ -129,7 +130,7 @@ impl History {
         self.events.take_room(more)
     }
 
-    /// Gives up the room that `reserve` reserved for the vertex.
+    /// Releases the room that `reserve` reserved for the vertex.
     pub(crate) fn release(&mut self, v: u32, events: usize)
         ensures list { self.new.list ≡ self.old.list }
         ensures space { self.new.space ≡ unclaimed v events self.old.space }

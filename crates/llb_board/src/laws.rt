@@ -1,5 +1,5 @@
-//! What holds for a board after every list of granted events, since its record replays to its state. If you read only one contract, read the contract of
-//! `headline`.
+//! Laws that hold for a board after every list of granted events, since the table replays the board's record to the board's state. If you read only one
+//! contract, read the contract of `headline`.
 
 ghost use Rattle.std.specs.Prelude.{◌≡◌, ◌↔◌, ◌<◌, ℕ, None, true, length, slice_get};
 ghost use Rattle.llb_model.specs.Outcome.{outcome};
@@ -13,8 +13,8 @@ ghost use Rattle.llb_board.specs.Headline.{Headline, StandsInClaimOrder};
 
 use crate::board::Board;
 
-/// Proves the promise of the whole machine. The record is a run of the written table, with its replies, from the opening state to the board's state. No two
-/// workers have the same locked cache at once, nor the same instance of a private one; another worker's event neither changes nor reads an instance that a
+/// Proves the promise of the whole machine. The table replays the record, with a reply for each event, from the opening state to the board's state. No two
+/// workers hold the same locked cache at once, nor the same instance of a private cache; another worker's event neither changes nor reads an instance that a
 /// worker holds exclusively. A settled vertex with no cache mount at or before it has its plain outcome. This holds at every moment, for any workers and any
 /// order of events.
 pub fn headline(board: &Board)
@@ -49,7 +49,7 @@ pub fn complete_is_plain(board: &Board)
     board.replays();
 }
 
-/// Proves that there is a chosen event exactly if the board is not complete.
+/// Proves that there is a chosen event (see `Board::chosen`) exactly if the board is not complete.
 pub fn chosen_until_complete(board: &Board)
     ensures { (chosen board.now.build board.now.state ≡ None) ↔ (is_complete board.now.build board.now.state ≡ true) }
 {
@@ -57,16 +57,16 @@ pub fn chosen_until_complete(board: &Board)
     board.replays();
 }
 
-/// Proves that the chosen event is granted.
+/// Proves that the table grants the chosen event (see `Board::chosen`).
 pub fn chosen_is_granted(board: &Board)
     ensures { ChosenIsGranted board.now }
 {
     board.has_workers();
 }
 
-/// Proves that a granted event changes nothing of what all other workers do. From a worker's claim to its settle or cancel, other workers' events do not change
-/// the cache instances that it holds exclusively; and whatever trees these instances had, an event of another worker would have the same reply, and the same
-/// effect on everything else.
+/// Proves that a granted event of one worker does not change the state of any other worker. From a worker's claim to its settle or cancel, other workers'
+/// events do not change the cache instances that the worker holds exclusively. Whatever trees these instances had, an event of another worker would have the
+/// same reply, and the same effect on everything else.
 pub fn others_keep(board: &Board)
     ensures workers { OthersKeep board.now }
     ensures instances { machine.OthersKeep board.now.build }
@@ -75,7 +75,7 @@ pub fn others_keep(board: &Board)
     let _ = board;
 }
 
-/// Proves that no two workers have the same instance of a private or a locked cache at once, nor the same locked key.
+/// Proves that no two workers hold the same instance of a private or a locked cache at once, nor instances of the same locked key.
 pub fn held_once(board: &Board)
     ensures instances { machine.IsHeldOnce board.now.build }
     ensures locked { machine.IsLockedOnce board.now.build }
@@ -83,22 +83,21 @@ pub fn held_once(board: &Board)
     let _ = board;
 }
 
-/// Proves that the instances that a running worker has are distinct, and that each has a tree.
+/// Proves that the instances that a running worker holds are distinct, and that each has a tree.
 pub fn held_are_there(board: &Board)
     ensures { machine.HeldAreThere board.now.build }
 {
     board.is_graph();
 }
 
-/// Proves that for a private key a claim takes the instance with the least number that no running worker has.
+/// Proves that for a private key a claim takes the instance with the least number that no running worker holds.
 pub fn claims_least(board: &Board)
     ensures { machine.ClaimsLeast board.now.build }
 {
     let _ = board;
 }
 
-/// Proves that the instances of a key are numbered from 0 without gaps: on this board, and after any events if there are no gaps
-/// at first.
+/// Proves that the instances of a key are numbered from 0 without gaps: on this board, and after any list of events of a run that begins without gaps.
 pub fn stays_dense(board: &Board)
     ensures here { machine.IsDense board.now.state.store }
     ensures after { machine.StaysDense board.now.build }
@@ -106,9 +105,9 @@ pub fn stays_dense(board: &Board)
     let _ = board.caches();
 }
 
-/// Proves that if no cache is shared, after any list of granted events, the settled vertices and the free cache instances are as if each
-/// claimed vertex had been run at its claim, in the order of the claims: whole, or up to the micro-step at which it was cancelled.
-/// The same holds for this board, in the order of the claims of its record.
+/// Proves a law for builds without shared caches. After any list of granted events, the settled vertices and the free cache instances are as if the claimed
+/// vertices had been run one after another, in the order of their claims: each vertex as a whole, or up to the micro-step at which it was cancelled. The same
+/// holds for this board, in the order of the claims of its record.
 pub fn runs_in_claim_order(board: &Board)
     ensures after { machine.NoShared board.now.build → machine.RunsInClaimOrder board.now.build }
     ensures here { machine.NoShared board.now.build → StandsInClaimOrder board.now }
@@ -117,16 +116,16 @@ pub fn runs_in_claim_order(board: &Board)
     board.replays();
 }
 
-/// Proves that chosen events, done one after another on a board that was just opened, leave vertices and cache instances as the order of their claims says (see
-/// `runs_in_claim_order`), shared caches included.
+/// Proves a law for a list of chosen events (see `Board::chosen`) after the opening, at whose end no vertex runs: the vertices and the cache instances, shared
+/// ones included, are then as if the claimed vertices had been run one after another, in the order of their claims.
 pub fn alone_in_claim_order(board: &Board)
     ensures { machine.AloneInClaimOrder board.now.build }
 {
     board.is_graph();
 }
 
-/// Proves that landing work has the same effect as its micro-steps and its settle, done on the board with no other event between them, if the work was done off
-/// the board on the worker's view and on the trees of its instances as they are now.
+/// Proves a law for work that was done off the board, on the worker's view and on the trees of its instances as they are now: landing the work has the same
+/// effect as doing its micro-steps and its settle on the board, with no other event between them.
 pub fn lands_as_block(board: &Board)
     ensures { LandsAsBlock board.now.build }
 {
@@ -180,8 +179,8 @@ pub fn outcome_by_inputs(board: &Board)
     board.is_graph();
 }
 
-/// Proves that if a worker has done no micro-step of its vertex, and no cache mount is at or before the vertex, then the worker's work is the one that the
-/// build and the vertex determine, and a claim of the vertex hands out the same job. So its outcome lands, and no tree has to be compared.
+/// Proves a law for a vertex with no cache mount at or before it: the build and the vertex determine the job that a claim hands out. If a worker has done no
+/// micro-step of such a vertex, the worker's work is this job, so the job's outcome can be landed without comparing trees.
 pub fn begun_are_plain(board: &Board)
     ensures begun { BegunArePlain board.now }
     ensures claims { ClaimsArePlain board.now }

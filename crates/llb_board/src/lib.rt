@@ -1,11 +1,11 @@
-//! A board: a state with the record of the events that made it, changed only as the transition table says. It is built on `llb_execution`; it
-//! starts no thread and takes no lock.
+//! A board: the state of a run, with the record of the events that led to it. A board changes only as the transition table says. The crate is built on
+//! `llb_execution`; it starts no thread and takes no lock.
 //!
 //! Types: `Board`, `Events` (the record), `Walked` (a reply, and the `Undo` that takes the event back), `Status` and `WorkerStatus`, `OpenFault`
 //! (121 to 123), `LandFault` (131, 136, 139, 140), `WalkFault` and `Memory` (141).
-//! Promise: `laws::headline`: at every moment, for any workers and any order of events, the record is a run of the table to the board's state;
-//! no two workers have one locked cache; a settled vertex with no cache mount at or before it has its plain outcome. `Board::claim` (`gives`,
-//! `last`, `err`), `step`, `settle` and `cancel` are granted exactly if the table grants the event, and return its reply. `Board::land` (`gives`, `refused`,
+//! Promise: `laws::headline`: at every moment, for any workers and any order of events, the table replays the record to the board's state; no two workers
+//! hold the same locked cache; a settled vertex with no cache mount at or before it has its plain outcome. `Board::claim` (`gives`, `last`, `err`), `step`,
+//! `settle` and `cancel` succeed exactly if the table grants the event and memory suffices, and return the table's reply. `Board::land` (`gives`, `refused`,
 //! `err`) does all remaining micro-steps of a worker and its settle, at once.
 //!
 //! A caller:

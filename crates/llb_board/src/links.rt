@@ -14,16 +14,16 @@ use std::alloc::{AllocError, Global};
 use std::marker::Model;
 use std::sync::Arc;
 
-/// For each vertex of a graph: its users (the vertices that have an edge to it), ascending, each once; and its count of open inputs: how many vertices that it
-/// has edges to are not done. Copies share the lists of users. `reached` is an empty list with room for all vertices. Contracts see the users and the counts,
-/// as lists.
+/// For each vertex of a graph: its users (the vertices that have an edge to it), ascending, each once; and its count of open inputs (how many of the vertices
+/// to which it has an edge are not done). Copies share the lists of users. `reached` is an empty list with room for all vertices; `spread` works in it.
+/// Contracts see the users and the counts, as lists.
 pub(crate) struct Links {
     users: Arc<Vec<Vec<u32>>>,
     counts: Vec<u32>,
     reached: Vec<u32>,
 }
 
-// Written by hand, so that it is proved once; a derived one is proved again in every function that drops such a value.
+// This `Drop` is written by hand, so it is proved once; a derived `Drop` is proved again in every function that drops such a value.
 impl Drop for Links {
     fn drop(self) {
         let Links {
@@ -47,8 +47,8 @@ impl Model for Links {
 }
 
 impl Links {
-    /// Makes the links of a graph in which no vertex is done; every edge of a vertex leads to a vertex with a lower number. Memory grows with the edges; fails
-    /// for want of memory alone.
+    /// Makes the links of a graph in which no vertex is done; every edge of a vertex leads to a vertex with a lower number. The memory needed grows with the
+    /// number of edges; fails for want of memory alone.
     pub(crate) fn new(alloc: Global, vertices: &[Vertex]) -> Result<Links, AllocError>
         requires below { AreBelow vertices.now }
         requires few { length vertices.now < 2 ^ 32 }
@@ -172,7 +172,7 @@ fn enter(users: &mut Vec<Vec<u32>>, v: u32, edges: &[Edge]) -> Result<u32, Alloc
     Ok(more)
 }
 
-// Appends the number to a list, unless it is the last one there; returns how often it was appended.
+// Appends a number to a list, unless the last item is that number; returns how many items were appended, 0 or 1.
 fn enter_once(list: &mut Vec<u32>, v: u32) -> Result<u32, AllocError>
     ensures again { (front : List ℕ) → list.old.items ≡ front ++ v ∷ [] → IfOk result (λ n. (list.new.items ≡ list.old.items) × (n ≡ 0)) }
     ensures fresh { All (λ x. x < v) list.old.items → IfOk result (λ n. (list.new.items ≡ list.old.items ++ v ∷ []) × (n ≡ 1)) }

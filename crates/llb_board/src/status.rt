@@ -5,25 +5,25 @@ use llb_events::VertexFault;
 /// The status of a vertex, as callers see it.
 #[derive(Clone, Copy, Debug, PartialEq, Eq)]
 pub enum Status {
-    /// An input is not done yet.
+    /// The vertex waits for an input that is not done, and is not downstream of a failed vertex.
     Waiting,
-    /// All inputs are done.
+    /// The vertex waits, and all its inputs are done.
     Ready,
-    /// It waits downstream of a vertex that has failed.
+    /// The vertex waits downstream of a vertex that has failed.
     Blocked,
-    /// The worker of this number runs it.
+    /// The worker of this number runs the vertex.
     Running(u32),
-    /// It ended with its outputs.
+    /// The vertex ended with its outputs.
     Done,
-    /// It ended with this fault.
+    /// The vertex ended with this fault.
     Failed(VertexFault),
 }
 
 /// The status of a worker, as callers see it.
 #[derive(Clone, Copy, Debug, PartialEq, Eq)]
 pub enum WorkerStatus {
-    /// It runs no vertex.
+    /// The worker runs no vertex.
     Idle,
-    /// It runs this vertex; this number of micro-steps is done; and whether it is finished.
+    /// The worker runs a vertex: the vertex's number, how many of its micro-steps are done, and whether it is finished.
     Runs(u32, u32, bool),
 }

@@ -1,4 +1,4 @@
-//! Copies of lists of trees, which stay shared.
+//! Copies lists of trees; a copy shares the memory of the trees.
 
 ghost use Rattle.std.specs.Prelude.{◌≡◌, IfOk};
 

@@ -1,5 +1,5 @@
-//! The vertices: the graph with its local trees, the state of each vertex, and what follows from these, kept so that no call
-//! computes it again: which vertices have failed or are downstream of one that has, the open inputs of each, and where the search for a Ready one begins.
+//! The vertices: the graph with its local trees, and the state of each vertex. What follows from these is kept too, so that no call computes it again:
+//! which vertices have failed or are downstream of one that has, the open inputs of each vertex, and where the search for a Ready vertex begins.
 
 ghost use Rattle.std.specs.Prelude.{◌≡◌, ◌<◌, ◌^◌, ◌||◌, IfOk, IfErr, length, option_map, replicate, slice_get, false, is_ok, true, Some, Err};
 ghost use Rattle.std.specs.Prelude.{MatchResult, map, ℕ, ◌+◌, All, get_or};
@@ -36,18 +36,18 @@ use std::alloc::{AllocError, Global};
 use std::marker::Model;
 use std::mem;
 
-/// A graph with its local trees, and the state of each vertex. Contracts see the build and the statuses.
+/// A graph with its local trees, and the state of each vertex. Contracts see the build (graph and local trees) and the statuses.
 pub(crate) struct Vertices {
     build: Build,
     stages: Vec<Stage>,
     /// Which vertices have failed, or are downstream of one that has.
     stop_marks: Vec<bool>,
     links: Links,
-    /// No vertex with a lower number is Ready or runs, or can become Ready before its own state or the state of a lower vertex is changed.
+    /// Every vertex with a lower number is done, failed or blocked, so the search for a Ready vertex begins here.
     first_open: u32,
 }
 
-// Written by hand, so that it is proved once; a derived one is proved again in every function that drops such a value.
+// This `Drop` is written by hand, so it is proved once; a derived `Drop` is proved again in every function that drops such a value.
 impl Drop for Vertices {
     fn drop(self) {
         let Vertices {
@@ -76,7 +76,7 @@ impl Model for Vertices {
 }
 
 impl Vertices {
-    /// Makes the vertices of a graph, which all wait. If memory is refused, returns what was handed in.
+    /// Makes the vertices of a graph; all of them wait. If memory is refused, returns what was handed in.
     pub(crate) fn open(
         alloc: Global,
         graph: Graph,
@@ -151,7 +151,7 @@ impl Vertices {
         self.links.users(v)
     }
 
-    /// Returns the least vertex that waits and has all its inputs; `None` if there is none. Does not allocate.
+    /// Returns the Ready vertex with the least number; `None` if no vertex is Ready. Does not allocate.
     pub(crate) fn next_ready(&self) -> Option<u32>
         ensures { result ≡ least (is_ready self.now.build self.now.statuses) 0 (length self.now.build.graph.vertices) }
     {
@@ -176,7 +176,7 @@ impl Vertices {
         true
     }
 
-    /// Sets the state of a vertex, whatever it was. A vertex whose new state is done has as many trees as outputs. Does not allocate.
+    /// Sets the state of a vertex, whatever the state was before. If the new state is done, it has as many trees as the vertex has outputs. Does not allocate.
     pub(crate) fn set(&mut self, v: u32, stage: Stage)
         requires low { v < length self.old.statuses }
         requires whole { IsWhole (slice_get self.old.build.graph.vertices v) (status_of stage) }
@@ -215,7 +215,7 @@ impl Vertices {
         })
     }
 
-    /// Returns the vertex with a number; `None` past the last vertex.
+    /// Returns vertex `v`; `None` past the last vertex.
     pub(crate) fn vertex(&self, v: u32) -> Option<&Vertex>
         ensures there { option_map (λ x. x.now) result ≡ slice_get self.now.build.graph.vertices v }
         ensures few { length (program_at (slice_get self.now.build.graph.vertices v)).steps < 2 ^ 25 }
@@ -231,8 +231,8 @@ impl Vertices {
         self.build.locals()
     }
 
-    /// Returns the vertex of a number. Fails with 133 `NoVertex` if there is none, else with 134 `NotReady` if it does not wait or lacks an input. Does not
-    /// allocate.
+    /// Returns vertex `v`. Fails with 133 `NoVertex` if there is none, else with 134 `NotReady` if the vertex does not wait or an input of it is not done.
+    /// Does not allocate.
     pub(crate) fn ready(&self, v: u32) -> Result<&Vertex, ClaimFault>
         ensures there { IfOk result (λ x. slice_get self.now.build.graph.vertices v ≡ Some x.now) }
         ensures kind { IfOk result (λ x. IsVertexOf x.now x.now.op.kind) }
@@ -278,7 +278,7 @@ impl Same for Vertices {
     }
 }
 
-// Returns what is kept besides a build when every vertex waits: the states, the marks and the links.
+// Returns what is kept in addition to a build when every vertex waits: the states, the marks and the links.
 fn at_first(alloc: Global, build: &Build) -> Result<(Vec<Stage>, Vec<bool>, Links), AllocError>
     ensures stages { IfOk result (λ r. r.0.items ≡ replicate (length build.now.graph.vertices) stage.Waiting) }
     ensures marks { IfOk result (λ r. r.1.items ≡ replicate (length build.now.graph.vertices) false) }
@@ -322,7 +322,7 @@ fn output_at(stages: &[Stage], v: u32, i: u32) -> Option<&Tree>
     }
 }
 
-// Updates the counts of open inputs of the users of a vertex, given whether the vertex was done and whether it is.
+// Updates the counts of open inputs of the users of a vertex, given whether the vertex was done before and whether it is done now.
 fn count(links: &mut Links, v: u32, was_done: bool, is_done: bool)
     requires low { v < length links.old.users }
     requires below { All (λ x. x < length links.old.counts) (users_at links.old v) }

@@ -1,5 +1,5 @@
-//! What the workers of a board do, on which cache instances, and the caches themselves. By the invariant of `Workers` there are 1 to 64 workers, and each
-//! worker that runs a vertex with cache instances has a lease of exactly these instances.
+//! The workers of a board: what each of them runs, on which cache instances, and the caches themselves. By the invariant of `Workers` there are 1 to 64
+//! workers, and each worker that runs a vertex with cache instances has a lease of exactly these instances.
 
 ghost use Rattle.std.specs.Prelude.{◌≡◌, ◌↔◌, ◌<◌, ◌≤◌, [], IsTrue, length, option_map, replicate, slice_get, IfOk, IfErr};
 ghost use Rattle.llb_cache.specs.Caches.{leases};
@@ -34,14 +34,14 @@ use std::alloc::Global;
 use std::marker::Model;
 pub use undoing::Undo;
 
-/// The workers of a board, and the caches whose instances they hold. Contracts see what each worker does, the lists of instances, and what each worker was
-/// given at its claim.
+/// The workers of a board, and the caches whose instances they hold. Contracts see what each worker does, each cache's list of instances, and what each
+/// worker was given at its claim.
 pub(crate) struct Workers {
     seats: Vec<Seat>,
     caches: Caches,
 }
 
-// Written by hand, so that it is proved once; a derived one is proved again in every function that drops such a value.
+// This `Drop` is written by hand, so it is proved once; a derived `Drop` is proved again in every function that drops such a value.
 impl Drop for Workers {
     fn drop(self) {
         let Workers {
@@ -94,7 +94,7 @@ impl Workers {
         &self.caches
     }
 
-    /// Returns the caches as they are, without leases. Does not allocate.
+    /// Gives back all leases, and returns the caches as they are now. Does not allocate.
     pub(crate) fn into_caches(self) -> Caches
         ensures rows { result.rows ≡ self.rows }
         ensures free { result.out ≡ [] }
@@ -105,7 +105,7 @@ impl Workers {
         caches
     }
 
-    /// Returns the status of a worker; `None` past the last worker, of which there are 1 to 64. Does not allocate.
+    /// Returns the status of a worker; `None` past the last worker. There are 1 to 64 workers. Does not allocate.
     pub(crate) fn look(&self, vertices: &Vertices, w: u32) -> Option<WorkerStatus>
         ensures looks { result ≡ option_map (look_of vertices.now.build) (slice_get self.now.workers w) }
         ensures some { 0 < length self.now.workers }
@@ -140,7 +140,7 @@ impl Workers {
         }
     }
 
-    /// Copies the workers, with the same leases on equal caches. Fails with 141 `Memory` alone.
+    /// Copies the workers, with the same leases, and the caches. Fails with 141 `Memory` alone.
     pub(crate) fn copy(&self, alloc: Global) -> Result<Workers, Memory>
         ensures { IfOk result (λ s. s ≡ self.now) }
     {
@@ -150,7 +150,7 @@ impl Workers {
         })
     }
 
-    /// Returns whether each worker does the same here and in `other`, by value, and the caches have the same trees. Does not allocate.
+    /// Returns whether the workers do the same and the caches have the same trees as in `other`, compared by value. Does not allocate.
     pub(crate) fn same(&self, other: &Workers) -> bool
         ensures { IsTrue result ↔ ((self.now.workers ≡ other.now.workers) × (self.now.rows ≡ other.now.rows)) }
     {

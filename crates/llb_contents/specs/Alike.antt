@@ -1,4 +1,4 @@
--- Trees, views and results that differ only in the contents of files; a relation R between contents says in which way.
+-- Trees, views and results that differ only in the contents of files, where contents at the same place are related by a given relation R.
 use Rattle.std.specs.Prelude.{◌≡◌, ℕ, List, [], ◌∷◌, ◌++◌, Option, Some, None, Result, Ok, Err}
 use Rattle.std.specs.List.{flat_map}
 use Rattle.std.specs.FinMap as finite
@@ -15,7 +15,7 @@ use Rattle.llb_applet.specs.Commands.{line, listed}
 use Rattle.llb_model.specs.Program.{MicroStep, ReadLocal, Act, LayInput, Run, Workspace, LocalTree, Files, Layers, Mounted, Work, Left}
 use Rattle.llb_model.specs.Outcome.{Ending, Done, Failed, Outcome, Ended, Blocked}
 
--- a relation on contents that relates the empty content to itself, and is kept when contents are appended
+-- the relation relates the empty content to itself, and is kept by appending: contents made by appending related contents to related ones are related
 pub record IsKept (R : List ℕ → List ℕ → Type 0) : Type 0 where
   pub empty : R [] []
   pub appended : (a b c d : List ℕ) → R a b → R c d → R (a ++ c) (b ++ d)
@@ -29,7 +29,7 @@ BothOptions P (Some x) (Some y) = P x y
 BothOptions P None (Some y) = ⊥
 BothOptions P (Some x) None = ⊥
 
--- both results are values and P relates them, or both are the same fault
+-- both results are values that P relates, or both are the same fault
 abbrev pub BothResults : {A F : Type 0} → (A → A → Type 0) → Result A F → Result A F → Type 0
 BothResults P (Ok x) (Ok y) = P x y
 BothResults P (Err e) (Err f) = e ≡ f
@@ -73,7 +73,7 @@ AreAlikeViews R = BothLists (AreAlikeMounts R)
 abbrev pub AreLikeFiles : (List ℕ → List ℕ → Type 0) → MetaValue × List ℕ → MetaValue × List ℕ → Type 0
 AreLikeFiles R f g = (f.0 ≡ g.0) × R f.1 g.1
 
--- each text that a command writes, other than the contents of files, is related to itself; if it writes digests, digests of related contents are related
+-- each text that a command writes and does not read from a file is related to itself; if it writes digests, digests of related contents are related
 abbrev pub RelatesTexts : (List ℕ → List ℕ → Type 0) → Setting → Command → Type 0
 RelatesTexts R setting (command.Write path word) = R (line word) (line word)
 RelatesTexts R setting (command.Append path word) = R (line word) (line word)
@@ -107,12 +107,12 @@ AreAlikeWorkspaces R (Layers inputs t) (Layers others u) = BothLists (AreAlike R
 AreAlikeWorkspaces R (Mounted mounts caches last) (Mounted others numbers status) = AreAlikeViews R mounts others × (caches ≡ numbers) × (last ≡ status)
 AreAlikeWorkspaces R _ _ = ⊥
 
--- two works that are equal, except that their trees need only be alike
+-- two works (a workspace, and the trees of its cache instances) that are equal, except that their trees need only be alike
 pub record AreAlikeWorks (R : List ℕ → List ℕ → Type 0) (x y : Work) : Type 0 where
   pub own : AreAlikeWorkspaces R x.own y.own
   pub trees : BothLists (AreAlike R) x.trees y.trees
 
--- two results whose works are alike, and which have the same fault or both have none
+-- two results of micro-steps: their works are alike, and both have the same fault or both have none
 pub record AreAlikeLefts (R : List ℕ → List ℕ → Type 0) (x y : Left) : Type 0 where
   pub work : AreAlikeWorks R x.work y.work
   pub fault : x.fault ≡ y.fault

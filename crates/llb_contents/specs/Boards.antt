@@ -13,12 +13,12 @@ pub record AreSettled (b c : BoardValue) (v : ℕ) (d e : Ending) : Type 0 where
   pub first : slice_get b.state.statuses v ≡ Some (Settled d)
   pub second : slice_get c.state.statuses v ≡ Some (Settled e)
 
--- for each relation that appending keeps: both boards settled a vertex alike, if its local sources are alike and each written content is related to itself
+-- for each relation that appending keeps: the boards settled a vertex alike, if the trees of its sources are alike and `RelatesWritten` holds of it
 abbrev pub SettleAlike : BoardValue → BoardValue → Type 0
 SettleAlike b c = (test : List ℕ → List ℕ → Bool) → IsKept (By test) → (v : ℕ) (d e : Ending) → AreSettled b c v d e
     → RelatesWritten (By test) b.build.graph v → HaveAlikeSources (By test) b.build.graph v b.build.locals c.build.locals → AreAlikeEndings (By test) d e
 
--- both boards settled a vertex alike, if no digest is made at or before it, and the trees of its sources differ only by replaced pieces of contents
+-- the boards settled a vertex alike, if no digest is made at or before it, and the trees of its sources differ only by replaced pieces of contents
 abbrev pub SettleExchanged : BoardValue → BoardValue → Type 0
 SettleExchanged b c = (pairs : List (List ℕ × List ℕ)) (v : ℕ) (d e : Ending) → AreSettled b c v d e
     → MakesNoDigest b.build.graph v → HaveAlikeSources (AreExchanged pairs) b.build.graph v b.build.locals c.build.locals

@@ -22,20 +22,20 @@ use Rattle.llb_contents.specs.Alike.{BothResults, AreAlikeViews, RelatesTexts, R
 
 -- ---- steps of a run
 
--- the relation that a test decides
+-- two contents are related if the test returns true for them
 abbrev pub By : (List ℕ → List ℕ → Bool) → List ℕ → List ℕ → Type 0
 By test a b = test a b ≡ true
 
--- laying alike trees over alike trees results in alike trees
+-- laying alike trees over alike trees results in alike trees: `t` and `v` are compared with any trees that are alike to them
 abbrev pub LaysAlike : TreeMap → TreeMap → Type 0
 LaysAlike t v = (test : List ℕ → List ℕ → Bool) (u w : TreeMap) → AreAlike (By test) t u → AreAlike (By test) v w → AreAlike (By test) (lay t v) (lay u w)
 
--- if what an action writes is related to itself: on trees alike to `t` and `v` it fails with the same fault as on these, or its result is alike
+-- an action fails with the same fault on trees alike to `t` and `v` as on `t` and `v`, or has an alike result, if what the action writes is related to itself
 abbrev pub ActsAlike : Option ActionKind → TreeMap → TreeMap → Type 0
 ActsAlike a t v = (test : List ℕ → List ℕ → Bool) (u w : TreeMap) → RelatesBody (By test) a → AreAlike (By test) t u → AreAlike (By test) v w
     → BothResults (AreAlike (By test)) (act a t v) (act a u w)
 
--- if the relation is kept by appending and relates what a command writes: on two alike views the command fails on both, or has alike results
+-- on two alike views the command fails on both or has alike results, if appending keeps the relation, and `RelatesTexts` holds of the command
 abbrev pub RunsAlike : Setting → List Shown → Command → Type 0
 RunsAlike s v c = (test : List ℕ → List ℕ → Bool) (w : List Shown) → IsKept (By test) → RelatesTexts (By test) s c → AreAlikeViews (By test) v w
     → BothOptions (AreAlikeViews (By test)) (run s v c) (run s w c)
@@ -43,7 +43,7 @@ RunsAlike s v c = (test : List ℕ → List ℕ → Bool) (w : List Shown) → I
 -- ---- a law for each relation between contents
 
 -- each content that a micro-step of a vertex at or before vertex v writes, and does not take from a file, is related to itself; and digests of related contents
--- are related
+-- are related, if such a micro-step makes digests
 abbrev pub RelatesWritten : (List ℕ → List ℕ → Type 0) → Numbered → ℕ → Type 0
 RelatesWritten R g v = (k : ℕ) (x : Vertex) → Reached (links g.vertices) v k → slice_get g.vertices k ≡ Some x → All (RelatesStep R) (program_of x).steps
 
@@ -55,7 +55,7 @@ pub record IsSourceOf (g : Numbered) (v : ℕ) (name : List ℕ) : Type 0 where
   pub there : slice_get g.vertices number ≡ Some source
   pub named : local_name source.op ≡ Some name
 
--- each local source at or before vertex v has alike trees in both lists, or none in both
+-- each local source at or before vertex v has alike trees in the two lists of local trees, or has no tree in either
 abbrev pub HaveAlikeSources : (List ℕ → List ℕ → Type 0) → Numbered → ℕ → List Local → List Local → Type 0
 HaveAlikeSources R g v ls ms = (name : List ℕ) → IsSourceOf g v name → BothOptions (AreAlike R) (tree_of_local ls name) (tree_of_local ms name)
 
@@ -64,7 +64,7 @@ HaveAlikeSources R g v ls ms = (name : List ℕ) → IsSourceOf g v name → Bot
 abbrev pub HasAlikeOutcomes : (List ℕ → List ℕ → Type 0) → Numbered → List Local → List Local → ℕ → Type 0
 HasAlikeOutcomes R g ls ms v = BothOptions (AreAlikeOutcomes R) (outcome (record { graph = g; locals = ls }) v) (outcome (record { graph = g; locals = ms }) v)
 
--- if `RelatesWritten` holds of a vertex, and the trees of its sources differ only in contents that R relates, its outcomes differ only in such contents
+-- if `RelatesWritten` holds of a vertex, and the trees of its sources are alike in two lists of local trees, its plain outcomes with the two lists are alike
 abbrev pub HandsOn : (List ℕ → List ℕ → Type 0) → Numbered → Type 0
 HandsOn R g = (ls ms : List Local) (v : ℕ) → RelatesWritten R g v → HaveAlikeSources R g v ls ms → HasAlikeOutcomes R g ls ms v
 
@@ -78,17 +78,17 @@ HandsRelationsOn g = (test : List ℕ → List ℕ → Bool) → IsKept (By test
 abbrev pub ExpandsTo : (List ℕ → Option (List ℕ)) → List ℕ → List ℕ → Type 0
 ExpandsTo expand a b = expand a ≡ Some b
 
--- `HandsOn` for each expansion that appending keeps: if contents of sources expand to other contents, so do the contents of the outcomes
+-- `HandsOn` holds for each expansion that appending keeps: if contents of sources expand to others, so do the contents of the outcomes
 abbrev pub HandsExpansionsOn : Numbered → Type 0
 HandsExpansionsOn g = (expand : List ℕ → Option (List ℕ)) → IsKept (ExpandsTo expand) → HandsOn (ExpandsTo expand) g
 
--- a tree expands to at most one tree: so the outcome on short contents determines the outcome on long contents
+-- a tree expands to at most one tree: so the outcome on short contents determines the outcome on the contents that these expand to
 abbrev pub ExpandsToOne : TreeMap → Type 0
 ExpandsToOne t = (expand : List ℕ → Option (List ℕ)) (u w : TreeMap) → AreAlike (ExpandsTo expand) t u → AreAlike (ExpandsTo expand) t w → u ≡ w
 
--- what the rest of a content expands to, while `left` bytes of a token are still to be read, and n is the token's number by its bytes so far.
--- The byte 255, which no text in UTF-8 has, begins a token; the four bytes after it are its number, the most significant first.
--- Each byte outside a token expands to itself.
+-- what the rest of a content expands to. The byte 255, which no text in UTF-8 has, begins a token; the four bytes after it are the token's number, the most
+-- significant first. If the rest begins inside a token, `left` of its bytes are still to be read, and n is the number by the bytes so far. Each byte outside a
+-- token expands to itself.
 abbrev pub spelled_from : (ℕ → List ℕ) → List ℕ → ℕ → ℕ → Option (List ℕ)
 spelled_from table [] zero n = Some []
 spelled_from table [] (suc left) n = None
@@ -97,7 +97,7 @@ spelled_from table (b ∷ bytes) zero n =
 spelled_from table (b ∷ bytes) (suc zero) n = option_map (λ rest. table (n * 256 + b) ++ rest) (spelled_from table bytes 0 0)
 spelled_from table (b ∷ bytes) (suc (suc left)) n = spelled_from table bytes (suc left) (n * 256 + b)
 
--- what a content with tokens expands to, given the contents by number
+-- what a content with tokens expands to, given a table of the contents by token number
 abbrev pub spelled : (ℕ → List ℕ) → List ℕ → Option (List ℕ)
 spelled table bytes = spelled_from table bytes 0 0
 
@@ -105,7 +105,7 @@ spelled table bytes = spelled_from table bytes 0 0
 abbrev pub has_mark : List ℕ → Bool
 has_mark bytes = list_any (λ b. b == 255) bytes
 
--- whether a command makes a digest of contents; no other command looks at contents
+-- whether a command makes a digest of contents; other commands only copy, join or extend contents, or do not read them
 abbrev pub digests : Command → Bool
 digests (command.Sha256 path out) = true
 digests command.True = false
@@ -128,7 +128,7 @@ step_digests ReadLocal = false
 step_digests (Act action) = false
 step_digests (LayInput i) = false
 
--- whether a command may write the byte that begins tokens; a listing may, by the names of a tree, and a digest does not
+-- whether a command may write the byte that begins tokens; a listing may, since names of files can have it, and a digest does not
 abbrev pub writes_mark : Setting → Command → Bool
 writes_mark setting (command.Write path word) = has_mark (line word)
 writes_mark setting (command.Append path word) = has_mark (line word)
@@ -169,13 +169,13 @@ pub record IsLiteral (a b : List ℕ) : Type 0 where
   pub same : a ≡ b
   pub plain : has_mark a ≡ false
 
--- for each vertex at or before vertex v that makes a digest: the local sources at or before that vertex have the same contents in both lists of local trees,
--- and none of these contents has the byte that begins tokens
+-- a condition on each vertex at or before vertex v that makes a digest: the local sources at or before that vertex have the same contents in both lists of
+-- local trees, and none of these contents has the byte that begins tokens
 abbrev pub DigestsLiterals : Numbered → List Local → List Local → ℕ → Type 0
 DigestsLiterals g ls ms v = (k : ℕ) (x : Vertex) → Reached (links g.vertices) v k → slice_get g.vertices k ≡ Some x
     → (list_any step_digests (program_of x).steps ≡ false) ⊎ HaveAlikeSources IsLiteral g k ls ms
 
--- if no vertex writes tokens, and `DigestsLiterals` holds, the outcome on local trees with tokens expands to the outcome on the expanded trees
+-- the outcome of a vertex on local trees with tokens expands to its outcome on the expanded trees, if `WritesNoMark` and `DigestsLiterals` hold of the vertex
 abbrev pub HandsTokensOn : Numbered → Type 0
 HandsTokensOn g = (table : ℕ → List ℕ) (ls ms : List Local) (v : ℕ) → WritesNoMark g v → DigestsLiterals g ls ms v
     → HaveAlikeSources (ExpandsTo (spelled table)) g v ls ms → HasAlikeOutcomes (ExpandsTo (spelled table)) g ls ms v
@@ -186,7 +186,7 @@ HandsTokensOn g = (table : ℕ → List ℕ) (ls ms : List Local) (v : ℕ) → 
 abbrev pub MakesNoDigest : Numbered → ℕ → Type 0
 MakesNoDigest g v = (k : ℕ) (x : Vertex) → Reached (links g.vertices) v k → slice_get g.vertices k ≡ Some x → list_any step_digests (program_of x).steps ≡ false
 
--- `HandsOn` with the premise that no digest is made, in place of the premise `RelatesWritten`; it is for relations that relate each content to itself
+-- `HandsOn` with another premise: no digest is made at or before the vertex; it is for relations that relate each content to itself
 abbrev pub HandsOnUndigested : (List ℕ → List ℕ → Type 0) → Numbered → Type 0
 HandsOnUndigested R g = (ls ms : List Local) (v : ℕ) → MakesNoDigest g v → HaveAlikeSources R g v ls ms → HasAlikeOutcomes R g ls ms v
 
@@ -201,6 +201,6 @@ pub record AreExchanged (pairs : List (List ℕ × List ℕ)) (a b : List ℕ) :
   pub first : a ≡ flat_map (λ p. p.0) pieces
   pub second : b ≡ flat_map (λ p. p.1) pieces
 
--- if no digest is made, replacing pieces of the contents of local trees changes the outcome only by such replacements in its contents
+-- if no digest is made, and pieces of the contents of local trees are replaced, the contents of the outcomes differ only by such replacements
 abbrev pub HandsContentsOn : Numbered → Type 0
 HandsContentsOn g = (pairs : List (List ℕ × List ℕ)) → HandsOnUndigested (AreExchanged pairs) g

@@ -1,4 +1,5 @@
-//! The laws, for any graph, any local trees and any table of tokens.
+//! Laws of contents, for any graph, any local trees and any table of tokens. *Alike* trees differ only in the contents of files, and these contents are
+//! related.
 
 ghost use Rattle.llb_contents.specs.Laws.{ActsAlike, LaysAlike, RunsAlike, ExpandsToOne};
 ghost use Rattle.llb_contents.specs.Laws.{HandsContentsOn, HandsExpansionsOn, HandsRelationsOn, HandsTokensOn, HandsUndigestedOn};
@@ -10,7 +11,7 @@ use llb_loader::Graph;
 use llb_ops::Action;
 use llb_tree::Tree;
 
-/// Proves that laying alike trees, which differ only in contents, over alike trees results in alike trees.
+/// Proves that laying alike trees over alike trees results in alike trees.
 pub fn lays_alike(lower: &Tree, upper: &Tree)
     ensures { LaysAlike lower.now upper.now }
 {
@@ -18,7 +19,8 @@ pub fn lays_alike(lower: &Tree, upper: &Tree)
     let _ = upper;
 }
 
-/// Proves that an action on alike trees fails with the same fault, or results in alike trees.
+/// Proves that an action on alike trees fails with the same fault, or results in alike trees, if the content that the action itself writes is related to
+/// itself.
 pub fn acts_alike(action: &Action, base: &Tree, second: &Tree)
     ensures { ActsAlike action.now.kind base.now second.now }
 {
@@ -27,7 +29,8 @@ pub fn acts_alike(action: &Action, base: &Tree, second: &Tree)
     let _ = second;
 }
 
-/// Proves that a command that runs on two alike views fails on both, or results in alike views.
+/// Proves that a command on two alike views fails on both, or results in alike views, if appending keeps the relation and each text that the command itself
+/// writes is related to itself (a digest of contents: to the digest of related contents).
 pub fn runs_alike(setting: &Setting, view: &View, command: &Command)
     ensures { RunsAlike setting.now view.now command.now }
 {
@@ -36,14 +39,15 @@ pub fn runs_alike(setting: &Setting, view: &View, command: &Command)
     let _ = command;
 }
 
-/// Proves of a vertex and two lists of local trees: if each local source at or before the vertex has trees in the two lists that differ only in the contents of
-/// files, and these contents are related, then the plain outcomes of the vertex with the two lists differ only in related contents. Both are blocked, both
-/// failed with the same fault, or both are done with as many outputs. Each clause is for one kind of relation. `relations`: any relation that appending keeps,
-/// if each content that the ops themselves write is related to itself, and digests of related contents are related. `expansions`: with the same premises, the
-/// second content is what the first expands to. `tokens`: the same for tokens (the byte 255 and a number of four bytes), if no exec at or before the vertex
-/// makes a listing, nothing there writes the byte 255, and the sources at or before each exec that makes a digest have the same trees in both lists, without
-/// the byte 255. `undigested`: any relation that appending keeps and that relates each content to itself, if no exec at or before the vertex makes a digest.
-/// `contents`: with the premises of `undigested`, the second content is the first with some pieces replaced, each by its partner in a list of pairs.
+/// Proves a law for a vertex and two lists of local trees. If each local source at or before the vertex has trees in the two lists that differ only in the
+/// contents of files, and these contents are related, then the plain outcomes of the vertex with the two lists differ only in related contents: both are
+/// blocked, both failed with the same fault, or both are done with as many outputs. Each clause is for one kind of relation, with further premises.
+/// `relations`: any relation that appending keeps, if each content that the ops themselves write is related to itself, and digests of related contents are
+/// related. `expansions`: with the same premises, the second content is what the first expands to. `tokens`: the same for tokens (the byte 255 and a number of
+/// four bytes), if no exec at or before the vertex makes a listing, nothing there writes the byte 255, and the sources at or before each exec that makes a
+/// digest have the same trees in both lists, without the byte 255. `undigested`: any relation that appending keeps and that relates each content to itself, if
+/// no exec at or before the vertex makes a digest. `contents`: with the premises of `undigested`, the second content is the first with some pieces replaced,
+/// each by its partner in a list of pairs.
 pub fn contents_are_handed_on(graph: &Graph)
     ensures relations { HandsRelationsOn graph.now }
     ensures expansions { HandsExpansionsOn graph.now }
@@ -54,15 +58,16 @@ pub fn contents_are_handed_on(graph: &Graph)
     graph.is_graph();
 }
 
-/// Proves that there is at most one tree that a tree expands to, if what each content expands to is given.
+/// Proves that a tree expands to at most one tree, whatever each content expands to.
 pub fn expands_to_one(tree: &Tree)
     ensures { ExpandsToOne tree.now }
 {
     let _ = tree;
 }
 
-/// Proves that if the local trees of two boards over one graph differ only in contents, then a vertex that is done or failed on both boards ended alike there
-/// (done with related outputs, or failed with the same fault), if no cache mount is at or before it. This holds for any workers and any order of events.
+/// Proves a law for a vertex that is done or failed on two boards over one graph, with no cache mount at or before it. If the trees of its sources differ only
+/// in related contents, the vertex ended alike on both: done with outputs that differ only in related contents, or failed with the same fault. The premises are
+/// those of `relations` and `contents` of `contents_are_handed_on`. This holds for any workers and any order of events.
 pub fn boards_settle_alike(board: &Board, other: &Board)
     ensures relations { SettleAlike board.now other.now }
     ensures contents { SettleExchanged board.now other.now }

@@ -1,11 +1,11 @@
 //! Laws of contents: if the local trees of two runs differ only in the contents of files, and these contents are related by a relation that appending keeps,
-//! then the outcomes differ only in related contents. There is no code but the laws. `tools/build` relies on these laws: it gives the program a short token in
-//! place of each content. It is built on `llb_board`.
+//! then the outcomes differ only in related contents. The crate has no code but the laws. `tools/build` relies on these laws: it gives the program a short
+//! token in place of each content. The crate is built on `llb_board`.
 //!
-//! Types: none; `specs/Laws.antt` has the relation on trees, views and outcomes.
-//! Promise: `laws::contents_are_handed_on` (`tokens`, `contents`): if no exec at or before a vertex makes a listing, nothing there writes the byte 255, and the
-//! sources before each exec that makes a digest have no tokens, then tokens in the sources come out as the same tokens in the outcome.
-//! `laws::boards_settle_alike` says the same of what two boards have settled.
+//! Types: none; `specs/Alike.antt` has the relation on trees, views and outcomes.
+//! Promise: `laws::contents_are_handed_on` (`tokens`, `contents`): tokens in the sources come out as the same tokens in the outcome of a vertex, if no exec at
+//! or before the vertex makes a listing, nothing there writes the byte 255, and the sources at or before each exec that makes a digest have no tokens.
+//! `laws::boards_settle_alike`: the outputs of a vertex that two boards have settled differ only in related contents.
 //!
 //! A caller:
 //!

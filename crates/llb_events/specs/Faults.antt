@@ -1,5 +1,5 @@
--- The text after the word `fault` when a board refuses an event: the number of the fault, and for 135 the ID of the key that is held. And how the results of
--- events are specified: they are what the table returns, or the call fails for want of memory.
+-- The text after the word `fault` when a board refuses an event: the number of the fault, and for 135 the ID of the held key. Also how contracts state the
+-- result of an event: it is what the table returns, or the call fails for want of memory.
 use Rattle.std.specs.Prelude.{ℕ, Bool, true, false, List, ◌++◌, Result, Ok, Err, codes}
 use Rattle.llb_wire.specs.Answer as answer
 use Rattle.llb_cache.specs.Key.{has_text}
@@ -41,7 +41,7 @@ cancel_text cancel.NotRunning = codes "136"
 
 -- ---- memory that a claim may need
 
--- whether a claim with this result in the table may need memory: the table grants it, or a key is held whose text the refusal copies
+-- whether a claim with this result in the table may need memory: the table grants the claim, or refuses it for a held key that has a text to copy
 abbrev pub claim_may_want : {A : Type 0} → Result A ClaimFault → Bool
 claim_may_want (Ok a) = true
 claim_may_want (Err (claim.Held k)) = has_text k
@@ -79,20 +79,20 @@ GivesStep = answer.Gives step_memory
 
 -- ---- settles
 
--- no settle needs memory
+-- whether the refusal of a settle is `Memory`: never
 abbrev pub settle_memory : SettleFault → Bool
 settle_memory e = false
 
--- a settle's result is what the table returns
+-- a settle returns what the table returns
 abbrev pub GivesSettle : {X Y : Type 0} → (X → Y) → Result X SettleFault → Result Y SettleFault → Type 0
 GivesSettle = answer.Gives settle_memory
 
 -- ---- cancels
 
--- no cancel needs memory
+-- whether the refusal of a cancel is `Memory`: never
 abbrev pub cancel_memory : CancelFault → Bool
 cancel_memory e = false
 
--- a cancel's result is what the table returns
+-- a cancel returns what the table returns
 abbrev pub GivesCancel : {X Y : Type 0} → (X → Y) → Result X CancelFault → Result Y CancelFault → Type 0
 GivesCancel = answer.Gives cancel_memory

@@ -8,11 +8,11 @@ use llb_wire::Same;
 pub enum Event {
     /// Worker and vertex: an idle worker takes a Ready vertex.
     Claim(u32, u32),
-    /// The next micro-step of what the worker runs is done.
+    /// The worker does the next micro-step of the vertex that it runs.
     Step(u32),
-    /// The worker ends what it runs, which is finished, and is idle again.
+    /// The worker ends the vertex that it runs, which is finished, and is idle again.
     Settle(u32),
-    /// The worker gives up what it runs, and the vertex waits again.
+    /// The worker gives up the vertex that it runs, and the vertex waits again.
     Cancel(u32),
 }
 
@@ -27,18 +27,18 @@ pub enum Stepped {
     Merged(u32),
     /// The command with this number has ended with this status.
     Ran(u32, u32),
-    /// The command with this number was skipped, by its join and the last status.
+    /// The command with this number was skipped, because of the `&&` or `||` before it and the last status.
     Skipped(u32),
     /// The micro-step faulted.
     Fault(VertexFault),
 }
 
-/// How the vertex with this number was settled.
+/// The result of a settle: how the vertex with this number ended.
 #[derive(Clone, Copy, Debug, PartialEq, Eq)]
 pub enum Settled {
-    /// The execution of the vertex had no fault: it has its outputs.
+    /// The vertex is done: its execution had no fault, and it has its outputs.
     Done(u32),
-    /// The execution of the vertex had a fault.
+    /// The vertex has failed: its execution had a fault.
     Failed(u32),
 }
 

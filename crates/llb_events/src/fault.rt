@@ -1,4 +1,4 @@
-//! Why a vertex fails. A failure prints what comes after the vertex in its line.
+//! Why a vertex fails. The text of a failure is the end of the output line that names the vertex.
 
 ghost use Rattle.std.specs.Prelude.{Some};
 ghost use Rattle.llb_events.specs.Failure.{failure_text};
@@ -10,9 +10,9 @@ use std::fmt;
 /// Why a vertex fails: an action that could not be done, or the status with which its commands ended.
 #[derive(Clone, Copy, Debug, PartialEq, Eq)]
 pub enum VertexFault {
-    /// An action was refused: its number, and that of its fault, 21 to 26, or 52 for a text that is no pattern.
+    /// An action failed: its number, and the number of its fault (21 to 26, or 52 for a text that is not a pattern).
     Action(u32, u32),
-    /// The last command that ran ended with another status than 0: its number, and that status.
+    /// The last command that ran ended with a status other than 0: the command's number, and the status.
     Exit(u32, u32),
 }
 

@@ -1,9 +1,9 @@
-//! The types of a board's interface: events, replies, why an event is refused, and why a vertex fails. They are types and their
-//! texts alone; which event is granted is what the table says (`llb_model`). It is built on `llb_cache`.
+//! The types of a board's interface: events, replies, why an event is refused, and why a vertex fails. The crate has these types and their
+//! texts alone; the table (`llb_model`) says which events are granted. The crate is built on `llb_cache`.
 //!
 //! Types: `Event`, `Stepped`, `Settled`, `Cancelled`; `ClaimFault`, `StepFault`, `SettleFault`, `CancelFault` (131 to 138, 141); `VertexFault`.
-//! Promise: each refusal prints its number, and 135 the ID of the held key too: contracts have these texts (`claim_text` and the like in
-//! `specs/Faults.antt`).
+//! Promise: each refusal prints its number, and 135 also the ID of the held key. The contracts of these texts cite the definitions of
+//! `specs/Faults.antt` (`claim_text` and the like).
 //!
 //! A caller:
 //!

@@ -8,7 +8,7 @@ use llb_tree::TreeFault;
 use std::alloc::{AllocError, AllocFailed};
 use std::{error, fmt};
 
-/// Why a vertex is not claimed: the first cause that applies.
+/// Why a claim is refused: the first cause that applies.
 #[derive(Debug, Drop)]
 pub enum ClaimFault {
     /// 131: there is no worker of that number.
@@ -42,7 +42,7 @@ impl fmt::Display for ClaimFault {
 
 impl error::Error for ClaimFault {}
 
-/// Why a micro-step is not done: the first cause that applies.
+/// Why a step is refused: the first cause that applies.
 #[derive(Clone, Copy, Debug, PartialEq, Eq)]
 pub enum StepFault {
     /// 131: there is no worker of that number.
@@ -70,7 +70,7 @@ impl fmt::Display for StepFault {
 
 impl error::Error for StepFault {}
 
-/// Why a vertex is not settled: the first cause that applies.
+/// Why a settle is refused: the first cause that applies.
 #[derive(Clone, Copy, Debug, PartialEq, Eq)]
 pub enum SettleFault {
     /// 131: there is no worker of that number.
@@ -95,7 +95,7 @@ impl fmt::Display for SettleFault {
 
 impl error::Error for SettleFault {}
 
-/// Why what a worker runs is not given up: the first cause that applies.
+/// Why a cancel is refused: the first cause that applies.
 #[derive(Clone, Copy, Debug, PartialEq, Eq)]
 pub enum CancelFault {
     /// 131: there is no worker of that number.
@@ -139,7 +139,7 @@ impl<T: Drop> From<AllocFailed<T>> for ClaimFault {
     }
 }
 
-/// Converts the fault of a call on a tree that can only lack memory.
+/// Converts the fault of a call on a tree; such a call fails only for want of memory.
 impl From<TreeFault> for ClaimFault {
     ghost use Rattle.std.specs.Prelude.{◌≡◌};
     ghost use Rattle.llb_events.specs.declared.refusal.ClaimFault.TheVariants.{Memory};
@@ -175,7 +175,7 @@ impl From<llb_cache::Memory> for ClaimFault {
     }
 }
 
-/// Converts the fault of a lease that can be refused for want of memory alone.
+/// Converts the fault of a lease that fails only for want of memory.
 impl From<llb_cache::LeaseFault> for ClaimFault {
     ghost use Rattle.std.specs.Prelude.{◌≡◌};
     ghost use Rattle.llb_events.specs.declared.refusal.ClaimFault.TheVariants.{Memory};
@@ -187,7 +187,7 @@ impl From<llb_cache::LeaseFault> for ClaimFault {
     }
 }
 
-/// Converts the fault of a call on a tree that can only lack memory.
+/// Converts the fault of a call on a tree; such a call fails only for want of memory.
 impl From<TreeFault> for StepFault {
     ghost use Rattle.std.specs.Prelude.{◌≡◌};
     ghost use Rattle.llb_events.specs.declared.refusal.StepFault.TheVariants.{Memory};
@@ -199,7 +199,7 @@ impl From<TreeFault> for StepFault {
     }
 }
 
-/// Converts the fault of a micro-step on a view, which can only lack memory.
+/// Converts the fault of a micro-step on a view; it can only be a want of memory.
 impl From<llb_wire::Memory> for StepFault {
     ghost use Rattle.std.specs.Prelude.{◌≡◌};
     ghost use Rattle.llb_events.specs.declared.refusal.StepFault.TheVariants.{Memory};

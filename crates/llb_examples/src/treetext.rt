@@ -21,19 +21,19 @@ pub(crate) fn printed(alloc: Global, tree: &Tree) -> Result<Vec<u8>, AllocError>
 // Reads a text as a tree. Returns the text of this tree, or the fault.
 fn answer(rt: &impl Abort, alloc: Global, text: &str) -> String {
     one_answer(text.as_bytes());
-    let mut printed = String::new(alloc);
+    let mut found = String::new(alloc);
     match read_tree(alloc, text.as_bytes()) {
-        Err(fault) => write!(printed, "{fault}").expect(rt, "memory"),
+        Err(fault) => write!(found, "{fault}").expect(rt, "memory"),
         Ok(tree) => {
             let again = printed(alloc, &tree).expect(rt, "memory");
             say(
                 rt,
-                &mut printed,
+                &mut found,
                 str::from_utf8(again.as_slice()).unwrap_or(""),
             );
         }
     }
-    printed
+    found
 }
 
 // Texts of trees, each of which is printed again after it is read.

@@ -4,15 +4,15 @@ use mathlib.Core.Option.{some}
 use lib.ListN.{get_elem?}
 use Rattle.llb_ready.specs.declared.hand.Hand.{Hand}
 
--- The fraction of the pass is weight / unit. A pass with fraction 0 has put and taken nothing; any other has the queue's room as its `room`.
+-- The fraction of the pass is weight / unit. A pass with fraction 0 has put and taken nothing; every other pass has the queue's room as its `room`.
 pub record IsPart (unit room weight : ℕ) (v : Hand) : Type 0 where
   pub whole : 0 < v.den
   pub is : weight * v.den ≡ v.num * unit
   pub idle : v.num ≡ 0 → (v.put ≡ []) × (v.taken ≡ [])
   pub same_room : 0 < v.num → v.room ≡ room
 
--- The fractions of the passes add up to the whole. For every function h that gives numbers a weight, the weights of the numbers that were put add up to those
--- of the numbers that were taken and of those in the queue; and the queue holds no more numbers than it has room for.
+-- The fractions of the passes add up to the whole. For every function h from numbers to weights: the weights of the numbers that were put have the same sum
+-- as the weights of the numbers that were taken and of those in the queue. The queue holds no more numbers than it has room for.
 pub record IsBalanced (items : List ℕ) (views : List Hand) : Type 0 where
   pub unit : ℕ
   pub room : ℕ

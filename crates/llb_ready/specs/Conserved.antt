@@ -12,23 +12,23 @@ pub record IsConserved (v : Hand) (present : List ℕ) : Type 0 where
   pub each : (x : ℕ) → times x v.put ≡ times x v.taken + times x present
   pub all : length v.put ≡ length v.taken + length present
 
--- If the pass is the whole one, its numbers are conserved, and the queue holds no more than it has room for.
+-- If the pass is the whole one, its numbers are conserved, and the queue holds no more numbers than it has room for.
 abbrev pub Knows : Hand → List ℕ → Type 0
 Knows v present = HasAll v → IsConserved v present × (length present ≤ v.room)
 
--- The queue has room, as the whole pass knows: fewer numbers were put than the sum of those that were taken and the room.
+-- The whole pass shows that the queue has room: fewer numbers were put than the sum of the numbers taken and the room.
 abbrev pub HasRoom : Hand → Type 0
 HasRoom v = length v.put < length v.taken + v.room
 
--- The queue is full, as the whole pass knows: as many numbers were put as the sum of those that were taken and the room.
+-- The whole pass shows that the queue is full: as many numbers were put as the sum of the numbers taken and the room.
 abbrev pub HasNoRoom : Hand → Type 0
 HasNoRoom v = length v.put ≡ length v.taken + v.room
 
--- The queue is empty, as the whole pass knows: it took each number as often as it put it.
+-- The whole pass shows that the queue is empty: each number was taken as often as it was put.
 abbrev pub HasTakenAll : Hand → Type 0
 HasTakenAll v = (length v.taken ≡ length v.put) × ((x : ℕ) → times x v.taken ≡ times x v.put)
 
--- The number is in the queue, as the whole pass knows: it was put more often than it was taken.
+-- The whole pass shows that this number is in the queue: it was put more often than it was taken.
 abbrev pub HasLeft : Hand → ℕ → Type 0
 HasLeft v x = times x v.taken < times x v.put
 

@@ -2,7 +2,7 @@
 use Rattle.std.specs.Prelude.{◌≡◌, ℕ, ◌+◌, ◌*◌, ◌<◌, List, [], ◌∷◌, ◌++◌}
 use Rattle.llb_ready.specs.declared.hand.Hand.{Hand}
 
--- A pass with the fraction num/den of the whole, which knows the queue's room, and has put and taken these numbers.
+-- A pass: its fraction num/den of the whole, the queue's room, and the numbers that it has put and taken.
 abbrev pub hand : ℕ → ℕ → ℕ → List ℕ → List ℕ → Hand
 hand num den room put taken = record { num = num; den = den; room = room; put = put; taken = taken }
 
@@ -10,7 +10,7 @@ hand num den room put taken = record { num = num; den = den; room = room; put = 
 abbrev pub HasPart : Hand → Type 0
 HasPart v = (0 < v.num) × (0 < v.den)
 
--- A pass is whole if its fraction is 1.
+-- A pass is the whole one if its fraction is 1.
 abbrev pub HasAll : Hand → Type 0
 HasAll v = v.num ≡ v.den
 
@@ -34,11 +34,11 @@ with_put v x = hand v.num v.den v.room (v.put ++ x ∷ []) v.taken
 abbrev pub with_taken : Hand → ℕ → Hand
 with_taken v x = hand v.num v.den v.room v.put (v.taken ++ x ∷ [])
 
--- A pass that is split keeps half of its fraction, and its numbers.
+-- A pass that is split keeps half of its fraction, and all numbers that it put and took.
 abbrev pub halved : Hand → Hand
 halved v = hand v.num (2 * v.den) v.room v.put v.taken
 
--- The new pass gets the other half, and has put and taken nothing.
+-- The second pass of a split has the other half of the fraction, and has put and taken nothing.
 abbrev pub other_half : Hand → Hand
 other_half v = hand v.num (2 * v.den) v.room [] []
 
@@ -46,6 +46,6 @@ other_half v = hand v.num (2 * v.den) v.room [] []
 abbrev pub together : Hand → Hand → Hand
 together v w = hand (v.num * w.den + w.num * v.den) (v.den * w.den) v.room (v.put ++ w.put) (v.taken ++ w.taken)
 
--- A pass that was joined to another one has the fraction 0.
+-- What remains of a pass that was joined to another one: the fraction 0, and no numbers.
 abbrev pub spent : Hand
 spent = hand 0 1 0 [] []

@@ -6,7 +6,7 @@ use Rattle.llb_ready.specs.declared.queue.ReadyQueue.{ReadyQueue}
 use Rattle.llb_ready.specs.declared.queue.ReadyPass.{ReadyPass}
 use Rattle.llb_ready.specs.Hands.{HasAll}
 
--- what contracts know of a pass: its fraction, and what was put and taken by it
+-- what contracts know of a pass: its fraction, the queue's room, and the numbers that were put and taken with it
 abbrev pub hand_of : ReadyPass → Hand
 hand_of p = view p.pass
 
@@ -14,7 +14,7 @@ hand_of p = view p.pass
 abbrev pub capacity_of : ReadyQueue → ℕ
 capacity_of q = ruled_capacity q.queue
 
--- the pass is of this queue, and its `room` is how many numbers the queue has room for
+-- the pass belongs to this queue, and its `room` is how many numbers the queue has room for
 abbrev pub IsReadyPassOf : ReadyQueue → ReadyPass → Type 0
 IsReadyPassOf q p = IsPassOf q.queue p.pass × ((hand_of p).room ≡ capacity_of q)
 

@@ -1,4 +1,4 @@
-//! Why a queue is not made, and why a number is not put. A fault prints its number, and after it the number that comes back.
+//! Why a queue is not made, and why a number is not put into it. A fault prints its fault number, and 146 also the number that did not fit.
 
 use std::alloc::AllocError;
 use thiserror::Error;

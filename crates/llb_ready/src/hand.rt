@@ -1,4 +1,4 @@
-//! What contracts know of a pass. It exists in clauses alone.
+//! What contracts know of a pass, as a type that only contracts use.
 
 use std::collections::LinkedList;
 

@@ -1,9 +1,9 @@
-//! A queue of numbers that threads share. A thread needs a pass to put and take; contracts have for each pass which numbers were put and taken with it. The
-//! passes are fractions of one whole. It is built on the array queue of `crossbeam_queue`, whose steps keep the rule in `rule.rt`.
+//! A queue of numbers that threads share. A thread needs a pass to put and take. Contracts know for each pass which numbers were put and taken with it.
+//! Each pass is a fraction of one whole. The crate is built on the array queue of `crossbeam_queue`, whose steps keep the rule in `rule.rt`.
 //!
 //! Types: `ReadyQueue`, `ReadyPass` (a fraction of the whole), `Full` and `ReadyFault`.
-//! Promise: `ReadyQueue::close` (`conserved`): how often a number was put is how often it was taken plus how often it is still in the queue. With the
-//! whole pass, `ReadyQueue::put` (`full`, `whole`) returns `Full` only if the queue is full. The order of the numbers is only tested.
+//! Promise: `ReadyQueue::close` (`conserved`): for each number, how often it was put is how often it was taken plus how often it is still in the queue.
+//! With the whole pass, `ReadyQueue::put` (`full`, `whole`) returns `Full` only if the queue is full. The order of the numbers is not proved, only tested.
 //!
 //! A caller:
 //!

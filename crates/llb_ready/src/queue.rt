@@ -1,5 +1,5 @@
-//! The queue and its passes. A new queue has one pass, the whole. A fraction of it is split off for each thread, and the fractions are joined again before the
-//! queue is closed.
+//! The queue and its passes. A new queue has one pass, the whole. A fraction of this pass is split off for each thread, and the fractions are joined again
+//! before the queue is closed.
 
 ghost use Rattle.std.specs.Prelude.{◌≡◌, ◌≤◌, ◌+◌, ℕ, List, length, IfOk, IfErr, IfSome, IfNone, OnOk, MatchResult, MatchOption};
 ghost use Rattle.crossbeam_queue.specs.Passes.{view};
@@ -19,7 +19,8 @@ pub struct ReadyQueue {
     queue: RuledArrayQueue<u32, Hand, Fair>,
 }
 
-/// The right to put and take, held by one thread. It has no bytes; contracts see its fraction of the whole, and the numbers that were put and taken with it.
+/// The right to put and take, held by one thread. A pass takes no memory; contracts see its fraction of the whole, and the numbers that were put and taken
+/// with it.
 #[derive(Drop)]
 pub struct ReadyPass {
     pass: Pass<u32, Hand>,
@@ -39,7 +40,7 @@ impl ReadyQueue {
     {
         let (queue, whole) = RuledArrayQueue::ruled(alloc, n as usize)?;
         let mut pass = whole;
-        // The rule of a new queue lets it hold no numbers; each of the `n` rounds lets it hold one more. What the queue holds stays the same.
+        // In the rule of a new queue the room is 0; each of the `n` rounds makes it larger by one. What the queue holds stays the same.
         for _i in 0..n {
             drop(queue.another::<Widens>(&mut pass));
         }
@@ -72,8 +73,7 @@ impl ReadyQueue {
         ReadyPass { pass: first }
     }
 
-    /// Puts a number at the end. Fails with 146 `Full` and the number if at one moment of the call the queue was full;
-    /// then nothing was put.
+    /// Puts a number at the end. Fails with 146 `Full`, which holds the number, if the queue was full at one moment of the call; then nothing was put.
     pub fn put<R: Wait>(&self, rt: &R, pass: &mut ReadyPass, v: u32) -> Result<(), Full>
         requires { IsReadyPassOf self.now pass.old }
         ensures pass { IsReadyPassOf self.now pass.new }
@@ -81,8 +81,8 @@ impl ReadyQueue {
         ensures ok { OnOk result (hand_of pass.new ≡ with_put (hand_of pass.old) v) }
         ensures full { IfErr result (λ e. (e.0 ≡ v) × (hand_of pass.new ≡ hand_of pass.old)) }
 
-        // With the whole pass the call fails exactly if the queue has no room left: the pass has put as many numbers more than it has taken as the queue has
-        // room for.
+        // With the whole pass the call fails exactly if the queue is full: the numbers that were put, less those that were taken, are as many as it has room
+        // for.
         ensures whole { let before = hand_of pass.old in IsWhole pass.old → MatchResult result (λ _. HasRoom before) (λ _. HasNoRoom before) }
     {
         let ReadyPass { pass } = pass;
@@ -100,16 +100,15 @@ impl ReadyQueue {
         ensures some { IfSome result (λ v. hand_of pass.new ≡ with_taken (hand_of pass.old) v) }
         ensures none { IfNone result (hand_of pass.new ≡ hand_of pass.old) }
 
-        // With the whole pass `None` is returned exactly if the pass has taken all that it put; a number that is returned was put by the pass more often than
-        // taken.
+        // With the whole pass `None` is returned exactly if all numbers that were put were taken; and a number that is returned was put more often than taken.
         ensures whole { let before = hand_of pass.old in IsWhole pass.old → MatchOption result (HasTakenAll before) (HasLeft before) }
     {
         let ReadyPass { pass } = pass;
         self.queue.pop_as::<Takes, R>(rt, pass)
     }
 
-    /// Takes the whole pass, and drops the queue with what it still has. How often a number was put is how often it was taken plus how often it is still in the
-    /// queue.
+    /// Takes the whole pass, and drops the queue with the numbers that are still in it. For each number, how often it was put is how often it was taken plus
+    /// how often it is still in the queue.
     pub fn close(self, pass: ReadyPass)
         requires pass { IsReadyPassOf self pass }
         requires whole { IsWhole pass }

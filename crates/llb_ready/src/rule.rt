@@ -1,9 +1,9 @@
-//! The rule of the queue, and how each kind of step changes a pass and the queue. Nothing here runs.
+//! The rule of the queue, and how each kind of step changes a pass. Nothing here runs.
 
 use crate::hand::Hand;
 use crossbeam_queue::protocol::{Join, Lesson, Outcome, Protocol, Split};
 
-/// The rule: what was put is what was taken together with what the queue holds, and the passes are fractions of one whole.
+/// The rule: the numbers that were put are those that were taken and those in the queue, and the passes are fractions of one whole.
 pub(crate) struct Fair;
 
 impl Protocol<u32, Hand> for Fair {
@@ -15,7 +15,7 @@ impl Protocol<u32, Hand> for Fair {
     ghost first = { first_hand 0 };
 }
 
-/// The step in which the queue's room grows by one number while it is made.
+/// The step by which the room of a queue grows by one number, while the queue is made.
 pub(crate) struct Widens;
 
 impl Split<Hand> for Widens {
@@ -78,7 +78,7 @@ impl Lesson<u32, Hand> for Takes {
     ghost fact = { Knows };
 }
 
-/// What a pass says of the queue if it is the whole one: its numbers are conserved, and the queue holds no more numbers than it has room for.
+/// What the whole pass says of the queue: its numbers are conserved, and the queue holds no more numbers than it has room for.
 pub(crate) struct Learns;
 
 impl Lesson<u32, Hand> for Learns {

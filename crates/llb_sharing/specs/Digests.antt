@@ -13,12 +13,12 @@ use Rattle.llb_model.specs.Outcome.{outcome, is_plain}
 
 -- ---- two definitions
 
--- if an entry of one definition and an entry of another have the same digest, they are the same bytes
+-- an entry of one definition and an entry of the other with the same digest are the same bytes
 abbrev pub DoNotCollide : List ℕ → List ℕ → Type 0
 DoNotCollide d e = (xs ys : List (List ℕ)) → definition_of d ≡ Ok xs → definition_of e ≡ Ok ys
     → (x y : List ℕ) → Contains xs x → Contains ys y → digest_text x ≡ digest_text y → x ≡ y
 
--- two definitions are loaded as these two graphs, and do not collide
+-- these two definitions are loaded as these two graphs, and the definitions do not collide
 pub record LoadWithoutCollision (d : List ℕ) (g : Numbered) (e : List ℕ) (h : Numbered) : Type 0 where
   pub first : IsGraphIn d g
   pub second : IsGraphIn e h
@@ -54,7 +54,7 @@ pub record IsSourceOf (g : Numbered) (v : ℕ) (name : List ℕ) : Type 0 where
 abbrev pub HaveSameSources : Numbered → ℕ → List Local → List Local → Type 0
 HaveSameSources g v ls ms = (name : List ℕ) → IsSourceOf g v name → tree_of_local ls name ≡ tree_of_local ms name
 
--- two vertices have the same plain outcome, and either both or neither have a cache mount at or before them
+-- two vertices have the same plain outcome, and a cache mount is at or before both of them or neither
 pub record HaveOneOutcome (b : Build) (v : ℕ) (c : Build) (w : ℕ) : Type 0 where
   pub same : outcome b v ≡ outcome c w
   pub plain : is_plain b v ≡ is_plain c w

@@ -1,4 +1,4 @@
--- The jobs of vertices with the same digest: they are the same but for the numbers of worker and vertex, and so are the jobs' outcomes.
+-- The jobs of vertices with the same digest: they differ only in the numbers of worker and vertex, and so do the outcomes of these jobs.
 use Rattle.std.specs.Prelude.{◌≡◌, ℕ, true, List, Some, option_map, slice_get}
 use Rattle.llb_loader.specs.Graph.{Numbered}
 use Rattle.llb_loader.specs.Locals.{Local}
@@ -11,11 +11,11 @@ use Rattle.llb_board.specs.Begun.{plain_job, IsKnown}
 use Rattle.llb_board.specs.Landing.{CanLand}
 use Rattle.llb_sharing.specs.Digests.{HaveOneDigest, HaveSameSources}
 
--- a job with these numbers of worker and vertex
+-- a job with its numbers of worker and vertex replaced by these
 abbrev pub given_to : ℕ → ℕ → Job → Job
 given_to w v job = record job { worker = w; vertex = v }
 
--- an outcome whose job has these numbers of worker and vertex
+-- an outcome with the numbers of worker and vertex of its job replaced by these
 abbrev pub credited_to : ℕ → ℕ → OutcomeValue → OutcomeValue
 credited_to w v o = record o { job = given_to w v o.job }
 
@@ -24,8 +24,8 @@ abbrev pub ShareJobs : Numbered → Numbered → Type 0
 ShareJobs g h = (ls ms : List Local) (v u a w : ℕ) → HaveOneDigest g v h u → HaveSameSources g v ls ms
     → plain_job (record { graph = h; locals = ms }) w u ≡ option_map (given_to w u) (plain_job (record { graph = g; locals = ls }) a v)
 
--- o is the outcome of the plain job of vertex v over graph g and these local trees. On board b worker w runs a vertex with the same digest and has done no
--- micro-step of it; no cache mount is at or before that vertex, and the sources have the same trees
+-- `o` is the outcome of the plain job of vertex v over graph g and these local trees. On board b worker w runs a vertex with the same digest and has done
+-- no micro-step of it. No cache mount is at or before that vertex, and the sources at or before the two vertices have the same trees.
 pub record IsWorkedElsewhere (g : Numbered) (ls : List Local) (v : ℕ) (b : BoardValue) (w : ℕ) (x : Execution) (o : OutcomeValue) : Type 0 where
   pub worker : ℕ
   pub job : plain_job (record { graph = g; locals = ls }) worker v ≡ Some o.job
@@ -36,13 +36,13 @@ pub record IsWorkedElsewhere (g : Numbered) (ls : List Local) (v : ℕ) (b : Boa
   pub runs : slice_get b.state.workers w ≡ Some (Runs x)
   pub first : x.done ≡ 0
 
--- the outcome, with the numbers of worker w and its vertex, can be landed on the board, and it is the only outcome of the job that the worker has there
+-- with the numbers of worker w and of the vertex that w runs, the outcome can be landed on board b, and it is the only outcome of w's job there
 pub record LandsHere (b : BoardValue) (w : ℕ) (x : Execution) (o : OutcomeValue) : Type 0 where
   pub known : IsKnown b w (given_to w x.vertex o.job)
   pub can : CanLand b w (given_to w x.vertex o.job)
   pub whole : IsOutcome (given_to w x.vertex o.job) o.count o.left
   pub only : (p : OutcomeValue) → p.job ≡ given_to w x.vertex o.job → IsOutcome p.job p.count p.left → p ≡ credited_to w x.vertex o
 
--- an outcome that was computed over graph g can be landed on the board, for a vertex as `IsWorkedElsewhere` says
+-- an outcome that was computed over graph g can be landed on board b, if `IsWorkedElsewhere` holds of it
 abbrev pub WorkedElsewhereLands : Numbered → BoardValue → Type 0
 WorkedElsewhereLands g b = (ls : List Local) (v w : ℕ) (x : Execution) (o : OutcomeValue) → IsWorkedElsewhere g ls v b w x o → LandsHere b w x o

@@ -1,4 +1,4 @@
--- Read Digests first (what vertices with the same digest have in common), then Boards (how they end on two boards) and Jobs (the jobs of such vertices).
+-- Read Digests first (what vertices with the same digest have in common), then Boards (how such vertices end on two boards) and Jobs (their jobs).
 pub mod Digests
 pub mod Boards
 pub mod Jobs

@@ -1,5 +1,5 @@
-//! What holds of vertices with the same digest, in two graphs or on two boards. If you read only one contract, read the contract of `one_digest_one_outcome`.
-//! Its premise is that the two definitions do not collide: an entry of one and an entry of the other with the same digest are the same bytes.
+//! Laws of vertices with the same digest, in two graphs or on two boards. If you read only one contract, read the contract of `one_digest_one_outcome`. Its
+//! premise is that the two definitions do not collide: an entry of one and an entry of the other with the same digest are the same bytes.
 //! `parts_do_not_collide` says for which definitions this always holds.
 
 ghost use Rattle.llb_sharing.specs.Digests.{LoadWithoutCollision, PartsDoNotCollide, ShareOutcomes, DependOnSources};
@@ -11,7 +11,7 @@ use llb_board::laws::{begun_are_plain, settled_are_plain};
 use llb_loader::Graph;
 
 /// Proves that vertices with the same digest, in the graphs of two definitions that do not collide, have the same plain outcome if the sources at or before
-/// them have the same local trees; and that a cache mount is at or before both vertices or neither of them.
+/// them have the same local trees. It also proves that a cache mount is at or before both vertices or neither of them.
 pub fn one_digest_one_outcome(first: &[u8], graph: &Graph, second: &[u8], other: &Graph)
     ensures { LoadWithoutCollision first.now graph.now second.now other.now → ShareOutcomes graph.now other.now }
 {
@@ -28,9 +28,9 @@ pub fn outcome_by_sources(graph: &Graph)
     graph.is_graph();
 }
 
-/// Proves that vertices with the same digest that are done or failed on two boards, over the graphs of definitions that do not collide, ended alike (with the
-/// same outputs or the same fault), if no cache mount is at or before them and their sources have the same trees. This holds for any workers and any order of
-/// events, whatever caches other vertices share.
+/// Proves a law for two boards over the graphs of definitions that do not collide. If two vertices with the same digest are done or failed, one on each board,
+/// they ended alike (with the same outputs or the same fault). The premises: no cache mount is at or before them, and the sources at or before them have the
+/// same trees. This holds for any workers and any order of events, whatever caches other vertices share.
 pub fn boards_settle_alike(first: &[u8], board: &Board, second: &[u8], other: &Board)
     ensures { LoadWithoutCollision first.now board.now.build.graph second.now other.now.build.graph → SettleAlike board.now other.now }
 {
@@ -42,8 +42,8 @@ pub fn boards_settle_alike(first: &[u8], board: &Board, second: &[u8], other: &B
     settled_are_plain(other);
 }
 
-/// Proves that definitions whose entries are all entries of one loaded definition do not collide. So a definition does not collide with
-/// itself, nor with one that has further entries.
+/// Proves that two definitions do not collide if all their entries are entries of one loaded definition. So a definition does not collide with itself, nor with
+/// one that has further entries.
 pub fn parts_do_not_collide(definition: &[u8], graph: &Graph)
     ensures { PartsDoNotCollide definition.now graph.now }
 {
@@ -52,7 +52,7 @@ pub fn parts_do_not_collide(definition: &[u8], graph: &Graph)
 }
 
 /// Proves that vertices with the same digest have the same job, except for the numbers of worker and vertex, if the sources at or before them have the same
-/// local trees. The job meant is the one without cache instances, which a claim hands out if no cache mount is at or before the vertex.
+/// local trees. The job is the one without cache instances, which a claim hands out if no cache mount is at or before the vertex.
 pub fn one_digest_one_job(first: &[u8], graph: &Graph, second: &[u8], other: &Graph)
     ensures { LoadWithoutCollision first.now graph.now second.now other.now → ShareJobs graph.now other.now }
 {
@@ -62,9 +62,9 @@ pub fn one_digest_one_job(first: &[u8], graph: &Graph, second: &[u8], other: &Gr
     other.is_graph();
 }
 
-/// Proves that the outcome of a vertex that was computed over another graph can be landed on the board, for a worker that has done no micro-step of its vertex,
-/// if that vertex has the same digest, the same trees of its sources, and no cache mount at or before it. With the numbers of this worker and its vertex put
-/// into its job, the outcome meets the condition of `land_known`.
+/// Proves that an outcome of a vertex of another graph can be landed on the board for a worker, if the worker has done no micro-step of its vertex, both
+/// vertices have the same digest and the same trees of their sources, and no cache mount is at or before them. Once the numbers of this worker and its vertex
+/// are put into the outcome's job, the outcome meets the condition of `land_known`.
 pub fn worked_elsewhere_lands(first: &[u8], graph: &Graph, second: &[u8], board: &Board)
     ensures { LoadWithoutCollision first.now graph.now second.now board.now.build.graph → WorkedElsewhereLands graph.now board.now }
 {

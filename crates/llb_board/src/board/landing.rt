@@ -1,5 +1,5 @@
-//! The landing of an outcome: all remaining micro-steps of a worker and its settle at once, for work that was done away from the board. It settles the vertex,
-//! and does no micro-step again. `land` compares the trees of the outcome's job with the worker's, by value; `land_known` compares nothing.
+//! The landing of an outcome: all remaining micro-steps of a worker and its settle at once, for work that was done away from the board. A landing settles the
+//! vertex and repeats no micro-step. `land` compares the trees of the outcome's job with the worker's, by value; `land_known` compares nothing.
 
 ghost use Rattle.std.specs.Prelude.{◌≡◌, option_map, slice_get, IfOk, IfErr, OnOk, OnErr};
 ghost use Rattle.std.specs.List.{list_any};
@@ -28,10 +28,10 @@ pub(crate) enum LandCause {
 }
 
 impl Board {
-    /// Lands the outcome of a worker's job: the effect is that of all remaining micro-steps of the worker and of its settle, and the record
-    /// grows by exactly these events. Fails with 131 `NoWorker`, 136 `NotRunning`, 140 `HasShared` if a cache of its vertex is in shared mode, or
-    /// 139 `Stranger` if the outcome's job is not what the worker runs now, with the caches as they are now. Then the fault holds the
-    /// outcome, and the board is as it was. Does not allocate.
+    /// Lands the outcome of a worker's job: the effect is that of all remaining micro-steps of the worker and of its settle, and the record grows by exactly
+    /// these events. Fails with 131 `NoWorker`, 136 `NotRunning`, 140 `HasShared` if a cache of the worker's vertex is in shared mode, or 139 `Stranger` if
+    /// the outcome's job is not what the worker runs now, with the caches as they are now. On failure the fault holds the outcome, and the board is unchanged.
+    /// Does not allocate.
     pub fn land(&mut self, w: u32, outcome: Outcome) -> Result<Settled, LandFault>
         ensures gives { IfOk result (λ r. Lands self.old w outcome self.new (HasSettled r)) }
         ensures refused { IfErr result (λ e. IsRefused self.old w outcome e) }
@@ -44,8 +44,8 @@ impl Board {
         Ok(self.settle(w).unwrap())
     }
 
-    /// Lands an outcome as `land` does, without comparing anything. The outcome's job has to be known to be what the worker runs: no cache mount is at or
-    /// before the vertex, and the worker has done no micro-step of the vertex. Does not allocate.
+    /// Lands an outcome as `land` does, but compares nothing. The caller has to know that the outcome's job is what the worker runs, that no cache mount is at
+    /// or before the vertex, and that the worker has done no micro-step of the vertex. Does not allocate.
     pub fn land_known(&mut self, w: u32, outcome: Outcome) -> Settled
         requires known { IsKnown self.old w outcome.job }
         ensures gives { Lands self.old w outcome self.new (HasSettled result) }
@@ -55,15 +55,15 @@ impl Board {
         self.settle(w).unwrap()
     }
 
-    /// Returns whether what a worker runs has an instance of a shared cache, so that no outcome of it lands. False if the worker runs nothing
-    /// or there is no such worker. Does not allocate.
+    /// Returns whether a worker holds an instance of a shared cache; if so, no outcome of its vertex can be landed. False if the worker runs nothing or there
+    /// is no such worker. Does not allocate.
     pub fn has_shared(&self, w: u32) -> bool
         ensures { result ≡ runs_shared (slice_get self.now.state.workers w) }
     {
         has_shared(self.workers.places(w))
     }
 
-    /// Returns the instances of caches that a worker has; none if it runs nothing, or there is no such worker. Does not allocate.
+    /// Returns the cache instances that a worker holds; none if it runs nothing, or there is no such worker. Does not allocate.
     pub fn places(&self, w: u32) -> &[Instance]
         ensures { result.now ≡ places_at (slice_get self.now.state.workers w) }
     {
@@ -77,7 +77,7 @@ impl Board {
         self.workers.workspace(w)
     }
 
-    // Checks that the outcome of a job can land; otherwise returns the first cause why it can't.
+    // Checks that the outcome of a job can be landed; otherwise returns the first cause that prevents the landing.
     fn can_land(&self, w: u32, job: &Job) -> Result<(), LandCause>
         ensures ok { OnOk result (CanLand self.now w job.now) }
         ensures err { IfErr result (λ cause. StandsInWay self.now w job.now cause) }
@@ -97,7 +97,7 @@ impl Board {
         }
     }
 
-    // Puts the result of an outcome's micro-steps into its worker's execution and the caches, and records these steps.
+    // Puts the result of an outcome's micro-steps into the worker's execution and the caches, and records these micro-steps.
     fn go_through(&mut self, w: u32, outcome: Outcome)
         requires { CanLand self.old w outcome.job }
         ensures { IsThrough self.old w outcome.count self.new }

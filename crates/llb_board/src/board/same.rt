@@ -1,5 +1,5 @@
-//! Whether two boards are the same by value: opened alike, with the same state of each vertex, worker and cache, and with the
-//! same record. The room of a record and the numbers of leases are not compared. Nothing here allocates.
+//! Compares two boards by value: what they were opened with, the state of each vertex, worker and cache, and the record. The room of
+//! a record and the numbers of leases are not compared. Nothing here allocates.
 
 ghost use Rattle.std.specs.Prelude.{◌≡◌, ◌↔◌, IsTrue};
 
@@ -7,8 +7,8 @@ use crate::board::Board;
 use llb_wire::{Same, all_same};
 
 impl Board {
-    /// Returns whether both boards are the same by value: the same graph and local trees, the same caches as they were handed in and
-    /// as they are now, the same state of each vertex and worker, and the same record. Does not allocate.
+    /// Returns whether both boards are the same by value: the same graph and local trees, the same caches both as handed in and as
+    /// they are now, the same state of each vertex and worker, and the same record. Does not allocate.
     pub fn same(&self, other: &Board) -> bool
         ensures { IsTrue result ↔ (self.now ≡ other.now) }
     {

@@ -1,4 +1,4 @@
-//! Takes an event back: restores what the event displaced.
+//! Takes back the last event: restores what the event displaced (changed).
 
 ghost use Rattle.std.specs.Prelude.{◌≡◌};
 ghost use Rattle.llb_board.specs.Undo.{undone, CanUndo};
@@ -7,7 +7,7 @@ use crate::board::Board;
 use crate::workers::Undo;
 
 impl Board {
-    /// Takes an event back, given the `Undo` that `walk` returned for it, or one that satisfies `CanUndo`. Does not allocate.
+    /// Takes back the last event of the record, given the `Undo` that `walk` returned for that event, or another one that meets `CanUndo`. Does not allocate.
     pub fn undo(&mut self, undo: Undo)
         requires { CanUndo undo self.old }
         ensures { self.new ≡ undone undo self.old }

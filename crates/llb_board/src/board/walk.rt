@@ -1,4 +1,4 @@
-//! Does an event and keeps what takes it back, for callers that go through a run forwards and back.
+//! Does an event and keeps what is needed to undo it, for callers that step through a run forwards and back.
 
 ghost use Rattle.std.specs.Prelude.{◌≡◌, OnErr, IfOk};
 ghost use Rattle.llb_board.specs.Undo.{GivesWalk, walk_of, undone, CanUndo};
@@ -8,7 +8,7 @@ use crate::fault::WalkFault;
 use crate::workers::Undo;
 use llb_events::{Cancelled, Event, Settled, Stepped};
 
-/// The reply of an event.
+/// The reply to an event; unlike the table's reply, the reply to a claim has no job.
 #[derive(Clone, Copy, Debug, PartialEq, Eq)]
 pub enum Reply {
     Claimed,
@@ -17,7 +17,7 @@ pub enum Reply {
     Cancelled(Cancelled),
 }
 
-/// An event that was done: its reply, and what takes it back.
+/// The result of an event: its reply, and what is needed to undo it.
 #[derive(Drop)]
 pub struct Walked {
     pub reply: Reply,
@@ -25,8 +25,8 @@ pub struct Walked {
 }
 
 impl Board {
-    /// Does an event, and returns its reply with what takes it back; memory for that grows with what the event changes. Fails with the fault of the claim, the
-    /// step, the settle or the cancel, or with 141 `Memory`, which may come in place of another fault.
+    /// Does an event, and returns its reply together with an `Undo` that takes the event back. The memory for the `Undo` grows with what the event changes.
+    /// Fails with the fault of the claim, the step, the settle or the cancel, or with 141 `Memory`, which may come in place of another fault.
     pub fn walk(&mut self, event: Event) -> Result<Walked, WalkFault>
         ensures gives { GivesWalk (λ r. (self.new, r.reply)) result (walk_of self.old event) }
         ensures undo { IfOk result (λ r. undone r.undo self.new ≡ self.old) }

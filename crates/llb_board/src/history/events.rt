@@ -1,4 +1,4 @@
-//! The record of events: a list that grows by one event at a time, in room that was reserved before.
+//! The record of events: a list that grows by one event at a time, in memory that was reserved before.
 
 ghost use Rattle.std.specs.Prelude.{◌≡◌, ◌==◌, ◌≤◌, ◌<◌, ◌∷◌, ◌++◌, [], length, IfOk, OnOk, OnErr, ◌+◌, ◌-◌};
 ghost use Rattle.llb_board.specs.History.{front, last_of};
@@ -11,11 +11,11 @@ use std::marker::Model;
 /// Events in their order. Contracts see the list of events, and for how many events memory is reserved.
 pub struct Events {
     items: Vec<Event>,
-    // For how many events memory is reserved, at least.
+    // Memory is reserved for at least this number of events.
     room: usize,
 }
 
-// Written by hand, so that it is proved once; a derived one is proved again in every function that drops such a value.
+// This `Drop` is written by hand, so it is proved once; a derived `Drop` is proved again in every function that drops such a value.
 impl Drop for Events {
     fn drop(self) {
         let Events { items: _, room: _ } = self;
@@ -54,7 +54,7 @@ impl Events {
         self.items.push_reserved(event);
     }
 
-    /// Removes and returns the last event; `None` if there is none. The room stays.
+    /// Removes and returns the last event; `None` if there is none. The reserved room stays as it was.
     pub(crate) fn take_back(&mut self) -> Option<Event>
         ensures last { result ≡ last_of self.old.list }
         ensures list { self.new.list ≡ front self.old.list }
@@ -77,7 +77,7 @@ impl Events {
         Ok(())
     }
 
-    /// Gives up room for `more` events.
+    /// Releases room for `more` events.
     pub(crate) fn give_room(&mut self, more: usize)
         ensures list { self.new.list ≡ self.old.list }
         ensures room { self.new.room ≡ self.old.room - more }
@@ -119,7 +119,7 @@ impl Events {
         self.items.is_empty()
     }
 
-    /// Returns a copy of the events alone, without further room. Fails with 141 `Memory` alone.
+    /// Returns a copy of the events, with no room for further ones. Fails with 141 `Memory` alone.
     pub fn copy(&self) -> Result<Events, Memory>
         ensures { IfOk result (λ e. e.list ≡ self.now.list) }
     {

@@ -4,8 +4,7 @@ ghost use Rattle.std.specs.Prelude.{◌≡◌, ◌<◌, ◌≤◌, ◌+◌, [], 
 ghost use Rattle.std.specs.List.{All};
 ghost use Rattle.llb_board.specs.Links.{Spreads, Visits, unmarked};
 
-/// Marks a vertex and everything downstream of it, each once. The list of the reached vertices, which is empty before and
-/// after, has room for all.
+/// Marks a vertex and everything downstream of it, each once. The list `reached` is empty before and after, and has room for all vertices.
 pub(crate) fn spread(users: &[Vec<u32>], reached: &mut Vec<u32>, marks: &mut [bool], v: u32)
     requires count { length users.now ≡ length marks.old }
     requires low { v < length marks.old }
@@ -27,7 +26,7 @@ pub(crate) fn spread(users: &[Vec<u32>], reached: &mut Vec<u32>, marks: &mut [bo
     reached.clear();
 }
 
-// Marks each of these vertices, and appends those that were not marked to the reached ones.
+// Marks each of these vertices, and appends those that were not marked before to the list `reached`.
 fn visit(marks: &mut [bool], reached: &mut Vec<u32>, users: &[u32])
     requires below { All (λ x. x < length marks.old) users.now }
     requires room { unmarked marks.old + length reached.old.items ≤ vec_capacity reached.old }
@@ -39,7 +38,7 @@ fn visit(marks: &mut [bool], reached: &mut Vec<u32>, users: &[u32])
     }
 }
 
-// Marks one vertex, and appends it to the reached ones if it was not marked.
+// Marks one vertex, and appends it to the list `reached` if it was not marked before.
 fn reach(marks: &mut [bool], reached: &mut Vec<u32>, x: u32)
     requires low { x < length marks.old }
     requires room { unmarked marks.old + length reached.old.items ≤ vec_capacity reached.old }

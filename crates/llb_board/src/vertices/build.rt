@@ -60,7 +60,7 @@ impl Build {
         self.graph.vertices()
     }
 
-    /// Returns the vertex with a number; `None` past the last vertex.
+    /// Returns vertex `v`; `None` past the last vertex.
     pub(crate) fn vertex(&self, v: u32) -> Option<&Vertex>
         ensures there { option_map (λ x. x.now) result ≡ slice_get self.now.graph.vertices v }
         ensures few { length (program_at (slice_get self.now.graph.vertices v)).steps < 2 ^ 25 }

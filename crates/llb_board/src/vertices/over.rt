@@ -1,4 +1,4 @@
-//! Which vertices are Ready, and which can't be claimed now or later: done, failed or blocked.
+//! Finds which vertices are Ready, and which can't be claimed now or later because they are done, failed or blocked.
 
 ghost use Rattle.std.specs.Prelude.{◌≡◌, map, slice_get, false, unwrap_or, ◌||◌, ◌&&◌};
 ghost use Rattle.llb_model.specs.State.{stopped, is_waiting};
@@ -21,7 +21,7 @@ pub(crate) fn is_ready(stages: &[Stage], links: &Links, v: u32) -> bool
     }
 }
 
-/// Returns whether a vertex is done or failed, or waits and is marked.
+/// Returns whether a vertex is done or failed, or waits and is marked (is downstream of a failed vertex).
 pub(crate) fn is_ended(stages: &[Stage], stop_marks: &[bool], v: u32) -> bool
     ensures { result ≡ (is_settled (slice_get (map status_of stages.now) v)
         || (is_waiting (slice_get (map status_of stages.now) v) && unwrap_or (slice_get stop_marks.now v) false)) }
@@ -35,7 +35,7 @@ pub(crate) fn is_ended(stages: &[Stage], stop_marks: &[bool], v: u32) -> bool
     }
 }
 
-/// Returns a number at or after `from` such that no vertex below it can be claimed now or later, given that none below `from` can.
+/// Returns a number `n` at or after `from`, such that no vertex below `n` can be claimed now or later. The caller knows this of the vertices below `from`.
 pub(crate) fn first_open(
     build: &Build,
     stages: &[Stage],

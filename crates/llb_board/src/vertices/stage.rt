@@ -14,13 +14,13 @@ use std::alloc::Global;
 /// The state of a vertex: it waits, a worker runs it, or it ended with its trees or its fault.
 #[derive(Drop)]
 pub(crate) enum Stage {
-    /// No worker runs it, and it has not ended.
+    /// No worker runs the vertex, and it has not ended.
     Waiting,
-    /// The worker of this number runs it.
+    /// The worker of this number runs the vertex.
     Running(u32),
-    /// It ended with these outputs.
+    /// The vertex ended with these outputs.
     Done(Many<Tree>),
-    /// It ended with this fault.
+    /// The vertex ended with this fault.
     Failed(VertexFault),
 }
 

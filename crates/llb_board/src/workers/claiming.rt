@@ -1,4 +1,5 @@
-//! A claim: first all tests that can refuse it, and the preparation of what the worker will run; then the lease, which can only lack memory.
+//! A claim in two parts. The first does all tests that can refuse the claim, and prepares what the worker will run. The second makes the lease of the cache
+//! instances, and fails only for want of memory.
 
 ghost use Rattle.std.specs.Prelude.{◌≡◌, ◌<◌, ◌^◌, length, map, true, Ok, Some, OnErr, OnOk, IfErr, IfOk};
 ghost use Rattle.std.specs.List.{All};
@@ -41,7 +42,7 @@ pub(crate) struct Begun {
     rows: Vec<Option<usize>>,
 }
 
-// Written by hand, so that it is proved once; a derived one is proved again in every function that drops such a value.
+// This `Drop` is written by hand, so it is proved once; a derived `Drop` is proved again in every function that drops such a value.
 impl Drop for Begun {
     fn drop(self) {
         let Begun {
@@ -91,8 +92,9 @@ impl Begun {
 }
 
 impl Workers {
-    /// Prepares a worker's claim of a vertex; nothing changes. Fails with the first of 131 `NoWorker`, 132 `Busy`, 133 `NoVertex`, 134 `NotReady` and 135
-    /// `Held` that applies, or with 141 `Memory`: if nothing else refuses the claim, or in place of 135 if memory for the text of the held key is refused.
+    /// Prepares a worker's claim of a vertex, and changes nothing yet. Fails with the first of 131 `NoWorker`, 132 `Busy`, 133 `NoVertex`, 134 `NotReady`
+    /// and 135 `Held` that applies, or with 141 `Memory`: if nothing else refuses the claim, or in place of 135 if memory for the text of the held key is
+    /// refused.
     pub(crate) fn begin(
         &self,
         alloc: Global,
@@ -116,7 +118,8 @@ impl Workers {
         begun_with(alloc, vertices, (w, v), vertex, &wanted)
     }
 
-    /// Makes a worker run the vertex of a claim that was prepared on this state, and leases its instances. Fails with 141 alone; then nothing has changed.
+    /// Makes a worker run the vertex of a claim that was prepared on this state, and leases the cache instances. Fails with 141 alone; then nothing has
+    /// changed.
     pub(crate) fn start(&mut self, vertices: &Vertices, begun: Begun) -> Result<Job, ClaimFault>
         requires { IsBegunOn vertices.now self.old begun }
         ensures job { IfOk result (λ job. job ≡ begun.job) }
@@ -143,9 +146,9 @@ impl Workers {
     }
 }
 
-// Makes the job and the execution of a vertex, before its first micro-step, given the caches that the vertex wants, as they were found. The job and the
-// execution both have the trees of the inputs and the cache instances that a lease will give; the execution also has an empty tree for each output, and the
-// micro-steps. Fails with 134 `NotReady` if an input is not there, or with 141 `Memory`.
+// Makes the job and the execution of a vertex, before its first micro-step, given what was looked up for each cache that the vertex mounts. Both have the
+// trees of the inputs and the cache instances that a lease will take; the execution also has an empty tree for each output, and the micro-steps. Fails with
+// 134 `NotReady` if an input is not done, or with 141 `Memory`.
 fn begun_with(
     alloc: Global,
     vertices: &Vertices,

@@ -15,7 +15,7 @@ use llb_execution::Job;
 use llb_tree::Tree;
 use llb_wire::Same;
 
-/// Returns whether a job is of this worker and the execution's vertex, with as many micro-steps done as the execution, none of which has faulted.
+/// Returns whether a job has this worker's number, and the execution's vertex and count of micro-steps done, and no micro-step of the execution has faulted.
 pub(crate) fn is_begun(w: u32, execution: &Execution, job: &Job) -> bool
     ensures { IsTrue result ↔ IsBegun w (execution_of execution.now) job.now }
 {
@@ -25,7 +25,7 @@ pub(crate) fn is_begun(w: u32, execution: &Execution, job: &Job) -> bool
         && execution.fault.is_none()
 }
 
-/// Returns whether these instances, which all exist, have these trees.
+/// Returns whether these instances, which all exist, have these trees, one each in the same order.
 pub(crate) fn has_trees(caches: &Caches, places: &[Instance], trees: &[Tree]) -> bool
     requires { (p : model.Instance) → Has places.now p → p.number < length (trees_of caches.now.rows p.key) }
     ensures { IsTrue result ↔ (trees.now ≡ trees_at (store_of caches.now.rows) places.now) }

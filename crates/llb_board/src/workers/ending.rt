@@ -1,4 +1,4 @@
-//! How an execution ends: with its fault, or with its outputs, which replace the empty trees that it has for them.
+//! Ends an execution: with its fault, or with its outputs. The outputs replace the empty trees that the execution holds for them.
 
 ghost use Rattle.std.specs.Prelude.{◌≡◌, option_map, replicate};
 ghost use Rattle.llb_tree.specs.Tree.{empty_tree};
@@ -8,7 +8,7 @@ use llb_execution::Workspace;
 use llb_loader::Vertex;
 use llb_tree::Tree;
 
-/// Returns the outputs, read from the view that the micro-steps left. Without a vertex there are none.
+/// Returns the outputs, read from the view that the micro-steps left; none if there is no vertex.
 pub(crate) fn outputs(view: Workspace, outputs: Vec<Tree>, vertex: Option<&Vertex>) -> Vec<Tree>
     requires { outputs.items ≡ replicate (program_at (option_map (λ v. v.now) vertex)).outputs empty_tree }
     ensures { result.items ≡ outputs_of (program_at (option_map (λ v. v.now) vertex.entry)) view }

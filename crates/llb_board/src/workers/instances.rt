@@ -1,5 +1,5 @@
-//! The cache instances of a worker: it leases them, reads their trees for a micro-step, writes them after it, and gives the lease
-//! back. A worker whose vertex mounts no cache has no lease.
+//! The cache instances of a worker: leasing them, reading their trees for a micro-step, writing the trees after it, and giving the lease back. A
+//! worker whose vertex mounts no cache has no lease.
 
 ghost use Rattle.std.specs.Prelude.{◌≡◌, ◌≢◌, ◌<◌, ◌^◌, map, length, AllPairs, IfOk, IfErr, OnErr, Ok, true};
 ghost use Rattle.std.specs.Option.{ForSome};
@@ -46,9 +46,9 @@ fn content(alloc: Global, caches: &Caches, place: &Instance) -> Result<Tree, Ste
     }
 }
 
-/// Leases instances for these needs, whose keys are distinct and are looked for in these rows first; `None` if there are no
-/// needs. Fails with 111 `Held` and the first locked key that is held, or with 112 `Memory`; then the caches are as
-/// they were.
+/// Leases an instance for each of these needs; `None` if there are no needs. The needs have distinct keys; `rows` has for each key the row in
+/// which to look for it first. Fails with 111 `Held` and the first locked key that is held, or with 112 `Memory`; then the caches are as they
+/// were.
 pub(crate) fn lease_for(
     caches: &mut Caches,
     needs: Vec<Need>,
@@ -65,7 +65,7 @@ pub(crate) fn lease_for(
     Ok(Some(caches.lease_near(Many::new(needs), rows)?))
 }
 
-/// Gives back a lease, which is current, if there is one.
+/// Gives back a current lease, if there is one.
 pub(crate) fn give_back(caches: &mut Caches, lease: Option<Lease>)
     requires { IsOutIf caches.old.out lease }
     ensures { caches.new ≡ given_back caches.old lease }
@@ -100,7 +100,7 @@ pub(crate) fn lent_for(
     Ok(Some(Lent::new(alloc, places, room)?))
 }
 
-/// Makes a prepared lease, if there is one. Does not allocate.
+/// Makes a lease that was prepared, if there is one, and returns it. Does not allocate.
 pub(crate) fn lend_again(caches: &mut Caches, lent: Option<Lent>) -> Option<Lease>
     requires { ForSome lent (CanLend caches.old) }
     ensures { (result, caches.new) ≡ lent_if caches.old lent }
@@ -111,7 +111,7 @@ pub(crate) fn lend_again(caches: &mut Caches, lent: Option<Lent>) -> Option<Leas
     }
 }
 
-/// Replaces the trees of a lease's instances by these trees. Without a lease there are no trees.
+/// Replaces the trees of a lease's instances by these trees. If there is no lease, `trees` is empty.
 pub(crate) fn write_back(caches: &mut Caches, lease: Option<Lease>, trees: Vec<Tree>)
     requires count { length trees.items ≡ length (leased_places caches.old.out lease) }
     requires few { length trees.items < 2 ^ 32 }

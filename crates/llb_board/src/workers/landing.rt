@@ -1,5 +1,4 @@
-//! Compares a job with what remains for a worker, by value, and replaces what the worker had by the result of the job's
-//! micro-steps.
+//! Compares a job with the job that remains for a worker, by value, and replaces the worker's execution by the result of the job's micro-steps.
 
 ghost use Rattle.std.specs.Prelude.{◌≡◌, ◌↔◌, ◌<◌, length, true, Some, slice_get, slice_set, is_some, IsTrue};
 ghost use Rattle.std.specs.Bool.{OnTrue, OnFalse};
@@ -25,7 +24,7 @@ use llb_execution::{Job, Outcome, Program};
 use llb_wire::Same;
 
 impl Workers {
-    /// Returns whether a job is what remains for a worker, with the caches as they are now. Does not allocate.
+    /// Returns whether a job is the one that remains for a worker, with the caches as they are now. Does not allocate.
     pub(crate) fn is_run_of(&self, vertices: &Vertices, w: u32, job: &Job) -> bool
         requires there { (x : machine.Execution) → slice_get self.now.workers w ≡ Some (Runs x)
             → is_some (slice_get vertices.now.build.graph.vertices x.vertex) ≡ true }
@@ -40,8 +39,8 @@ impl Workers {
         }
     }
 
-    /// Replaces what a worker had by the result of its outcome's micro-steps, and writes its instances. Does not
-    /// allocate.
+    /// Replaces the state of a worker's execution by the result of the outcome's micro-steps, and writes the trees of the
+    /// worker's instances. Does not allocate.
     pub(crate) fn land(&mut self, vertices: &Vertices, w: u32, outcome: Outcome)
         requires runs { RunsJob vertices.now self.old w outcome.job }
         requires fits { Fits vertices.now.build self.old }
@@ -57,7 +56,7 @@ impl Workers {
     }
 }
 
-// Returns whether a job is what remains of an execution, with the caches as they are now.
+// Returns whether a job is the one that remains of an execution, with the caches as they are now.
 fn is_left(vertices: &Vertices, caches: &Caches, w: u32, execution: &Execution, job: &Job) -> bool
     requires vertex { is_some (slice_get vertices.now.build.graph.vertices execution.now.vertex) ≡ true }
     requires supplies { supplies_of execution.now ≡ supplies_for (slice_get vertices.now.build.graph.vertices execution.now.vertex) }

@@ -1,4 +1,4 @@
-//! A worker settles or cancels what it runs: its instances are free again.
+//! A worker settles or cancels what it runs; its cache instances are then free again.
 
 ghost use Rattle.std.specs.Prelude.{◌≡◌, OnErr, OnOk, IfOk, option_map, replicate, slice_get, slice_set};
 ghost use Rattle.llb_tree.specs.Tree.{empty_tree};
@@ -20,8 +20,8 @@ use llb_loader::Vertex;
 use llb_wire::Many;
 
 impl Workers {
-    /// Settles what a worker runs, which is finished; its instances are free again. Returns the vertex with its status after that. Fails with
-    /// 131 `NoWorker`, 136 `NotRunning` or 138 `NotFinished`; then nothing has changed. Does not allocate.
+    /// Settles the finished vertex that a worker runs; the worker's instances are free again. Returns the vertex and its status after the
+    /// settle. Fails with 131 `NoWorker`, 136 `NotRunning` or 138 `NotFinished`; then nothing has changed. Does not allocate.
     pub(crate) fn leave(&mut self, vertices: &Vertices, w: u32) -> Result<(u32, Stage), SettleFault>
         requires { Fits vertices.now.build self.old }
         ensures gives { GivesSettle (λ p. (p.0, status_of p.1)) result (left_at vertices.now.build (slice_get self.old.workers w)) }
@@ -48,8 +48,8 @@ impl Workers {
         Ok((v, end(execution, vertices.vertex(v))))
     }
 
-    /// Cancels what a worker runs, finished or not; its instances are free again. Returns the vertex with its count of micro-steps
-    /// done. Fails with 131 `NoWorker` or 136 `NotRunning`; then nothing has changed. Does not allocate.
+    /// Cancels what a worker runs, finished or not; the worker's instances are free again. Returns the vertex and how many of its micro-steps
+    /// were done. Fails with 131 `NoWorker` or 136 `NotRunning`; then nothing has changed. Does not allocate.
     pub(crate) fn give_up(&mut self, w: u32) -> Result<Cancelled, CancelFault>
         ensures gives { GivesCancel (λ c. (c.vertex, c.done)) result (given_up_at (slice_get self.old.workers w)) }
         ensures idle { OnOk result (self.new.workers ≡ slice_set self.old.workers w Idle) }

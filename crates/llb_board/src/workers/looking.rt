@@ -1,4 +1,4 @@
-//! Returns the trees that a worker works on; the trees of its cache instances are returned as they are now.
+//! Returns the trees that a worker works on. The tree of a cache instance is returned as it is now.
 
 ghost use Rattle.std.specs.Prelude.{◌≡◌, ◌<◌, length, option_map, slice_get, Some};
 ghost use Rattle.llb_cache.specs.Caches.{trees_of};
@@ -16,8 +16,8 @@ use llb_execution::Look;
 use llb_tree::Tree;
 
 impl Workers {
-    /// Returns tree `i` of those that a worker works on (`Workspace::look`), a cache instance's tree as it is now;
-    /// `None` if the worker is idle, past the last worker, or past the last tree. Does not allocate.
+    /// Returns tree `i` of the trees that a worker works on, in the order of `Workspace::look`; the tree of a cache instance is
+    /// returned as it is now. `None` if the worker is idle, past the last worker, or past the last tree. Does not allocate.
     pub(crate) fn worked_on(&self, w: u32, i: u32) -> Option<&Tree>
         ensures { option_map (λ t. t.now) result ≡ slice_get (worked_by (store_of self.now.rows) (runs (slice_get self.now.workers w))) i }
     {
@@ -29,7 +29,7 @@ impl Workers {
     }
 }
 
-// Returns tree `i` of those that an execution works on; all its instances exist.
+// Returns tree `i` of the trees that an execution works on; all its cache instances exist.
 fn tree_in<'a>(caches: &'a Caches, execution: &'a Execution, i: u32) -> Option<&'a Tree>
     requires { (p : model.Instance) → Has execution.now.places.items p → p.number < length (trees_of caches.now.rows p.key) }
     ensures { option_map (λ t. t.now) result ≡ slice_get (worked_by (store_of caches.now.rows) (Some (execution_of execution.now))) i }

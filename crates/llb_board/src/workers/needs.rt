@@ -1,5 +1,5 @@
-//! The caches that a vertex mounts, and what its claim takes of them: the instances, the trees that they begin with, and
-//! the needs of a lease. It is built on the mounts of a vertex and on caches, which it only reads.
+//! The caches that a vertex mounts, and what its claim takes of them: the instances, the trees that they begin with, and the needs of a lease. This module
+//! reads the mounts of a vertex and the caches, and changes neither.
 
 ghost use Rattle.std.specs.Prelude.{◌≡◌, ◌<◌, ◌^◌, Ok, IfErr, IfOk, MatchResult, Some, None, true, map, length, option_map};
 ghost use Rattle.std.specs.List.{All};
@@ -21,8 +21,8 @@ use llb_ops::Mount;
 use llb_tree::Tree;
 use std::alloc::Global;
 
-/// A cache that an exec mounts: the number of the mount, the key, the number of the input that a new instance begins with, -1 for none, and what
-/// the caches have for the key.
+/// A cache that an exec mounts: the number of the mount, the key, the number of the input whose tree a new instance begins with (-1 for none), and what the
+/// caches have for the key.
 #[derive(Drop)]
 pub(crate) struct Wanted<'a> {
     pub mount: u32,
@@ -31,21 +31,21 @@ pub(crate) struct Wanted<'a> {
     pub found: Found<'a>,
 }
 
-/// What a claim takes, computed before anything changes.
+/// What a claim takes of the caches, computed before anything changes.
 #[derive(Drop)]
 pub(crate) struct Taking {
     pub places: Vec<Instance>,
     /// The numbers of the instances.
     pub instances: Vec<u32>,
-    /// The trees that they begin with.
+    /// The trees that the instances begin with.
     pub trees: Vec<Tree>,
     pub needs: Vec<Need>,
     /// The rows in which the keys of the needs were found.
     pub rows: Vec<Option<usize>>,
 }
 
-// Returns the caches that a vertex mounts, in the order of the mounts. Fails with 135 `Held` and the first locked key that a lease has; then it allocates for
-// that key alone. Else fails with 141 `Memory`, which can also come in place of 135.
+// Returns the caches that a vertex mounts, in the order of the mounts. Fails with 135 `Held` and the first locked key whose instance a lease has; then it
+// allocates for that key alone. If no key is held, fails with 141 `Memory` alone; 141 can also come in place of 135.
 pub(crate) fn wanted_by<'a>(
     alloc: Global,
     caches: &'a Caches,
@@ -64,7 +64,7 @@ pub(crate) fn wanted_by<'a>(
     }
 }
 
-/// Returns what a claim of a vertex would add to the caches, for each cache that it mounts. Fails with 141 `Memory` alone.
+/// Returns what a claim of a vertex would add to the caches, for each cache that the vertex mounts. Fails with 141 `Memory` alone.
 pub(crate) fn growths_of(
     alloc: Global,
     caches: &Caches,
@@ -82,8 +82,7 @@ pub(crate) fn growths_of(
     Ok(growths)
 }
 
-// Returns the row of the last locked key that a vertex mounts, or fails with the first of these keys that a lease has.
-// Does not allocate.
+// Returns the row of the last locked key that a vertex mounts, or fails with the first of its locked keys whose instance a lease has. Does not allocate.
 fn last_locked<'a>(caches: &Caches, vertex: &'a Vertex) -> Result<Option<usize>, KeyRef<'a>>
     requires { HasEdges vertex.now }
     ensures { MatchResult result (λ _. first_held_key caches.now.out (needs_of vertex.now) ≡ None)
@@ -103,7 +102,7 @@ fn last_locked<'a>(caches: &Caches, vertex: &'a Vertex) -> Result<Option<usize>,
     Ok(row)
 }
 
-// Looks up the caches that a vertex mounts. The row of number `near` is tried first for each of the keys.
+// Looks up the caches that a vertex mounts. For each key, the row of number `near` is tried first.
 fn wants<'a>(
     alloc: Global,
     caches: &'a Caches,
@@ -131,7 +130,7 @@ fn wants<'a>(
     Ok(wanted)
 }
 
-// Returns the key of the cache that a mount of a vertex shows, if it is a locked one. Does not allocate.
+// Returns the key of the cache that a mount of a vertex shows, if the mount shows one and the key is locked. Does not allocate.
 fn locked_key_shown<'a>(vertex: &'a Vertex, mount: &'a Mount) -> Option<KeyRef<'a>>
     requires { HasEdges vertex.now }
     ensures { result ≡ if_locked (option_map key_as (key_of vertex.now.op.inputs mount.now)) }
@@ -153,8 +152,8 @@ fn key_shown<'a>(vertex: &'a Vertex, mount: &'a Mount) -> Option<KeyRef<'a>>
     Some(KeyRef::new(options.id.as_str(), seed, mode_of(options.sharing)))
 }
 
-// Returns the seed of a new instance, an output that an input of the vertex names, as the digest text and the index of that output; `None` if the input's
-// number is -1.
+// Returns the seed of a cache (the output that a new instance begins with): the digest text and the index that input number `input` of the vertex names;
+// `None` if `input` is negative.
 fn seed_shown(vertex: &Vertex, input: i64) -> Option<(&str, u32)>
     requires { HasEdges vertex.now }
     ensures { option_map (λ s. seed_by s.0.now s.1) result ≡ option_map seed_as (seed_of vertex.now.op.inputs input) }
@@ -167,7 +166,7 @@ fn seed_shown(vertex: &Vertex, input: i64) -> Option<(&str, u32)>
     Some((shown.digest.as_str(), vertex.inputs.as_slice()[at].index))
 }
 
-// Returns the mode in which a cache is shared, by its number.
+// Returns the mode of a cache, by the number in the `sharing` field of its mount.
 fn mode_of(sharing: i32) -> Mode
     ensures { result ≡ mode_of sharing }
 {
@@ -260,7 +259,7 @@ fn first_tree(alloc: Global, inputs: &[Tree], want: &Wanted<'_>) -> Result<Tree,
     }
 }
 
-// Copies the tree of a seed; returns the empty tree if there is none.
+// Copies the tree of a seed; returns the empty tree if there is no seed.
 fn seed_tree(alloc: Global, inputs: &[Tree], input: i64) -> Result<Tree, ClaimFault>
     ensures { GivesClaim (λ t. t) result (Ok (base_in input inputs.now)) }
 {

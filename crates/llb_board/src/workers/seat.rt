@@ -19,9 +19,9 @@ use std::mem;
 /// The state of a worker.
 #[derive(Drop)]
 pub(crate) enum Seat {
-    /// It runs no vertex.
+    /// The worker runs no vertex.
     Idle,
-    /// The lease of its cache instances, if any, and everything else it holds.
+    /// The worker runs a vertex: the lease of its cache instances, if it has one, and everything else that it holds.
     Runs(Option<Lease>, Execution),
 }
 
@@ -30,7 +30,7 @@ pub(crate) enum Seat {
 #[derive(Drop)]
 pub(crate) struct Execution {
     pub vertex: u32,
-    /// How many micro-steps are done; one that faults is counted.
+    /// How many micro-steps are done; a micro-step that faults is counted too.
     pub done: u32,
     pub fault: Option<VertexFault>,
     pub view: Workspace,
@@ -39,7 +39,7 @@ pub(crate) struct Execution {
     pub steps: Steps,
 }
 
-/// Returns this many workers, all idle. Fails for want of memory alone.
+/// Returns `count` workers, all idle. Fails for want of memory alone.
 pub(crate) fn idle(alloc: Global, count: u32) -> Result<Vec<Seat>, AllocError>
     ensures { IfOk result (λ v. v.items ≡ replicate count seat.Idle) }
 {
@@ -50,7 +50,7 @@ pub(crate) fn idle(alloc: Global, count: u32) -> Result<Vec<Seat>, AllocError>
     Ok(seats)
 }
 
-/// Returns the state of the worker of a number; `None` if there is no such worker.
+/// Returns the state of worker `w`; `None` if there is no such worker.
 pub(crate) fn seat_at(seats: &[Seat], w: u32) -> Option<&Seat>
     ensures seat { option_map (λ s. s.now) result ≡ slice_get seats.now w }
     ensures does { option_map (λ s. at_of s.now) result ≡ slice_get (map at_of seats.now) w }
@@ -58,7 +58,7 @@ pub(crate) fn seat_at(seats: &[Seat], w: u32) -> Option<&Seat>
     seats.get(w as usize)
 }
 
-/// Returns whether all micro-steps are done, or one has faulted.
+/// Returns whether all micro-steps of an execution are done, or one has faulted.
 pub(crate) fn is_finished(execution: &Execution, steps: u32) -> bool
     ensures { result ≡ (is_some execution.now.fault || nat_le steps execution.now.done) }
 {
@@ -76,7 +76,7 @@ pub(crate) fn make_idle(seats: &mut Vec<Seat>, w: u32) -> Option<Lease>
     lease
 }
 
-/// Makes a worker that runs a vertex idle, and returns the lease that it had, if any, and what it ran.
+/// Makes a running worker idle, and returns the lease that it had, if any, and what it ran.
 pub(crate) fn vacate(seats: &mut Vec<Seat>, w: u32) -> (Option<Lease>, Execution)
     requires low { w < length seats.old.items }
     requires runs { IsRunning (slice_get seats.old.items w) }
@@ -89,8 +89,8 @@ pub(crate) fn vacate(seats: &mut Vec<Seat>, w: u32) -> (Option<Lease>, Execution
     }
 }
 
-/// Takes one micro-step back from what a worker runs: the execution's count, fault and view are again as they were before the micro-step. Returns the worker's
-/// lease, if any.
+/// Takes back the last micro-step of a worker: the execution's count, fault and view are again as they were before the micro-step. Returns the worker's lease,
+/// if any.
 pub(crate) fn step_back(seats: &mut Vec<Seat>, w: u32, mark: Mark) -> Option<Lease>
     requires { w < length seats.old.items }
     ensures before { seats.new.items ≡ slice_set seats.old.items w (seat_before mark (slice_get seats.old.items w)) }
@@ -133,7 +133,7 @@ pub(crate) fn put_left(
     lease
 }
 
-/// Returns whether each worker runs the same, by value; the numbers of leases are not compared. Does not allocate.
+/// Returns whether each worker runs the same in both lists, by value; the numbers of leases are not compared. Does not allocate.
 pub(crate) fn same_seats(seats: &[Seat], others: &[Seat]) -> bool
     ensures { IsTrue result ↔ (map at_of seats.now ≡ map at_of others.now) }
 {

@@ -1,4 +1,4 @@
-//! A micro-step of what a worker runs.
+//! Does a micro-step of what a worker runs.
 
 ghost use Rattle.std.specs.Prelude.{◌≡◌, length, false, Some, OnErr, OnOk, slice_get};
 ghost use Rattle.llb_execution.specs.Parts as parts;
@@ -25,8 +25,8 @@ use llb_execution::MicroStep;
 use std::alloc::Global;
 
 impl Workers {
-    /// Does the next micro-step of what a worker runs on its cache instances as they are, and writes them at once. Fails with 131 `NoWorker`,
-    /// 136 `NotRunning`, 137 `NothingLeft` or 141 `Memory`; then nothing has changed.
+    /// Does the next micro-step of what a worker runs, on its cache instances as they are now, and writes their new trees at once. Fails with
+    /// 131 `NoWorker`, 136 `NotRunning`, 137 `NothingLeft` or 141 `Memory`; then nothing has changed.
     pub(crate) fn step(
         &mut self,
         alloc: Global,

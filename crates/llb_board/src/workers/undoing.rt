@@ -1,5 +1,5 @@
-//! What an event displaces of the workers and of the caches: kept before the event, and put back to take the event back. What is kept has an item for each
-//! cache that the vertex of the event mounts, and none for other caches.
+//! What an event displaces (changes) in the workers and the caches. It is kept before the event, and put back when the event is taken back. An item is
+//! kept for each cache that the vertex of the event mounts, and none for other caches.
 
 ghost use Rattle.std.specs.Prelude.{◌≡◌, ◌<◌, false, length, map, option_map, slice_get, IfOk, IfErr, Err};
 ghost use Rattle.llb_events.specs.declared.event.Event.TheVariants.{Step};
@@ -30,30 +30,30 @@ pub struct Undo {
     back: Back,
 }
 
-// Written by hand, so that it is proved once; a derived one is proved again in every function that drops such a value.
+// This `Drop` is written by hand, so it is proved once; a derived `Drop` is proved again in every function that drops such a value.
 impl Drop for Undo {
     fn drop(self) {
         let Undo { back: _ } = self;
     }
 }
 
-/// What takes an event back, by the kind of the event.
+/// What is put back when an event is taken back, by the kind of the event.
 #[derive(Drop)]
 pub(crate) enum Back {
     /// For a claim: the worker, the vertex, and what its lease added to the caches.
     Unclaim(u32, u32, Vec<Growth>),
     /// For a step: the worker, what the micro-step could change of its view, and the trees of its cache instances.
     Unstep(u32, Mark, Vec<Tree>),
-    /// For a settle or a cancel: which of the two it was, the worker, what it ran, and a lease of its cache instances, if it had some.
+    /// For a settle or a cancel: which of the two it was, the worker, what it ran, and a prepared lease of its cache instances, if it had any.
     Resume(End, u32, Execution, Option<Lent>),
 }
 
 /// The event by which a worker ends what it runs.
 #[derive(Clone, Copy)]
 pub(crate) enum End {
-    /// The execution was finished.
+    /// A settle: the execution was finished.
     Settle,
-    /// The execution was cancelled.
+    /// A cancel: the worker gave the vertex up.
     Cancel,
 }
 
@@ -87,8 +87,8 @@ impl Undo {
 }
 
 impl Workers {
-    /// Returns what takes an event back; called before the event is done. Fails with 131 `NoWorker` or 136 `NotRunning` if the event
-    /// would, and with 141 `Memory`.
+    /// Returns what is needed to take back an event that is about to be done. Fails with 131 `NoWorker` or 136 `NotRunning` if the event itself would,
+    /// and with 141 `Memory`.
     pub(crate) fn before(
         &self,
         alloc: Global,
@@ -165,8 +165,8 @@ impl Workers {
         }
     }
 
-    /// Puts back what an event displaced of the workers and the caches. Returns the vertex that gets another status, with that status;
-    /// `None` for a step. Does not allocate.
+    /// Puts back what an event displaced in the workers and the caches. Returns the vertex whose status changes, with its status before the event; `None`
+    /// for a step. Does not allocate.
     pub(crate) fn put_back(&mut self, undo: Undo) -> Option<Change>
         requires { CanPutBack undo self.old }
         ensures workers { self.new.workers ≡ workers_before undo.back self.old.workers }
@@ -231,7 +231,7 @@ fn not_running(end: End) -> WalkFault
     }
 }
 
-// Returns what a claim of the vertex with a number would add to the caches; nothing past the last vertex.
+// Returns what a claim of vertex `v` would add to the caches; nothing past the last vertex.
 fn growths_at(
     alloc: Global,
     vertices: &Vertices,
