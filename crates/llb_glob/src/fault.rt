@@ -1,5 +1,5 @@
-//! Why a pattern is refused. A fault prints what follows the word `fault` in a refusal: its number.
-//! Refusals of memory of any kind become `Memory` by `?`.
+//! Why a pattern is refused. The text of a fault is its number, which the program prints after the word
+//! `fault`. The operator `?` turns each error for refused memory into `Memory`.
 
 use llb_tree::TreeFault;
 use std::alloc::{AllocError, AllocFailed};
@@ -8,7 +8,7 @@ use thiserror::Error;
 /// Why a pattern is refused.
 #[derive(Clone, Copy, Debug, PartialEq, Eq, Error)]
 pub enum PatternFault {
-    /// 41: a part is no name or the 129th, ends in a lone `\`, or has an empty, open or misspelled class.
+    /// 41: a part is no name or the 129th, ends in a lone `\`, or has an empty, unclosed or misspelled class.
     #[error("41")]
     BadPattern,
     /// 42: memory was refused.

@@ -14,7 +14,7 @@ pub enum Item {
     One(Letter),
 }
 
-/// Which characters an item matches.
+/// Which characters an item for one character matches.
 #[derive(Drop)]
 pub enum Letter {
     /// `?`: any character.

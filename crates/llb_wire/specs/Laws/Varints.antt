@@ -24,7 +24,7 @@ ok_pair e = cc
 
 -- ---- the bytes that are read for a number spell it
 
--- if reading a byte `b` and what follows it succeeds: `b` is the last byte of the number (`test`), or the rest of the number was read after it
+-- if a number that begins with the byte `b` is read, then either `b` is its last byte (`test` is true), or the rest of the number is read after `b`
 pub short_or : (b v n : ℕ) (more : Result (ℕ × ℕ) WireFault) (test : Bool)
     → cond {A = Result (ℕ × ℕ) WireFault} test (Ok (b, 1)) (more >>= λ m. Ok (b - 128 + 128 * m.0, suc m.1)) ≡ Ok (v, n)
     → ((test ≡ true) × (n ≡ 1)) ⊎ ((test ≡ false) × ((m : ℕ × ℕ) × (more ≡ Ok m) × (b - 128 + 128 * m.0 ≡ v) × (suc m.1 ≡ n)))
@@ -127,7 +127,7 @@ varint_read before spelling rest n at e h =
 
 -- ---- spellings are bytes
 
--- elements that are all below 256 are bytes
+-- a list is a list of bytes if the element at each position is below 256
 pub are_bytes : (xs : List ℕ) → ((k : ℕ) → get_or xs k 0 < 256) → AreBytes xs
 are_bytes [] h = tt
 are_bytes (x ∷ xs) h = (h 0, are_bytes xs (λ k. h (suc k)))
@@ -232,7 +232,7 @@ shortest_bytes (suc more) n small = go (ltb n 128) refl (shortest_bytes more (n 
   go true e rest = rw e ((omega (arith, ltb-true n 128 e), tt))
   go false e rest = rw e ((omega arith, rest))
 
--- no other spelling of the number in bytes is shorter
+-- no spelling of a number in bytes has fewer bytes than the shortest spelling
 pub least_spelling : (more n : ℕ) (other : List ℕ) → AreBytes other → Spells other n → length (shortest more n) ≤ length other
 unfolding shortest
 least_spelling zero n [] are h = absurd h
