@@ -11,8 +11,7 @@ abbrev pub or_else : Option Entry → Option Entry → Option Entry
 or_else (Some e) other = Some e
 or_else None other = other
 
--- the entry of the result at a path: what the upper tree has there; if that is nothing, what the lower tree has there, unless a file of the upper tree is above
--- the path
+-- the entry of the result at a path: what the upper tree has there, else what the lower tree has there, unless a file of the upper tree is above the path
 abbrev pub lay_at : Look → Look → Look
 lay_at lower upper p = or_else (upper p) (if below_file upper p then None else lower p)
 

@@ -1,5 +1,4 @@
--- The order of dests: a list of rows, by which a view with many mounts finds the mount of a path. Each row has the number of a mount, and the position of the
--- longest other dest that is a prefix of the mount's dest.
+-- The order of dests, by which a view with many mounts finds the mount of a path. A dest's row has the position of the longest other dest that is its prefix.
 use Rattle.std.specs.Prelude.{◌≡◌, ℕ, ◌<◌, ◌≤◌, Bool, true, false, List, [], length, slice_index_or}
 use Rattle.std.specs.Ordering.{is_lt}
 use Rattle.llb_tree.specs.Path.{path_cmp, is_within}
@@ -56,8 +55,7 @@ pub record IsAbove (ds : List (List (List ℕ))) (rows : List Row) (j k : ℕ) :
 abbrev pub Climbs : List (List (List ℕ)) → List Row → ℕ → Type 0
 Climbs ds rows count = (j k : ℕ) → k < j → j < count → is_within (dest_of ds rows k) (dest_of ds rows j) ≡ true → IsAbove ds rows j k
 
--- position `at` is below `count`; each dest that is at a position below `count` and is a prefix of the path, is at or before `at`, and is a prefix of the dest
--- at `at`
+-- position `at` is below `count`; each dest at a position below `count` that is a prefix of the path is at or before `at`, and is a prefix of the dest at `at`
 pub record IsNear (ds : List (List (List ℕ))) (rows : List Row) (count : ℕ) (path : List (List ℕ)) (at : ℕ) : Type 0 where
   pub there : at < count
   pub kept : (k : ℕ) → k < count → is_within (dest_of ds rows k) path ≡ true → k ≤ at

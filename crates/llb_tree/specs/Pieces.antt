@@ -66,8 +66,7 @@ abbrev pub change : List ℕ → Option TreeMap → Pairs → Pairs
 change n (Some t) es = finite.put name_cmp n t es
 change n None es = without n es
 
--- the children `new` are `old` after tree `t` replaces everything at or below path `p` in child `n`; if there is no tree `t`, what is there is removed;
--- no child but `n` changes
+-- the children `new` are `old` after tree `t` replaces everything at or below path `p` in child `n`; if there is no tree `t`, what is there is removed
 abbrev pub Changes : List ℕ → List (List ℕ) → Option TreeMap → Pairs → Pairs → Type 0
 Changes n p t old new = (made : Option TreeMap) × (new ≡ change n made old)
     × ((q : List (List ℕ)) → look_in made q ≡ set_look p t (look_in (finite.find name_cmp n old)) q)

@@ -10,8 +10,7 @@ use Rattle.llb_wire.specs.declared.field.Field.{Field}
 use Rattle.llb_wire.specs.declared.fault.WireFault.{WireFault}
 use Rattle.llb_wire.specs.declared.fault.WireFault.TheVariants.{Truncated, LongVarint, BadField, BadWireType}
 
--- The number that the varint at the start spells, and how many bytes the varint has; or the fault. A varint has at most `more` + 1 bytes; if it has
--- `more` + 1 bytes, the last one is 0 or 1.
+-- The number that the varint at the start spells, and how many bytes the varint has, at most `more` + 1; or the fault. Byte number `more` + 1 is 0 or 1.
 unfoldable pub varint_from : ℕ → List ℕ → Result (ℕ × ℕ) WireFault
 varint_from more [] = Err Truncated
 varint_from zero (b ∷ bs) = if nat_lt 1 b then Err LongVarint else Ok (b, 1)
