@@ -26,7 +26,7 @@ pub enum Letter {
 }
 
 impl Letter {
-    /// Returns whether a character matches.
+    /// Returns whether this letter matches a character.
     pub fn takes(&self, letter: char) -> bool
         ensures { IsTrue result ↔ Takes self.now letter }
     {

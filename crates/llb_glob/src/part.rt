@@ -61,7 +61,7 @@ impl Part {
         })
     }
 
-    // Returns whether a name matches.
+    // Returns whether a name matches this part.
     pub(crate) fn matches(&self, name: &str) -> bool
         requires { length name.now ≤ 255 }
         ensures { IsTrue result ↔ MatchesName self.now (chars name.now) }

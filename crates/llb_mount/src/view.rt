@@ -16,7 +16,7 @@ use std::marker::Model;
 use std::mem;
 use std::sync::Arc;
 
-// If there are at most as many mounts, the dest of each is compared with the path, which costs less than making an order of the dests.
+// The greatest number of mounts for which no order of the dests is made: comparing a path with each dest then costs less.
 const FEW: usize = 8;
 
 /// Mounts with distinct dests, one of which is the root. Contracts see the list of the mounts.
@@ -128,9 +128,9 @@ impl View {
         all_differ(mounts)
     }
 
-    /// Makes the view of mounts that `can_make` accepts, numbered from 0 in their order. It takes ownership of the mounts. It
-    /// never fails with 62 `Memory`: for more than eight mounts it makes an order of their dests, and does without one
-    /// if memory is refused for it.
+    /// Makes a view of mounts that `can_make` accepts, and takes ownership of them. The mounts are numbered from 0 in their
+    /// order. For more than eight mounts the call also makes an order of their dests; if memory is refused for the order, the
+    /// view does without it. So the call never fails with 62 `Memory`.
     pub fn make(mounts: Many<Shown>) -> Result<View, Memory>
         requires { IsView mounts }
         ensures view { IfOk result (λ v. v ≡ mounts) }

@@ -1,5 +1,5 @@
 -- One tree laid over another, path by path. The result has all entries of the upper tree, with the mode and the owner that are to be set; a directory that
--- is in both trees may instead stay as in the lower one. It has an entry of the lower tree if the upper tree has nothing at its path and no file above.
+-- is in both trees may instead stay as in the lower one. The result has a lower tree's entry if the upper tree has nothing at its path and no file above.
 use Rattle.std.specs.Prelude.{ℕ, Bool, true, false, List, map, Option, Some, None, unwrap_or, nat_lt, if◌then◌else◌}
 use Rattle.std.specs.List.{list_any}
 use Rattle.llb_tree.specs.Meta.{MetaValue}

@@ -44,11 +44,11 @@ pub record IsPath (path : List (List ℕ)) : Type 0 where
 abbrev pub name_of : List ℕ → Result (List ℕ) TreeFault
 name_of part = if is_name part then Ok part else Err BadName
 
--- the path with this name at its end; the fault `BadName` if it would be the 129th name
+-- the path with this name appended; the fault `BadName` if it would be the 129th name
 abbrev pub below : List (List ℕ) → List ℕ → Result (List (List ℕ)) TreeFault
 below path name = if nat_lt (length path) 128 then Ok (path ++ name ∷ []) else Err BadName
 
--- the path after one part of a text: an empty part and `.` change nothing, `..` removes the last name, any other part is added as a name, or is a `BadName`
+-- the path after one part of a text: an empty part and `.` change nothing, `..` removes the last name, any other part is added as a name or refused
 abbrev pub enter : List (List ℕ) → List ℕ → Result (List (List ℕ)) TreeFault
 enter path part =
     if length part == 0 || is_dot part then Ok path

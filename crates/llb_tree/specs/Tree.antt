@@ -53,13 +53,13 @@ all_dirs (Some (Dir m) ∷ es) = all_dirs es
 abbrev pub walk : Look → List (List ℕ) → Result (Unit {0}) TreeFault
 walk look p = all_dirs (map look (parents p))
 
--- succeeds if a file may be put where this entry is: if no entry is there, or a file; else fails with `IsDir`
+-- succeeds if there is no entry or the entry is a file, so that a file may be put there; else fails with `IsDir`
 abbrev pub file_fits : Option Entry → Result (Unit {0}) TreeFault
 file_fits (Some (Dir m)) = Err IsDir
 file_fits (Some (File m b)) = Ok tt
 file_fits None = Ok tt
 
--- succeeds if a directory may be put where this entry is: if no entry is there, or a directory; else fails with `Conflict`
+-- succeeds if there is no entry or the entry is a directory, so that a directory may be put there; else fails with `Conflict`
 abbrev pub dir_fits : Option Entry → Result (Unit {0}) TreeFault
 dir_fits (Some (File m b)) = Err Conflict
 dir_fits (Some (Dir m)) = Ok tt

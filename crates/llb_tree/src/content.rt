@@ -70,7 +70,7 @@ impl Node {
         }
     }
 
-    // Makes the node of a file that shares a content.
+    // Makes the node of a file with this content, which other files may share.
     fn of_content(meta: Meta, content: Content) -> Node
         ensures { (q : List (List ℕ)) → finite.get result q ≡ file_look meta content q }
     {

@@ -41,7 +41,7 @@ pub(crate) enum Kind {
     Dir(Meta, Arc<Vec<Piece>>),
 }
 
-// A run of a directory's children, in the order of their names. Copies of the directory share its pieces.
+// Consecutive children of a directory, in the order of their names. Copies of the directory share its pieces.
 #[cycle(node)]
 #[derive(Drop)]
 pub(crate) struct Piece {

@@ -44,7 +44,7 @@ fixed_at w bytes at = if nat_lt (length (drop at bytes)) (byte_len w) then
 abbrev pub as_field : ℕ → Wire → ℕ → ℕ × ℕ → Field
 as_field number wire start v = record { number = number; wire = wire; value = v.0; start = start; «end» = v.1 }
 
--- the field whose tag ends at a position, or its first fault
+-- the field whose tag ends at a position, or the first fault of its payload
 unfoldable pub payload_at : ℕ → Wire → List ℕ → ℕ → Result Field WireFault
 payload_at number Varint bytes at = varint_at bytes at >>= λ v. Ok (as_field number Varint at v)
 payload_at number I64 bytes at = fixed_at w64 bytes at >>= λ v. Ok (as_field number I64 at v)
@@ -52,7 +52,7 @@ payload_at number Len bytes at = varint_at bytes at >>= λ len. if nat_lt (lengt
     Err Truncated else Ok (as_field number Len len.1 (len.0, len.1 + len.0))
 payload_at number I32 bytes at = fixed_at w32 bytes at >>= λ v. Ok (as_field number I32 at v)
 
--- the field whose tag is at a position, or its first fault
+-- the field that begins at a position, with its tag, or the first fault of its bytes
 unfoldable pub field_at : List ℕ → ℕ → Result Field WireFault
 field_at bytes at = do
   tag ← varint_at bytes at
@@ -60,7 +60,7 @@ field_at bytes at = do
   wire ← wire_of (tag.0 % 8)
   payload_at number wire bytes tag.1
 
--- the field whose tag begins at a position, or its first fault; nothing if the position is the end of the bytes
+-- the field that begins at a position, or the first fault of its bytes; nothing if the position is the end of all bytes
 unfoldable pub next_field : List ℕ → ℕ → Result (Option Field) WireFault
 next_field bytes at = if at == length bytes then Ok None else (field_at bytes at >>= λ f. Ok (Some f))
 

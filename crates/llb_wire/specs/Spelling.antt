@@ -151,7 +151,7 @@ RecordCause bytes at BadWireType = HasNoWire bytes at
 
 -- ---- the shortest spellings
 
--- the shortest spelling of a number that can be spelled in `more` + 1 bytes
+-- the shortest spelling of a number, which has to be one that at most `more` + 1 bytes can spell
 unfoldable pub shortest : ℕ → ℕ → List ℕ
 shortest zero n = n ∷ []
 shortest (suc more) n = if nat_lt n 128 then n ∷ [] else (128 + n % 128) ∷ shortest more (n / 128)

@@ -14,7 +14,7 @@ use Rattle.llb_wire.specs.Laws.Answers.{bind_ok, guard_ok}
 use Rattle.llb_wire.specs.Reading.{varint_from, varint_at, number_of, wire_of, fixed_at, as_field, payload_at, field_at}
 use Rattle.llb_wire.specs.Laws.Varints.{short_or, varint_len}
 
--- a value as a result without a fault
+-- the result `Ok x`, under a name that proofs can use
 abbrev is_ok_of : {A : Type 0} → A → Result A WireFault
 is_ok_of x = Ok x
 

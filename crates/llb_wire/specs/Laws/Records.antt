@@ -203,14 +203,14 @@ between_split bytes at mid last low high =
     sym (take-append-drop (mid - at) (drop at (take last bytes))) ∙ ap (λ xs. xs ++ drop (mid - at) (drop at (take last bytes))) front
     ∙ ap (λ xs. drop at (take mid bytes) ++ xs) back
 
--- a field as a result without a fault
+-- the result `Ok f` for a field, under a name that proofs can use
 abbrev ok_field : Field → Result Field WireFault
 ok_field f = Ok f
 
 field_is : (f g : Field) → ok_field f ≡ ok_field g → f ≡ g
 field_is f g e = cc
 
--- what holds of a field `f` that is read at position `at`, at which its tag ends
+-- what holds of a field `f` whose tag ends at position `at`, if the payload is read there
 pub record FoundPayload (n : ℕ) (w : Wire) (bytes : List ℕ) (at : ℕ) (f : Field) : Type 0 where
   pub number : f.number ≡ n
   pub wire : f.wire ≡ w
@@ -309,7 +309,7 @@ found_by_parts bytes at f tag n w are le tag_read number_read wire_read payload_
       };
     }
 
--- a record that is read at a position is spelled there
+-- if a record is read at a position, the bytes there spell the record
 pub record_found_at : (bytes : List ℕ) (at : ℕ) (f : Field) → AreBytes bytes → at ≤ length bytes → field_at bytes at ≡ Ok f → FoundRecord bytes at f
 unfolding field_at
 record_found_at bytes at f are le e =
@@ -319,7 +319,7 @@ record_found_at bytes at f are le e =
     let w = bind_ok (wire_of (t.0.0 % 8)) (λ wire. payload_at n.0 wire bytes t.0.1) f n.2 in
     found_by_parts bytes at f t.0 n.0 w.0 are le t.1 n.1 w.1 w.2
 
--- a record that is read at the start is spelled there
+-- if a record is read at the start of the bytes, the bytes there spell the record
 pub record_found : (bytes : List ℕ) (f : Field) → AreBytes bytes → field_at bytes 0 ≡ Ok f → FoundRecord bytes 0 f
 record_found bytes f are e = record_found_at bytes 0 f are (omega arith) e
 
