@@ -4,7 +4,7 @@ use Rattle.std.specs.Ordering.{is_lt}
 use Rattle.llb_tree.specs.Path.{path_cmp, is_within}
 use Rattle.llb_mount.specs.declared.order.Row.{Row}
 
--- the row that is used for a position that has none
+-- the row that `mount_of` and `above_of` use for a position that has no row
 abbrev pub no_row : Row
 no_row = record { mount = 0; above = 0 }
 

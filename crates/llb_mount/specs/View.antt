@@ -8,7 +8,7 @@ use Rattle.llb_mount.specs.declared.shown.Shown.{Shown}
 abbrev pub dests : List Shown → List (List (List ℕ))
 dests mounts = map (λ m. m.dest) mounts
 
--- one mount is at the root, no two have the same dest, and each mount's number fits into 32 bits
+-- the dest of one mount is the root, no two mounts have the same dest, and each mount's number fits into 32 bits
 pub record IsView (mounts : List Shown) : Type 0 where
   pub root : Contains (dests mounts) []
   pub differ : AllPairs (λ d e. d ≢ e) (dests mounts)

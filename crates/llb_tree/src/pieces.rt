@@ -154,7 +154,7 @@ fn part(pieces: &mut Vec<Piece>, alloc: Global, at: usize) -> Result<(), AllocEr
     Ok(())
 }
 
-// Adds an empty piece if there is none.
+// Adds an empty piece if there are no pieces.
 fn some_piece(pieces: &mut Vec<Piece>, alloc: Global) -> Result<(), AllocError>
     requires { ArePieced pieces.old.items }
     ensures same { pairs_of pieces.new.items ≡ pairs_of pieces.old.items }

@@ -130,7 +130,7 @@ record_read_at before r rest at e h =
 pub record_read : (r : Record) (rest : List ℕ) → IsRecord r → field_at (r.text ++ rest) 0 ≡ Ok (placed 0 r)
 record_read r rest h = record_read_at [] r rest 0 refl h
 
--- the record that is read from its own bytes, wherever they are, is the same record
+-- if a record is read from its own bytes, wherever they are, the result is the same record
 pub record_kept_at : (before : List ℕ) (r : Record) (rest : List ℕ) (at : ℕ) → at ≡ length before → IsRecord r
     → record_at (before ++ (r.text ++ rest)) at (placed at r) ≡ r
 record_kept_at before r rest at e h =
