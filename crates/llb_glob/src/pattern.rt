@@ -126,7 +126,7 @@ struct Walk {
 impl Walk {
     ghost use Rattle.llb_glob.specs.Walk.{Stands, Enters};
 
-    // Applies one part of a text to the counts, as `enter` applies it to a path; returns false if `enter` refuses it: it is no name, or the 129th name.
+    // Applies one part of a text to the counts, as the definition `enter` applies it to a path; returns false if `enter` refuses the part.
     fn enter(&mut self, part: &str) -> bool
         ensures { (path : List (List ℕ)) → Stands path self.old → Enters (enter path part.now) result self.new }
     {
