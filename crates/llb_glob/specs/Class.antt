@@ -13,7 +13,7 @@ abbrev pub IsInSome : List Span → ℕ → Type 0
 IsInSome [] c = ⊥
 IsInSome (span ∷ spans) c = IsInSpan span c ⊎ IsInSome spans c
 
--- the statement, or its negation for a class that excludes (`[^..]`)
+-- a statement, or its negation if the flag is true, as for a class that excludes (`[^..]`)
 abbrev pub Excluding : Bool → Type 0 → Type 0
 Excluding false P = P
 Excluding true P = ¬ P
@@ -22,11 +22,11 @@ Excluding true P = ¬ P
 abbrev pub ClassTakes : ClassValue → ℕ → Type 0
 ClassTakes class c = Excluding class.excludes (IsInSome class.spans c)
 
--- the relation as a test: whether a character is in an item
+-- whether a character is in an item: the relation `IsInSpan` as a test
 abbrev pub is_in_span : Span → ℕ → Bool
 is_in_span span c = nat_le span.low c && nat_le c span.high
 
--- the test, or its opposite for a class that excludes
+-- the result of a test, or its opposite if the flag is true, as for a class that excludes
 abbrev pub excluding : Bool → Bool → Bool
 excluding false b = b
 excluding true b = not b
@@ -45,7 +45,7 @@ none_yet = record { excludes = false; spans = [] }
 abbrev pub one_alone : ℕ → Span
 one_alone c = record { low = c; high = c }
 
--- the items, with this high end for the last one
+-- the items after the last one gets this high end
 abbrev pub extended : List Span → ℕ → List Span
 extended [] high = []
 extended (span ∷ []) high = record span { high = high } ∷ []

@@ -1,4 +1,4 @@
--- The results of this crate's calls: the result of the call's rule, or the fault `Memory`.
+-- A call of this crate returns the result of its rule, which is a definition, or it fails with `Memory`.
 use Rattle.std.specs.Prelude.{Bool, true, false, Result}
 use Rattle.llb_wire.specs.Answer as answer
 use Rattle.llb_tree.specs.declared.fault.TreeFault.{TreeFault}
@@ -15,11 +15,11 @@ is_memory BadPattern = false
 abbrev pub Gives : {X Y : Type 0} → (X → Y) → Result X PatternFault → Result Y PatternFault → Type 0
 Gives = answer.Gives is_memory
 
--- `Memory` is reported last: a call fails with it only if the rule has no fault
+-- `Memory` is reported last: a call fails with it only if its rule returns a value
 abbrev pub MemoryLast : {X Y : Type 0} → Result X PatternFault → Result Y PatternFault → Type 0
 MemoryLast = answer.MemoryLast is_memory
 
--- the fault of a pattern whose text has this fault when it is read as a path
+-- the fault of reading a text as a pattern, if reading the text as a path has the given fault
 abbrev pub renamed : TreeFault → PatternFault
 renamed tree.Memory = Memory
 renamed tree.NotFound = BadPattern

@@ -25,7 +25,7 @@ at stage = record { stage = stage; quotes = false }
 abbrev pub start : Cursor
 start = at Outside
 
--- the effect of a character that stands for itself: it is an item of the part, an item of the current class, or the high end of a range
+-- the effect of a literal character, which matches itself: it is an item of the part, an item of the current class, or the high end of a range
 abbrev pub literal : Stage → ℕ → Cursor × Effect
 literal Outside c = (at Outside, Whole (One (Only c)))
 literal Opened c = (at Single, Add c)
@@ -34,14 +34,14 @@ literal Single c = (at Single, Add c)
 literal Dash c = (at Range, Extend c)
 literal Range c = (at Single, Add c)
 
--- the effect of a character outside a class: `[` opens a class, `*` is any run of characters, `?` any one character, and any other stands for itself
+-- the effect of a character outside a class: `[` opens a class, `*` is any run of characters, `?` is any one character, and any other character is literal
 abbrev pub outside : ℕ → Cursor × Effect
 outside c =
     if c == 91 then (at Opened, Nothing)
     else (if c == 42 then (at Outside, Whole Run)
     else (if c == 63 then (at Outside, Whole (One Any)) else literal Outside c))
 
--- the effect of a `]` in a class: it closes a class with at least one item and no open range
+-- the effect of a `]` in a class: it closes a class that has at least one item and no open range; elsewhere it is a fault
 abbrev pub closed : Stage → Result (Cursor × Effect) PatternFault
 closed Outside = Err BadPattern
 closed Opened = Err BadPattern
@@ -50,7 +50,7 @@ closed Single = Ok (at Outside, Close)
 closed Dash = Err BadPattern
 closed Range = Ok (at Outside, Close)
 
--- the effect of a `-` in a class: it is allowed only after a character that may be the low end of a range
+-- the effect of a `-` in a class: a fault, unless the character before it may be the low end of a range
 abbrev pub dashed : Stage → Result (Cursor × Effect) PatternFault
 dashed Outside = Err BadPattern
 dashed Opened = Err BadPattern
@@ -59,7 +59,7 @@ dashed Single = Ok (at Dash, Nothing)
 dashed Dash = Err BadPattern
 dashed Range = Err BadPattern
 
--- the effect of a character in a class: a `]`, a `-`, or any other, which stands for itself
+-- the effect of a character in a class: a `]`, a `-`, or any other character, which is literal
 abbrev pub inside : Stage → ℕ → Result (Cursor × Effect) PatternFault
 inside stage c = if c == 93 then closed stage else (if c == 45 then dashed stage else Ok (literal stage c))
 
@@ -72,7 +72,7 @@ plain Single c = inside Single c
 plain Dash c = inside Dash c
 plain Range c = inside Range c
 
--- the effect of a character: right after a `\` it stands for itself; a `\` elsewhere quotes the next character
+-- the effect of a character: right after a `\` it is literal; a `\` elsewhere quotes the next character
 abbrev pub quoted : Bool → Stage → ℕ → Result (Cursor × Effect) PatternFault
 quoted true stage c = Ok (literal stage c)
 quoted false stage c = if c == 92 then Ok (record { stage = stage; quotes = true }, Nothing) else plain stage c
@@ -118,12 +118,12 @@ is_outside Range = false
 abbrev pub is_whole : Cursor → Bool
 is_whole cursor = is_outside cursor.stage && not cursor.quotes
 
--- the items at the end of a part: none if the part may end there; else the fault
+-- the items after the last character of a part: none if the part may end there; else the fault `BadPattern`
 abbrev pub ended : Bool → Result (List Item) PatternFault
 ended true = Ok []
 ended false = Err BadPattern
 
--- the items that the remaining characters are read as, given the reader's cursor and the current class
+-- the items that the remaining characters of a part are read as, given the reader's cursor and the current class; or the fault
 abbrev pub items_from : List ℕ → Cursor → ClassValue → Result (List Item) PatternFault
 items_from [] cursor class = ended (is_whole cursor)
 items_from (c ∷ cs) cursor class =

@@ -1,4 +1,4 @@
--- A set of positions in a name while the name is matched, as a flag for each position.
+-- A set of positions in a name, which is kept while the name is matched: a flag for each position.
 use Rattle.std.specs.Prelude.{◌≡◌, ◌↔◌, ℕ, ◌≤◌, Bool, true, false, List, length, drop, slice_index_or}
 use Rattle.llb_glob.specs.declared.item.Item.{Item}
 use Rattle.llb_glob.specs.Matching.{MatchesName}

@@ -1,4 +1,4 @@
--- The state while a part is read, and the result of the part that follows from this state and the remaining characters.
+-- The state while a part of a pattern is read, and the result of reading the part, given this state and the remaining characters.
 use Rattle.std.specs.Prelude.{◌≡◌, ℕ, false, List, Result, Ok, Err}
 use Rattle.llb_glob.specs.declared.fault.PatternFault.{PatternFault}
 use Rattle.llb_glob.specs.declared.item.Item.{Item}
@@ -6,11 +6,11 @@ use Rattle.llb_glob.specs.declared.part.Reading.{Reading}
 use Rattle.llb_glob.specs.Faults.{is_memory}
 use Rattle.llb_glob.specs.Items.{behind, items_from}
 
--- the items so far, followed by the items of the remaining characters; or the fault
+-- the result of reading the part: the items so far, followed by the items of the remaining characters; or the fault
 abbrev pub ahead : Reading → List ℕ → Result (List Item) PatternFault
 ahead reading letters = behind reading.items.items (items_from letters reading.cursor reading.class)
 
--- a step that succeeds leaves the final result as it was; a step that fails has the fault of the final result, or `Memory`
+-- a step reads one character: if it succeeds, it does not change the final result; if it fails, then with the fault of the final result or with `Memory`
 abbrev pub Reads : Result (Unit {0}) PatternFault → Result (List Item) PatternFault → Result (List Item) PatternFault → Type 0
 Reads (Ok _) before after = before ≡ after
 Reads (Err e) before after = is_memory e ≡ false → before ≡ Err e

@@ -18,7 +18,7 @@ simple_item c =
     else (if c == 42 then Ok Run
     else (if c == 63 then Ok (One Any) else Ok (One (Only c))))
 
--- a `\` and the character after it are one item; each other character is an item too
+-- the items that characters are read as without classes: a `\` and the character after it are one item, and each other character is one item; or the fault
 abbrev pub simple_items : List ℕ → Result (List Item) PatternFault
 simple_items [] = Ok []
 simple_items (c ∷ []) = if c == 92 then Err BadPattern else (simple_item c >>= λ item. Ok (item ∷ []))

@@ -1,5 +1,5 @@
 -- The grammar of patterns: a part is a list of items. How a text is read is in Items and Pattern; a law of the crate says
--- that a text is read as the parts that it spells, and is refused if it spells none.
+-- that a text is read as the pattern that it spells, and is refused if it spells no pattern.
 use Rattle.std.specs.Prelude.{◌≡◌, ◌≢◌, ◌⊎◌, ℕ, ◌<◌, Bool, true, false, List, [], ◌∷◌, ◌++◌, length, Ok}
 use Rattle.std.specs.Str.{chars}
 use Rattle.llb_tree.specs.Path.{path_of}
@@ -20,43 +20,43 @@ BeginsWith c (d ∷ ds) = d ≡ c
 
 -- ---- a class
 
--- a character in a class: one other than `\`, `-` and `]`, or any after a `\`
+-- a text spells a character in a class: it is that character, other than `\`, `-` and `]`, or it is a `\` and that character
 abbrev pub SpellsLetter : ℕ → List ℕ → Type 0
 SpellsLetter c text = ((text ≡ c ∷ []) × (c ≢ 92) × (c ≢ 45) × (c ≢ 93)) ⊎ (text ≡ 92 ∷ c ∷ [])
 
--- an item of a class: one character, or two characters with a `-` between them
+-- a text spells an item of a class: one character, or two characters with a `-` between them
 abbrev pub SpellsSpan : Span → List ℕ → Type 0
 SpellsSpan span text = (SpellsLetter span.low text × (span.high ≡ span.low))
     ⊎ ((low : List ℕ) × (high : List ℕ) × (text ≡ low ++ 45 ∷ high) × SpellsLetter span.low low × SpellsLetter span.high high)
 
--- the items of a class, one after another
+-- a text spells the items of a class, one after another
 abbrev pub SpellsSpans : List Span → List ℕ → Type 0
 SpellsSpans [] text = text ≡ []
 SpellsSpans (span ∷ spans) text = Then (SpellsSpan span) (λ rest. SpellsSpans spans rest) text
 
--- what is between the brackets: a class that excludes has a `^` and then its items; any other class has its items, and the first character is no `^`
+-- a text is what a class has between its brackets: the items, with a `^` before them if the class excludes; else the first character is no `^`
 abbrev pub SpellsBody : Bool → List Span → List ℕ → Type 0
 SpellsBody true spans text = (items : List ℕ) × (text ≡ 94 ∷ items) × SpellsSpans spans items
 SpellsBody false spans text = SpellsSpans spans text × (¬ BeginsWith 94 text)
 
--- a class: a `[`, what is between the brackets, with one or more items, and a `]`
+-- a text spells a class: a `[`, what is between the brackets, with one or more items, and a `]`
 abbrev pub SpellsClass : ClassValue → List ℕ → Type 0
 SpellsClass class text = (body : List ℕ) × (text ≡ 91 ∷ (body ++ 93 ∷ [])) × SpellsBody class.excludes class.spans body × (0 < length class.spans)
 
 -- ---- a part
 
--- a character that stands for itself outside a class: it is none of `[`, `*`, `?` and `\`
+-- a character is literal outside a class without a `\` before it: it is none of `[`, `*`, `?` and `\`
 abbrev pub IsPlain : ℕ → Type 0
 IsPlain c = (c ≢ 91) × (c ≢ 42) × (c ≢ 63) × (c ≢ 92)
 
--- an item of a part: a `*`, a `?`, a character that stands for itself, any character after a `\`, or a class
+-- a text spells an item of a part: a `*`, a `?`, a literal character, a `\` and any character, or a class
 abbrev pub SpellsItem : Item → List ℕ → Type 0
 SpellsItem Run text = text ≡ 42 ∷ []
 SpellsItem (One Any) text = text ≡ 63 ∷ []
 SpellsItem (One (Only c)) text = ((text ≡ c ∷ []) × IsPlain c) ⊎ (text ≡ 92 ∷ c ∷ [])
 SpellsItem (One (In class)) text = SpellsClass class text
 
--- the items of a part, one after another
+-- a text spells the items of a part, one after another
 abbrev pub Spells : List Item → List ℕ → Type 0
 Spells [] text = text ≡ []
 Spells (item ∷ items) text = Then (SpellsItem item) (λ rest. Spells items rest) text

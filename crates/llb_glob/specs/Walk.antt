@@ -1,4 +1,4 @@
--- What is counted of a path while its text is checked without allocating.
+-- What is counted while the text of a pattern is checked without allocating.
 use Rattle.std.specs.Prelude.{◌≡◌, ℕ, Bool, true, false, List, length, Result, Ok, Err, is_ok}
 use Rattle.std.specs.List.{prefix_len}
 use Rattle.std.specs.Str.{chars}
@@ -10,12 +10,12 @@ use Rattle.llb_glob.specs.declared.pattern.Walk.{Walk}
 abbrev pub is_part : List ℕ → Bool
 is_part name = is_ok (items_of (chars name))
 
--- the counts are right: how many names the path has, and how many names are before its first name that spells no part of a pattern
+-- the counts are right for a path: how many names it has, and how many names are before the first name that spells no part of a pattern
 pub record Stands (path : List (List ℕ)) (walk : Walk) : Type 0 where
   pub depth : walk.depth ≡ length path
   pub sound : walk.sound ≡ prefix_len is_part path
 
--- a part of a text is accepted exactly if there is a path after it, and then the counts are right for that path
+-- a part of a text is accepted exactly if applying the part results in a path, not in a fault; then the counts are right for that path
 abbrev pub Enters : Result (List (List ℕ)) TreeFault → Bool → Walk → Type 0
 Enters (Ok path) true walk = Stands path walk
 Enters (Ok path) false walk = ⊥

@@ -1,5 +1,5 @@
-//! Classes of characters, as `[a-z]` in a pattern. A class is built item by item while its part is read. What it matches does not depend on the text that
-//! spells it.
+//! Classes of characters, as `[a-z]` in a pattern. A class is built item by item while its part is read. Which characters a class matches depends only on
+//! its items and on whether it excludes them.
 
 ghost use Rattle.std.specs.Prelude.{◌≡◌, ◌↔◌, ◌++◌, false, true, [], ◌∷◌, IsTrue, OnOk};
 ghost use Rattle.std.specs.List.{list_any};
@@ -25,7 +25,7 @@ impl Span {
     }
 }
 
-/// A class of characters. Contracts see its items, and whether it matches exactly the characters that are in none of them.
+/// A class of characters. Contracts see its items, and whether it excludes them: then it matches exactly the characters that are in none of them.
 pub struct Class {
     excludes: bool,
     spans: Vec<Span>,

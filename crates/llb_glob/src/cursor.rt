@@ -1,5 +1,5 @@
 //! How a part of a pattern is read: character by character, in one pass. The effect of a character depends on the stage of the
-//! reader and on nothing further back.
+//! reader and on whether a `\` quotes the character, and on nothing further back.
 
 ghost use Rattle.std.specs.Prelude.{◌≡◌};
 ghost use Rattle.llb_glob.specs.Items.{at, start, literal, outside, inside, closed, dashed, plain, cut, is_whole};
@@ -34,17 +34,17 @@ pub struct Cursor {
 /// The effect of a character on the part that is read.
 #[derive(Drop)]
 pub enum Effect {
-    /// It completes nothing.
+    /// The character completes nothing.
     Nothing,
-    /// It completes an item of the part.
+    /// The character completes an item of the part.
     Whole(Item),
-    /// It makes the current class exclude.
+    /// The character, a `^`, makes the current class exclude its items.
     Exclude,
-    /// It is one more item of the current class.
+    /// The character is one more item of the current class.
     Add(char),
-    /// It is the high end of the last item of the current class.
+    /// The character is the high end of the last item of the current class.
     Extend(char),
-    /// It closes the current class.
+    /// The character closes the current class.
     Close,
 }
 
@@ -56,7 +56,7 @@ impl Cursor {
         at(Stage::Outside)
     }
 
-    /// Returns whether a part may end here.
+    /// Returns whether a part may end at this cursor: in no class, and not right after a `\`.
     pub fn is_whole(self) -> bool
         ensures { result ≡ is_whole self }
     {
@@ -91,7 +91,7 @@ fn at(stage: Stage) -> Cursor
     }
 }
 
-// Returns the effect of a character that stands for itself.
+// Returns the cursor after a literal character, which matches itself, and the effect of the character.
 fn literal(stage: Stage, letter: char) -> (Cursor, Effect)
     ensures { result ≡ literal stage letter }
 {
@@ -105,7 +105,7 @@ fn literal(stage: Stage, letter: char) -> (Cursor, Effect)
     }
 }
 
-// Returns the effect of a character that is no `\` and not after one.
+// Returns the cursor after a character that is no `\` and not right after one, and the effect of the character.
 fn plain(stage: Stage, letter: char) -> Result<(Cursor, Effect), PatternFault>
     ensures { result ≡ plain stage letter }
 {
@@ -116,7 +116,7 @@ fn plain(stage: Stage, letter: char) -> Result<(Cursor, Effect), PatternFault>
     }
 }
 
-// Returns the effect of a character outside a class that is no `\` and not after one.
+// Returns the cursor after a character outside a class, and the effect of the character. The character is no `\` and not right after one.
 fn outside(letter: char) -> (Cursor, Effect)
     ensures { result ≡ outside letter }
 {
@@ -128,7 +128,7 @@ fn outside(letter: char) -> (Cursor, Effect)
     }
 }
 
-// Returns the effect of a character in a class that is no `\` and not after one.
+// Returns the cursor after a character in a class, and the effect of the character. The character is no `\` and not right after one.
 fn inside(stage: Stage, letter: char) -> Result<(Cursor, Effect), PatternFault>
     ensures { result ≡ inside stage letter }
 {
@@ -139,7 +139,7 @@ fn inside(stage: Stage, letter: char) -> Result<(Cursor, Effect), PatternFault>
     }
 }
 
-// Returns the effect of a `]`, which closes a class with at least one item and no open range.
+// Returns the cursor after a `]`, and its effect: it closes the class. Fails with 41 `BadPattern` if the class has no item or an open range.
 fn closed(stage: Stage) -> Result<(Cursor, Effect), PatternFault>
     ensures { result ≡ closed stage }
 {
@@ -149,7 +149,7 @@ fn closed(stage: Stage) -> Result<(Cursor, Effect), PatternFault>
     }
 }
 
-// Returns the effect of a `-`, which is between the two ends of a range.
+// Returns the cursor after a `-`, and its effect. Fails with 41 `BadPattern` unless the `-` is after a character that may begin a range.
 fn dashed(stage: Stage) -> Result<(Cursor, Effect), PatternFault>
     ensures { result ≡ dashed stage }
 {

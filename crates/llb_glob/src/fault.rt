@@ -1,5 +1,5 @@
-//! Why a pattern is refused. A fault prints what follows the word `fault` in a refusal: its number.
-//! Refusals of memory of any kind become `Memory` by `?`.
+//! Why a pattern is refused. The text of a fault is its number, which the program prints after the word
+//! `fault`. The operator `?` turns each error for refused memory into `Memory`.
 
 use llb_tree::TreeFault;
 use std::alloc::{AllocError, AllocFailed};

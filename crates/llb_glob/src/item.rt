@@ -14,7 +14,7 @@ pub enum Item {
     One(Letter),
 }
 
-/// Which characters an item matches.
+/// Which characters an item for one character matches.
 #[derive(Drop)]
 pub enum Letter {
     /// `?`: any character.
@@ -26,7 +26,7 @@ pub enum Letter {
 }
 
 impl Letter {
-    /// Returns whether a character matches.
+    /// Returns whether this letter matches a character.
     pub fn takes(&self, letter: char) -> bool
         ensures { IsTrue result ↔ Takes self.now letter }
     {

@@ -1,4 +1,4 @@
-//! What holds for the reading of patterns.
+//! Laws of reading patterns.
 
 ghost use Rattle.std.specs.Prelude.{◌≡◌, ◌↔◌, List, Ok, Err};
 ghost use Rattle.llb_glob.specs.declared.item.Item.{Item};
@@ -18,7 +18,8 @@ pub fn reads_by_the_grammar(text: &str)
     let _ = text;
 }
 
-/// Proves that a text that is a pattern by the rules without classes, where each `[` needs a `\` before it, is the same pattern by the rules with classes.
+/// Proves that the rules with classes extend the rules without classes, by which each `[` needs a `\` before it: a text that is a pattern by the rules without
+/// classes is read as the same pattern by the rules with classes.
 pub fn reads_without_classes(text: &str)
     ensures { (parts : List (List Item)) → simple_pattern_of text.now ≡ Ok parts → pattern_of text.now ≡ Ok parts }
 {

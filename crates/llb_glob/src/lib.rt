@@ -1,9 +1,9 @@
-//! Patterns: which paths a text with `*`, `?`, classes and `\` matches. It is built on `llb_tree`, of which it uses only names and paths, and
-//! knows no file action.
+//! Patterns: which paths a text with `*`, `?`, classes and `\` matches. The crate is built on `llb_tree`, of which it uses only names, paths and
+//! tests of names. It has no file actions.
 //!
 //! Types: `Pattern` (a list of parts), `Part` (a test of one name, by which `llb_tree` finds and removes paths), `PatternFault`.
 //! Promise: `reads_by_the_grammar` (`spelled`, `refused`, `one`) says that a text is read as the one pattern that it spells, or refused if
-//! it spells none. `Pattern::matches` (`relation`, `test`) is true exactly if the path matches the pattern by definition; it does not allocate.
+//! it spells none. `Pattern::matches` (`relation`, `test`) returns whether a path matches, by the definition `Matches`; it does not allocate.
 //!
 //! A caller:
 //!

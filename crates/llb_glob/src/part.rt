@@ -1,4 +1,4 @@
-//! A part of a pattern: what one name has to match.
+//! A part of a pattern, and how it is read. A path matches a pattern if each of its names matches the part at its index.
 
 ghost use Rattle.std.specs.Prelude.{◌≡◌, ◌↔◌, ◌≤◌, ◌∷◌, ℕ, List, length, is_ok, IsTrue};
 ghost use Rattle.std.specs.Str.{chars};
@@ -39,7 +39,7 @@ impl Model for Part {
 }
 
 impl Part {
-    // Reads a text as a part. Fails with 41 `BadPattern` if it spells none, else with 42 `Memory`.
+    // Reads a text as a part. Fails with 41 `BadPattern` if the text spells no part, or with 42 `Memory`.
     pub(crate) fn read(alloc: Global, text: &str) -> Result<Part, PatternFault>
         requires { length text.now ≤ 255 }
         ensures { Gives (λ p. p) result (items_of (chars text.now)) }
@@ -61,7 +61,7 @@ impl Part {
         })
     }
 
-    // Returns whether a name matches.
+    // Returns whether a name matches this part.
     pub(crate) fn matches(&self, name: &str) -> bool
         requires { length name.now ≤ 255 }
         ensures { IsTrue result ↔ MatchesName self.now (chars name.now) }

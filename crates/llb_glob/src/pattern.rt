@@ -115,7 +115,8 @@ fn is_pattern(text: &str) -> bool
     walk.sound == walk.depth
 }
 
-// What a text has led to so far: `depth`, how many names there are; and `sound`, how many names there are before the first one that is no part of a pattern.
+// The path that a text has led to so far, as two counts: `depth`, how many names it has; and `sound`, how many names are before the first one that spells no
+// part of a pattern.
 #[derive(Drop)]
 struct Walk {
     depth: usize,
@@ -125,7 +126,7 @@ struct Walk {
 impl Walk {
     ghost use Rattle.llb_glob.specs.Walk.{Stands, Enters};
 
-    // Applies one part of a text; returns false if it is no name or the 129th.
+    // Applies one part of a text to the counts, as the definition `enter` applies it to a path; returns false if `enter` refuses the part.
     fn enter(&mut self, part: &str) -> bool
         ensures { (path : List (List ℕ)) → Stands path self.old → Enters (enter path part.now) result self.new }
     {

@@ -8,8 +8,8 @@ ghost use Rattle.llb_glob.specs.Places.{IsIn, Reaches, AreStarts};
 
 use crate::item::{Item, Letter};
 
-/// Returns whether items match the characters of a name. It makes at most as many comparisons as the part has characters, times the number of positions: each
-/// item is compared at each position, and a class has at most as many items as characters. Does not allocate.
+/// Returns whether items match the characters of a name. Each item is compared at each position, and a class has at most as many items as its text has
+/// characters; so the number of comparisons is at most the number of the part's characters times the number of positions. Does not allocate.
 pub fn matches_letters(items: &[Item], name: &[char]) -> bool
     requires { length name.now ≤ 255 }
     ensures { IsTrue result ↔ MatchesName items.now name.now }
@@ -22,7 +22,7 @@ pub fn matches_letters(items: &[Item], name: &[char]) -> bool
     places[0]
 }
 
-// Replaces the set by the positions from which the rest of the name matches this item followed by the items taken so far.
+// Replaces the set: a position is in the new set if the rest of the name from there matches this item followed by the items taken so far.
 fn step_back(item: &Item, name: &[char], places: &mut [bool])
     requires { length name.now < length places.old }
     ensures { (rest : List Item) → AreStarts rest name.now places.old → AreStarts (item.now ∷ rest) name.now places.new }
@@ -33,7 +33,7 @@ fn step_back(item: &Item, name: &[char], places: &mut [bool])
     }
 }
 
-// Adds to the set each position that is before a position of the set.
+// Adds to the set, for a `*`, each position that is before a position of the set.
 fn widen(last: usize, places: &mut [bool])
     requires { last < length places.old }
     ensures { (i : ℕ) → i ≤ last → IsIn places.new i ↔ Reaches places.old last i }
@@ -45,7 +45,7 @@ fn widen(last: usize, places: &mut [bool])
     }
 }
 
-// Replaces the set by the positions at which the letter matches the character and whose next position is in the set.
+// Replaces the set: a position is in the new set if the letter matches the character there and the next position is in the old set.
 fn narrow(letter: &Letter, name: &[char], places: &mut [bool])
     requires { length name.now < length places.old }
     ensures before { (i : ℕ) → i < length name.now

@@ -1,4 +1,4 @@
--- One tree laid over another, as a map and path by path.
+-- One tree laid over another: the entry of the result at a path, and the result as a map.
 use Rattle.std.specs.Prelude.{not, ◌++◌, Option, Some, None, if◌then◌else◌}
 use Rattle.std.specs.FinMap as finite
 use Rattle.std.specs.FinMap.Entries.{where_key}
@@ -11,11 +11,11 @@ abbrev pub or_else : Option Entry → Option Entry → Option Entry
 or_else (Some e) other = Some e
 or_else None other = other
 
--- the entry at a path: what the upper tree has; else what the lower one has, if no proper prefix of the path is a file of the upper one
+-- the entry of the result at a path: what the upper tree has there, else what the lower tree has there, unless a file of the upper tree is above the path
 abbrev pub lay_at : Look → Look → Look
 lay_at lower upper p = or_else (upper p) (if below_file upper p then None else lower p)
 
--- the upper tree laid over the lower one: all entries of the upper tree, and each entry of the lower tree at whose path the upper tree has none, and that is
--- below no file of the upper tree
+-- the upper tree laid over the lower one: all entries of the upper tree, and those entries of the lower tree that are at a path where the upper tree has no
+-- entry, and that are below no file of the upper tree
 unfoldable pub lay : TreeMap → TreeMap → TreeMap
 lay lower upper = finite.from_entries (finite.entries upper ++ where_key path_cmp (λ p. not (below_file (finite.get upper) p)) (finite.entries lower))

@@ -1,5 +1,5 @@
-//! The fault for refused memory, the only one here. It prints what comes after the word `fault` in a refusal: its number.
-//! The calls on trees fail here with `Memory` alone, as their clauses say.
+//! The fault for refused memory, the only fault of this crate. Its text is its number, which the program prints after the word
+//! `fault`. The calls on trees that this crate makes fail with `Memory` alone, as their clauses say.
 
 use llb_tree::TreeFault;
 use thiserror::Error;

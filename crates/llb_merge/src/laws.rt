@@ -1,5 +1,6 @@
-//! Laws of laying, for all trees. Laying is not associative: a file of a tree between two others hides for good what
-//! the lowest has below it, even if the uppermost has a directory at that path.
+//! Laws of laying, for all trees. Laying is not associative: if the middle one of three trees has a file where the other
+//! two have a directory, then what the lowest tree has below that path is lost if the lower two are laid first, and kept
+//! if the upper two are.
 
 ghost use Rattle.std.specs.Prelude.{◌≡◌, List, [], ℕ};
 ghost use Rattle.std.specs.FinMap as finite;
@@ -9,8 +10,8 @@ ghost use Rattle.llb_merge.specs.Laying.{lay, lay_at};
 
 use llb_tree::Tree;
 
-/// Proves that at each path the result has what the upper tree has there. If the upper tree has nothing there, the result has what the lower tree has, unless a
-/// file of the upper one is above the path. It also proves that the result is a tree.
+/// Proves that at each path the result of laying one tree over another has what the upper tree has there; if that is nothing, what the lower tree has, unless a
+/// file of the upper tree is above the path. Also proves that the result is a tree.
 pub fn at_each_path(lower: &Tree, upper: &Tree)
     ensures paths { (q : List (List ℕ)) → finite.get (lay lower.now upper.now) q ≡ lay_at (finite.get lower.now) (finite.get upper.now) q }
     ensures tree { IsTree (lay lower.now upper.now) }

@@ -9,23 +9,23 @@ use crate::fault::Memory;
 use llb_tree::{OverlaySettings, Tree};
 use std::alloc::Global;
 
-// Returns the `OverlaySettings` by which each upper entry keeps its mode and owner, also if both trees have a directory at its path.
+// Returns the `OverlaySettings` that leaves each upper entry its mode and owner, also if both trees have a directory at its path.
 fn plain() -> OverlaySettings
     ensures { settings_of None None None false ≡ Some result }
 {
     OverlaySettings::new(None, None, None, false).unwrap()
 }
 
-/// Lays the upper tree over the lower one, and returns the result. At a path it has what the upper tree has there; if that is nothing, what the lower one has,
-/// unless a file of the upper one is above the path. Fails with 55 `Memory` alone.
+/// Lays the upper tree over the lower one, and returns the result. At a path the result has what the upper tree has there; if that is nothing, what the lower
+/// tree has, unless a file of the upper tree is above the path. Fails with 55 `Memory` alone.
 pub fn lay(_: Global, lower: &Tree, upper: &Tree) -> Result<Tree, Memory>
     ensures { IfOk result (λ t. t ≡ lay lower.now upper.now) }
 {
     lay_onto(lower.copy()?, upper)
 }
 
-/// Lays the upper tree over the lower one as `lay` does, and takes ownership of the lower one, so that a caller that lays several trees one over another makes
-/// no copies. Fails with 55 `Memory` alone.
+/// Lays the upper tree over the lower one, as `lay` does, but takes ownership of the lower tree: so a caller that lays several trees one over another copies
+/// no tree. Fails with 55 `Memory` alone.
 pub fn lay_onto(lower: Tree, upper: &Tree) -> Result<Tree, Memory>
     ensures { IfOk result (λ t. t ≡ lay lower upper.now) }
 {

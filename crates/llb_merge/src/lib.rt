@@ -1,9 +1,9 @@
-//! Lays one tree over another: each path has what the upper tree has there; if that is nothing, what the lower one has, unless a file of the upper one is above
-//! the path. It is built on `llb_tree`, and knows no op.
+//! Lays one tree over another: the result has at each path what the upper tree has there; if that is nothing, what the lower tree has, unless a file of the
+//! upper tree is above the path. The crate is built on `llb_tree`, and has no ops.
 //!
 //! Types: `Memory` (fault 55), the one refusal.
-//! Promise: `lay` returns the tree that one equation on maps describes. `lay_over` (`ok`, `err`) changes the lower tree into it, and `lay_onto` takes ownership
-//! of the lower tree. Laws say what is at each path, and what laying a tree over itself or over the empty one results in.
+//! Promise: `lay` returns the tree that the definition `lay` describes as a map. `lay_over` (`ok`, `err`) replaces the lower tree by this result, and
+//! `lay_onto` takes ownership of the lower tree. Laws say what is at each path, and what the result is if a tree is laid over itself or over the empty tree.
 //!
 //! A caller:
 //!

@@ -1,10 +1,10 @@
--- The order of dests, by which a view with many mounts finds a path's mount. Each dest has the position of the longest other dest that is a prefix of it.
+-- The order of dests, by which a view with many mounts finds the mount of a path. A dest's row has the position of the longest other dest that is its prefix.
 use Rattle.std.specs.Prelude.{◌≡◌, ℕ, ◌<◌, ◌≤◌, Bool, true, false, List, [], length, slice_index_or}
 use Rattle.std.specs.Ordering.{is_lt}
 use Rattle.llb_tree.specs.Path.{path_cmp, is_within}
 use Rattle.llb_mount.specs.declared.order.Row.{Row}
 
--- the row that is taken where there is none
+-- the row that `mount_of` and `above_of` use for a position that has no row
 abbrev pub no_row : Row
 no_row = record { mount = 0; above = 0 }
 
@@ -24,17 +24,17 @@ dest_of ds rows j = slice_index_or ds (mount_of rows j) []
 abbrev pub is_before : List (List ℕ) → List (List ℕ) → Bool
 is_before p q = is_lt (path_cmp p q)
 
--- each position has the number of a mount, and the dests ascend from position to position
+-- the row at each position has the number of a mount, and the dests of these mounts ascend from position to position
 pub record Rises (ds : List (List (List ℕ))) (rows : List Row) : Type 0 where
   pub within : (j : ℕ) → j < length rows → mount_of rows j < length ds
   pub rising : (j k : ℕ) → j < k → k < length rows → is_before (dest_of ds rows j) (dest_of ds rows k) ≡ true
 
--- exactly the mounts with numbers below `count` have positions
+-- the mounts that have rows are exactly those with numbers below `count`
 pub record HasFirst (count : ℕ) (rows : List Row) : Type 0 where
   pub within : (j : ℕ) → j < length rows → mount_of rows j < count
   pub each : (i : ℕ) → i < count → (j : ℕ) × (j < length rows) × (mount_of rows j ≡ i)
 
--- each dest before the position `place` does not come after the path, and each dest from `place` on comes after it
+-- no dest before the position `place` comes after the path, and each dest at or after `place` comes after the path
 pub record IsPlace (ds : List (List (List ℕ))) (rows : List Row) (path : List (List ℕ)) (place : ℕ) : Type 0 where
   pub within : place ≤ length rows
   pub before : (j : ℕ) → j < place → is_before path (dest_of ds rows j) ≡ false
@@ -45,7 +45,7 @@ pub record AtRoot (ds : List (List (List ℕ))) (rows : List Row) : Type 0 where
   pub there : 0 < length rows
   pub root : dest_of ds rows 0 ≡ []
 
--- the position that `above_of` has for j is before j, but not before k, and the dest at k is a prefix of the dest at that position
+-- the position `above_of rows j` is before j and is not before k, and the dest at k is a prefix of the dest at that position
 pub record IsAbove (ds : List (List (List ℕ))) (rows : List Row) (j k : ℕ) : Type 0 where
   pub up : above_of rows j < j
   pub kept : k ≤ above_of rows j

@@ -1,4 +1,4 @@
--- The mount that a path leads to: the one with the longest dest that is a prefix of the path. A dest is a prefix by names, so `/t`
+-- The mount that a path leads to: the mount with the longest dest that is a prefix of the path. A dest is a prefix by names, so `/t`
 -- is not a prefix of `/tx`.
 use Rattle.std.specs.Prelude.{◌≡◌, ℕ, ◌<◌, ◌≤◌, nat_eq, max, true, if◌then◌else◌, List, [], ◌∷◌, ◌++◌, length, take, drop}
 use Rattle.std.specs.List.{All, position_or_len}
@@ -20,7 +20,7 @@ number_of ds path = position_or_len (λ d. pointwise (pointwise nat_eq) d path) 
 abbrev pub route : List Shown → List (List ℕ) → ℕ × ℕ
 route mounts path = let n = greatest_length (dests mounts) path in (number_of (dests mounts) (take n path), n)
 
--- `to` is a mount's number and a count of names: this mount's dest is a prefix of the path, and has so many names; no longer dest is a prefix of the path
+-- `to` is the number of a mount and how many names its dest has: this dest is a prefix of the path, and no longer dest is a prefix of the path
 pub record IsRoute (mounts : List Shown) (path : List (List ℕ)) (to : ℕ × ℕ) : Type 0 where
   pub there : to.0 < length mounts
   pub prefix : is_within (mount_at mounts to.0).dest path ≡ true

@@ -1,4 +1,4 @@
-//! Why a call on a view is refused. A fault prints its number. The tree of a refused call comes back in its fault.
+//! Why a call on a view is refused. The text of a fault is its number. The fault `ReadOnly` holds the tree that the call was given.
 
 use llb_tree::{Tree, TreeFault};
 use std::alloc::{AllocError, AllocFailed};
@@ -35,7 +35,7 @@ impl<T: Drop> From<AllocFailed<T>> for Memory {
     }
 }
 
-/// Converts the fault of a copy of a path or a tree, which can only lack memory.
+/// Converts the fault of copying a path or a tree, a call that fails with `Memory` alone.
 impl From<TreeFault> for Memory {
     fn from(_: TreeFault) -> Memory {
         Memory

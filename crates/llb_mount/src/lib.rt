@@ -1,9 +1,9 @@
-//! A view: trees under dests, as the mounts of an execution show them. It is built on `llb_tree`.
+//! A view: trees at dests, as the mounts of an execution show them. The crate is built on `llb_tree`.
 //!
 //! Types: `View` (its mounts, one of them at the root), `Shown` (a mount: dest, selector, whether it is read-only, tree), `ReadOnly`.
 //! Promise: `View::route` (`longest`, `only`) returns the mount with the longest dest that is a prefix of a path, by names. `View::set_tree` (`set`, `refused`,
-//! `back`) replaces one mount's tree, and refuses a read-only one. These two calls need no memory; `View::make` makes a view; if there are many mounts, it also
-//! makes an order of the dests, or does without that order if memory is refused for it.
+//! `back`) replaces one mount's tree, and refuses to if the mount is read-only. These two calls do not allocate. `View::make` makes a view and, for more than
+//! eight mounts, an order of the dests; if memory is refused for the order, the view does without it.
 //!
 //! A caller:
 //!

@@ -1,6 +1,6 @@
-//! The mounts of a view in the order of their dests, by which the mount of a path is found if there are many. A search finds the last dest that does not come
-//! after the path. Each dest has a link to the longest other dest that is a prefix of it. On the way up these links from the dest that was found, the first
-//! dest that is a prefix of the path is the longest one.
+//! The mounts of a view in the order of their dests, by which the mount of a path is found if there are many mounts. Each dest has a link to the longest other
+//! dest that is a prefix of it. A binary search finds the last dest that does not come after the path. If the links are followed from that dest, the first dest
+//! that is a prefix of the path is the longest such dest.
 
 ghost use Rattle.std.specs.Prelude.{◌≡◌, ◌<◌, ◌+◌, true, length, IfOk};
 ghost use Rattle.llb_tree.specs.Path.{is_within};
@@ -21,7 +21,7 @@ pub(crate) struct Row {
     above: usize,
 }
 
-// Returns how many dests do not come after a path.
+// Returns how many dests do not come after a path, by a binary search.
 fn place_of(mounts: &[Shown], rows: &[Row], path: &Path) -> usize
     requires { Rises (dests mounts.now) rows.now }
     ensures { IsPlace (dests mounts.now) rows.now path.now result }
@@ -39,7 +39,7 @@ fn place_of(mounts: &[Shown], rows: &[Row], path: &Path) -> usize
     low
 }
 
-// Returns the index of the longest dest that is a prefix of a path: the dest at index `from`, or one that its links lead up to.
+// Returns the index of the longest dest that is a prefix of a path: the dest at index `from`, or a dest that the links lead to from there.
 fn nearest(mounts: &[Shown], rows: &[Row], from: usize, path: &Path) -> usize
     requires rises { Rises (dests mounts.now) rows.now }
     requires root { AtRoot (dests mounts.now) rows.now }

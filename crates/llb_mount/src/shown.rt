@@ -7,8 +7,8 @@ use crate::fault::Memory;
 use llb_tree::{Path, Tree};
 use llb_wire::Same;
 
-/// A tree that is shown at a dest: a path below the dest is looked up below the selector in the tree; there may be nothing at the selector. `View::set_tree`
-/// refuses a read-only mount.
+/// A mount: a tree that is shown at a dest. A path below the dest is looked up in the tree, below the selector; the tree may have nothing at the selector.
+/// `View::set_tree` refuses a read-only mount.
 pub struct Shown {
     pub dest: Path,
     pub selector: Path,

@@ -16,13 +16,13 @@ use std::marker::Model;
 use std::mem;
 use std::sync::Arc;
 
-// Up to this number of dests, each is compared with the path, which costs less than making an order of them.
+// The greatest number of mounts for which no order of the dests is made: comparing a path with each dest then costs less.
 const FEW: usize = 8;
 
 /// Mounts with distinct dests, one of which is the root. Contracts see the list of the mounts.
 pub struct View {
     mounts: Vec<Shown>,
-    // The order of the dests, which copies share; `None` if there are few mounts, or memory was refused for it.
+    // The order of the dests, which copies of the view share; `None` if there are few mounts, or if memory was refused for the order.
     order: Option<Arc<Vec<Row>>>,
 }
 
@@ -79,8 +79,8 @@ fn all_differ(mounts: &[Shown]) -> bool
     true
 }
 
-// Returns the mount with the longest dest that is a prefix of the path, and how many names that dest has, by looking at
-// each mount.
+// Returns the number of the mount with the longest dest that is a prefix of the path, and how many names that dest has.
+// Looks at each mount.
 fn route_among(mounts: &[Shown], path: &Path) -> (u32, u32)
     requires { IsView mounts.now }
     ensures { IsRoute mounts.now path.now result }
@@ -114,8 +114,8 @@ fn order_of(mounts: &Vec<Shown>) -> Option<Arc<Vec<Row>>>
 }
 
 impl View {
-    /// Returns whether a view can be made of these mounts: one dest is the root, no two are the same, and there are fewer than 2^32.
-    /// Does not allocate; takes time in the square of their number.
+    /// Returns whether a view can be made of these mounts: one dest is the root, no two dests are the same, and there are fewer than 2^32
+    /// mounts. Does not allocate; takes time in the square of the number of mounts.
     pub fn can_make(mounts: &[Shown]) -> bool
         ensures { IsTrue result ↔ IsView mounts.now }
     {
@@ -128,9 +128,9 @@ impl View {
         all_differ(mounts)
     }
 
-    /// Makes the view of mounts that `can_make` accepts, numbered from 0 in their order. It takes ownership of the mounts. It
-    /// never fails with 62 `Memory`: for more than eight mounts it makes an order of their dests, and does without one
-    /// if memory is refused for it.
+    /// Makes a view of mounts that `can_make` accepts, and takes ownership of them. The mounts are numbered from 0 in their
+    /// order. For more than eight mounts the call also makes an order of their dests; if memory is refused for the order, the
+    /// view does without it. So the call never fails with 62 `Memory`.
     pub fn make(mounts: Many<Shown>) -> Result<View, Memory>
         requires { IsView mounts }
         ensures view { IfOk result (λ v. v ≡ mounts) }
@@ -173,7 +173,7 @@ impl View {
         &self.mounts[mount as usize].dest
     }
 
-    /// Returns the path in a mount's tree that its dest shows: the root if it shows the whole tree. Does not allocate.
+    /// Returns the path in a mount's tree that is shown at its dest: the root if the whole tree is shown. Does not allocate.
     pub fn selector(&self, mount: u32) -> &Path
         requires { mount < length self.now }
         ensures { result.now ≡ (mount_at self.now mount).selector }
@@ -232,7 +232,7 @@ impl View {
         Many::new(mounts)
     }
 
-    /// Copies the view, which shares its trees and the order of its dests. Fails with 62 `Memory` alone.
+    /// Copies the view; the copy shares the trees and the order of the dests. Fails with 62 `Memory` alone.
     pub fn copy(&self) -> Result<View, Memory>
         ensures { IfOk result (λ v. v ≡ self.now) }
     {

@@ -1,4 +1,4 @@
--- Entries and trees as plain values (pairs, numbers, lists), by which types that have a tree in their contract value are compared. No contract uses them.
+-- Entries and trees as plain values (pairs, numbers, lists). The prover needs these to compare contract values that have trees in them; no contract uses them.
 use Rattle.std.specs.Prelude.{◌≡◌, ℕ, List, Option, Some, None, refl}
 use Rattle.std.specs.FinMap as finite
 use Rattle.std.specs.Coded.{Coded, code_by, coded×, coded_ℕ, coded_list, coded_option}
@@ -9,7 +9,7 @@ abbrev pub packed : Entry → (ℕ × (ℕ × ℕ)) × Option (List ℕ)
 packed (Dir m) = ((m.mode, (m.uid, m.gid)), None)
 packed (File m bytes) = ((m.mode, (m.uid, m.gid)), Some bytes)
 
--- the entry from which `packed` made such a pair: a directory if there is no content, else a file
+-- the entry from which `packed` makes this pair: a directory if the pair has no content, else a file
 abbrev pub unpacked : (ℕ × (ℕ × ℕ)) × Option (List ℕ) → Entry
 unpacked (m, None) = Dir (record { mode = m.0; uid = m.1.0; gid = m.1.1 })
 unpacked (m, Some bytes) = File (record { mode = m.0; uid = m.1.0; gid = m.1.1 }) bytes

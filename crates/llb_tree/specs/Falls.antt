@@ -20,7 +20,7 @@ use Rattle.llb_tree.specs.declared.node.Piece.{Piece}
 use Rattle.llb_tree.specs.declared.node.Node.TheDeep.{deep-Kind, deep-Child, deep-Piece}
 use denote.Param.Weighed.{most}
 
--- if each path that has an entry has fewer than n names, the height that these entries have is at most n
+-- if the path of each of these entries has fewer than n names, the height of a tree with these entries is at most n
 most_le : (n : ℕ) (es : List (List (List ℕ) × Entry)) → ((q : List (List ℕ)) → is_some (find path_cmp q es) ≡ true → length q + 1 ≤ n)
     → most (λ (e : List (List ℕ) × Entry). length e.0 + 1) es ≤ n
 most_le n [] h = omega arith
@@ -54,7 +54,7 @@ or_right : (a b : Option Entry) → is_some b ≡ true → is_some (option_or a 
 or_right None b h = h
 or_right (Some x) b h = refl
 
--- if every path in a child that has an entry has fewer than n names, the depth of each child is at most n + 1
+-- if each path that has an entry in one of the children has fewer than n names, the depth of each child is at most n + 1
 kids_le : (n : ℕ) (ks : List Child) → ((m : List ℕ) (q : List (List ℕ)) → is_some (look_kids ks m q) ≡ true → length q + 1 ≤ n) → most deep-Child ks ≤ n + 1
 kids_le n [] h = omega arith
 kids_le n (k ∷ ks) h =

@@ -1,4 +1,4 @@
--- The results of this crate's calls: the result of the call's rule, or the fault `Memory`. A rule is a function that returns a value
+-- A call of this crate returns the result of its rule, or it fails with `Memory`. A rule is a definition, a function that returns a value
 -- or a fault, and never `Memory`.
 use Rattle.std.specs.Prelude.{Bool, true, false, Result}
 use Rattle.llb_wire.specs.Answer as answer
@@ -19,6 +19,6 @@ is_memory BadName = false
 abbrev pub Gives : {X Y : Type 0} → (X → Y) → Result X TreeFault → Result Y TreeFault → Type 0
 Gives = answer.Gives is_memory
 
--- `Memory` is reported last: a call fails with it only if its rule has no refusal
+-- `Memory` is reported last: a call fails with it only if its rule returns a value
 abbrev pub MemoryLast : {X Y : Type 0} → Result X TreeFault → Result Y TreeFault → Type 0
 MemoryLast = answer.MemoryLast is_memory

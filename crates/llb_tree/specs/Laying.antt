@@ -1,4 +1,4 @@
--- What each step of laying one tree over another makes of nodes and of their children.
+-- The results of the steps of laying one tree over another, for nodes and for their children.
 use Rattle.std.specs.Prelude.{◌≡◌, ◌<◌, ◌^◌, ℕ, zero, suc, true, false, List, [], ◌∷◌, map, Option, Some, None, is_some, Vec}
 use Rattle.std.specs.declared.alloc.Global.{Global}
 use Rattle.std.specs.FinMap as finite
@@ -10,11 +10,11 @@ use Rattle.llb_tree.specs.Overlay.{SettingsValue, is_mode, laid_meta, over, over
 use Rattle.llb_tree.specs.declared.node.Child.{Child}
 use Rattle.llb_tree.specs.declared.node.Piece.{Piece}
 
--- the tree with the mode, the user and the group of `w` at each entry; what `w` does not give stays as it is
+-- the tree after each entry gets the mode, the user and the group that `w` sets; what `w` does not set stays as it is
 abbrev pub dress : SettingsValue → TreeMap → TreeMap
 dress w t = finite.from_entries (map (λ (e : List (List ℕ) × Entry). (e.0, over w None e.1)) (finite.entries t))
 
--- a child whose tree gets the given mode and owner at each entry; its name stays
+-- a child after each entry of its tree gets what `w` sets; the child's name stays
 abbrev pub dress_pair : SettingsValue → List ℕ × TreeMap → List ℕ × TreeMap
 dress_pair w k = (k.0, dress w k.1)
 
@@ -51,7 +51,7 @@ pub record TakesWhole (w : SettingsValue) : Type 0 where
   pub own : (m : MetaValue) → laid_meta w m ≡ m
   pub upper : w.keeps ≡ false
 
--- the upper children are laid without change: they are the new children
+-- the new children are the upper children, unchanged, since laying takes each upper entry as it is
 pub record StandWhole (w : SettingsValue) (upper new : List Child) : Type 0 where
   pub settings : TakesWhole w
   pub same : map pair_of new ≡ map pair_of upper
@@ -81,7 +81,7 @@ written i t [] = []
 written zero t (k ∷ ks) = (k.0, t) ∷ ks
 written (suc i) t (k ∷ ks) = k ∷ written i t ks
 
--- the children after others are put in one by one, each in place of the one of the same name, if there is one
+-- the children `old` after other children are put among them one by one, each in place of the child with the same name, if there is one
 abbrev pub puts : Pairs → Pairs → Pairs
 puts [] old = old
 puts (k ∷ ks) old = puts ks (finite.put name_cmp k.0 k.1 old)

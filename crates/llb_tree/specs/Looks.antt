@@ -47,7 +47,7 @@ find_flat n q (k ∷ ks) =
     ∙ ap (λ o. cond (is_eq (name_cmp n (name_of k))) o None) (sym (finite.get-entries k.node q)))
     ∙ ap (option_or (cond (is_eq (name_cmp n (name_of k))) (finite.get k.node q) None)) (find_flat n q ks)
 
--- the map of a node has below the node what the node's children have there
+-- at a path below a node, the map of the node has what the node's children have there
 pub get-below : (k : Kind) (n : List ℕ) (q : List (List ℕ)) → finite.get (map_of k) (n ∷ q) ≡ look_kids (kids_of k) n q
 get-below k n q = finite.get-from_entries path_cmp-IsTotalOrder (entries_of k) (n ∷ q) ∙ find_flat n q (kids_of k)
 

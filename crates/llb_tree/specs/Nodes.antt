@@ -1,5 +1,5 @@
--- What the nodes of a tree represent: a node is a file, or a directory with its children in the order of their names. Only this
--- file and the proofs know how a tree is kept; contracts of calls speak of its map.
+-- What the nodes of a tree represent: a node is a file, or a directory with its children in the order of their names. The contracts
+-- of most public calls describe a tree by its map from paths to entries, not by its nodes.
 use Rattle.std.specs.Prelude.{cond, ◌≡◌, ℕ, ◌+◌, ◌≤◌, List, [], ◌∷◌, ◌++◌, map, T, Option, Some, None, Result, Ok, Err}
 use denote.Ref.{Bor}
 use Rattle.std.specs.Arc.{arc_value}
@@ -17,16 +17,16 @@ use Rattle.llb_tree.specs.declared.node.Child.{Child}
 use Rattle.llb_tree.specs.declared.node.Piece.{Piece}
 use Rattle.llb_tree.specs.declared.children.Children.{Children}
 
--- a path, and the entry at it as contracts see it
+-- a path with its entry, as contracts see them
 abbrev pub Pair : Type 0
 Pair = List (List ℕ) × base.Entry
 
--- an entry with its content as bytes
+-- an entry as contracts see it: the content of a file is a list of bytes
 abbrev pub seen : Entry → base.Entry
 seen (entry.Dir m) = base.Dir m
 seen (entry.File m b) = base.File m b.now
 
--- a borrowed path with its entry, as values
+-- a path with its entry, as contracts see them, given a borrowed path and an entry of the code
 abbrev pub pair_seen : Bor (List (List ℕ)) × Entry → Pair
 pair_seen (p, e) = (p.now, seen e)
 
@@ -34,11 +34,11 @@ pair_seen (p, e) = (p.now, seen e)
 abbrev pub name_of : Child → List ℕ
 name_of k = arc_value k.name
 
--- the entries of a child, by their paths from the parent
+-- the entries at and below a child, each with its path from the directory that the child is in
 abbrev pub below : Child → List Pair
 below k = map (λ (e : Pair). (name_of k ∷ e.0, e.1)) (finite.entries k.node)
 
--- the entries of children, one child after another, by their paths from the parent
+-- the entries at and below the children of a directory, one child after another, each with its path from that directory
 abbrev pub flat : List Child → List Pair
 flat [] = []
 flat (k ∷ ks) = below k ++ flat ks
@@ -66,11 +66,11 @@ abbrev pub own_entry : Kind → base.Entry
 own_entry (kind.File m c) = base.File m (arc_value c)
 own_entry (kind.Dir m kids) = base.Dir m
 
--- the entries of a node, by their paths from it: the node's entry at the empty path, and then the entries of its children
+-- the entries of a node, each with its path from the node: the node's entry at the empty path, and then the entries of its children
 abbrev pub entries_of : Kind → List Pair
 entries_of k = ([], own_entry k) ∷ flat (kids_of k)
 
--- the tree that a node represents: the entries at and below it, by their paths from it
+-- the tree that a node represents: the entries at and below the node, by their paths from the node
 abbrev pub map_of : Kind → TreeMap
 map_of k = finite.from_entries (entries_of k)
 
@@ -91,12 +91,12 @@ abbrev pub look_in : Option TreeMap → Look
 look_in None q = None
 look_in (Some t) q = finite.get t q
 
--- a position in a list of children after one more child is put in front of them
+-- a position in a list of children, counted again after one more child is put before all of them
 abbrev pub later : Result ℕ ℕ → Result ℕ ℕ
 later (Ok i) = Ok (i + 1)
 later (Err i) = Err (i + 1)
 
--- the position of the child with this name, or, as `Err`, the position at which it would be inserted
+-- the position of the child with this name; if there is none, as `Err`, the position at which a child with this name would be inserted
 abbrev pub place : List ℕ → List Child → Result ℕ ℕ
 place p [] = Err 0
 place p (r ∷ rows) = by_order (name_cmp p (name_of r)) (Err 0) (Ok 0) (later (place p rows))
@@ -107,7 +107,7 @@ set_look [] t old q = look_in t q
 set_look (n ∷ p) t old [] = old []
 set_look (n ∷ p) t old (m ∷ q) = cond (is_eq (name_cmp m n)) (set_look p t (λ r. old (n ∷ r)) q) (old (m ∷ q))
 
--- what there is at each path if a directory replaces the root and everything below it stays
+-- what there is at each path after a directory with this mode and owner replaces the root, and everything below the root stays
 abbrev pub dir_look : base.MetaValue → Look → Look
 dir_look m old [] = Some (base.Dir m)
 dir_look m old (n ∷ q) = old (n ∷ q)
@@ -137,7 +137,7 @@ pub record IsWhole (root : TreeMap) (depth : ℕ) : Type 0 where
 abbrev pub left_in : Children → List Child
 left_in c = c.rows.now ++ kids_in c.pieces.now
 
--- the first child with those after it, or nothing if there is none
+-- the result of splitting a list of children: the first child and the children after it, or nothing if the list is empty
 abbrev pub SplitsFirst : List Child → Option (Bor Child × Children) → Type 0
 SplitsFirst ks None = ks ≡ []
 SplitsFirst ks (Some (kid, rest)) = ks ≡ kid.now ∷ left_in rest

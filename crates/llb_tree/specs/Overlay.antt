@@ -1,5 +1,5 @@
--- One tree laid over another, path by path. The upper tree's entries are kept, with the mode and the owner that are given for them; a directory that
--- is in both trees may instead stay as in the lower one. An entry of the lower tree is kept if the upper tree has none at its path and no file above it.
+-- One tree laid over another, path by path. The result has all entries of the upper tree, with the mode and the owner that are to be set; a directory that
+-- is in both trees may instead stay as in the lower one. The result has a lower tree's entry if the upper tree has nothing at its path and no file above.
 use Rattle.std.specs.Prelude.{ℕ, Bool, true, false, List, map, Option, Some, None, unwrap_or, nat_lt, if◌then◌else◌}
 use Rattle.std.specs.List.{list_any}
 use Rattle.llb_tree.specs.Meta.{MetaValue}
@@ -31,18 +31,18 @@ is_mode (Some mode) = if nat_lt 4095 mode then false else true
 abbrev pub settings_of : Option ℕ → Option ℕ → Option ℕ → Bool → Option SettingsValue
 settings_of mode uid gid keeps = if is_mode mode then Some (record { mode = mode; uid = uid; gid = gid; keeps = keeps }) else None
 
--- the mode and the owner of an upper entry: those that are given, else those that the entry has
+-- the mode and the owner of an upper entry in the result: what `w` sets, else what the entry has
 abbrev pub laid_meta : SettingsValue → MetaValue → MetaValue
 laid_meta w m = record { mode = unwrap_or w.mode m.mode; uid = unwrap_or w.uid m.uid; gid = unwrap_or w.gid m.gid }
 
--- an entry of the upper tree, laid over what the lower one has at its path
+-- an entry of the upper tree after it is laid over what the lower tree has at the same path
 abbrev pub over : SettingsValue → Option Entry → Entry → Entry
 over w (Some (Dir m)) (Dir k) = Dir (if w.keeps then m else laid_meta w k)
 over w (Some (File m b)) (Dir k) = Dir (laid_meta w k)
 over w None (Dir k) = Dir (laid_meta w k)
 over w there (File k c) = File (laid_meta w k) c
 
--- the entry at a path, by what each tree has there, and by whether a file of the upper tree is above it
+-- the entry of the result at a path, given what each tree has at the path, and whether a file of the upper tree is above the path
 abbrev pub laid_over : SettingsValue → Option Entry → Option Entry → Bool → Option Entry
 laid_over w there (Some e) hidden = Some (over w there e)
 laid_over w there None hidden = if hidden then None else there

@@ -44,17 +44,17 @@ pub record IsPath (path : List (List ℕ)) : Type 0 where
 abbrev pub name_of : List ℕ → Result (List ℕ) TreeFault
 name_of part = if is_name part then Ok part else Err BadName
 
--- the path with one more name; refused if it would be the 129th
+-- the path with this name appended; the fault `BadName` if it would be the 129th name
 abbrev pub below : List (List ℕ) → List ℕ → Result (List (List ℕ)) TreeFault
 below path name = if nat_lt (length path) 128 then Ok (path ++ name ∷ []) else Err BadName
 
--- the path after one part of a text: the same path for an empty part and for `.`, the path without its last name for `..`, else with one more name
+-- the path after one part of a text: an empty part and `.` change nothing, `..` removes the last name, any other part is added as a name or refused
 abbrev pub enter : List (List ℕ) → List ℕ → Result (List (List ℕ)) TreeFault
 enter path part =
     if length part == 0 || is_dot part then Ok path
     else (if is_dots part then Ok (take (length path - 1) path) else (name_of part >>= below path))
 
--- the path after these parts of a text, entered one after another
+-- the path after the parts of a text are applied to it one after another, each as `enter` says; or the first fault
 abbrev pub follow : List (List ℕ) → List (List ℕ) → Result (List (List ℕ)) TreeFault
 follow path [] = Ok path
 follow path (part ∷ parts) = enter path part >>= λ next. follow next parts
@@ -67,11 +67,11 @@ parts_of = slice_split (λ b. b == 47)
 abbrev pub path_of : List ℕ → Result (List (List ℕ)) TreeFault
 path_of text = follow [] (parts_of text)
 
--- the path that a text reads as, given the path from which it is read; a text that begins with `/` is read from the root
+-- the path that a text reads as, if it is read from the path `start`; but a text that begins with `/` is read from the root
 abbrev pub path_from : List (List ℕ) → List ℕ → Result (List (List ℕ)) TreeFault
 path_from start text = if starts_with nat_eq text (47 ∷ []) then path_of text else follow start (parts_of text)
 
--- how many names the path has; or the fault
+-- how many names the path of a result has; or the fault of that result
 abbrev pub depth : Result (List (List ℕ)) TreeFault → Result ℕ TreeFault
 depth (Ok path) = Ok (length path)
 depth (Err e) = Err e
@@ -80,7 +80,7 @@ depth (Err e) = Err e
 abbrev pub joined : List (List ℕ) → List ℕ
 joined = join_with_byte 47
 
--- the text of a path reads as that path, also with a `/` in front
+-- the names of a path, joined by `/`, are a text that reads as that path; so is the same text with a `/` before it
 pub record ReadsBack (path : List (List ℕ)) : Type 0 where
   pub relative : path_of (joined path) ≡ Ok path
   pub absolute : path_of (47 ∷ joined path) ≡ Ok path

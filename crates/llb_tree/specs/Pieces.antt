@@ -1,4 +1,4 @@
--- The children of a directory are kept in pieces: one after another these have the children in the order of their names; only the first piece
+-- A directory keeps its children in pieces. The pieces, one after another, have the children in the order of their names; only the first piece
 -- may be empty. A child is seen here as a pair: its name, and the tree that its node represents.
 use Rattle.std.specs.Prelude.{◌≡◌, ℕ, suc, ◌<◌, Bool, true, false, not, List, [], ◌∷◌, ◌++◌, length, map, drop, get_or, T, Option, Some, None}
 use Rattle.std.specs.List.{remove}
@@ -19,7 +19,7 @@ abbrev pub joined : List Pairs → Pairs
 joined [] = []
 joined (p ∷ ps) = p ++ joined ps
 
--- the pairs of all pieces, which are given as the code keeps them
+-- the pairs of all pieces, given the pieces of the code
 abbrev pub pairs_of : List Piece → Pairs
 pairs_of ps = joined (map row_pairs ps)
 
@@ -33,11 +33,11 @@ pub record IsPieced (ps : List Pairs) : Type 0 where
   pub sorted : T (finite.is_sorted name_cmp (joined ps))
   pub full : AllFull (drop 1 ps)
 
--- `IsPieced` for pieces as the code keeps them
+-- `IsPieced` holds for the pairs of these pieces of the code
 abbrev pub ArePieced : List Piece → Type 0
 ArePieced ps = IsPieced (map row_pairs ps)
 
--- whether a piece has a first name, and this comes after the given name
+-- whether the first name of a piece comes after the given name; false if the piece is empty
 abbrev pub begins_after : List ℕ → Pairs → Bool
 begins_after n [] = false
 begins_after n (e ∷ es) = is_gt (name_cmp e.0 n)
@@ -48,20 +48,20 @@ pub record IsPieceOf (n : List ℕ) (ps : List Pairs) (j : ℕ) : Type 0 where
   pub before : 0 < j → begins_after n (get_or ps j []) ≡ false
   pub after : suc j < length ps → begins_after n (get_or ps (suc j) []) ≡ true
 
--- the pieces without the one at position j, if the piece that is given before j is empty; else all pieces
+-- the pieces without the piece at position j, if the first argument, which is that piece, is empty; else all pieces
 abbrev pub tidied_by : Pairs → ℕ → List Pairs → List Pairs
 tidied_by [] j ps = remove ps j
 tidied_by (e ∷ es) j ps = ps
 
--- the pieces without the one at position j if it is empty; else all pieces
+-- the pieces without the piece at position j, if that piece is empty; else all pieces
 abbrev pub tidied : ℕ → List Pairs → List Pairs
 tidied j ps = tidied_by (get_or ps j []) j ps
 
--- the children without the one of this name
+-- the children without the child that has this name
 abbrev pub without : List ℕ → Pairs → Pairs
 without n = where_key name_cmp (λ m. not (eq_by_cmp name_cmp n m))
 
--- the children after a tree is put in under this name, or, if no tree is given, after the child of this name is removed
+-- the children after the child with this name gets the given tree, or is added with this tree; if no tree is given, the children without the child of this name
 abbrev pub change : List ℕ → Option TreeMap → Pairs → Pairs
 change n (Some t) es = finite.put name_cmp n t es
 change n None es = without n es

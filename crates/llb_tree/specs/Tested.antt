@@ -34,7 +34,7 @@ module _ {X : Type 0} (passes : X → List ℕ → Bool) where
   abbrev pub thin : List X → TreeMap → TreeMap
   thin ts t = finite.retain_keys t (λ q. not (goes ts q))
 
-  -- the tree without the paths at or below a selected path; nothing if the tree has no such path; without tests the root is selected, which is refused
+  -- the tree without the paths at or below a selected path; nothing if the tree has no such path; the fault `Root` if there are no tests, which select the root
   abbrev pub rid_of : List X → TreeMap → Result (Option TreeMap) TreeFault
   rid_of [] t = Err Root
   rid_of (x ∷ ts) t = Ok (if any_goes (x ∷ ts) t then Some (thin (x ∷ ts) t) else None)
@@ -45,18 +45,18 @@ module _ {X : Type 0} (passes : X → List ℕ → Bool) where
   abbrev pub unless_goes : List X → List (List ℕ) → Option Entry → Option Entry
   unless_goes ts q o = cond (not (goes ts q)) o None
 
-  -- what remains of a node; `new` is nothing if the node has no path at or below a selected path
+  -- `new` is the tree `old` without the paths at or below a selected path; it is nothing if `old` has no such path
   pub record Thins (ts : List X) (old : TreeMap) (new : Option TreeMap) : Type 0 where
     pub any : is_some new ≡ any_goes ts old
     pub looks : (q : List (List ℕ)) → finite.get (unwrap_or new old) q ≡ unless_goes ts q (finite.get old q)
 
-  -- what remains of children; `new` is nothing if the children have no path at or below a selected path
+  -- `new` is the children `old` without the paths at or below a selected path; it is nothing if `old` has no such path
   pub record KeepsAll (ts : List X) (old : List Child) (new : Option (List Child)) : Type 0 where
     pub any : is_some new ≡ list_any (goes ts) (map (λ e. e.0) (flat old))
     pub order : AreSorted old → AreSorted (unwrap_or new old)
     pub looks : (n : List ℕ) (q : List (List ℕ)) → look_kids (unwrap_or new old) n q ≡ unless_goes ts (n ∷ q) (look_kids old n q)
 
-  -- `new` is `old` with what remains of child `kid` appended; `gone` says whether some of the child is removed; names that were in order still are
+  -- `new` is `old` and then `kid` without its paths at or below a selected path; `gone` says whether `kid` has such paths; names in order stay in order
   pub record Keeps (ts : List X) (kid : Child) (gone : Bool) (old new : List Child) : Type 0 where
     pub any : gone ≡ list_any (goes ts) (map (λ e. e.0) (below kid))
     pub order : (later : Pairs) → T (finite.is_sorted name_cmp (map pair_of old ++ pair_of kid ∷ later))

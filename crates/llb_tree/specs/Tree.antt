@@ -1,5 +1,5 @@
--- A tree as a map from paths to entries: what makes it a tree, the walk along the parents of a path, and the edits, each of which returns
--- the changed map or the first fault. Nothing here depends on how a tree is kept.
+-- A tree as a map from paths to entries: which maps are trees, the walk along the parents of a path, and the edits, each of which returns
+-- the changed map or the first fault. Nothing here depends on how a tree is kept in memory.
 use denote.Param.Weighed.{most}
 use Rattle.std.specs.Prelude.{◌≡◌, ℕ, Bool, true, false, List, [], ◌∷◌, ◌++◌, ◌==◌, ◌+◌, ◌&&◌, nat_lt, if◌then◌else◌, length, drop, map}
 use Rattle.std.specs.Prelude.{Option, Some, None, IsSome, not, Result, Ok, Err}
@@ -33,7 +33,7 @@ TreeMap = FinMap path_cmp Entry
 abbrev pub height : TreeMap → ℕ
 height t = most (λ (e : List (List ℕ) × Entry). length e.0 + 1) (finite.entries t)
 
--- what there is at each path
+-- a function that returns the entry at each path, or nothing if the path has none
 abbrev pub Look : Type 0
 Look = List (List ℕ) → Option Entry
 
@@ -42,7 +42,7 @@ abbrev pub parents : List (List ℕ) → List (List (List ℕ))
 parents [] = []
 parents (n ∷ p) = [] ∷ map (λ q. n ∷ q) (parents p)
 
--- succeeds if all entries are directories; else fails with the fault for the first that is missing or is a file
+-- succeeds if all entries are directories; else fails at the first other one, with `NotFound` if it is missing, with `NotDir` if it is a file
 abbrev pub all_dirs : List (Option Entry) → Result (Unit {0}) TreeFault
 all_dirs [] = Ok tt
 all_dirs (None ∷ es) = Err NotFound
@@ -53,13 +53,13 @@ all_dirs (Some (Dir m) ∷ es) = all_dirs es
 abbrev pub walk : Look → List (List ℕ) → Result (Unit {0}) TreeFault
 walk look p = all_dirs (map look (parents p))
 
--- succeeds if a file may be put in place of this entry: there is none, or it is a file
+-- succeeds if there is no entry or the entry is a file, so that a file may be put there; else fails with `IsDir`
 abbrev pub file_fits : Option Entry → Result (Unit {0}) TreeFault
 file_fits (Some (Dir m)) = Err IsDir
 file_fits (Some (File m b)) = Ok tt
 file_fits None = Ok tt
 
--- succeeds if a directory may be put in place of this entry: there is none, or it is a directory
+-- succeeds if there is no entry or the entry is a directory, so that a directory may be put there; else fails with `Conflict`
 abbrev pub dir_fits : Option Entry → Result (Unit {0}) TreeFault
 dir_fits (Some (File m b)) = Err Conflict
 dir_fits (Some (Dir m)) = Ok tt
@@ -74,7 +74,7 @@ not_root (n ∷ p) = Ok tt
 abbrev pub put_file : TreeMap → List (List ℕ) → MetaValue → List ℕ → Result TreeMap TreeFault
 put_file t p m bytes = not_root p >>= λ _. walk (finite.get t) p >>= λ _. file_fits (finite.get t p) >>= λ _. Ok (finite.insert t p (File m bytes))
 
--- the tree after a directory is put at a path, also at the root, or the fault; a directory that is there already takes the new mode and owner
+-- the tree after a directory is put at a path, which may be the root, or the fault; a directory that is there already gets the new mode and owner
 abbrev pub put_dir : TreeMap → List (List ℕ) → MetaValue → Result TreeMap TreeFault
 put_dir t p m = walk (finite.get t) p >>= λ _. dir_fits (finite.get t p) >>= λ _. Ok (finite.insert t p (Dir m))
 
@@ -91,19 +91,19 @@ without t p = finite.retain_keys t (λ q. not (is_within p q))
 abbrev pub remove : TreeMap → List (List ℕ) → Result TreeMap TreeFault
 remove t p = not_root p >>= λ _. found (finite.get t p) >>= λ _. Ok (without t p)
 
--- succeeds if a directory is at the path; else fails with a fault
+-- succeeds if a directory is at the path; else fails with `NotFound` or `NotDir`
 abbrev pub dir_there : TreeMap → List (List ℕ) → Result (Unit {0}) TreeFault
 dir_there t p = all_dirs (finite.get t p ∷ [])
 
--- the entry `e`, at its path with the names `front` in place of the first n names
+-- the entry `e` at another path: its old path with the names `front` in place of the first n names
 abbrev pub moved : ℕ → List (List ℕ) → List (List ℕ) × Entry → List (List ℕ) × Entry
 moved n front e = (front ++ drop n e.0, e.1)
 
--- the tree of what is at or below a path: what is at p ++ q is then at q
+-- the tree of what is at or below path p: it has at q what the tree t has at p ++ q
 abbrev pub tree_at : TreeMap → List (List ℕ) → TreeMap
 tree_at t p = finite.from_entries (map (moved (length p) []) (where_key path_cmp (is_within p) (finite.entries t)))
 
--- the tree of what is at or below a directory, or the fault if there is nothing or a file at the path
+-- the tree of what is at or below a directory; or the fault, if nothing is at the path or a file is there
 abbrev pub subtree : TreeMap → List (List ℕ) → Result TreeMap TreeFault
 subtree t p = dir_there t p >>= λ _. Ok (tree_at t p)
 
@@ -120,7 +120,7 @@ abbrev pub places_fit : List (List ℕ) → List (List (List ℕ)) → Result (U
 places_fit p [] = Ok tt
 places_fit p (q ∷ qs) = if nat_lt 128 (length p + length q) then Err BadName else places_fit p qs
 
--- the tree after the tree `other` replaces what is at or below a path p: what `other` has at q is then at p ++ q
+-- the tree after the tree `other` replaces what is at or below path p: it has at p ++ q what `other` has at q
 abbrev pub with_tree : TreeMap → List (List ℕ) → TreeMap → TreeMap
 with_tree t p other = finite.from_entries (map (moved 0 p) (finite.entries other) ++ finite.entries (without t p))
 
@@ -128,7 +128,7 @@ with_tree t p other = finite.from_entries (map (moved 0 p) (finite.entries other
 abbrev pub graft : TreeMap → List (List ℕ) → TreeMap → Result TreeMap TreeFault
 graft t p other = walk (finite.get t) p >>= λ _. places_fit p (finite.keys other) >>= λ _. Ok (with_tree t p other)
 
--- the tree of a root directory 0755 0:0 alone
+-- the tree that has nothing but a root directory, with mode 0755 and owner 0:0
 abbrev pub empty_tree : TreeMap
 empty_tree = finite.insert finite.empty [] (Dir new_dir_meta)
 
@@ -153,13 +153,13 @@ abbrev pub HasBytes : Entry → Type 0
 HasBytes (Dir m) = Unit {0}
 HasBytes (File m content) = AreBytes content
 
--- what an entry has to be: its path has at most 128 names, its mode and owners are in range, and its content is bytes
+-- which entries a tree may have at path p: p is a path by `IsPath`, the mode and the owners are in range, and the content of a file consists of bytes
 pub record IsAllowedAt (p : List (List ℕ)) (e : Entry) : Type 0 where
   pub path : IsPath p
   pub meta : IsMeta (meta_in e)
   pub bytes : HasBytes e
 
--- the root is a directory, each proper prefix of a path with an entry is a directory too, and each entry is valid
+-- the map is a tree: the root is a directory, so is each proper prefix of a path that has an entry, and each entry is allowed by `IsAllowedAt`
 pub record IsTree (t : TreeMap) : Type 0 where
   pub root : IsDirAt (finite.get t) []
   pub closed : (p : List (List ℕ)) → IsSome (finite.get t p) → walk (finite.get t) p ≡ Ok tt

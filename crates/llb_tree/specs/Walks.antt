@@ -16,11 +16,11 @@ abbrev pub past : List (List (List ℕ) × Entry) → List (List (List ℕ) × E
 past [] = []
 past (e ∷ es) = where_key path_cmp (λ q. not (is_within e.0 q)) es
 
--- the lists of children in which the walk goes on, one for each directory on the current path
+-- for each directory above the current entry, from the root down, the list of its children that the walk has not visited yet
 abbrev pub levels_of : List Children → List (List Child)
 levels_of = map left_in
 
--- the entries of these children, by their paths from the root; those of the deepest directory come first
+-- the entries of these lists of children, by their paths from the root; the entries of the deepest list come first
 abbrev pub behind : List (List ℕ) → List (List Child) → List (List (List ℕ) × Entry)
 behind [] ls = []
 behind (n ∷ p) [] = []
@@ -33,7 +33,7 @@ AreBehind [] (l ∷ ls) = ⊥
 AreBehind (n ∷ p) [] = ⊥
 AreBehind (n ∷ p) (l ∷ ls) = (T (below_all name_cmp n (map pair_of l)) × AreSorted l) × AreBehind p ls
 
--- the entries that remain from the current node on; none if the walk has ended
+-- the entries that the walk has not passed: those of the current node, and then those after them; none if the walk has ended
 abbrev pub left : Option (Bor Node) → List (List ℕ) → List Children → List (List (List ℕ) × Entry)
 left None p ls = []
 left (Some node) p ls = map (moved 0 p) (finite.entries node.now) ++ behind p (levels_of ls)
@@ -42,7 +42,7 @@ left (Some node) p ls = map (moved 0 p) (finite.entries node.now) ++ behind p (l
 abbrev pub AreShort : List (List (List ℕ) × Entry) → Type 0
 AreShort = All (λ e. length e.0 ≤ 128)
 
--- for a walk that has not ended: `AreBehind` holds of the children that it has left, and each path that remains has at most 128 names
+-- if the walk has not ended, then `AreBehind` holds of the children that it has not visited yet, and each path that it has not passed has at most 128 names
 abbrev pub GoesOn : Option (Bor Node) → List (List ℕ) → List Children → Type 0
 GoesOn None p ls = Unit {0}
 GoesOn (Some node) p ls = AreBehind p (levels_of ls) × AreShort (left (Some node) p ls)

@@ -1,4 +1,5 @@
-//! The children of a directory one after another: the rest of one piece, and whole pieces after it.
+//! The children of a directory, one after another. A directory keeps its children in pieces; `Children` has the rest of one piece and the
+//! whole pieces after it.
 
 ghost use Rattle.std.specs.Prelude.{◌≡◌, []};
 ghost use Rattle.std.specs.Iterator.{YieldsFirstRef, item_count};
@@ -31,7 +32,7 @@ impl<'a> Children<'a> {
         Children { rows: &[], pieces }
     }
 
-    /// Returns the first child, and those after it; `None` if there is none. Does not allocate.
+    /// Returns the first child and the children after it; `None` if there are no children. Does not allocate.
     pub fn split_first(&self) -> Option<(&'a Child, Children<'a>)>
         ensures { SplitsFirst (left_in self.now) result }
     {

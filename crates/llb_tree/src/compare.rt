@@ -1,5 +1,5 @@
-//! Whether two trees have the same entries. Nodes are compared from the root down, and a directory's children one after another in the
-//! order of their names.
+//! Decides whether two trees have the same entries. Nodes are compared from the root down, and a directory's children one after another in
+//! the order of their names.
 
 ghost use Rattle.std.specs.Prelude.{◌≡◌, ◌↔◌, IsTrue};
 
@@ -16,8 +16,8 @@ impl Same for Tree {
 }
 
 impl Node {
-    // Returns whether this node and the other have the same entries at the same paths. The calls of `entry` do nothing at run time; they prove that something
-    // is at a child's name, so a child that the other node lacks makes a difference.
+    // Returns whether this node and the other have the same entries at the same paths. The calls of `entry` have no effect at run time. They prove that each
+    // child has an entry, so the two nodes differ if one of them has a child that the other lacks.
     pub(crate) fn same(&self, other: &Node) -> bool
         ensures { IsTrue result ↔ (self.now ≡ other.now) }
     {

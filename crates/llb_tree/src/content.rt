@@ -47,7 +47,7 @@ impl Content {
         &self.bytes
     }
 
-    // Returns the bytes with their shared pointer.
+    // Returns the `Arc` that holds the bytes.
     fn into_shared(self) -> Arc<Bytes>
         ensures { arc_value result ≡ self }
     {
@@ -57,7 +57,7 @@ impl Content {
 }
 
 impl Node {
-    // Returns the content of a file, shared; `None` for a directory. Fails only if the content has too many owners.
+    // Returns the content of a file, which is shared, not copied; `None` for a directory. Fails only if the content has too many owners.
     fn content(&self) -> Result<Option<Content>, AllocError>
         ensures { IfOk result (λ c. c ≡ content_of (finite.get self.now [])) }
     {
@@ -70,7 +70,7 @@ impl Node {
         }
     }
 
-    // Makes the node of a file that shares a content.
+    // Makes the node of a file with this content, which other files may share.
     fn of_content(meta: Meta, content: Content) -> Node
         ensures { (q : List (List ℕ)) → finite.get result q ≡ file_look meta content q }
     {

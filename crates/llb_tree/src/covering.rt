@@ -1,4 +1,5 @@
-//! Whether upper children have all names of lower ones. If they do, laying them over the lower ones results in children with the upper names alone.
+//! Checks whether the upper children have all names of the lower ones. If so, the result of laying the upper children over the lower ones has the names of the
+//! upper children alone.
 
 ghost use Rattle.std.specs.Prelude.{◌≡◌, IsTrue, IfSome, map};
 ghost use Rattle.llb_tree.specs.Nodes.{kids_in, left_in, name_of};
@@ -9,7 +10,7 @@ use crate::name::Name;
 use crate::node::{Child, Piece};
 use std::cmp::Ordering;
 
-// Returns the children after the child that has a name; `None` if no child has that name. Expects the children in the order of their names.
+// Returns the children that come after the child with a name; `None` if no child has that name. Expects the children in the order of their names.
 fn after<'a>(kids: Children<'a>, name: &Name) -> Option<Children<'a>>
     ensures { IfSome result (λ more. HasLater name.now (left_in kids.entry) (left_in more)) }
 {
@@ -55,7 +56,7 @@ fn are_alike(upper: &[Piece], lower: &[Piece]) -> bool
 }
 
 // Returns whether each name of the lower children is a name of an upper child. If one of the two directories was made from the other, they most often have the
-// same names, so this is tested first.
+// same names; so the call first tests whether the names are the same.
 pub(crate) fn covers(upper: &[Piece], lower: &[Piece]) -> bool
     ensures { IsTrue result → Covers (kids_in upper.now) (kids_in lower.now) }
 {

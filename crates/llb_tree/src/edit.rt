@@ -26,7 +26,7 @@ pub(crate) fn copies(alloc: Global, kids: &[Child]) -> Result<Vec<Child>, AllocE
     Ok(copied)
 }
 
-// If a list of children is shared, replaces it by a copy that this owner has alone. The trees that the children represent are unchanged.
+// If a list of children is shared, replaces the list by a copy that has one owner. The trees that the children represent are unchanged.
 pub(crate) fn own(alloc: Global, kids: &mut Arc<Vec<Child>>) -> Result<(), AllocError>
     ensures { map pair_of (arc_value kids.new).items ≡ map pair_of (arc_value kids.old).items }
 {
@@ -38,7 +38,7 @@ pub(crate) fn own(alloc: Global, kids: &mut Arc<Vec<Child>>) -> Result<(), Alloc
     Ok(())
 }
 
-// Replaces what is at the names below a child (the child itself if there are no names) by a node; if no node is given, removes it.
+// Replaces what is at the names `rest` below the child `name` (the child itself if `rest` is empty) by a node; if no node is given, removes what is there.
 #[cycle(set)]
 fn set_in(
     list: &mut Vec<Child>,
@@ -69,7 +69,7 @@ fn set_in(
     }
 }
 
-// Does what `set_in` does in a piece. If its children are shared, they are copied first.
+// Does in a piece what `set_in` does in a list of children. If the children of the piece are shared, they are copied first.
 #[cycle(set)]
 fn set_rows(
     rows: &mut Arc<Vec<Child>>,
@@ -84,13 +84,13 @@ fn set_rows(
 {
     own(alloc, rows)?;
     match Arc::get_mut(rows) {
-        // Unreachable: `own` leaves a single owner.
+        // This is unreachable: after `own` there is a single owner.
         None => Err(AllocError),
         Some(list) => set_in(list, alloc, name, rest, branch),
     }
 }
 
-// Does what `set_in` does in a list of pieces: in the piece that the name belongs to.
+// Does in one of the pieces, the one that the name belongs to, what `set_in` does in a list of children.
 #[cycle(set)]
 fn set_piece(
     pieces: &mut Vec<Piece>,
@@ -111,7 +111,7 @@ fn set_piece(
     Ok(())
 }
 
-// Does what `set_piece` does in a list of pieces that may be shared. If it is shared, it is copied first.
+// Does in a list of pieces that may be shared what `set_piece` does. A shared list is copied first.
 #[cycle(set)]
 fn set_below(
     kids: &mut Arc<Vec<Piece>>,
@@ -127,7 +127,7 @@ fn set_below(
 {
     own_list(alloc, kids)?;
     match Arc::get_mut(kids) {
-        // Unreachable: `own_list` leaves a single owner.
+        // This is unreachable: after `own_list` there is a single owner.
         None => Err(AllocError),
         Some(pieces) => set_piece(pieces, alloc, name, rest, branch),
     }
@@ -147,7 +147,7 @@ fn set_child(list: &mut Vec<Child>, i: usize, branch: Option<Node>)
     }
 }
 
-// Inserts a node as the child of a name, at the index where the name belongs; does nothing if there is no node.
+// Inserts a child with this name and this node at the index where the name belongs; does nothing if there is no node.
 fn insert_child(
     list: &mut Vec<Child>,
     alloc: Global,
@@ -175,8 +175,8 @@ fn insert_child(
 }
 
 impl Node {
-    // Replaces what is at the names below this node by another node, or removes it if none is given. Fails if a directory above it is missing, if this node
-    // itself would be removed, or if memory is refused; then this node is unchanged.
+    // Replaces what is at the names below this node by another node; if no node is given, removes what is there. Fails if a directory on the way is missing,
+    // if this node itself would be removed, or if memory is refused; then this node is unchanged.
     #[cycle(set)]
     pub(crate) fn set(
         &mut self,

@@ -1,5 +1,5 @@
-//! Why a call on a tree or a path is refused. A fault prints what comes after the word `fault` in a
-//! refusal: its number. Refusals of memory of any kind become `Memory` by `?`.
+//! Why a call on a tree or a path is refused. The text of a fault is its number, which the program prints
+//! after the word `fault`. The operator `?` turns each error for refused memory into `Memory`.
 
 use std::alloc::{AllocError, AllocFailed};
 use thiserror::Error;
@@ -19,7 +19,7 @@ pub enum TreeFault {
     /// 24: a file is in the way of a directory.
     #[error("24")]
     Conflict,
-    /// 25: the path is the root, where this can't be done.
+    /// 25: this can't be done at the root.
     #[error("25")]
     Root,
     /// 26: a part of a text is no name, or a path would have more than 128 names.

@@ -1,6 +1,6 @@
 //! A tree is a map from paths to entries; each call reads the map or makes one change of it. Names, paths (and how they are read from a text), modes and owners
-//! are here too. It is built on `llb_wire`. A node is a file or a directory; contents, lists of children and names are each behind an `Arc`, so a copy shares
-//! everything, and an edit copies only the directories on its path (docs/DECISIONS.md, "Trees").
+//! are here too. The crate is built on `llb_wire`. A tree is kept as nodes, which are files and directories. Contents, lists of children and names are each
+//! behind an `Arc`, so a copy shares everything, and an edit copies only the directories on its path (docs/DECISIONS.md, "Trees").
 //!
 //! Types: `Tree`, `Path`, `Name`, `Meta` (mode and owner), `Entry`, `Node` and `Children` (the nodes in memory), `Walk` (entries in
 //! path order), `TreeFault`.

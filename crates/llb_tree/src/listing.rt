@@ -1,4 +1,4 @@
-//! The contents of a directory: its children, and their names.
+//! Lists a directory: its children, and their names.
 
 ghost use Rattle.std.specs.Prelude.{◌≡◌, [], ◌∷◌, map, Some, Ok};
 ghost use Rattle.std.specs.List.{flat_map};

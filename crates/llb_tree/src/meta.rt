@@ -1,5 +1,5 @@
 //! The mode and the owner of an entry. The type ensures that the mode is at most 4095; contracts see
-//! its three numbers. Nothing here allocates.
+//! the mode, the user and the group as numbers. Nothing here allocates.
 
 ghost use Rattle.std.specs.Prelude.{◌≡◌, ◌≤◌};
 ghost use Rattle.llb_tree.specs.Meta.{IsMeta, meta_of, new_dir_meta};
@@ -7,7 +7,7 @@ ghost use Rattle.llb_tree.specs.Meta.{IsMeta, meta_of, new_dir_meta};
 use llb_wire::Same;
 use std::marker::Model;
 
-/// The mode and the owner of an entry. The mode is at most 4095, its permission bits and the three above them.
+/// The mode and the owner of an entry. The mode is at most 4095: it has nine permission bits and the three bits above them.
 #[derive(Clone, Copy)]
 pub struct Meta {
     mode: u16,

@@ -5,7 +5,7 @@ ghost use Rattle.std.specs.Prelude.{◌≡◌};
 use crate::name::Name;
 use std::marker::Model;
 
-/// Names in the order of their bytes, as a directory has them. Contracts see the list of them.
+/// The names in a directory, in the order of their bytes. Contracts see the list of the names.
 pub struct Names {
     names: Vec<Name>,
 }

@@ -26,7 +26,7 @@ pub enum Entry<'a> {
     File(Meta, &'a Bytes),
 }
 
-/// A file, or a directory with what is below it. Contracts see the map of what is at and below it.
+/// A file, or a directory with what is below it. Contracts see the map from paths to the entries at and below the node.
 #[cycle(node)]
 #[derive(Drop)]
 pub struct Node {
@@ -41,7 +41,7 @@ pub(crate) enum Kind {
     Dir(Meta, Arc<Vec<Piece>>),
 }
 
-// Some of a directory's children, one after another in the order of their names. Copies of the directory share its pieces.
+// Consecutive children of a directory, in the order of their names. Copies of the directory share its pieces.
 #[cycle(node)]
 #[derive(Drop)]
 pub(crate) struct Piece {
@@ -78,8 +78,8 @@ impl Model for Node {
     ghost size_decreases = { λ a h. falls a.kind };
 }
 
-// Returns the index of the child with a name, or as `Err` the index at which it would be inserted. Looks at the last
-// child first, since names most often come in their order.
+// Returns the index of the child with a name; if there is none, as `Err`, the index at which it would be inserted. Looks
+// at the last child first, since children are most often added in the order of their names.
 pub(crate) fn place_of(kids: &[Child], name: &Name) -> Result<usize, usize>
     requires { AreSorted kids.now }
     ensures place { result ≡ place name.now kids.now }
@@ -106,7 +106,7 @@ impl Node {
         }
     }
 
-    // Returns the child of a name.
+    // Returns the node of the child with a name; `None` if there is no such child.
     pub(crate) fn child(&self, name: &Name) -> Option<&Node>
         ensures { (q : List (List ℕ)) → look_in (option_map (λ n. n.now) result) q ≡ finite.get self.now (name.now ∷ q) }
     {
@@ -119,7 +119,7 @@ impl Node {
         }
     }
 
-    // Returns the node at the names below this one.
+    // Returns the node to which the names lead down from this one; `None` if there is none.
     pub(crate) fn at(&self, names: &[Name]) -> Option<&Node>
         ensures { (q : List (List ℕ)) → look_in (option_map (λ n. n.now) result) q ≡ finite.get self.now (names.now ++ q) }
     {
@@ -130,7 +130,7 @@ impl Node {
         Some(node)
     }
 
-    // Returns the entry at the names below this node.
+    // Returns the entry to which the names lead down from this node; `None` if there is none.
     pub(crate) fn get(&self, names: &[Name]) -> Option<Entry<'_>>
         ensures { option_map seen result ≡ finite.get self.now names.now }
     {
@@ -208,7 +208,7 @@ impl Node {
         Ok(())
     }
 
-    // Copies the node, which shares what is below it. Fails only if there are too many owners.
+    // Copies the node; the copy shares what is below the node. Fails only if what is shared has too many owners.
     pub(crate) fn copy(&self) -> Result<Node, AllocError>
         ensures { IfOk result (λ n. n ≡ self.now) }
     {
@@ -221,7 +221,7 @@ impl Node {
 }
 
 impl Child {
-    // Copies the child, which shares its name and its node.
+    // Copies the child; the copy shares the name and what the node holds.
     pub(crate) fn copy(&self) -> Result<Child, AllocError>
         ensures { IfOk result (λ k. pair_of k ≡ pair_of self.now) }
     {

@@ -1,7 +1,7 @@
-//! Lays one tree over another. It goes down both trees at once and visits only what both have; what only one of them has is shared. At each level the upper
-//! children are put among the lower ones, each into the piece that its name belongs to. If the upper children have every name of the lower ones, the upper
-//! pieces are taken as they are, except that the directories that both have are laid one level deeper. A refusal leaves the lower tree as it was: the new
-//! children are put into copies of the lower pieces.
+//! Lays one tree over another. The call goes down both trees at once and visits only what both have; what only one of them has is shared. At each level the
+//! upper children are put among the lower ones, each into the piece that its name belongs to. But if the upper children have every name of the lower ones, and
+//! each upper entry is to stay as it is, the upper pieces replace the lower ones, and only the directories that both trees have are laid, one level deeper.
+//! After a refusal the lower tree is unchanged, since the new children are put into copies of the lower pieces.
 
 ghost use Rattle.std.specs.Prelude.{◌≡◌, ℕ, List, option_map, IfOk, IfErr, OnOk, OnErr, map, true, unwrap_or};
 ghost use Rattle.std.specs.Arc.{arc_value};
@@ -66,8 +66,8 @@ fn all_dressed(
     Ok(list)
 }
 
-// Lays a node over another, which it changes; a refusal leaves that as it was. Returns whether the upper node is
-// there unchanged.
+// Lays the upper node over the lower one and replaces the lower node by the result; after a refusal the lower node is
+// unchanged. Returns whether the result is known to be the upper node, unchanged.
 #[cycle(lay)]
 fn lay_node(
     lower: &mut Node,
@@ -92,8 +92,8 @@ fn lay_node(
     }
 }
 
-// Lays upper children over lower ones. If the upper ones have every name of the lower ones, none of the lower ones is copied. If it returns true, the result is
-// the upper children, unchanged.
+// Lays upper children over lower ones. If the upper children have every name of the lower ones, and each upper entry is to stay as it is, the lists of the
+// lower children are not copied. If the call returns true, the new children are the upper ones, unchanged.
 #[cycle(lay)]
 fn lay_children(
     kids: &mut Arc<Vec<Piece>>,
@@ -145,7 +145,7 @@ fn lay_all(
     }
 }
 
-// Lays upper pieces over lower ones, and returns the upper pieces, with changed copies in place of those that change; `None` if none changes.
+// Lays upper pieces over lower ones, and returns the upper pieces with a changed copy in place of each piece that changes; `None` if no piece changes.
 #[cycle(lay)]
 fn laid_all(
     kids: &[Piece],
@@ -166,8 +166,8 @@ fn laid_all(
     Ok(made)
 }
 
-// Lays the upper children of one piece over the lower children that have the same names; returns `None` if none changes. Looks for each name first at the same
-// index of the lower piece `at`.
+// Lays the upper children of one piece over the lower children that have the same names; returns `None` if no upper child changes. Looks for each name first at
+// its own index in the lower piece `at`.
 #[cycle(lay)]
 fn laid_rows(
     kids: &[Piece],
@@ -214,7 +214,7 @@ fn laid_over(
     Ok(Some(node))
 }
 
-// Lays upper children over lower ones, one by one. All results are made before the first of them is put in.
+// Lays upper children over lower ones, one by one. All results are made before the first of them is put among the lower children.
 #[cycle(lay)]
 fn lay_each(
     kids: &mut Arc<Vec<Piece>>,
@@ -251,8 +251,7 @@ fn laid_children(
     Ok(ready)
 }
 
-// Lays an upper child over a copy of the lower child of the same name; if there is none, returns the upper child with the mode and the owner of
-// the settings.
+// Lays an upper child over a copy of the lower child of the same name; if there is none, returns the upper child with the mode and the owner of the `OverlaySettings`.
 #[cycle(lay)]
 fn laid_child(
     kids: &[Piece],
@@ -278,10 +277,10 @@ fn laid_child(
 }
 
 impl Tree {
-    /// Lays another tree over this one, and returns the result. At a path it has what the other tree has there, with the mode and the owner of `settings`; if
-    /// that is nothing, it has what this tree has there, unless a file of the other tree is above the path. A directory that both have is as in the other tree,
-    /// or as in this one if `settings` keeps it. Fails with 27 `Memory` alone. It goes down both trees at once and visits only what both have; what only one
-    /// has is shared, not copied. Only if `settings` has a mode or an owner are there new nodes for all that is laid, and even then contents are shared.
+    /// Lays the tree `upper` over this one, and returns the result: at a path it has what `upper` has there, with the mode and the owner that `settings` sets; if
+    /// `upper` has nothing there, what this tree has there, unless a file of `upper` is above the path. A directory that both trees have is as in `upper`, or
+    /// as in this tree if `settings` says so. Fails with 27 `Memory` alone. The call visits only what both trees have; what only one of them has is shared, not
+    /// copied. But if `settings` sets a mode or an owner, all entries of `upper` get new nodes; even then contents are shared.
     pub fn overlaid(self, settings: &OverlaySettings, upper: &Tree) -> Result<Tree, TreeFault>
         ensures paths { IfOk result (λ t. (q : List (List ℕ)) → finite.get t q ≡ over_at settings.now (finite.get self) (finite.get upper.now) q) }
         ensures memory { IfErr result (λ e. is_memory e ≡ true) }
@@ -291,9 +290,9 @@ impl Tree {
         Ok(laid)
     }
 
-    /// Lays another tree over this one, as `overlaid` does. Fails with 27 `Memory` alone; then the tree is unchanged. The children
-    /// of the root are replaced in place; below them, what both trees have is laid on copies, which share what only one
-    /// of them has.
+    /// Lays the tree `upper` over this one, as `overlaid` does, and replaces this tree by the result. Fails with 27 `Memory` alone;
+    /// then this tree is unchanged. The children of the root are replaced in place. Below them, what both trees have is laid
+    /// on copies of nodes, and what only one tree has is shared.
     pub fn overlay(&mut self, settings: &OverlaySettings, upper: &Tree) -> Result<(), TreeFault>
         ensures paths { OnOk result ((q : List (List ℕ)) → finite.get self.new q ≡ over_at settings.now (finite.get self.old) (finite.get upper.now) q) }
         ensures memory { IfErr result (λ e. is_memory e ≡ true) }

@@ -1,5 +1,5 @@
-//! The paths of a tree whose names pass given tests. They are found by going down the nodes with the tests, one test for
-//! each name, into directories whose own names pass.
+//! Finds the paths of a tree whose names pass given tests, one test for each name from the root down. The search goes
+//! down only into directories whose own names pass.
 
 ghost use Rattle.std.specs.Prelude.{◌≡◌, ◌∷◌, ◌++◌, ◌+◌, ◌≤◌, length, map, Ok, IfErr, OnOk};
 ghost use Rattle.std.specs.List.{filter};
@@ -16,7 +16,7 @@ use crate::path::Path;
 use crate::tested::NameTest;
 use crate::tree::Tree;
 
-// Appends the paths at and below a node that pass; `path` is the path of the node itself.
+// Appends to `found` the paths at and below a node that pass the tests; `path` is the path of the node itself.
 #[cycle(find)]
 fn find<T: NameTest>(
     node: &Node,
@@ -47,7 +47,7 @@ fn find<T: NameTest>(
     Ok(())
 }
 
-// Appends the paths at and below a child that pass; `path` is the path of the child's directory.
+// Appends to `found` the paths at and below a child that pass the tests; `path` is the path of the directory that the child is in.
 #[cycle(find)]
 fn find_in<T: NameTest>(
     kid: &Child,
@@ -73,7 +73,8 @@ fn find_in<T: NameTest>(
 }
 
 impl Tree {
-    /// Returns the paths that pass the tests, in path order. Fails with 27 `Memory` alone. It looks at no path that is longer than there are tests.
+    /// Returns, in path order, the paths that have as many names as there are tests and whose names pass, each the test at its index. Fails with 27 `Memory`
+    /// alone. Looks at no path with more names than there are tests.
     pub fn passing<T: NameTest>(&self, tests: &[T]) -> Result<Vec<Path>, TreeFault>
         ensures { Gives (λ v. v.items) result (Ok (filter (passes_all T.passes tests.now) (finite.keys self.now))) }
     {

@@ -1,5 +1,5 @@
-//! Paths. Contracts see a path as the list of its names, from the root down. A text is read by the rule `path_of`: parts
-//! between `/`, where `.` stays and `..` goes up.
+//! Paths. Contracts see a path as the list of its names, from the root down. The definition `path_of` says how a text is
+//! read: it is split at `/`; a part `.` changes nothing, and a part `..` removes the last name.
 
 ghost use Rattle.std.specs.Prelude.{◌≡◌, ◌↔◌, ℕ, ◌+◌, ◌-◌, List, [], ◌++◌, length, take, ◌≤◌, IsTrue, IfErr, OnErr, Ok, false};
 ghost use Rattle.std.specs.List.{All};
@@ -59,8 +59,8 @@ impl Path {
         Ok(path)
     }
 
-    /// Reads a text as a path, given another path to start from: a text that begins with `/` is read as by `read`, and any other
-    /// from `start`, in the same way. Fails with 26 `BadName` and 27 `Memory` as `read` does.
+    /// Reads a text as a path, as `read` does, but from the path `start` in place of the root; a text that begins with `/` is
+    /// still read from the root. Fails with 26 `BadName` and 27 `Memory` as `read` does.
     pub fn read_from(alloc: Global, start: &Path, text: &str) -> Result<Path, TreeFault>
         ensures gives { Gives (λ p. p) result (path_from start.now text.now) }
         ensures last { MemoryLast result (path_from start.now text.now) }
@@ -131,8 +131,8 @@ impl Path {
         self.names.is_empty()
     }
 
-    /// Appends a name. Fails with 26 `BadName` if it would be the 129th, else with 27 `Memory`; then the path is
-    /// unchanged.
+    /// Appends a name. Fails with 26 `BadName` if it would be the 129th name, else with 27 `Memory`; after a failure the
+    /// path is unchanged.
     pub fn push(&mut self, name: Name) -> Result<(), TreeFault>
         ensures gives { Gives (λ _. self.new) result (below self.old name) }
         ensures last { MemoryLast result (below self.old name) }
@@ -182,8 +182,8 @@ pub(crate) fn push_names(names: &mut Vec<Name>, more: &[Name]) -> Result<(), Tre
     Ok(())
 }
 
-// Returns how many names the path has after a text is applied to a path of `start` names. Fails with 26 `BadName` as
-// `read` does. Does not allocate.
+// Returns how many names a path of `start` names has after the parts of a text are applied to it. Fails with 26
+// `BadName` as `read` does. Does not allocate.
 fn depth_of(start: usize, text: &str) -> Result<usize, TreeFault>
     ensures depth { (path : List (List ℕ)) → length path ≡ start → result ≡ depth (follow path (parts_of text.now)) }
     ensures known { IfErr result (λ e. is_memory e ≡ false) }
@@ -195,7 +195,7 @@ fn depth_of(start: usize, text: &str) -> Result<usize, TreeFault>
     Ok(names)
 }
 
-// Returns how many names the path has after a part is applied to a path of `names` names. Fails with 26 `BadName`
+// Returns how many names a path of `names` names has after one part of a text is applied to it. Fails with 26 `BadName`
 // alone. Does not allocate.
 pub(crate) fn depth_after(names: usize, part: &str) -> Result<usize, TreeFault>
     ensures depth { (path : List (List ℕ)) → length path ≡ names → result ≡ depth (enter path part.now) }

@@ -35,7 +35,7 @@ impl Piece {
         Ok(Piece { rows })
     }
 
-    // Returns whether the name of the first child comes after this one.
+    // Returns whether the name of the piece's first child comes after the given name; false if the piece has no child.
     fn begins_after(&self, name: &Name) -> bool
         ensures { result ≡ begins_after name.now (row_pairs self.now) }
     {
@@ -46,7 +46,7 @@ impl Piece {
     }
 }
 
-// Returns the index of the piece that a name belongs to.
+// Returns the index of the piece that a name belongs to: the last piece that does not begin after the name, or the first piece.
 pub(crate) fn piece_of(pieces: &[Piece], name: &Name) -> usize
     requires { 0 < length pieces.now }
     ensures { IsPieceOf name.now (map row_pairs pieces.now) result }
@@ -64,7 +64,7 @@ pub(crate) fn piece_of(pieces: &[Piece], name: &Name) -> usize
     low
 }
 
-// Returns the child of a name.
+// Returns the child with a name; `None` if there is none.
 pub(crate) fn child_of<'a>(pieces: &'a [Piece], name: &Name) -> Option<&'a Child>
     requires { ArePieced pieces.now }
     ensures { option_map (λ k. k.now.node) result ≡ child name.now (kids_in pieces.now) }
@@ -80,7 +80,7 @@ pub(crate) fn child_of<'a>(pieces: &'a [Piece], name: &Name) -> Option<&'a Child
     }
 }
 
-// Returns the child of a name. Looks for it first at index `i` of piece `at`.
+// Returns the child with a name; `None` if there is none. Looks for the child first at index `i` of piece `at`.
 pub(crate) fn child_near<'a>(
     pieces: &'a [Piece],
     at: usize,
@@ -122,7 +122,7 @@ pub(crate) fn second_owners(alloc: Global, pieces: &[Piece]) -> Result<Vec<Piece
     Ok(copied)
 }
 
-// If a list of pieces is shared, replaces it by a copy that this owner has alone; the pieces themselves may still be shared.
+// If a list of pieces is shared, replaces the list by a copy that has one owner; the pieces themselves may still be shared.
 pub(crate) fn own_list(alloc: Global, pieces: &mut Arc<Vec<Piece>>) -> Result<(), AllocError>
     ensures { map row_pairs (arc_value pieces.new).items ≡ map row_pairs (arc_value pieces.old).items }
 {
@@ -154,7 +154,7 @@ fn part(pieces: &mut Vec<Piece>, alloc: Global, at: usize) -> Result<(), AllocEr
     Ok(())
 }
 
-// Adds an empty piece if there is none.
+// Adds an empty piece if there are no pieces.
 fn some_piece(pieces: &mut Vec<Piece>, alloc: Global) -> Result<(), AllocError>
     requires { ArePieced pieces.old.items }
     ensures same { pairs_of pieces.new.items ≡ pairs_of pieces.old.items }
@@ -210,7 +210,7 @@ fn end_piece(pieces: &mut Vec<Piece>, alloc: Global, rows: Vec<Child>) -> Result
     Ok(())
 }
 
-// Puts children into pieces, which are all full but the last.
+// Puts children into pieces. All of the pieces are full, except perhaps the last one.
 pub(crate) fn in_pieces(alloc: Global, rows: Vec<Child>) -> Result<Arc<Vec<Piece>>, AllocError>
     ensures same { IfOk result (λ v. kids_in (arc_value v).items ≡ rows.items) }
     ensures full { IfOk result (λ v. AllFull (map row_pairs (arc_value v).items)) }

@@ -32,7 +32,7 @@ fn put_child(list: &mut Vec<Child>, child: Child) -> Result<(), AllocError>
     }
 }
 
-// Does what `put_child` does in a piece. If its children are shared, they are copied first.
+// Puts a child into a piece, as `put_child` does into a list. If the children of the piece are shared, they are copied first.
 fn put_in(rows: &mut Arc<Vec<Child>>, alloc: Global, child: Child) -> Result<(), AllocError>
     requires { AreSorted (arc_value rows.old).items }
     ensures ok { OnOk result (map pair_of (arc_value rows.new).items
@@ -41,13 +41,13 @@ fn put_in(rows: &mut Arc<Vec<Child>>, alloc: Global, child: Child) -> Result<(),
 {
     own(alloc, rows)?;
     match Arc::get_mut(rows) {
-        // Unreachable: `own` leaves a single owner.
+        // This is unreachable: after `own` there is a single owner.
         None => Err(AllocError),
         Some(list) => put_child(list, child),
     }
 }
 
-// Does what `put_child` does in a list of pieces: in the piece that the child's name belongs to.
+// Puts a child into one of the pieces, the one that its name belongs to, as `put_child` does into a list.
 fn put_piece(pieces: &mut Vec<Piece>, alloc: Global, child: Child) -> Result<(), AllocError>
     requires { ArePieced pieces.old.items }
     ensures ok { OnOk result (pairs_of pieces.new.items ≡ finite.put name_cmp (name_of child) child.node (pairs_of pieces.old.items)) }
@@ -58,8 +58,8 @@ fn put_piece(pieces: &mut Vec<Piece>, alloc: Global, child: Child) -> Result<(),
     put_in(&mut piece.rows, alloc, child)
 }
 
-// Puts children in, each in place of the child that has the same name. They go into copies of the pieces, which replace the old ones at the end: so a piece
-// that no child goes into stays shared, and a refusal leaves all as it was.
+// Puts children among those of a directory, each in place of the child with the same name, if there is one. The children go into copies of the pieces, and the
+// copies replace the old pieces at the end. So a piece that no child goes into stays shared, and a refusal changes nothing.
 pub(crate) fn put_all(
     kids: &mut Arc<Vec<Piece>>,
     alloc: Global,

@@ -9,8 +9,8 @@ ghost use Rattle.llb_tree.specs.Laying.{AreSettings, TakesWhole, owner_fits};
 use crate::meta::Meta;
 use std::marker::Model;
 
-/// The mode and the owner that an overlay sets, each optional: what is not set stays the entry's own; and whether a
-/// directory that both trees have stays as the lower tree has it.
+/// What an overlay sets at each upper entry: a mode, a user and a group, each optional (an entry keeps its own where none
+/// is set); and whether a directory that both trees have stays as the lower tree has it.
 #[derive(Clone, Copy)]
 pub struct OverlaySettings {
     mode: Option<u16>,
@@ -56,7 +56,7 @@ impl OverlaySettings {
         })
     }
 
-    // Returns the mode and the owner that an upper entry gets, given the mode and the owner that it has.
+    // Returns the mode and the owner that an upper entry gets in the result; `own` is the mode and the owner that it has in its tree.
     pub(crate) fn laid_meta(&self, own: Meta) -> Meta
         ensures { result ≡ laid_meta self.now own }
     {
@@ -66,21 +66,21 @@ impl OverlaySettings {
         Meta::new(mode, uid, gid).unwrap_or(own)
     }
 
-    // Returns whether each upper entry keeps its own mode and owner.
+    // Returns whether no mode, no user and no group is set, so that each upper entry keeps its own.
     pub(crate) fn gives_nothing(&self) -> bool
         ensures { IsTrue result → (own : MetaValue) → laid_meta self.now own ≡ own }
     {
         self.mode.is_none() && self.uid.is_none() && self.gid.is_none()
     }
 
-    // Returns whether every upper entry stays as it is, also a directory that both trees have.
+    // Returns whether the result has every upper entry as it is in its tree, also a directory that both trees have.
     pub(crate) fn takes_whole(&self) -> bool
         ensures { IsTrue result → TakesWhole self.now }
     {
         !self.keeps && self.gives_nothing()
     }
 
-    // Returns the mode and the owner of a directory that both trees have.
+    // Returns the mode and the owner that a directory of both trees gets in the result.
     pub(crate) fn met(&self, lower: Meta, upper: Meta) -> Meta
         ensures { Dir result ≡ over self.now (Some (Dir lower)) (Dir upper) }
     {

@@ -1,5 +1,5 @@
-//! Paths selected by tests of their names, one test for each name from the root down. A call goes down the nodes with the tests and
-//! looks only at the children of directories whose own names pass, so never deeper than there are tests.
+//! Removes the paths that tests of their names select, one test for each name from the root down. The call goes down only into
+//! directories whose own names pass, so it never looks deeper than there are tests.
 
 ghost use Rattle.std.specs.Prelude.{◌≡◌, ◌∷◌, Bool, List, ℕ, IfOk, option_map};
 ghost use Rattle.llb_tree.specs.Tree.{Gives, MemoryLast};
@@ -24,7 +24,7 @@ pub trait NameTest {
         ensures { result ≡ passes self.now name.now };
 }
 
-// Returns a node without what passes the tests and what is below that; `None` if nothing passes.
+// Returns a node without the paths that pass the tests and all paths below these; `None` if no path passes.
 #[cycle(thin)]
 fn thinned<T: NameTest>(
     node: &Node,
@@ -48,7 +48,7 @@ fn thinned<T: NameTest>(
     }
 }
 
-// Returns children without what passes the tests and what is below that; `None` if nothing passes.
+// Returns children without the paths that pass the tests and all paths below these; `None` if no path passes.
 #[cycle(thin)]
 fn thinned_children<T: NameTest>(
     kids: Children<'_>,
@@ -72,7 +72,7 @@ fn thinned_children<T: NameTest>(
     Ok(Some(kept))
 }
 
-// Appends a child without what passes the tests and what is below that, and returns whether anything was left out.
+// Appends a child without the paths that pass the tests and all paths below these, and returns whether any path was left out.
 #[cycle(thin)]
 fn keep<T: NameTest>(
     kept: &mut Vec<Child>,

@@ -1,5 +1,5 @@
-//! The tree: a root directory, a bound of how deep its paths go, and its allocator. Contracts state results by the map from paths to entries alone. A copy
-//! shares everything; an edit copies the directories on its path before it changes the last of them. Checks that can refuse an edit come first.
+//! The tree: a root directory, a bound of how many names its paths have, and its allocator. Contracts see only the map from paths to entries. A copy of a tree
+//! shares everything; an edit copies the directories on its path before it changes the last of them. The checks that can refuse an edit come first.
 
 ghost use Rattle.std.specs.Prelude.{◌≡◌, ◌++◌, ℕ, List, Ok, Err, MatchResult, IfOk, IfErr, OnOk, OnErr, false, option_map};
 ghost use Rattle.std.specs.FinMap as finite;
@@ -49,7 +49,7 @@ impl Model for Tree {
     ghost invariant = { λ t. IsWhole t.root t.depth };
 }
 
-// Checks that a file may be put at the names. Fails with 23 `IsDir` if a directory is there.
+// Checks that a file may be put at the path that the names make. Fails with 23 `IsDir` if a directory is there.
 pub(crate) fn file_may_stand(root: &Node, names: &[Name]) -> Result<(), TreeFault>
     ensures { result ≡ file_fits (finite.get root.now names.now) }
 {
@@ -60,7 +60,7 @@ pub(crate) fn file_may_stand(root: &Node, names: &[Name]) -> Result<(), TreeFaul
     }
 }
 
-// Checks that a directory may be made at the names. Fails with 24 `Conflict` if a file is there.
+// Checks that a directory may be made at the path that the names make. Fails with 24 `Conflict` if a file is there.
 fn dir_may_stand(root: &Node, names: &[Name]) -> Result<(), TreeFault>
     ensures { result ≡ dir_fits (finite.get root.now names.now) }
 {
@@ -71,7 +71,7 @@ fn dir_may_stand(root: &Node, names: &[Name]) -> Result<(), TreeFault>
     }
 }
 
-// Checks that there is something at the names. Fails with 21 `NotFound` if there is nothing.
+// Checks that an entry is at the path that the names make. Fails with 21 `NotFound` if there is none.
 fn is_there(root: &Node, names: &[Name]) -> Result<(), TreeFault>
     ensures there { result ≡ found (finite.get root.now names.now) }
     ensures known { IfErr result (λ e. is_memory e ≡ false) }
@@ -82,7 +82,7 @@ fn is_there(root: &Node, names: &[Name]) -> Result<(), TreeFault>
     }
 }
 
-// Returns the directory at the names. Fails with 21 `NotFound` if nothing is there, with 22 `NotDir` if a file is.
+// Returns the directory at the path that the names make. Fails with 21 `NotFound` if nothing is there, with 22 `NotDir` if a file is there.
 pub(crate) fn dir_at<'a>(root: &'a Node, names: &[Name]) -> Result<&'a Node, TreeFault>
     ensures there { MatchResult result (λ n. dir_there root.now names.now ≡ Ok tt) (λ e. dir_there root.now names.now ≡ Err e) }
     ensures places { IfOk result (λ n. (q : List (List ℕ)) → finite.get n.now q ≡ finite.get root.now (names.now ++ q)) }
@@ -98,7 +98,7 @@ pub(crate) fn dir_at<'a>(root: &'a Node, names: &[Name]) -> Result<&'a Node, Tre
 }
 
 impl Tree {
-    /// Makes the tree that has a root directory 0755 0:0 alone. Fails with 27 `Memory` alone.
+    /// Makes the tree that has nothing but a root directory, with mode 0755 and owner 0:0. Fails with 27 `Memory` alone.
     pub fn empty(alloc: Global) -> Result<Tree, TreeFault>
         ensures { Gives (λ t. t) result (Ok empty_tree) }
     {
@@ -137,8 +137,8 @@ impl Tree {
         }
     }
 
-    /// Proves that the root is a directory, and so is each proper prefix of a path that is there; and that each entry is at a valid path where it is allowed,
-    /// has a valid mode and owners, and, if it is a file, a content of bytes.
+    /// Proves that the root is a directory, and so is each proper prefix of a path that has an entry; and that each entry has a valid path, a valid mode and
+    /// valid owners, and, if it is a file, a content of bytes.
     pub fn is_tree(&self)
         ensures { IsTree self.now }
     {
@@ -200,9 +200,9 @@ impl Tree {
         Ok(())
     }
 
-    /// Puts another tree's entries at and below a path, in place of what is there; they are shared, not copied. Fails,
-    /// in this order, with 21 `NotFound` or 22 `NotDir` at the first parent that is missing or a file, 26 `BadName` if
-    /// an entry's path would have more than 128 names; else with 27 `Memory`. After a refusal the tree is unchanged.
+    /// Puts another tree at a path: its entries replace what is at and below the path, and are shared, not copied. Fails, in
+    /// this order, with 21 `NotFound` or 22 `NotDir` at the first parent that is missing or a file, 26 `BadName` if an
+    /// entry's path would have more than 128 names; else with 27 `Memory`. After a refusal the tree is unchanged.
     pub fn graft(&mut self, path: &Path, other: &Tree) -> Result<(), TreeFault>
         ensures gives { Gives (λ _. self.new) result (graft self.old path.now other.now) }
         ensures last { MemoryLast result (graft self.old path.now other.now) }
@@ -219,8 +219,8 @@ impl Tree {
         Ok(())
     }
 
-    /// Returns the tree of what is at and below a path, and shares it: what this tree has at the path followed by `q`, the result has at `q`. Fails with 21
-    /// `NotFound` if nothing is there (nothing is ever below a file), with 22 `NotDir` if a file is there, else with 27 `Memory`.
+    /// Returns the tree of what is at and below a path: the result has at `q` what this tree has at the path followed by `q`. The two trees share their nodes.
+    /// Fails with 21 `NotFound` if nothing is there (nothing is ever below a file), with 22 `NotDir` if a file is there, else with 27 `Memory`.
     pub fn subtree(&self, path: &Path) -> Result<Tree, TreeFault>
         ensures gives { Gives (λ t. t) result (subtree self.now path.now) }
         ensures last { MemoryLast result (subtree self.now path.now) }
@@ -236,7 +236,7 @@ impl Tree {
         })
     }
 
-    /// Returns a copy of the tree, which shares all its nodes with it. Fails with 27 `Memory` alone.
+    /// Returns a copy of the tree; the two trees share all their nodes. Fails with 27 `Memory` alone.
     pub fn copy(&self) -> Result<Tree, TreeFault>
         ensures { Gives (λ t. t) result (Ok self.now) }
     {

@@ -1,5 +1,5 @@
-//! A walk through the entries of a tree in path order. It goes down from the root, and keeps the current path and, for each directory above, the children that
-//! come later. So going to the next entry copies one name, and `skip` does not visit what it passes.
+//! A walk through the entries of a tree in path order. The walk keeps the current path and, for each directory above the current entry, the children that
+//! it has not visited yet. So going to the next entry copies one name, and `skip` does not visit the entries that it passes.
 
 ghost use Rattle.std.specs.Prelude.{◌≡◌, ◌<◌, [], ◌∷◌, ◌++◌, length, drop, Some, Ok, IfOk, IfErr, OnOk, OnErr};
 ghost use Rattle.std.specs.Option.{option_map};
@@ -17,7 +17,7 @@ use crate::path::Path;
 use crate::tree::Tree;
 use std::marker::Model;
 
-/// A walk through the entries of a tree in path order. Contracts see the current entry and those after it.
+/// A walk through the entries of a tree in path order. Contracts see the list of the current entry and the entries after it.
 pub struct Walk<'a> {
     present: Option<&'a Node>,
     path: Path,
@@ -67,7 +67,7 @@ fn enter<'a>(
     Ok(&kid.node)
 }
 
-// Goes up to the first directory that has children left to visit, and to the first of them.
+// Goes up to the nearest directory that has children left to visit, and then down to the first of these; returns `None` if no directory has.
 fn climb<'a>(path: &mut Path, levels: &mut Vec<Children<'a>>) -> Result<Option<&'a Node>, TreeFault>
     requires behind { AreBehind path.old (levels_of levels.old.items) }
     requires short { AreShort (behind path.old (levels_of levels.old.items)) }
@@ -85,7 +85,7 @@ fn climb<'a>(path: &mut Path, levels: &mut Vec<Children<'a>>) -> Result<Option<&
     Ok(None)
 }
 
-// Goes down to the first child, or up if there is none.
+// Goes down to the first child of the node; if the node has no child, goes up as `climb` does.
 fn descend<'a>(
     path: &mut Path,
     levels: &mut Vec<Children<'a>>,
@@ -128,7 +128,7 @@ impl<'a> Walk<'a> {
         Some((&self.path, node.entry()))
     }
 
-    /// Goes to the next entry; does nothing at the end. Fails with 27 `Memory` alone, and is then at the end.
+    /// Goes to the next entry; does nothing at the end. Fails with 27 `Memory` alone; the walk is then at the end.
     pub fn advance(&mut self) -> Result<(), TreeFault>
         ensures gives { Gives (λ _. self.new) result (Ok (drop 1 self.old)) }
         ensures err { OnErr result (self.new ≡ []) }
@@ -142,8 +142,8 @@ impl<'a> Walk<'a> {
         Ok(())
     }
 
-    /// Goes past the current entry and all that is below it, without visiting that; does nothing at the end. Fails
-    /// with 27 `Memory` alone, and is then at the end.
+    /// Goes past the current entry and all entries below it, without visiting these; does nothing at the end. Fails
+    /// with 27 `Memory` alone; the walk is then at the end.
     pub fn skip(&mut self) -> Result<(), TreeFault>
         ensures gives { Gives (λ _. self.new) result (Ok (past self.old)) }
         ensures err { OnErr result (self.new ≡ []) }

@@ -1,5 +1,5 @@
-//! Copies of the upper tree's children into which an overlay writes its changes; they are made at the first
-//! change.
+//! An overlay writes its changes into copies of the upper tree's children. A copy is made only when something is
+//! first written into it.
 
 ghost use Rattle.std.specs.Prelude.{◌≡◌, ◌<◌, length, IfOk, map, set};
 ghost use Rattle.llb_tree.specs.Nodes.{pair_of};
@@ -11,8 +11,8 @@ use crate::node::{Child, Node, Piece};
 use crate::pieces::second_owners;
 use std::alloc::{AllocError, Global};
 
-// Writes a node as the child at an index, into the copy of the children if there is one, else into a copy of the upper ones,
-// which it makes.
+// Replaces the node of the child at an index in `made`, the copy of the upper children; if there is no copy yet, makes one
+// first. Returns the copy.
 pub(crate) fn with_node(
     made: Option<Vec<Child>>,
     alloc: Global,
@@ -31,8 +31,8 @@ pub(crate) fn with_node(
     Ok(list)
 }
 
-// Replaces the children of the piece at an index, in the copy of the pieces if there is one, else in a copy of the upper ones,
-// which it makes.
+// Replaces the children of the piece at an index in `made`, the copy of the upper pieces; if there is no copy yet, makes one
+// first. Returns the copy.
 pub(crate) fn with_rows(
     made: Option<Vec<Piece>>,
     alloc: Global,

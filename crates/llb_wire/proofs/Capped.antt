@@ -1,4 +1,4 @@
--- A number below 2^64 is kept as it is, and any other as 2^64 - 1.
+-- `capped` keeps a number below 2^64 as it is, and makes 2^64 - 1 of any other number.
 use Rattle.std.proofs.Common.{◌≡◌, ℕ, ◌-◌, ◌^◌, ◌<◌, ◌≤◌, cond, ap}
 use Rattle.std.proofs.lemmas.Bool.{lt-ltb, le-ltb}
 use Rattle.llb_wire.specs.Decimal.{capped}

@@ -14,7 +14,7 @@ use Rattle.llb_wire.proofs.RuleSteps.{bind_ok, guard_ok}
 use Rattle.llb_wire.specs.Reading.{varint_from, varint_at, number_of, wire_of, fixed_at, as_field, payload_at, field_at}
 use Rattle.llb_wire.proofs.Varints.{short_or, varint_len}
 
--- a value as a result without a fault
+-- the result `Ok x`, under a name that proofs can use
 abbrev is_ok_of : {A : Type 0} → A → Result A WireFault
 is_ok_of x = Ok x
 
@@ -48,7 +48,7 @@ dropped bytes rest at k le inside =
     drop-append-le at (take k bytes) rest (omega (arith, length-take k bytes, le, inside))
     ∙ ap (λ xs. xs ++ rest) (subst (λ (j : ℕ). drop at (take j bytes) ≡ take (k - at) (drop at bytes)) sum (drop-take at (k - at) bytes))
 
--- `x` is the number that is read at `at`, and its end; if the bytes after any position `k` at or after this end are replaced, the same is read
+-- `x` is the number that is read at `at`, and the position after the number; replacing all bytes from a position `k` at or after the end changes neither
 pub record Local (read : List ℕ → ℕ → Result (ℕ × ℕ) WireFault) (bytes : List ℕ) (at : ℕ) (x : ℕ × ℕ) : Type 0 where
   pub begins : at ≤ x.1
   pub inside : x.1 ≤ length bytes

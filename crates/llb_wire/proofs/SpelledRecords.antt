@@ -130,7 +130,7 @@ record_read_at before r rest at e h =
 pub record_read : (r : Record) (rest : List ℕ) → IsRecord r → field_at (r.text ++ rest) 0 ≡ Ok (placed 0 r)
 record_read r rest h = record_read_at [] r rest 0 refl h
 
--- the record that is read from its own bytes, wherever they are, is the same record
+-- if a record is read from its own bytes, wherever they are, the result is the same record
 pub record_kept_at : (before : List ℕ) (r : Record) (rest : List ℕ) (at : ℕ) → at ≡ length before → IsRecord r
     → record_at (before ++ (r.text ++ rest)) at (placed at r) ≡ r
 record_kept_at before r rest at e h =
@@ -185,13 +185,13 @@ wire_ok code w e = go code w (eqb code 0) (eqb code 1) (eqb code 2) (eqb code 5)
   go code w false false false true p q r s e = eqb-true code 5 s ∙ ap code_of (ok_wire wire.I32 w e)
   go code w false false false false p q r s e = absurd cc
 
--- the bytes between two positions, computed in two ways
+-- two ways of computing the bytes between two positions have the same result
 between_is : (bytes : List ℕ) (at last : ℕ) → at ≤ last → drop at (take last bytes) ≡ between at last bytes
 between_is bytes at last le =
     let sum : at + (last - at) ≡ last = omega (arith, le) in
     ap (λ (k : ℕ). drop at (take k bytes)) (sym sum) ∙ drop-take at (last - at) bytes
 
--- the bytes between two positions, split at a third position that is between the two
+-- the bytes between two positions are those before a third position between the two, followed by those at and after the third position
 between_split : (bytes : List ℕ) (at mid last : ℕ) → at ≤ mid → mid ≤ last → drop at (take last bytes) ≡ drop at (take mid bytes) ++ drop mid (take last bytes)
 between_split bytes at mid last low high =
     let width : at + (mid - at) ≡ mid = omega (arith, low) in
@@ -203,14 +203,14 @@ between_split bytes at mid last low high =
     sym (take-append-drop (mid - at) (drop at (take last bytes))) ∙ ap (λ xs. xs ++ drop (mid - at) (drop at (take last bytes))) front
     ∙ ap (λ xs. drop at (take mid bytes) ++ xs) back
 
--- a field as a result without a fault
+-- the result `Ok f` for a field, under a name that proofs can use
 abbrev ok_field : Field → Result Field WireFault
 ok_field f = Ok f
 
 field_is : (f g : Field) → ok_field f ≡ ok_field g → f ≡ g
 field_is f g e = cc
 
--- what is known of a field `f` that was read from the end of its tag, which is at position `at`
+-- what holds of a field `f` whose tag ends at position `at`, if the payload is read there
 pub record FoundPayload (n : ℕ) (w : Wire) (bytes : List ℕ) (at : ℕ) (f : Field) : Type 0 where
   pub number : f.number ≡ n
   pub wire : f.wire ≡ w
@@ -279,7 +279,7 @@ payload_found n wire.Len bytes at f are le e =
       payload = (drop at (take v.0.1 bytes), between_split bytes at v.0.1 (v.0.1 + v.0.0) (omega (arith, h.0)) (omega arith), h.2, size);
     })
 
--- what is known of a record that was read at a position
+-- what holds of a record that is read at a position: where its payload is, and that its bytes spell it
 pub record FoundRecord (bytes : List ℕ) (at : ℕ) (f : Field) : Type 0 where
   pub begins : at < f.start
   pub ordered : f.start ≤ f.«end»
@@ -309,7 +309,7 @@ found_by_parts bytes at f tag n w are le tag_read number_read wire_read payload_
       };
     }
 
--- a record that is read at a position is spelled there
+-- if a record is read at a position, the bytes there spell the record
 pub record_found_at : (bytes : List ℕ) (at : ℕ) (f : Field) → AreBytes bytes → at ≤ length bytes → field_at bytes at ≡ Ok f → FoundRecord bytes at f
 unfolding field_at
 record_found_at bytes at f are le e =
@@ -319,7 +319,7 @@ record_found_at bytes at f are le e =
     let w = bind_ok (wire_of (t.0.0 % 8)) (λ wire. payload_at n.0 wire bytes t.0.1) f n.2 in
     found_by_parts bytes at f t.0 n.0 w.0 are le t.1 n.1 w.1 w.2
 
--- a record that is read at the start is spelled there
+-- if a record is read at the start of the bytes, the bytes there spell the record
 pub record_found : (bytes : List ℕ) (f : Field) → AreBytes bytes → field_at bytes 0 ≡ Ok f → FoundRecord bytes 0 f
 record_found bytes f are e = record_found_at bytes 0 f are (omega arith) e
 
@@ -394,7 +394,7 @@ drop_whole xs k e = go (drop k xs) (omega (arith, length-drop k xs, e)) where
   go [] e = refl
   go (y ∷ ys) e = absurd (omega (arith, e))
 
--- if reading from record to record reaches the end, the bytes spell the records that it found
+-- if reading one record after another reaches the end, the bytes spell the records that are found
 walk_spelled : (bytes : List ℕ) (rs : List Record) (at : ℕ) → AreBytes bytes → at ≤ length bytes → Walks bytes at rs → SpellRecords (drop at bytes) rs
 walk_spelled bytes [] at are le w = record { whole = drop_whole bytes at (ended bytes at w); each = tt }
 walk_spelled bytes (r ∷ rs) at are le w =
@@ -409,7 +409,7 @@ walk_spelled bytes (r ∷ rs) at are le w =
     ∙ ap (λ xs. drop at (take f.«end» bytes) ++ xs) back in
     subst (λ (x : Record). SpellRecords (drop at bytes) (x ∷ rs)) (sym w.2) (record { whole = whole; each = (found.spelled, rest.each) })
 
--- reading from record to record finds the records that the bytes spell
+-- reading one record after another finds the records that the bytes spell
 spelled_walk : (before : List ℕ) (rs : List Record) → AllByRecursion IsRecord rs → Walks (before ++ texts rs) (length before) rs
 unfolding next_field
 spelled_walk before [] each =
@@ -430,7 +430,7 @@ spelled_walk before (r ∷ rs) each =
       subst (λ (k : ℕ). Walks bytes k rs) (length-append before r.text) there,
     )
 
--- reading from record to record reaches the end exactly if the bytes spell the records that it finds
+-- reading one record after another reaches the end exactly if the bytes spell the records that are found
 pub walk_is : (bytes : List ℕ) (rs : List Record) → AreBytes bytes → Walks bytes 0 rs ↔ SpellRecords bytes rs
 walk_is bytes rs are = (
   λ w. walk_spelled bytes rs 0 are (omega arith) w,

@@ -15,7 +15,7 @@ use Rattle.llb_wire.specs.Spelling.{shortest, varint_text, Spells, IsVarint, Var
 abbrev pair : ℕ → ℕ → ℕ × ℕ
 pair a b = (a, b)
 
--- a pair of numbers as a result without a fault
+-- the result `Ok x` for a pair of numbers, under a name that proofs can use
 abbrev ok_of : ℕ × ℕ → Result (ℕ × ℕ) WireFault
 ok_of x = Ok x
 
@@ -24,7 +24,7 @@ ok_pair e = cc
 
 -- ---- the bytes that are read for a number spell it
 
--- if reading a byte `b` and what follows it succeeds: `b` is the last byte of the number (`test`), or the rest of the number was read after it
+-- if a number that begins with the byte `b` is read, then either `b` is its last byte (`test` is true), or the rest of the number is read after `b`
 pub short_or : (b v n : ℕ) (more : Result (ℕ × ℕ) WireFault) (test : Bool)
     → cond {A = Result (ℕ × ℕ) WireFault} test (Ok (b, 1)) (more >>= λ m. Ok (b - 128 + 128 * m.0, suc m.1)) ≡ Ok (v, n)
     → ((test ≡ true) × (n ≡ 1)) ⊎ ((test ≡ false) × ((m : ℕ × ℕ) × (more ≡ Ok m) × (b - 128 + 128 * m.0 ≡ v) × (suc m.1 ≡ n)))
@@ -77,7 +77,7 @@ spells_found (suc more) (b ∷ bytes) v n e =
           (spells_more b v l.1.0.0 (take l.1.0.1 bytes) high (omega (arith, l.1.2, high)) deep.0, omega (arith, deep.1))
     ]
 
--- each `varint_limit` is at least 2
+-- every value of `varint_limit` is at least 2
 pub limit_least : (more : ℕ) → 2 ≤ varint_limit more
 limit_least zero = omega arith
 limit_least (suc more) = omega (arith, limit_least more)
@@ -119,7 +119,7 @@ spells_read (suc more) (b ∷ c ∷ xs) rest v h short small =
     let value : b - 128 + 128 * h.1 ≡ v = omega (arith, h.2, h.0) in
     rw (no, deep, value) refl
 
--- a spelled number is read wherever its bytes are
+-- if some of the bytes spell a number, this number is read from them, wherever they are
 pub varint_read : (before spelling rest : List ℕ) (n at : ℕ) → at ≡ length before → IsVarint spelling n
     → varint_at (before ++ (spelling ++ rest)) at ≡ Ok (n, at + length spelling)
 varint_read before spelling rest n at e h =
@@ -127,7 +127,7 @@ varint_read before spelling rest n at e h =
 
 -- ---- spellings are bytes
 
--- elements that are all below 256 are bytes
+-- a list is a list of bytes if the element at each position is below 256
 pub are_bytes : (xs : List ℕ) → ((k : ℕ) → get_or xs k 0 < 256) → AreBytes xs
 are_bytes [] h = tt
 are_bytes (x ∷ xs) h = (h 0, are_bytes xs (λ k. h (suc k)))
@@ -151,7 +151,7 @@ are_bytes-back (x ∷ xs) ys h = are_bytes-back xs ys h.1
 
 -- ---- reading and spelling at a position in longer bytes
 
--- the number that is read at a position of bytes is spelled there
+-- if a number is read at a position of bytes, the bytes there spell the number
 pub varint_found : (bytes : List ℕ) (at : ℕ) (x : ℕ × ℕ) → AreBytes bytes → at ≤ length bytes → varint_at bytes at ≡ Ok x → VarintAt bytes at x.0 x.1
 varint_found bytes at x are le e =
     let m = bind_ok (varint_from 9 (drop at bytes)) (λ (m : ℕ × ℕ). Ok (m.0, at + m.1)) x e in
@@ -170,7 +170,7 @@ varint_found bytes at x are le e =
       spelled = record { spells = spelled; short = omega (arith, length-take (x.1 - at) (drop at bytes), f.1, len); small = omega (arith, small, value) };
     }
 
--- the number that is spelled at a position is read there
+-- if the bytes at a position spell a number, this number is read there
 pub varint_only : (bytes : List ℕ) (at n last : ℕ) → VarintAt bytes at n last → varint_at bytes at ≡ Ok (n, last)
 varint_only bytes at n last h =
     let len : length (take (last - at) (drop at bytes)) ≡ last - at =
@@ -232,7 +232,7 @@ shortest_bytes (suc more) n small = go (ltb n 128) refl (shortest_bytes more (n 
   go true e rest = rw e ((omega (arith, ltb-true n 128 e), tt))
   go false e rest = rw e ((omega arith, rest))
 
--- no other spelling of the number in bytes is shorter
+-- no spelling of a number in bytes has fewer bytes than the shortest spelling
 pub least_spelling : (more n : ℕ) (other : List ℕ) → AreBytes other → Spells other n → length (shortest more n) ≤ length other
 unfolding shortest
 least_spelling zero n [] are h = absurd h

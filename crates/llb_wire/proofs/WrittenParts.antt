@@ -1,4 +1,4 @@
--- What follows for texts that are written one after another.
+-- Laws of texts that are written one after another.
 use Rattle.std.specs.Prelude.{ℕ, List, ◌++◌, Option}
 use Rattle.std.specs.Io.KnownBytes.{Appends}
 use Rattle.std.proofs.Common.{sym, ap, ◌∙◌, append_assoc}

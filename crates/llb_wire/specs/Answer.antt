@@ -2,11 +2,11 @@
 -- memory; a call returns what its rule returns, or it fails for want of memory.
 use Rattle.std.specs.Prelude.{◌≡◌, Bool, true, false, Result, Ok, Err, is_ok}
 
--- a call fails with `e`: that is the fault for refused memory, or the rule fails with `e` too
+-- a call fails with `e`: either `e` is the fault for refused memory, or the rule fails with `e` too
 abbrev pub Fails : {Y F : Type 0} → (F → Bool) → F → Result Y F → Type 0
 Fails is_memory e rule = is_memory e ≡ false → rule ≡ Err e
 
--- a call returns the value of its rule (`view` shows it as contracts see it), or fails with the rule's fault or the fault for refused memory
+-- a call returns the value of its rule (`view` turns the call's value into what contracts see), or fails with the rule's fault or the fault for refused memory
 abbrev pub Gives : {X Y F : Type 0} → (F → Bool) → (X → Y) → Result X F → Result Y F → Type 0
 Gives is_memory view (Ok x) rule = rule ≡ Ok (view x)
 Gives is_memory view (Err e) rule = Fails is_memory e rule

@@ -10,32 +10,32 @@ use Rattle.llb_wire.specs.declared.field.Field.{Field}
 use Rattle.llb_wire.specs.declared.fault.WireFault.{WireFault}
 use Rattle.llb_wire.specs.declared.fault.WireFault.TheVariants.{Truncated, LongVarint, BadField, BadWireType}
 
--- The number that the varint at the start spells, and how many bytes the varint has: at most `more` + 1. If it has `more` + 1, the last byte is 0 or 1.
+-- The number that the varint at the start spells, and how many bytes the varint has, at most `more` + 1; or the fault. Byte number `more` + 1 is 0 or 1.
 unfoldable pub varint_from : ℕ → List ℕ → Result (ℕ × ℕ) WireFault
 varint_from more [] = Err Truncated
 varint_from zero (b ∷ bs) = if nat_lt 1 b then Err LongVarint else Ok (b, 1)
 varint_from (suc more) (b ∷ bs) = if nat_lt b 128 then Ok (b, 1) else (varint_from more bs >>= λ m. Ok (b - 128 + 128 * m.0, suc m.1))
 
--- `varint_limit n` is above every number that the last n + 1 of a varint's ten bytes can spell
+-- a limit for numbers: the last n + 1 bytes of a varint of ten bytes can spell only numbers below `varint_limit n`
 abbrev pub varint_limit : ℕ → ℕ
 varint_limit zero = 2
 varint_limit (suc more) = 128 * varint_limit more
 
--- the number that the varint at a position spells, and the position after it
+-- the number that the varint at a position spells, and the position after the varint; or the fault
 abbrev pub varint_at : List ℕ → ℕ → Result (ℕ × ℕ) WireFault
 varint_at bytes at = varint_from 9 (drop at bytes) >>= λ m. Ok (m.0, at + m.1)
 
 -- ---- records
 
--- the number, if a field can have it (1 to 536870911); else a fault
+-- the number, if a field can have this number (1 to 536870911); else the fault `BadField`
 abbrev pub number_of : ℕ → Result ℕ WireFault
 number_of n = if n == 0 then Err BadField else if nat_lt 536_870_911 n then Err BadField else Ok n
 
--- the wire type with this code; a fault if no wire type has it
+-- the wire type with this code; the fault `BadWireType` if no wire type has this code
 abbrev pub wire_of : ℕ → Result Wire WireFault
 wire_of code = if code == 0 then Ok Varint else if code == 1 then Ok I64 else if code == 2 then Ok Len else if code == 5 then Ok I32 else Err BadWireType
 
--- the number of a fixed width at a position, and the position after it
+-- the number that the bytes at a position spell in a fixed width, and the position after these bytes; the fault `Truncated` if there are too few bytes
 abbrev pub fixed_at : Width → List ℕ → ℕ → Result (ℕ × ℕ) WireFault
 fixed_at w bytes at = if nat_lt (length (drop at bytes)) (byte_len w) then
     Err Truncated else Ok (from_le_bytes w (take (byte_len w) (drop at bytes)), at + byte_len w)
@@ -44,7 +44,7 @@ fixed_at w bytes at = if nat_lt (length (drop at bytes)) (byte_len w) then
 abbrev pub as_field : ℕ → Wire → ℕ → ℕ × ℕ → Field
 as_field number wire start v = record { number = number; wire = wire; value = v.0; start = start; «end» = v.1 }
 
--- the field whose tag ends at a position, or its first fault
+-- the field whose tag ends at a position, or the first fault of its payload
 unfoldable pub payload_at : ℕ → Wire → List ℕ → ℕ → Result Field WireFault
 payload_at number Varint bytes at = varint_at bytes at >>= λ v. Ok (as_field number Varint at v)
 payload_at number I64 bytes at = fixed_at w64 bytes at >>= λ v. Ok (as_field number I64 at v)
@@ -52,7 +52,7 @@ payload_at number Len bytes at = varint_at bytes at >>= λ len. if nat_lt (lengt
     Err Truncated else Ok (as_field number Len len.1 (len.0, len.1 + len.0))
 payload_at number I32 bytes at = fixed_at w32 bytes at >>= λ v. Ok (as_field number I32 at v)
 
--- the field whose tag is at a position, or its first fault
+-- the field that begins at a position, with its tag, or the first fault of its bytes
 unfoldable pub field_at : List ℕ → ℕ → Result Field WireFault
 field_at bytes at = do
   tag ← varint_at bytes at
@@ -60,7 +60,7 @@ field_at bytes at = do
   wire ← wire_of (tag.0 % 8)
   payload_at number wire bytes tag.1
 
--- the field whose tag begins at a position, or its first fault; nothing if the position is the end of the bytes
+-- the field that begins at a position, or the first fault of its bytes; nothing if the position is the end of all bytes
 unfoldable pub next_field : List ℕ → ℕ → Result (Option Field) WireFault
 next_field bytes at = if at == length bytes then Ok None else (field_at bytes at >>= λ f. Ok (Some f))
 

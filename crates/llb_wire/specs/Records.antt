@@ -30,7 +30,7 @@ record_at bytes at f = record {
   text = drop at (take f.«end» bytes);
 }
 
--- the positions of a record whose bytes begin at `at`
+-- a record by its position, as a `Field`, if the bytes of the record begin at `at`
 abbrev pub placed : ℕ → Record → Field
 placed at r = record { number = r.number; wire = r.wire; value = r.value; start = at + (length r.text - length r.payload); «end» = at + length r.text }
 
@@ -41,8 +41,8 @@ pub record IsFixed (w : Width) (bytes : List ℕ) (n : ℕ) : Type 0 where
   pub size : length bytes ≡ byte_len w
   pub value : n ≡ from_le_bytes w bytes
 
--- The bytes after the tag. For a LEN: its value as a varint, and then a payload of so many bytes. For any other type all the bytes are the payload, which is
--- the value's spelling.
+-- The bytes after a tag are right for this wire type, value and payload. For a LEN they are the value as a varint, and then the payload, whose length is the
+-- value. For any other type they are the payload, and they spell the value.
 abbrev pub IsPayload : Wire → List ℕ → ℕ → List ℕ → Type 0
 IsPayload Varint bytes value payload = (payload ≡ bytes) × IsVarint bytes value
 IsPayload I64 bytes value payload = (payload ≡ bytes) × IsFixed w64 bytes value
@@ -59,12 +59,12 @@ pub record IsRecord (r : Record) : Type 0 where
   pub tagged : IsVarint tag (8 * r.number + code_of r.wire)
   pub payload : IsPayload r.wire behind r.value r.payload
 
--- the bytes are the bytes of the records, one record after another, and each record's bytes spell this record
+-- the bytes are those of all the records, one record after another, and the bytes of each record spell this record by `IsRecord`
 pub record SpellRecords (bytes : List ℕ) (rs : List Record) : Type 0 where
   pub whole : bytes ≡ flat_map (λ r. r.text) rs
   pub each : AllByRecursion IsRecord rs
 
--- reading from record to record, from a position to the end, finds these records
+-- reading one record after another, from a position to the end of the bytes, finds these records and no fault
 abbrev pub Walks : List ℕ → ℕ → List Record → Type 0
 Walks bytes at [] = next_field bytes at ≡ Ok None
 Walks bytes at (r ∷ rs) = (f : Field) × (next_field bytes at ≡ Ok (Some f)) × (r ≡ record_at bytes at f) × Walks bytes f.«end» rs
@@ -88,7 +88,7 @@ written_record number wire value payload = record {
   text = record_text number wire value payload;
 }
 
--- The record's bytes spell it, and no record with the same field number, wire type and value has fewer bytes.
+-- The bytes of the record spell the record, and no record with the same field number, wire type and value has fewer bytes.
 pub record IsShortestRecord (r : Record) : Type 0 where
   pub is_one : IsRecord r
   pub bytes : AreBytes r.text

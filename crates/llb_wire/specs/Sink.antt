@@ -3,7 +3,7 @@ use Rattle.std.specs.Prelude.{◌≡◌, ◌≤◌, ◌<◌, ℕ, Bool, true, fa
 use Rattle.std.specs.Io.KnownBytes.{Appends, Keeps}
 use Rattle.llb_wire.specs.declared.sink.Failed.{Failed}
 
--- one write: a sink that has not failed takes the first bytes, at least one if there are any; or the write fails, and every later write fails too
+-- one write: a sink that has not failed takes a prefix of the bytes, at least one byte if there are any; or the write fails, and every later write fails too
 abbrev pub Takes : Option (List ℕ) → Bool → Option (List ℕ) → Bool → List ℕ → Result ℕ Failed → Type 0
 Takes taken failed taken' failed' bytes (Ok n) = (failed ≡ false) × (failed' ≡ false)
     × (n ≤ length bytes) × (0 < length bytes → 0 < n) × Appends taken taken' (take n bytes)

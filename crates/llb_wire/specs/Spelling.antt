@@ -1,5 +1,5 @@
--- The grammar of the wire, which does not mention how it is read: which bytes spell a number or a record, by the encoding guide of
--- Protocol Buffers ("Base 128 Varints", "Message Structure"), and which spelling is the shortest.
+-- The grammar of the wire: which bytes spell a number or a record, by the encoding guide of Protocol Buffers ("Base 128 Varints",
+-- "Message Structure"), and which spelling is the shortest. The grammar does not mention how bytes are read.
 use Rattle.std.specs.Prelude.{◌≡◌, ◌≢◌, ℕ, zero, suc, ◌+◌, ◌-◌, ◌*◌, ◌/◌, ◌%◌, ◌<◌, ◌≤◌, ◌^◌, ◌⊎◌, List, [], ◌∷◌, ◌++◌, length, take, drop}
 use Rattle.std.specs.Prelude.{nat_lt, if◌then◌else◌}
 use Rattle.std.specs.List.{AllByRecursion}
@@ -12,7 +12,7 @@ use Rattle.llb_wire.specs.declared.field.Field.{Field}
 
 -- ---- numbers
 
--- A byte below 128 spells itself. A byte 128 + g that is followed by a spelling of m spells g + 128 m.
+-- The bytes spell the number n. A byte below 128 spells itself. A byte 128 + g and the bytes after it spell g + 128 m, if the bytes after it spell m.
 abbrev pub Spells : List ℕ → ℕ → Type 0
 Spells [] n = ⊥
 Spells (b ∷ []) n = (b < 128) × (n ≡ b)
@@ -50,11 +50,11 @@ IsLong more [] = ⊥
 IsLong zero (b ∷ bs) = 1 < b
 IsLong (suc more) (b ∷ bs) = (128 ≤ b) × IsLong more bs
 
--- the number at this position has a tenth byte, which is above 1
+-- the varint at this position has a tenth byte, and the tenth byte is above 1
 abbrev pub TenthAboveOne : List ℕ → ℕ → Type 0
 TenthAboveOne bytes at = IsLong 9 (drop at bytes)
 
--- why no number can be read at a position
+-- this fault is the reason why no varint can be read at this position
 abbrev pub VarintCause : List ℕ → ℕ → WireFault → Type 0
 VarintCause bytes at Truncated = CutVarint bytes at
 VarintCause bytes at LongVarint = TenthAboveOne bytes at
@@ -85,7 +85,7 @@ pub record FixedAt (w : Width) (bytes : List ℕ) (at n last : ℕ) : Type 0 whe
   pub inside : last ≤ length bytes
   pub value : n ≡ from_le_bytes w (between at last bytes)
 
--- the bytes from the end of the tag of field f, which is position `at`, spell its payload; for a LEN the payload's length is before it
+-- the tag of field f ends at position `at`, and the bytes after the tag spell the payload of f; for a LEN they begin with the payload's length
 abbrev pub PayloadAt : Wire → List ℕ → ℕ → Field → Type 0
 PayloadAt Varint bytes at f = (f.start ≡ at) × VarintAt bytes at f.value f.«end»
 PayloadAt I64 bytes at f = (f.start ≡ at) × FixedAt w64 bytes at f.value f.«end»
@@ -112,14 +112,14 @@ LongPayload I64 bytes at = ⊥
 LongPayload Len bytes at = TenthAboveOne bytes at
 LongPayload I32 bytes at = ⊥
 
--- why no payload can be read at a position
+-- this fault is the reason why no payload can be read, if the tag ends at this position
 abbrev pub PayloadCause : Wire → List ℕ → ℕ → WireFault → Type 0
 PayloadCause wire bytes at Truncated = CutPayload wire bytes at
 PayloadCause wire bytes at LongVarint = LongPayload wire bytes at
 PayloadCause wire bytes at BadField = ⊥
 PayloadCause wire bytes at BadWireType = ⊥
 
--- a valid tag is at a position, and something is wrong after it
+-- a valid tag is at a position, and `wrong` holds of its wire type and the bytes after it
 pub record BehindTag (wrong : Wire → List ℕ → ℕ → Type 0) (bytes : List ℕ) (at : ℕ) : Type 0 where
   pub number : ℕ
   pub wire : Wire
@@ -142,7 +142,7 @@ pub record HasNoWire (bytes : List ℕ) (at : ℕ) : Type 0 where
   pub number : IsFieldNumber (tag / 8)
   pub none : (w : Wire) → tag % 8 ≢ code_of w
 
--- why no record can be read at a position: each cause counts only if everything before it in the record is valid
+-- this fault is the reason why no record can be read at this position; each reason counts only if everything before it in the record is valid
 abbrev pub RecordCause : List ℕ → ℕ → WireFault → Type 0
 RecordCause bytes at Truncated = CutVarint bytes at ⊎ BehindTag CutPayload bytes at
 RecordCause bytes at LongVarint = TenthAboveOne bytes at ⊎ BehindTag LongPayload bytes at
@@ -151,7 +151,7 @@ RecordCause bytes at BadWireType = HasNoWire bytes at
 
 -- ---- the shortest spellings
 
--- the shortest spelling of a number that can be spelled in `more` + 1 bytes
+-- the shortest spelling of a number, which has to be one that at most `more` + 1 bytes can spell
 unfoldable pub shortest : ℕ → ℕ → List ℕ
 shortest zero n = n ∷ []
 shortest (suc more) n = if nat_lt n 128 then n ∷ [] else (128 + n % 128) ∷ shortest more (n / 128)
@@ -160,7 +160,7 @@ shortest (suc more) n = if nat_lt n 128 then n ∷ [] else (128 + n % 128) ∷ s
 abbrev pub varint_text : ℕ → List ℕ
 varint_text n = shortest 9 n
 
--- each number of a list is a byte
+-- each number of a list is a byte, so below 256
 abbrev pub AreBytes : List ℕ → Type 0
 AreBytes bytes = AllByRecursion (λ b. b < 256) bytes
 
@@ -185,14 +185,14 @@ tag_text number wire = varint_text (8 * number + code_of wire)
 abbrev pub record_text : ℕ → Wire → ℕ → List ℕ → List ℕ
 record_text number wire value payload = tag_text number wire ++ payload_text wire value payload
 
--- the value of the record that is read from what was written: for a LEN the length of the payload
+-- the value of a written record: for a LEN the length of the payload, for any other wire type the given value
 abbrev pub value_text : Wire → ℕ → List ℕ → ℕ
 value_text Varint value payload = value
 value_text I64 value payload = value
 value_text Len value payload = length payload
 value_text I32 value payload = value
 
--- how many bytes are between the tag and the payload in what was written
+-- how many bytes are between the tag and the payload of a written record
 abbrev pub payload_start : Wire → List ℕ → ℕ
 payload_start Varint payload = 0
 payload_start I64 payload = 0
@@ -204,7 +204,7 @@ pub record Extends (old new : List ℕ) : Type 0 where
   pub more : List ℕ
   pub bytes : new ≡ old ++ more
 
--- the record that is read from what was written
+-- a written record by its position, if its bytes begin at position 0
 abbrev pub written_field : ℕ → Wire → ℕ → List ℕ → Field
 written_field number wire value payload = record {
   number = number;

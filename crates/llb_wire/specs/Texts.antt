@@ -6,7 +6,7 @@ use Rattle.std.specs.Cmp.Lexicographic.{pointwise}
 abbrev pub is_text : List ℕ → List ℕ → Bool
 is_text a b = pointwise nat_eq a b
 
--- a value if a test passes, else nothing
+-- the value if the flag, the result of a test, is true; else nothing
 abbrev pub where_so : {A : Type 0} → Bool → A → Option A
 where_so true x = Some x
 where_so false x = None

@@ -1,5 +1,5 @@
-//! What can be wrong with the bytes of a record; and the fault for refused memory. A fault prints what comes
-//! after the word `fault` in a refusal: its number.
+//! What can be wrong with the bytes of a record; and the fault for refused memory. The text of a fault is its
+//! number, which the program prints after the word `fault`.
 
 ghost use Rattle.std.specs.Prelude.{Some};
 ghost use Rattle.llb_wire.specs.Faults.{wire_text};

@@ -1,4 +1,4 @@
-//! Bytes in texts: lower-case hexadecimal, and a dash for none; and the text of a digest.
+//! Bytes as they are written in texts, in lower-case hexadecimal, with a dash for no bytes; and the text of a digest.
 
 ghost use Rattle.std.specs.Prelude.{◌≡◌, ◌++◌, IfOk, OnOk, OnErr, codes, string_bytes};
 ghost use Rattle.std.specs.List.{list_all};
@@ -30,7 +30,7 @@ pub fn push_hex(alloc: Global, text: &mut String, bytes: &[u8]) -> Result<(), Al
     Ok(())
 }
 
-// Returns whether all are lower-case hexadecimal digits.
+// Returns whether all bytes are lower-case hexadecimal digits.
 fn are_lower(digits: &[u8]) -> bool
     ensures { result ≡ list_all is_lower digits.now }
 {

@@ -1,5 +1,5 @@
-//! Bytes as records: the wire format of Protocol Buffers, read and written one record at a time. It also has what every crate above needs: texts, byte
-//! strings and lists that own their memory, equality by value, and sinks that take bytes. It knows no message.
+//! Bytes as records: the wire format of Protocol Buffers, read and written one record at a time. The crate also has what the crates above need: texts, byte
+//! strings and lists that own their memory, equality by value, and sinks that take bytes. It has no types of messages.
 //!
 //! Types: `Field` (a record by its position), `Bytes`, `Text`, `Many`, `Boxed`, `Sink` with `Over` (a sink over any writer), `Same`, `Memory`
 //! (fault 5).

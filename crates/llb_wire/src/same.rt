@@ -1,11 +1,11 @@
-//! Equality by value: two values are the same if contracts see the same of them. This file has it for numbers, flags, options and slices;
-//! the types of this crate have it in their own files. Nothing here allocates.
+//! Equality by value: two values are the same if what contracts see of them is equal. This file implements `Same` for numbers, flags, options
+//! and slices; the types of this crate implement it in their own files. Nothing here allocates.
 
 ghost use Rattle.std.specs.Prelude.{◌≡◌, ◌↔◌, IsTrue};
 
 /// Types whose values can be compared by what contracts see of them.
 pub trait Same {
-    /// Returns whether contracts see the same of this value and of the other. Does not allocate.
+    /// Returns whether what contracts see of this value equals what they see of the other. Does not allocate.
     fn same(&self, other: &Self) -> bool
         ensures { IsTrue result ↔ (self.now ≡ other.now) };
 }

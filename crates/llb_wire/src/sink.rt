@@ -1,4 +1,4 @@
-//! Sinks: what bytes are written to. A sink that has failed takes no more.
+//! Sinks, to which bytes are written. A sink that has failed takes no more bytes.
 
 ghost use Rattle.std.specs.Prelude.{◌≡◌, ℕ, Bool, List, Option, Some, None, false};
 ghost use Rattle.std.specs.Borrow.{GName};
@@ -17,11 +17,11 @@ pub trait Sink {
 
     ghost failed: { Self → Bool };
 
-    // The name of the reference to which the bytes go, if there is one. No call changes it.
+    // The prover's name of the mutable reference through which the bytes are written, if there is one. No call changes this name.
     ghost lender: { Self → Option GName } = { λ _. None };
 
-    /// Takes some bytes from the start, at least one if there are any, and returns how many. Fails with `Failed` alone,
-    /// and then in every later call.
+    /// Takes a prefix of the bytes, at least one byte if there are any, and returns the length of this prefix. Fails with
+    /// `Failed` alone; after a failure every later call fails too.
     fn write(&mut self, bytes: &[u8]) -> Result<usize, Failed>
         ensures takes { Takes (taken self.old) (failed self.old) (taken self.new) (failed self.new)
             bytes.now result }
@@ -36,7 +36,7 @@ pub struct Over<'a, W> {
 }
 
 impl<'a, W: Write> Over<'a, W> {
-    /// Makes a sink over a writer, which it borrows. It has not failed yet.
+    /// Makes a sink over a writer, which the sink borrows. The sink has not failed yet.
     pub fn new(out: &'a mut W) -> Over<'a, W>
         ensures same { result.out.ghost_name ≡ out.entry.ghost_name }
         ensures held { result.out.now ≡ out.old }
