@@ -98,21 +98,21 @@ fn lay_node(
 fn lay_children(
     kids: &mut Arc<Vec<Piece>>,
     alloc: Global,
-    settings: &OverlaySettings,
+    wanted: &OverlaySettings,
     upper: &Arc<Vec<Piece>>,
 ) -> Result<bool, AllocError>
     requires lower { ArePieced (arc_value kids.old).items }
     requires upper { ArePieced (arc_value upper.now).items }
-    ensures ok { OnOk result (Lays settings.now (kids_in (arc_value upper.now).items) (kids_in (arc_value kids.old).items) (kids_in (arc_value kids.new).items)) }
+    ensures ok { OnOk result (Lays wanted.now (kids_in (arc_value upper.now).items) (kids_in (arc_value kids.old).items) (kids_in (arc_value kids.new).items)) }
     ensures pieced { ArePieced (arc_value kids.new).items }
-    ensures whole { IfOk result (λ whole. whole ≡ true → StandWhole settings.now (kids_in (arc_value upper.now).items) (kids_in (arc_value kids.new).items)) }
+    ensures whole { IfOk result (λ whole. whole ≡ true → StandWhole wanted.now (kids_in (arc_value upper.now).items) (kids_in (arc_value kids.new).items)) }
     ensures err { OnErr result (pairs_of (arc_value kids.new).items ≡ pairs_of (arc_value kids.old).items) }
 {
     let above = upper.as_slice();
-    if settings.takes_whole() && covers(above, kids.as_slice()) {
-        return lay_all(kids, alloc, settings, upper);
+    if wanted.takes_whole() && covers(above, kids.as_slice()) {
+        return lay_all(kids, alloc, wanted, upper);
     }
-    lay_each(kids, alloc, settings, above)?;
+    lay_each(kids, alloc, wanted, above)?;
     Ok(false)
 }
 
@@ -121,19 +121,19 @@ fn lay_children(
 fn lay_all(
     kids: &mut Arc<Vec<Piece>>,
     alloc: Global,
-    settings: &OverlaySettings,
+    wanted: &OverlaySettings,
     upper: &Arc<Vec<Piece>>,
 ) -> Result<bool, AllocError>
     requires lower { ArePieced (arc_value kids.old).items }
     requires upper { ArePieced (arc_value upper.now).items }
-    requires settings { TakesWhole settings.now }
+    requires settings { TakesWhole wanted.now }
     requires covers { Covers (kids_in (arc_value upper.now).items) (kids_in (arc_value kids.old).items) }
-    ensures ok { OnOk result (Lays settings.now (kids_in (arc_value upper.now).items) (kids_in (arc_value kids.old).items) (kids_in (arc_value kids.new).items)) }
+    ensures ok { OnOk result (Lays wanted.now (kids_in (arc_value upper.now).items) (kids_in (arc_value kids.old).items) (kids_in (arc_value kids.new).items)) }
     ensures pieced { ArePieced (arc_value kids.new).items }
-    ensures whole { IfOk result (λ whole. whole ≡ true → StandWhole settings.now (kids_in (arc_value upper.now).items) (kids_in (arc_value kids.new).items)) }
+    ensures whole { IfOk result (λ whole. whole ≡ true → StandWhole wanted.now (kids_in (arc_value upper.now).items) (kids_in (arc_value kids.new).items)) }
     ensures err { OnErr result (pairs_of (arc_value kids.new).items ≡ pairs_of (arc_value kids.old).items) }
 {
-    match laid_all(kids.as_slice(), alloc, settings, upper.as_slice())? {
+    match laid_all(kids.as_slice(), alloc, wanted, upper.as_slice())? {
         None => {
             *kids = Arc::try_clone(upper)?;
             Ok(true)
@@ -251,7 +251,8 @@ fn laid_children(
     Ok(ready)
 }
 
-// Lays an upper child over a copy of the lower child of the same name; if there is none, returns the upper child with the mode and the owner of the `OverlaySettings`.
+// Lays an upper child over a copy of the lower child of the same name; if there is none, returns the upper child with the mode and the owner that
+// the settings set.
 #[cycle(lay)]
 fn laid_child(
     kids: &[Piece],
@@ -277,10 +278,10 @@ fn laid_child(
 }
 
 impl Tree {
-    /// Lays the tree `upper` over this one, and returns the result: at a path it has what `upper` has there, with the mode and the owner that `settings` sets; if
-    /// `upper` has nothing there, what this tree has there, unless a file of `upper` is above the path. A directory that both trees have is as in `upper`, or
-    /// as in this tree if `settings` says so. Fails with 27 `Memory` alone. The call visits only what both trees have; what only one of them has is shared, not
-    /// copied. But if `settings` sets a mode or an owner, all entries of `upper` get new nodes; even then contents are shared.
+    /// Lays the tree `upper` over this one, and returns the result. At a path it has what `upper` has there, with the mode and the owner that `settings`
+    /// sets. If `upper` has nothing there, it has what this tree has there, unless a file of `upper` is above the path. A directory that both trees have is as in
+    /// `upper`, or as in this tree if `settings` says so. Fails with 27 `Memory` alone. The call visits only what both trees have; what only one of them has is
+    /// shared, not copied. But if `settings` sets a mode or an owner, all entries of `upper` get new nodes; even then contents are shared.
     pub fn overlaid(self, settings: &OverlaySettings, upper: &Tree) -> Result<Tree, TreeFault>
         ensures paths { IfOk result (λ t. (q : List (List ℕ)) → finite.get t q ≡ over_at settings.now (finite.get self) (finite.get upper.now) q) }
         ensures memory { IfErr result (λ e. is_memory e ≡ true) }

@@ -113,7 +113,7 @@ laid_rows-returns t c =
 
 pub lay_all-returns-in_ok-kids-in-None-clause-ok : goal.lay_all-returns-in_ok-kids-in-None-clause-ok
 lay_all-returns-in_ok-kids-in-None-clause-ok t c =
-    let w = c.args.settings.now in
+    let w = c.args.wanted.now in
     let old = (arc_value c.args.kids.now).items in
     let upper = (arc_value c.args.upper.now).items in
     let laid : PiecesLaid w (kids_in old) upper (those_pieces c.in_ok-laid_all.field-0 upper) =
@@ -127,7 +127,7 @@ lay_all-returns-in_ok-kids-in-None-clause-ok t c =
 
 pub lay_all-returns-in_ok-kids-in-Some-clause-ok : goal.lay_all-returns-in_ok-kids-in-Some-clause-ok
 lay_all-returns-in_ok-kids-in-Some-clause-ok t c =
-    let w = c.args.settings.now in
+    let w = c.args.wanted.now in
     let old = (arc_value c.args.kids.now).items in
     let upper = (arc_value c.args.upper.now).items in
     let laid : PiecesLaid w (kids_in old) upper (those_pieces c.in_ok-laid_all.field-0 upper) =
@@ -142,7 +142,7 @@ lay_all-returns-in_ok-kids-in-Some-clause-ok t c =
 
 pub lay_all-returns-in_ok-kids-in-Some-clause-pieced : goal.lay_all-returns-in_ok-kids-in-Some-clause-pieced
 lay_all-returns-in_ok-kids-in-Some-clause-pieced t c =
-    let w = c.args.settings.now in
+    let w = c.args.wanted.now in
     let old = (arc_value c.args.kids.now).items in
     let upper = (arc_value c.args.upper.now).items in
     let laid : PiecesLaid w (kids_in old) upper (those_pieces c.in_ok-laid_all.field-0 upper) =
