@@ -87,7 +87,8 @@ fn written(alloc: Global, op: Op) -> Result<Option<Bytes>, Memory>
     }
 }
 
-// Returns the canonical bytes of the op that the records are read as; refused if they are past the limits.
+// Returns the canonical bytes of the op that the records are read as, or a refusal if these bytes are past the limits or
+// the records can't be read as an op.
 #[tactic(auto, unfolding(crate::specs::Reading::entry_in))]
 pub(crate) fn entry_in(
     alloc: Global,
