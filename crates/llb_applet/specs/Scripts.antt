@@ -1,4 +1,4 @@
--- The script that arguments are read as: the commands of the text after `/bin/sh -c`, or else one call.
+-- The script that arguments are read as: the commands of the text after `/bin/sh -c`, or else the command of one call.
 use Rattle.std.specs.Prelude.{◌≡◌, ℕ, ◌+◌, ◌==◌, Bool, ◌&&◌, if◌then◌else◌, List, [], ◌∷◌, length, slice_index_or, Option, Some, None, Result, Ok, Err, codes}
 use Rattle.llb_wire.specs.Answer.{◌>>=◌}
 use Rattle.llb_applet.specs.declared.fault.ScriptFault.{ScriptFault}
