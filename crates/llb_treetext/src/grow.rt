@@ -1,6 +1,6 @@
-//! The tree of a text while it is read. The files of a directory often follow one another, so the directory of the last
-//! line is kept apart as a tree, into which a file is put by its name alone; later it is put back at its path as a
-//! whole.
+//! The tree of a text while the text is read. The files of a directory often follow one another, so the directory of the
+//! last line is kept apart as a tree of its own: a file is put into it by the file's name alone. Later this whole
+//! directory is put back at its path.
 
 ghost use Rattle.std.specs.Prelude.{◌≡◌, ◌++◌, ◌∷◌, ℕ, List, [], Ok, None, true, false, IfSome, IfOk};
 ghost use Rattle.std.specs.FinMap as finite;
