@@ -43,8 +43,7 @@ pub record IsBegun (call : List (List ℕ)) (begun : Begun) : Type 0 where
   pub named : begun.name.now ≡ slice_index_or call 0 []
   pub option : begun.first.now ≡ slice_index_or call 1 []
 
--- success, or the first fault of the current call and the calls after it, given the number and the words of the current call and the words that remain.
--- The joins make no difference to this.
+-- success, or the first fault of the current call and the calls after it, given this call's number and words and the words that remain; joins do not matter
 abbrev pub judged : ℕ → List (List ℕ) → List (List ℕ) → Result (Unit {0}) ScriptFault
 judged number call words = verdict (commands_of number (calls_from words Then call))
 
@@ -53,15 +52,13 @@ pub record Refuses (e : ScriptFault) (rule : Result (Unit {0}) ScriptFault) : Ty
   pub known : is_memory e ≡ false → rule ≡ Err e
   pub last : is_memory e ≡ true → names_word rule ≡ true
 
--- the check of one more part succeeds, and what remains to be read has the same first fault as before; or the check fails with this first fault, or with
--- `Memory` in its place if it has a text in it
+-- the check of one more part succeeds, and the first fault of the text is what it was; or it fails with this first fault, or with `Memory` (see `Refuses`)
 abbrev pub Judges : Result (Unit {0}) ScriptFault → List ℕ → List (List ℕ) → Begun → Begun → Type 0
 Judges (Ok _) part call old new = (next : List (List ℕ)) × IsBegun next new
     × ((rest : List (List ℕ)) → judged old.number call (some_word part ++ rest) ≡ judged new.number next rest)
 Judges (Err e) part call old new = (rest : List (List ℕ)) → Refuses e (judged old.number call (some_word part ++ rest))
 
--- the check of a whole call succeeds, and the call makes a command; or the check fails with the call's fault, or with `Memory` in its place if it has a text
--- in it
+-- the check of a whole call succeeds, and the call makes a command; or the check fails with the call's fault, or with `Memory` (see `Refuses`)
 abbrev pub JudgesCall : Result (Unit {0}) ScriptFault → ℕ → List (List ℕ) → Type 0
 JudgesCall (Ok _) number call = verdict (command_of number call) ≡ Ok tt
 JudgesCall (Err e) number call = Refuses e (verdict (command_of number call))

@@ -76,8 +76,7 @@ with_new_dir view spot = if is_dest spot || is_some (entry_at view spot) then
 abbrev pub dir_at : TreeMap → List (List ℕ) → Result TreeMap TreeFault
 dir_at t p = if is_dir (finite.get t p) then Ok t else put_dir t p new_dir_meta
 
--- the tree after a directory is made for each of these names, the first one in p and each other one in the directory before it, unless a directory is
--- already there; or the fault
+-- the tree after a directory is made for each name, the first in p, each other one in the directory before it, unless a directory is there; or the fault
 abbrev pub dirs_below : TreeMap → List (List ℕ) → List (List ℕ) → Result TreeMap TreeFault
 dirs_below t p [] = Ok t
 dirs_below t p (n ∷ ns) = answer.◌>>=◌ (dir_at t (p ++ n ∷ [])) (λ next. dirs_below next (p ++ n ∷ []) ns)

@@ -52,8 +52,7 @@ is_word_byte b =
 abbrev pub bad_in : Bool → List ℕ → Option ℕ
 bad_in called word = if is_separator word then (if called then None else Some 0) else position (λ b. not (is_word_byte b)) word
 
--- whether the last word belongs to a call after one more part: a separator does not, and any other word does. An empty part is no word, so the value stays
--- what it was before the part (`called`).
+-- whether the last word after one more part belongs to a call: a separator does not; any other word does; an empty part is no word, so it leaves `called`
 abbrev pub called_after : Bool → List ℕ → Bool
 called_after called part = if length part == 0 then called else not (is_separator part)
 
@@ -80,8 +79,7 @@ call_by join words = record { join = join; words = words }
 abbrev pub first_call : List (List ℕ) → Call
 first_call words = call_by Then words
 
--- the current call and the calls after it, given the next word: a separator ends the current call and begins the next one; any other word is added to the
--- current call
+-- the current call and the later ones, given the next word: a separator ends the current call and begins a new one; any other word is added to the current call
 abbrev pub at_word : Join → List (List ℕ) → List ℕ → Option Join → (Join → List (List ℕ) → List Call) → List Call
 at_word join call word (Some next) rest = call_by join call ∷ rest next []
 at_word join call word None rest = rest join (call ++ word ∷ [])

@@ -1,6 +1,5 @@
 -- Read first Reading (which lines are read as which entries), with Lines, Line and Values for one line and one value, then Plain (the one text that is
--- written for entries), Printing (how much of that text a call writes) and Faults (the texts of faults). Running and Labels are for the code and its
--- proofs: how the code reads one line after another, and how it looks up labels.
+-- written for entries), Printing (how much of it is written) and Faults (the texts of faults). Running says how the code reads lines; Labels, its index.
 pub mod Values
 pub mod Lines
 pub mod Line

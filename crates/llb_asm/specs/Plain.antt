@@ -26,8 +26,7 @@ abbrev pub labelled_text : List ℕ → Option ℕ → List ℕ
 labelled_text string None = string_text string
 labelled_text string (Some k) = label_text k
 
--- the value that is written for a string: the label of an entry, if the field is `digest` and the string is the entry's digest text; else the string between
--- quotes
+-- the value that is written for a string: an entry's label, if the field is `digest` and the string is the entry's digest text; else the string in quotes
 abbrev pub string_for : List (List ℕ) → List ℕ → List ℕ → List ℕ
 string_for labels name string = labelled_text string (if is_text name (codes "digest") then label_for labels string else None)
 

@@ -76,8 +76,7 @@ digit_of b = if nat_le b 57 then b - 48 else b - 87
 abbrev pub after_it : ℕ → Option (List ℕ) → Option (List ℕ)
 after_it b text = option_map (λ t. b ∷ t) text
 
--- the string that the rest of a text spells, from this state up to a quote at the text's end; nothing if the rest spells no string. `\"`, `\\`, and `\x` with
--- two digits up to 7f are one byte each.
+-- the string that the rest of a text spells from this state up to a quote at the text's end: `\"`, `\\`, and `\x` with two digits up to 7f are one byte each
 unfoldable pub string_from : Escape → List ℕ → Option (List ℕ)
 string_from e [] = None
 string_from closed (b ∷ text) =
@@ -99,13 +98,12 @@ lower_digit b = where_so (is_lower b) (digit_of b)
 abbrev pub escape_of : ℕ → ℕ → Option ℕ
 escape_of a b = where_so (is_lower a && is_lower b && nat_lt (digit_of a) 8) (16 * digit_of a + digit_of b)
 
--- from this state, a text spells the given byte, and then the given text spells the rest of the string; or nothing is given, and the text spells no string
+-- from this state, a text spells the given byte and then the rest of a string; or nothing is given, and the text spells no string
 abbrev pub Continues : Escape → List ℕ → Option (ℕ × Bor (List ℕ)) → Type 0
 Continues e text None = string_from e text ≡ None
 Continues e text (Some x) = (string_from e text ≡ after_it x.0 (string_from closed x.1.now)) × (length x.1.now < length text)
 
--- outside an escape, a text spells the given byte, and then the given text spells the rest of the string; or nothing is given, and the text is the closing
--- quote or spells no string
+-- outside an escape, a text spells the given byte and then the rest of a string; or nothing is given, and the text is the closing quote or spells no string
 abbrev pub Leads : List ℕ → Option (ℕ × Bor (List ℕ)) → Type 0
 Leads text None = (text ≢ 34 ∷ []) → string_from closed text ≡ None
 Leads text (Some x) = (string_from closed text ≡ after_it x.0 (string_from closed x.1.now)) × (length x.1.now < length text)

@@ -24,8 +24,7 @@ put_row t (p, File m content) = put_file t p m content
 abbrev pub IsOf : List (List ℕ) × Entry → Parts → Type 0
 IsOf row x = IsRow row × (parts_seen x ≡ parts_from row)
 
--- the tree `new` has the entry of one more line than the tree `old`, and `later` is the text that remains to be read then: the text of the tree and the text
--- that remains, together, are the same as before, and the text that remains is shorter
+-- one more line is in the tree: the text of the tree and the text that remains to be read are together the same as before, and less text remains
 pub record GoesOn (old new : TreeMap) (rest later : List ℕ) : Type 0 where
   pub tree : IsTree new
   pub text : tree_text old ++ rest ≡ tree_text new ++ later
