@@ -14,7 +14,7 @@ pub enum Rule {
     Syntax,
     /// The current message has no field of that name.
     UnknownField,
-    /// The field may not follow the one before it.
+    /// The field may not follow the field before it.
     Order,
     /// The text after the name is not a value of the field's kind.
     BadValue,

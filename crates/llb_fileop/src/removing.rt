@@ -1,4 +1,4 @@
-//! Removes a path, or all paths that match a pattern, from a copy of a tree. What is not removed, the copy shares in memory.
+//! Removes a path, or all paths that match a pattern, from a copy of a tree. The copy shares with the tree what is not removed.
 
 ghost use Rattle.llb_tree.specs.Tree as tree;
 ghost use Rattle.llb_fileop.specs.Faults.{Gives};

@@ -13,9 +13,9 @@ use std::{error, fmt};
 pub enum TextFault {
     /// 31 N: line N is no line of an entry, or it has no end.
     BadLine(u64),
-    /// 32 N: the path of line N is not after that of the line before, or line 1 is not that of the root.
+    /// 32 N: the path of line N is not after the path of the line before, or line 1 is not the root's.
     Order(u64),
-    /// 33 N: the directory that the path of line N is in has no line before it.
+    /// 33 N: the parent directory of the path of line N has no line before line N.
     NoParent(u64),
     /// 34: memory was refused.
     Memory,
