@@ -1,4 +1,4 @@
--- The spot that a path names on a view, and the changes of a view there. A view is the list of its mounts; a refused change results in nothing.
+-- The spot that a path names on a view, and the changes of a view at a spot. A view is the list of its mounts; the result of a refused change is nothing.
 use Rattle.std.specs.Prelude.{◌≡◌, ℕ, ◌<◌, ◌≤◌, ◌==◌, nat_lt, Bool, true, false, ◌||◌, ◌&&◌, not, if◌then◌else◌, List, [], ◌∷◌, ◌++◌}
 use Rattle.std.specs.Prelude.{length, drop, Option, Some, None, is_some, Result, Ok, Err}
 use Rattle.std.specs.FinMap as finite

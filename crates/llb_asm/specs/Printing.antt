@@ -1,4 +1,4 @@
--- How much of the text of entries is written when the writing stops.
+-- How much of the text of entries a call writes, also if the call fails.
 use Rattle.std.specs.Prelude.{◌≡◌, ◌≢◌, ℕ, List, [], ◌∷◌, length, take, drop, Bool, true, ◌==◌, ◌&&◌, if◌then◌else◌, Option, Some, None, Result, Ok, Err}
 use Rattle.std.specs.Io.KnownBytes.{Appends}
 use Rattle.llb_wire.specs.declared.fault.WireFault.{WireFault}

@@ -1,4 +1,4 @@
--- Which lines are the items of a message and the entries of a definition, as which entries lines are read, and which line is the first that is
+-- Which lines spell the items of a message, which lines spell the entries of a definition, and which line of a text is the first that is
 -- refused. This file says nothing of the code that reads the lines.
 use Rattle.std.specs.Prelude.{◌≡◌, ◌≢◌, ◌≤◌, ℕ, ◌+◌, ◌&&◌, ◌⊎◌, nat_lt, nat_le, Bool, if◌then◌else◌, List, [], ◌∷◌, ◌++◌, length, map, codes, Option}
 use Rattle.std.specs.Prelude.{Some, None, Result, Ok, Err}
