@@ -128,11 +128,11 @@ run setting view (command.Listing path out) = listing_by setting view path >>= w
 run setting view (command.Envfile out) = writes setting view out (flat_map line setting.env)
 run setting view (command.Sha256 path out) = file_by setting view path >>= λ file. writes setting view out (line (digits_of file.1))
 
--- the status of a command: 0 if there is a view after it, 1 if it fails
+-- the status of a command with this outcome: 0 if the outcome is a view, 1 if it is nothing
 abbrev pub status_of : Option Mounts → ℕ
 status_of (Some view) = 0
 status_of None = 1
 
--- the view after a command: unchanged if it fails
+-- the view that a command with this outcome leaves: the outcome, or the unchanged view if the outcome is nothing
 abbrev pub left : Mounts → Option Mounts → Mounts
 left view outcome = unwrap_or outcome view

@@ -124,9 +124,8 @@ fn share_there(
     }
 }
 
-/// Sets the mode and the owner of the directory at a spot; if nothing is there, makes a directory with them. Returns
-/// false, and leaves the view as it was, if the change is refused. Fails with 75 `Memory` alone; then too the view is as it
-/// was.
+/// Sets the mode and the owner of the directory at a spot, or makes a directory with them if nothing is there. Returns false,
+/// and leaves the view as it was, if the change is refused. Fails with 75 `Memory` alone; then too the view is as it was.
 pub fn put_dir(alloc: Global, view: &mut View, spot: &Spot, meta: Meta) -> Result<bool, Memory>
     requires { spot.now.mount < length view.old }
     ensures { Does result (with_dir view.old spot.now meta) view.old view.new }

@@ -2,7 +2,7 @@
 //!
 //! Types: `ActFault` (51 with the fault of a tree, 52 a bad pattern, 53 `Memory`).
 //! Promise: `act` returns exactly the tree after the action, as the definitions say, or the first fault; the base is borrowed, so it stays as
-//! it was. Law: `copies_one` says where each entry of a copied source is.
+//! it was. Law: `copies_one` says where each entry of a copied source is after the copy.
 //!
 //! A caller:
 //!

@@ -35,7 +35,7 @@ pub record IsFront (bytes : List ℕ) (t : TreeMap) (rest : List ℕ) : Type 0 w
   pub tree : IsTree t
   pub text : bytes ≡ tree_text t ++ rest
 
--- ---- checks without allocating: to check a line, the code needs only the path of the line before it, and whether that is a directory
+-- ---- checks without allocating: to check a line, the code needs only the path of the line before it, and whether that line's entry is a directory
 
 -- whether an entry is a directory
 abbrev pub is_dir : Entry → Bool
@@ -50,8 +50,8 @@ rank b = if b == 47 then 0 else b
 abbrev pub trail_cmp : List ℕ → List ℕ → Ordering
 trail_cmp p q = slice_cmp nat_cmp (map rank p) (map rank q)
 
--- The text of the last entry's path begins with some text, and the bytes given here follow: whether that text is the path of a directory. If no bytes
--- follow, it is the last entry's path, and `dir` says whether the last entry is a directory; else the bytes have to begin with a slash.
+-- Let the text of the last entry's path be a text A and then the given bytes: whether A is the path of a directory. If no bytes are given, A is the path of
+-- the last entry, and `dir` says whether that entry is a directory; else the bytes have to begin with a slash.
 abbrev pub opens : List ℕ → Bool → Bool
 opens [] dir = dir
 opens (b ∷ later) dir = b == 47
