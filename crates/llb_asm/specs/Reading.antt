@@ -229,7 +229,7 @@ IsRefusedIn earlier items line e =
     ((line ≡ closing) × IsWhole items × (entry_in earlier (records_of items) ≡ Err e))
     ⊎ ((line ≢ closing) × (item_at (labels_of earlier) (at_hand (outermost earlier) items) line ≡ Err e))
 
--- A line after these entries is refused with e; the last of them may be an op that is not closed.
+-- A line after these entries is refused with e; the last entry may be an op that is not closed.
 abbrev pub IsRefused : List (List ℕ) → Entries → List ℕ → Refusal → Type 0
 IsRefused earlier none line e = begun_in earlier line ≡ Err e
 IsRefused earlier (raw l bytes rest) line e = IsRefused (earlier ++ bytes ∷ []) rest line e
@@ -261,7 +261,7 @@ pub record EndsOpen (lines : List Line) (n : ℕ) : Type 0 where
 abbrev pub FaultAt : List Line → ℕ → Refusal → Type 0
 FaultAt lines n e = StopsAt lines n e ⊎ (EndsOpen lines n × (e ≡ Breaks Unclosed))
 
--- what assembling a text returns: its entries, the fault of the first line that is refused, or the fault for refused memory
+-- what assembling a text returns: the entries, or the fault of the first line that is refused, or the fault for refused memory
 abbrev pub Assembles : List ℕ → Result (List (List ℕ)) AsmFault → Type 0
 Assembles text (Ok entries) = SpellsEntries (kept text) entries
 Assembles text (Err (fault.Line n rule)) = FaultAt (kept text) n (Breaks rule)

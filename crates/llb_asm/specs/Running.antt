@@ -57,7 +57,7 @@ with_held s next (Opens number sub) = record { here = inside sub; bytes = []; be
 abbrev pub with_item : OpenOp → Item → OpenOp
 with_item s i = with_held s i.next i.held
 
--- what the end of the current message leaves: the records of the whole op, or an op that is still open, whose current message is the one around the ended one
+-- what the end of the current message leaves: the records of the op, if the op is whole; else the open op, in which the next message outward is current
 pub data Ending : Type 0 where
   whole : List ℕ → Ending
   still : OpenOp → Ending
@@ -91,7 +91,7 @@ between earlier = record { earlier = earlier; current = None }
 abbrev pub amid : List (List ℕ) → OpenOp → Progress
 amid earlier s = record { earlier = earlier; current = Some s }
 
--- the progress after the line that begins an entry: a raw entry is whole, and an op is open, at its start
+-- the progress after the line that begins an entry: a raw entry is whole after this line; an op is open after it, and has no items yet
 abbrev pub with_begun : List (List ℕ) → Begun → Progress
 with_begun earlier (Raw bytes) = between (earlier ++ bytes ∷ [])
 with_begun earlier Structured = amid earlier at_front
@@ -116,7 +116,7 @@ step_in earlier s line =
     if is_text line closing then closed_on earlier s.bytes s.below
     else (item_at (labels_of earlier) (hand_of (is_within earlier) s) line >>= λ i. Ok (amid earlier (with_item s i)))
 
--- the progress after a line, or why the line is refused; the line begins an entry if no op is open, and else is a line inside the open op
+-- the progress after a line, or why the line is refused; if no op is open, the line begins an entry; else it is a line inside the open op
 abbrev pub step_on : List (List ℕ) → Option OpenOp → List ℕ → Result Progress Refusal
 step_on earlier None line = begun_in earlier line >>= λ b. Ok (with_begun earlier b)
 step_on earlier (Some s) line = step_in earlier s line
@@ -130,7 +130,7 @@ abbrev pub finish : ℕ → List (List ℕ) → Option OpenOp → Result (List (
 finish n earlier None = Ok earlier
 finish n earlier (Some s) = Err (n, Breaks Unclosed)
 
--- the final result, from the result of line n: the result of the lines after it, or the refusal of line n
+-- the final result, given the progress after line n or its refusal: what `go` makes of the progress, or the refusal with the number n
 abbrev pub next : ℕ → (Progress → Result (List (List ℕ)) (ℕ × Refusal)) → Result Progress Refusal → Result (List (List ℕ)) (ℕ × Refusal)
 next n go (Ok p) = go p
 next n go (Err e) = Err (n, e)

@@ -42,7 +42,7 @@ fn begun_by(alloc: Global, line: &[u8]) -> Result<Result<Begun, Refusal>, Memory
     }
 }
 
-/// Returns what a line begins, or why the line is refused: it can't be read, or its entry would be past a limit.
+/// Returns what a line begins, or why the line is refused: it begins no entry, or the entry would be past a limit.
 #[tactic(auto, unfolding(crate::specs::Reading::begun_in))]
 pub(crate) fn begun_in(
     alloc: Global,
