@@ -1,4 +1,4 @@
--- Which words are which command: an applet's name, and then words in one of the applet's forms.
+-- The command that the words of a call make: the first word is an applet's name, and the others are in one of the applet's forms.
 use Rattle.std.specs.Prelude.{◌≡◌, ℕ, true, false, if◌then◌else◌, List, [], ◌∷◌, length, drop, Option, Some, None, option_map}
 use Rattle.std.specs.Prelude.{option_and_then, Result, Err, codes, slice_index_or}
 use Rattle.std.specs.Option.{ok_or, option_or}
@@ -17,13 +17,13 @@ use Rattle.llb_tree.specs.Modes.{mode_of}
 abbrev Word : Type 0
 Word = List ℕ
 
--- the word of a list that has exactly one; nothing for any other list
+-- the word of a list that has exactly one word; nothing for any other list
 abbrev pub alone : List Word → Option Word
 alone [] = None
 alone (a ∷ []) = Some a
 alone (a ∷ b ∷ ws) = None
 
--- the words of a list that has exactly two; nothing for any other list
+-- the words of a list that has exactly two words; nothing for any other list
 abbrev pub pair : List Word → Option (Word × Word)
 pair [] = None
 pair (a ∷ []) = None
@@ -35,11 +35,11 @@ abbrev pub no_words : List Word → Command → Option Command
 no_words [] c = Some c
 no_words (w ∷ ws) c = None
 
--- a command with one word, if there is exactly one
+-- the command that f makes of a word, if the list has exactly one word
 abbrev pub one_word : List Word → (Word → Command) → Option Command
 one_word ws f = option_map f (alone ws)
 
--- a command with two words, if there are exactly two
+-- the command that f makes of two words, if the list has exactly two words
 abbrev pub two_words : List Word → (Word → Word → Option Command) → Option Command
 two_words ws f = option_and_then (λ p. f p.0 p.1) (pair ws)
 
@@ -73,12 +73,12 @@ form Listing ws = two_words ws (λ path out. Some (command.Listing path out))
 form Envfile ws = one_word ws (λ out. command.Envfile out)
 form Sha256 ws = two_words ws (λ path out. Some (command.Sha256 path out))
 
--- the list has `count` words, and `word` is the first one, or empty if there is none
+-- the list has `count` words, and `word` is its first word, or is empty if the list is empty
 pub record IsFront (words : List Word) (count : ℕ) (word : Word) : Type 0 where
   pub counted : count ≡ length words
   pub first : word ≡ slice_index_or words 0 []
 
--- the command of a call, given the applet that its first word names; a fault if it names none, or if the other words are in none of the applet's forms
+-- the command of a call, given the applet that the first word names; a fault if the word names no applet, or if the other words are in none of its forms
 abbrev pub command_by : ℕ → List Word → Option Applet → Result Command ScriptFault
 command_by number call None = Err (NoApplet (slice_index_or call 0 []))
 command_by number call (Some applet) = ok_or (form applet (drop 1 call)) (Usage number)

@@ -24,7 +24,7 @@ settled (Err tree.Conflict) = Ok false
 settled (Err tree.Root) = Ok false
 settled (Err tree.BadName) = Ok false
 
--- the change is done, and `outcome` is the view after it; or it is refused (`outcome` is nothing) or fails for want of memory, and the view is unchanged
+-- the change is done, and `outcome` is the new view; or the change is refused (`outcome` is nothing) or fails for want of memory, and the view is unchanged
 abbrev pub Does : Result Bool Memory → Option Mounts → Mounts → Mounts → Type 0
 Does (Ok true) outcome old new = outcome ≡ Some new
 Does (Ok false) outcome old new = (outcome ≡ None) × (new ≡ old)

@@ -22,7 +22,7 @@ infixl 10 ◌>>=◌
 abbrev pub ◌>>=◌ : {A B : Type 0} → Option A → (A → Option B) → Option B
 o >>= f = option_and_then f o
 
--- the path that a word reads as, from the cwd
+-- the path that a word is read as, from the cwd; nothing if the word is no path
 abbrev pub path_by : Setting → List ℕ → Option (List (List ℕ))
 path_by setting word = result_ok (path_from setting.cwd word)
 
@@ -55,7 +55,7 @@ writes setting view word content = spot_by setting view word >>= λ spot. writte
 abbrev pub line : List ℕ → List ℕ
 line word = word ++ 10 ∷ []
 
--- the view after a line is appended to a file, or written to a new one
+-- the view after a word and a line end are appended to the file at a spot, or written to a new file there
 abbrev pub appended : Mounts → Spot → List ℕ → Option Mounts
 appended view spot word = written view spot (unwrap_or (option_map (λ f. f.1) (file_in (entry_at view spot))) [] ++ line word)
 
@@ -63,7 +63,7 @@ appended view spot word = written view spot (unwrap_or (option_map (λ f. f.1) (
 abbrev pub last_name : List (List ℕ) → Option (List ℕ)
 last_name path = slice_get path (length path - 1)
 
--- the spot to which a file is copied: the path, or, if a directory is there, the source's last name in that directory
+-- the spot to which a file is copied: the spot of the path; or, if a directory is there, the spot of the source's last name in that directory
 abbrev pub target_of : Mounts → List (List ℕ) → List (List ℕ) → Option Spot
 target_of view source path =
     spot_of view path >>= λ spot.
@@ -79,24 +79,24 @@ copied setting view from to =
     target_of view source path >>= λ target.
     with_file view target file.0 file.1
 
--- the contents of these files, one after another
+-- the joined contents of the files that these words name; nothing if one of the words names no file
 abbrev pub joined : Setting → Mounts → List (List ℕ) → Option (List ℕ)
 joined setting view [] = Some []
 joined setting view (word ∷ words) = file_by setting view word >>= λ file. joined setting view words >>= λ more. Some (file.1 ++ more)
 
--- the view after the mode of the entry at a spot is changed; its owner and content stay
+-- the view after the mode of the entry at a spot is changed, but not the entry's owner and content; nothing if there is no entry
 abbrev pub with_mode : Mounts → Spot → ℕ → Option Entry → Option Mounts
 with_mode view spot mode None = None
 with_mode view spot mode (Some (tree.Dir m)) = with_dir view spot (record m { mode = mode })
 with_mode view spot mode (Some (tree.File m content)) = with_file view spot (record m { mode = mode }) content
 
--- whether the entry at a spot is what `test` asks for
+-- whether the entry at a spot is of the kind for which `test` asks
 abbrev pub is_kind : Kind → Option Entry → Bool
 is_kind Something e = is_some e
 is_kind File e = is_some (file_in e)
 is_kind Dir e = is_dir e
 
--- the line for a name in a directory: the name, `/` after it if it is a directory's, and a line end
+-- the line for a name in the directory at path p: the name, then `/` if it is the name of a directory, and a line end
 abbrev pub line_of : TreeMap → List (List ℕ) → List ℕ → List ℕ
 line_of t p name = name ++ (if is_dir (finite.get t (p ++ name ∷ [])) then codes "/" else []) ++ 10 ∷ []
 
@@ -128,11 +128,11 @@ run setting view (command.Listing path out) = listing_by setting view path >>= w
 run setting view (command.Envfile out) = writes setting view out (flat_map line setting.env)
 run setting view (command.Sha256 path out) = file_by setting view path >>= λ file. writes setting view out (line (digits_of file.1))
 
--- the status of a command: 0 if there is a view after it, 1 if it fails
+-- the status of a command with this outcome: 0 if the outcome is a view, 1 if it is nothing
 abbrev pub status_of : Option Mounts → ℕ
 status_of (Some view) = 0
 status_of None = 1
 
--- the view after a command: unchanged if it fails
+-- the view that a command with this outcome leaves: the outcome, or the unchanged view if the outcome is nothing
 abbrev pub left : Mounts → Option Mounts → Mounts
 left view outcome = unwrap_or outcome view

@@ -1,5 +1,5 @@
--- What holds for a text without a bad position: its calls are valid, and the text as which these calls are written is read as the same
--- commands. And what the calls of a text are if every separator is `&&`.
+-- Two facts about texts. If a text has no bad position, its calls are valid, and the text that is written for these calls is read as the same
+-- commands. If every separator of a text is `&&`, its calls are the lists of words between the separators.
 use Rattle.std.specs.Prelude.{◌≡◌, ℕ, ◌==◌, Bool, true, false, ◌&&◌, ◌||◌, not, IsTrue, List, [], ◌∷◌, ◌++◌, length, map, codes}
 use Rattle.std.specs.List.{list_all, join_with_byte, slice_split}
 use Rattle.llb_applet.specs.declared.join.Join.{Join}
@@ -36,7 +36,7 @@ with_separators (call ∷ calls) = call.words ++ after_separators calls
 abbrev pub text_of : List Call → List ℕ
 text_of calls = join_with_byte 32 (with_separators calls)
 
--- each call of the text is valid by `is_call`, and the text as which these calls are written is read as the same commands
+-- each call of the text is valid (`is_call`), and the text that is written for these calls is read as the same commands
 pub record IsShellText (text : List ℕ) : Type 0 where
   pub calls : IsTrue (list_all is_call (calls_of text))
   pub again : commands_in (text_of (calls_of text)) ≡ commands_in text
@@ -53,13 +53,13 @@ texts_of text = map (λ w. w.bytes) (words_of text)
 abbrev pub only_ands : List (List ℕ) → Bool
 only_ands words = list_all (λ w. not (is_separator w) || is_and w) words
 
--- whether a call with this join runs whatever the last status is: the first call, or one after `;`
+-- whether a call with this join runs whatever the last status is, as the first call does, and each call after `;`
 abbrev pub follows_all : Join → Bool
 follows_all Then = true
 follows_all And = false
 follows_all Or = false
 
--- whether a call with this join runs only if the last status is 0: one after `&&`
+-- whether a call with this join runs only if the last status is 0, as each call after `&&` does
 abbrev pub follows_success : Join → Bool
 follows_success And = true
 follows_success Then = false
@@ -70,7 +70,7 @@ abbrev pub joined_by_ands : List Call → Bool
 joined_by_ands [] = true
 joined_by_ands (call ∷ calls) = follows_all call.join && list_all (λ (c : Call). follows_success c.join) calls
 
--- the calls of the text are the lists of words between its words `&&`, and are joined as `joined_by_ands` says
+-- the calls of the text are the lists of words between its words `&&`, and each call but the first is joined by `And`
 pub record IsSplitAtAnds (text : List ℕ) : Type 0 where
   pub calls : map (λ (c : Call). c.words) (calls_of text) ≡ slice_split is_and (texts_of text)
   pub joins : joined_by_ands (calls_of text) ≡ true

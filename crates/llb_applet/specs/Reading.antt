@@ -11,7 +11,7 @@ use Rattle.llb_applet.specs.Words.{calls_from}
 use Rattle.llb_applet.specs.Calls.{command_of}
 use Rattle.llb_applet.specs.Scripts.{joined, commands_of}
 
--- the text between two spaces as a word; none if it is empty
+-- a list with the text between two spaces as its one word; the empty list if that text is empty
 abbrev pub some_word : List ℕ → List (List ℕ)
 some_word part = if length part == 0 then [] else part ∷ []
 
@@ -43,22 +43,22 @@ pub record IsBegun (call : List (List ℕ)) (begun : Begun) : Type 0 where
   pub named : begun.name.now ≡ slice_index_or call 0 []
   pub option : begun.first.now ≡ slice_index_or call 1 []
 
--- the first fault of the call with this number and of those after it, given the remaining words; the call's join makes no difference
+-- success, or the first fault of the current call and the calls after it, given this call's number and words and the words that remain; joins do not matter
 abbrev pub judged : ℕ → List (List ℕ) → List (List ℕ) → Result (Unit {0}) ScriptFault
 judged number call words = verdict (commands_of number (calls_from words Then call))
 
--- the fault `e` is the fault of the rule; or `e` is `Memory`, and the fault of the rule has a text in it
+-- the fault `e` is the rule's fault; or `e` is `Memory`, and the rule's fault is one that has a text in it
 pub record Refuses (e : ScriptFault) (rule : Result (Unit {0}) ScriptFault) : Type 0 where
   pub known : is_memory e ≡ false → rule ≡ Err e
   pub last : is_memory e ≡ true → names_word rule ≡ true
 
--- the check of one more part succeeds, and leaves the first fault of the text as it was; or it fails as `Refuses` says of this first fault
+-- the check of one more part succeeds, and the first fault of the text is what it was; or it fails with this first fault, or with `Memory` (see `Refuses`)
 abbrev pub Judges : Result (Unit {0}) ScriptFault → List ℕ → List (List ℕ) → Begun → Begun → Type 0
 Judges (Ok _) part call old new = (next : List (List ℕ)) × IsBegun next new
     × ((rest : List (List ℕ)) → judged old.number call (some_word part ++ rest) ≡ judged new.number next rest)
 Judges (Err e) part call old new = (rest : List (List ℕ)) → Refuses e (judged old.number call (some_word part ++ rest))
 
--- the check of a whole call: the call makes a command; or the check fails as `Refuses` says of the fault of the call
+-- the check of a whole call succeeds, and the call makes a command; or the check fails with the call's fault, or with `Memory` (see `Refuses`)
 abbrev pub JudgesCall : Result (Unit {0}) ScriptFault → ℕ → List (List ℕ) → Type 0
 JudgesCall (Ok _) number call = verdict (command_of number call) ≡ Ok tt
 JudgesCall (Err e) number call = Refuses e (verdict (command_of number call))

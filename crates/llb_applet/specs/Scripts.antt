@@ -1,4 +1,4 @@
--- The script that arguments are read as: the commands of the text after `/bin/sh -c`, or else one call.
+-- The script that arguments are read as: the commands of the text after `/bin/sh -c`, or else the command of one call.
 use Rattle.std.specs.Prelude.{◌≡◌, ℕ, ◌+◌, ◌==◌, Bool, ◌&&◌, if◌then◌else◌, List, [], ◌∷◌, length, slice_index_or, Option, Some, None, Result, Ok, Err, codes}
 use Rattle.llb_wire.specs.Answer.{◌>>=◌}
 use Rattle.llb_applet.specs.declared.fault.ScriptFault.{ScriptFault}
@@ -38,7 +38,7 @@ is_shell args = (length args == 3) && spells (codes "/bin/sh") (slice_index_or a
 abbrev pub script_of : List (List ℕ) → Result (List Joined) ScriptFault
 script_of args = if is_shell args then commands_in (slice_index_or args 2 []) else commands_of 0 (first_call args ∷ [])
 
--- there is a first command, and it always runs
+-- the list has a first command, and that command always runs
 abbrev pub BeginsWithThen : List Joined → Type 0
 BeginsWithThen [] = ⊥
 BeginsWithThen (first ∷ commands) = first.join ≡ Then

@@ -1,4 +1,4 @@
--- The spot that a path names on a view, and the changes of a view there. A view is the list of its mounts; a refused change results in nothing.
+-- The spot that a path names on a view, and the changes of a view at a spot. A view is the list of its mounts; the result of a refused change is nothing.
 use Rattle.std.specs.Prelude.{◌≡◌, ℕ, ◌<◌, ◌≤◌, ◌==◌, nat_lt, Bool, true, false, ◌||◌, ◌&&◌, not, if◌then◌else◌, List, [], ◌∷◌, ◌++◌}
 use Rattle.std.specs.Prelude.{length, drop, Option, Some, None, is_some, Result, Ok, Err}
 use Rattle.std.specs.FinMap as finite
@@ -15,8 +15,8 @@ use Rattle.llb_applet.specs.declared.spot.Spot.{Spot}
 abbrev pub Mounts : Type 0
 Mounts = List Shown
 
--- the spot that a path names: the mount that the path leads to, and in its tree the mount's selector followed by the rest of the path; nothing
--- if this path in the tree has more names than a path can have
+-- the spot that a path names: the mount that the path leads to, and a path in this mount's tree, which is the selector and then the names after the dest;
+-- nothing if the path in the tree has more than 128 names
 abbrev pub spot_of : Mounts → List (List ℕ) → Option Spot
 spot_of view path =
     let to = route view path in
@@ -53,13 +53,13 @@ abbrev pub with_change : Mounts → ℕ → Result TreeMap TreeFault → Option 
 with_change view mount (Ok t) = if (mount_at view mount).readonly then None else Some (with_tree_of view mount t)
 with_change view mount (Err e) = None
 
--- the view after a file is put at a spot; nothing if this is refused, or if the spot is the one that a dest names and has no entry
+-- the view after a file is put at a spot; nothing if the change is refused, or if the spot is a mount's dest and there is no entry at it
 abbrev pub with_file : Mounts → Spot → MetaValue → List ℕ → Option Mounts
 with_file view spot meta content =
     if is_dest spot && not (is_some (entry_at view spot)) then None
     else with_change view spot.mount (put_file (tree_at view spot) spot.place meta content)
 
--- the view after a directory with this mode and owner is put at a spot
+-- the view after a directory with this mode and owner is put at a spot; nothing if the change is refused
 abbrev pub with_dir : Mounts → Spot → MetaValue → Option Mounts
 with_dir view spot meta = with_change view spot.mount (put_dir (tree_at view spot) spot.place meta)
 
@@ -67,16 +67,16 @@ with_dir view spot meta = with_change view spot.mount (put_dir (tree_at view spo
 abbrev pub without_spot : Mounts → Spot → Option Mounts
 without_spot view spot = if is_dest spot then None else with_change view spot.mount (remove (tree_at view spot) spot.place)
 
--- the view after a new directory is made at a spot that is below the dest and has no entry; nothing for any other spot
+-- the view after a new directory is made at a spot; nothing if the spot is a mount's dest, if there is an entry at it, or if the change is refused
 abbrev pub with_new_dir : Mounts → Spot → Option Mounts
 with_new_dir view spot = if is_dest spot || is_some (entry_at view spot) then
     None else with_change view spot.mount (put_dir (tree_at view spot) spot.place new_dir_meta)
 
--- the tree after a directory is made at a path, unless there is one already; or the fault
+-- the tree after a directory is made at a path, unless a directory is already there; or the fault
 abbrev pub dir_at : TreeMap → List (List ℕ) → Result TreeMap TreeFault
 dir_at t p = if is_dir (finite.get t p) then Ok t else put_dir t p new_dir_meta
 
--- the tree after each missing directory is made on the way from path p down along these names; or the fault
+-- the tree after a directory is made for each name, the first in p, each other one in the directory before it, unless a directory is there; or the fault
 abbrev pub dirs_below : TreeMap → List (List ℕ) → List (List ℕ) → Result TreeMap TreeFault
 dirs_below t p [] = Ok t
 dirs_below t p (n ∷ ns) = answer.◌>>=◌ (dir_at t (p ++ n ∷ [])) (λ next. dirs_below next (p ++ n ∷ []) ns)
@@ -85,7 +85,7 @@ dirs_below t p (n ∷ ns) = answer.◌>>=◌ (dir_at t (p ++ n ∷ [])) (λ next
 abbrev pub put_then_below : TreeMap → List (List ℕ) → List (List ℕ) → Result TreeMap TreeFault
 put_then_below t p ns = answer.◌>>=◌ (put_dir t p new_dir_meta) (λ next. dirs_below next p ns)
 
--- the view after a directory is made at a spot, unless there is one already; each of its parents below the dest that is missing is made too
+-- the view after a directory is made at a spot, with its missing parents below the dest, unless a directory is already there; nothing if the change is refused
 abbrev pub with_dirs : Mounts → Spot → Option Mounts
 with_dirs view spot =
     if is_dir (entry_at view spot) then Some view

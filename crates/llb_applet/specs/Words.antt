@@ -13,11 +13,11 @@ pub record Word : Type 0 where
   pub place : ℕ
   pub bytes : List ℕ
 
--- the parts of a text between its spaces, some of them empty
+-- the parts of a text between its spaces; some parts may be empty
 abbrev pub parts_of : List ℕ → List (List ℕ)
 parts_of = slice_split (λ b. b == 32)
 
--- parts with one byte between each two, each with the position of its first byte; the first part is at `at`
+-- the parts of a text with one byte between each two parts, each with the position of its first byte; the first part is at position `at`
 abbrev pub placed : ℕ → List (List ℕ) → List Word
 placed at [] = []
 placed at (part ∷ parts) = record { place = at; bytes = part } ∷ placed (at + length part + 1) parts
@@ -52,7 +52,7 @@ is_word_byte b =
 abbrev pub bad_in : Bool → List ℕ → Option ℕ
 bad_in called word = if is_separator word then (if called then None else Some 0) else position (λ b. not (is_word_byte b)) word
 
--- whether the last word belongs to a call after one more part: a separator does not, any other word does, and an empty part leaves it as it was (`called`)
+-- whether the last word after one more part belongs to a call: a separator does not; any other word does; an empty part is no word, so it leaves `called`
 abbrev pub called_after : Bool → List ℕ → Bool
 called_after called part = if length part == 0 then called else not (is_separator part)
 
@@ -79,12 +79,12 @@ call_by join words = record { join = join; words = words }
 abbrev pub first_call : List (List ℕ) → Call
 first_call words = call_by Then words
 
--- the current call and those after it, given the next word: a separator ends the current call and begins the next, any other word is added to it
+-- the current call and the later ones, given the next word: a separator ends the current call and begins a new one; any other word is added to the current call
 abbrev pub at_word : Join → List (List ℕ) → List ℕ → Option Join → (Join → List (List ℕ) → List Call) → List Call
 at_word join call word (Some next) rest = call_by join call ∷ rest next []
 at_word join call word None rest = rest join (call ++ word ∷ [])
 
--- the calls of these words, given the join and the words of the current call so far
+-- the current call and the calls after it, given the current call's join, its words so far, and the words that remain
 abbrev pub calls_from : List (List ℕ) → Join → List (List ℕ) → List Call
 calls_from [] join call = call_by join call ∷ []
 calls_from (word ∷ words) join call = at_word join call word (join_of word) (λ next begun. calls_from words next begun)

@@ -1,5 +1,5 @@
-//! Checks the calls of a text without making commands: for a call it is enough to know how many words it has, and the first
-//! two.
+//! Checks the calls of a text without making commands. To check a call it is enough to know how many words it has, and its
+//! first two words.
 
 ghost use Rattle.std.specs.Prelude.{◌≡◌, ◌+◌, ◌≤◌, ◌<◌, ◌^◌, ◌++◌, ◌∷◌, [], List, ℕ};
 ghost use Rattle.llb_applet.specs.Faults.{Gives, MemoryLast};
@@ -14,7 +14,7 @@ use crate::words::is_separator;
 use llb_wire::Text;
 use std::alloc::Global;
 
-/// The current call so far: its number, how many words it has, and the first two.
+/// The current call so far: its number, how many words it has, and its first two words.
 #[derive(Drop)]
 pub struct Begun<'a> {
     pub number: usize,
@@ -80,8 +80,8 @@ impl<'a> Begun<'a> {
     }
 }
 
-/// Checks the calls of a text. Fails with 71 `NoApplet` or 72 `Usage` of the first call that makes no command, and with 74 `Memory` only in
-/// place of 71.
+/// Checks the calls of a text. Fails with the fault of the first call that makes no command, 71 `NoApplet` or 72 `Usage`; fails with 74
+/// `Memory` only in place of 71.
 pub fn judge_text(alloc: Global, text: &str) -> Result<(), ScriptFault>
     ensures gives { Gives (λ _. tt) result (verdict (commands_of 0 (calls_of text.now))) }
     ensures last { MemoryLast result (verdict (commands_of 0 (calls_of text.now))) }

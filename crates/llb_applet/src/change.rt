@@ -26,7 +26,7 @@ fn put_aside(alloc: Global, view: &mut View, mount: u32) -> Result<Option<Tree>,
     Ok(Some(view.swap_tree(mount, empty)))
 }
 
-// Returns whether a change is done; any fault of the tree but want of memory means that it is refused.
+// Returns whether a change is done; any fault of the tree but `Memory` means that the change is refused.
 fn settled(change: Result<(), TreeFault>) -> Result<bool, Memory>
     ensures { result ≡ settled change }
 {
@@ -42,8 +42,8 @@ fn settled(change: Result<(), TreeFault>) -> Result<bool, Memory>
     }
 }
 
-/// Puts a file at a spot; at a dest it only replaces an entry that is there. Returns false, and leaves the view as it
-/// was, if that is refused. Fails with 75 `Memory` alone; then too the view is as it was.
+/// Puts a file at a spot; if the spot is a mount's dest, only in place of an entry that is there. Returns false, and leaves
+/// the view as it was, if the change is refused. Fails with 75 `Memory` alone; then too the view is as it was.
 pub fn put_file(
     alloc: Global,
     view: &mut View,
@@ -62,7 +62,7 @@ pub fn put_file(
     put_there(alloc, view, spot, meta, content)
 }
 
-// Puts a file at a spot, whether or not that is the dest of a mount.
+// Puts a file at a spot, even at the dest of a mount.
 fn put_there(
     alloc: Global,
     view: &mut View,
@@ -83,8 +83,8 @@ fn put_there(
     }
 }
 
-/// Puts a file at a spot, as `put_file` does, with a content that another file has, which is shared and not copied.
-/// Fails as `put_file` does.
+/// Puts a file at a spot, as `put_file` does, with the content of another file. The two files then share the content in
+/// memory. Fails as `put_file` does.
 pub fn put_shared(
     alloc: Global,
     view: &mut View,
@@ -103,7 +103,7 @@ pub fn put_shared(
     share_there(alloc, view, spot, meta, content)
 }
 
-// Puts a file with a content that another file has at a spot, also at a dest.
+// Puts a file with the content of another file at a spot, even at the dest of a mount.
 fn share_there(
     alloc: Global,
     view: &mut View,
@@ -124,8 +124,8 @@ fn share_there(
     }
 }
 
-/// Sets the mode and the owner of the directory at a spot, or makes one in its parent. Returns false, and leaves the
-/// view as it was, if that is refused. Fails with 75 `Memory` alone; then too the view is as it was.
+/// Sets the mode and the owner of the directory at a spot, or makes a directory with them if nothing is there. Returns false,
+/// and leaves the view as it was, if the change is refused. Fails with 75 `Memory` alone; then too the view is as it was.
 pub fn put_dir(alloc: Global, view: &mut View, spot: &Spot, meta: Meta) -> Result<bool, Memory>
     requires { spot.now.mount < length view.old }
     ensures { Does result (with_dir view.old spot.now meta) view.old view.new }
@@ -140,8 +140,8 @@ pub fn put_dir(alloc: Global, view: &mut View, spot: &Spot, meta: Meta) -> Resul
     }
 }
 
-/// Removes what is at and below a spot. Returns false, and leaves the view as it was, if that is refused; at a dest it is always refused. Fails with 75
-/// `Memory` alone; then too the view is as it was.
+/// Removes what is at and below a spot. Returns false, and leaves the view as it was, if the removal is refused, as it always is at a mount's dest. Fails with
+/// 75 `Memory` alone; then too the view is as it was.
 pub fn remove(alloc: Global, view: &mut View, spot: &Spot) -> Result<bool, Memory>
     requires { spot.now.mount < length view.old }
     ensures { Does result (without_spot view.old spot.now) view.old view.new }
@@ -159,8 +159,8 @@ pub fn remove(alloc: Global, view: &mut View, spot: &Spot) -> Result<bool, Memor
     }
 }
 
-/// Makes a directory at a spot below the dest. Returns false, and leaves the view as it was, if there is an entry or it
-/// is refused otherwise. Fails with 75 `Memory` alone; then too the view is as it was.
+/// Makes a directory at a spot. Returns false, and leaves the view as it was, if the spot is a mount's dest, if there is an
+/// entry at it, or if the change is refused. Fails with 75 `Memory` alone; then too the view is as it was.
 pub fn make_dir(alloc: Global, view: &mut View, spot: &Spot) -> Result<bool, Memory>
     requires { spot.now.mount < length view.old }
     ensures { Does result (with_new_dir view.old spot.now) view.old view.new }
@@ -174,8 +174,8 @@ pub fn make_dir(alloc: Global, view: &mut View, spot: &Spot) -> Result<bool, Mem
     put_dir(alloc, view, spot, Meta::new_dir())
 }
 
-/// Makes a directory and its missing parents below the dest, if it is not there. Returns false, and leaves the view as
-/// it was, if that is refused. Fails with 75 `Memory` alone; then too the view is as it was.
+/// Makes a directory at a spot, and its missing parents below the dest, unless a directory is already there. Returns false,
+/// and leaves the view as it was, if the change is refused. Fails with 75 `Memory` alone; then too the view is as it was.
 pub fn make_dirs(alloc: Global, view: &mut View, spot: &Spot) -> Result<bool, Memory>
     requires { IsSpot view.old spot.now }
     ensures { Does result (with_dirs view.old spot.now) view.old view.new }
@@ -198,7 +198,8 @@ pub fn make_dirs(alloc: Global, view: &mut View, spot: &Spot) -> Result<bool, Me
     }
 }
 
-// Makes a directory for each of the names, each in the directory of the name before it, if it is not there. After a refusal the tree is unchanged.
+// Makes a directory for each of the names, the first one in `at` and each other one in the directory before it, unless a directory is already there. After a
+// fault the tree is unchanged.
 fn dirs_below(alloc: Global, tree: &mut Tree, at: &Path, names: &[Name]) -> Result<(), TreeFault>
     requires { length at.now + length names.now ≤ 128 }
     ensures gives { Gives (λ _. tree.new) result (dirs_below tree.old at.now names.now) }
@@ -217,8 +218,8 @@ fn dirs_below(alloc: Global, tree: &mut Tree, at: &Path, names: &[Name]) -> Resu
     }
 }
 
-// Makes a directory at a path that has none, and below it one for each of the names, in one edit. After a refusal the
-// tree is unchanged.
+// Makes a directory at a path at which there is none; and below that directory, one for each of the names, each in the
+// directory before it. This is one edit; after a fault the tree is unchanged.
 fn put_dirs(alloc: Global, tree: &mut Tree, path: &Path, names: &[Name]) -> Result<(), TreeFault>
     requires short { length path.now + length names.now ≤ 128 }
     requires missing { is_dir (finite.get tree.old path.now) ≡ false }
@@ -246,7 +247,7 @@ fn chain(alloc: Global, names: &[Name]) -> Result<Tree, AllocError>
     }
 }
 
-// Makes a directory for each of the names, as `dirs_below` does, but a refusal may leave some of them.
+// Makes a directory for each of the names, as `dirs_below` does, but after a fault some of the directories may be there.
 fn make_below(tree: &mut Tree, at: &Path, names: &[Name]) -> Result<(), TreeFault>
     requires { length at.now + length names.now ≤ 128 }
     ensures { Gives (λ _. tree.new) result (dirs_below tree.old at.now names.now) }

@@ -1,4 +1,4 @@
-//! Commands: calls with an applet that exists and words in one of its forms, so that running a command checks no form again.
+//! Commands. A command is a call whose applet exists and whose words are in one of the applet's forms, so running it checks no form again.
 
 ghost use Rattle.std.specs.Prelude.{◌≡◌, List, ℕ, is_some, Ok};
 ghost use Rattle.llb_applet.specs.declared.applet.Applet.TheVariants.{Mkdir, Concat, Chmod, Test};
@@ -29,7 +29,7 @@ pub enum Command {
     True,
     /// `false`.
     False,
-    /// `mkdir P`, or `mkdir -p P` with its parents.
+    /// `mkdir P`; or `mkdir -p P`, which also makes missing parents.
     Mkdir { parents: bool, path: Text },
     /// `rm P`.
     Rm { path: Text },
@@ -39,7 +39,7 @@ pub enum Command {
     Append { path: Text, word: Text },
     /// `cp A B`.
     Cp { from: Text, to: Text },
-    /// `concat OUT A ..`, with one or more A.
+    /// `concat OUT A ..`, with one or more words A.
     Concat { out: Text, parts: Many<Text> },
     /// `chmod MODE P`.
     Chmod { mode: Mode, path: Text },
@@ -188,7 +188,7 @@ impl Same for Command {
     }
 }
 
-/// Returns the kind that an option of `test` asks for; `None` if it is no option.
+/// Returns the kind that an option of `test` asks for; `None` if the word is no such option.
 fn kind_of(word: &str) -> Option<Kind>
     ensures { result ≡ kind_of word.now }
 {
@@ -204,7 +204,7 @@ fn kind_of(word: &str) -> Option<Kind>
     None
 }
 
-// Returns the word of a list of one word.
+// Returns the word of a list that has exactly one word; `None` for any other list.
 fn alone(words: Vec<Text>) -> Option<Text>
     ensures { result ≡ alone words.items }
 {
@@ -215,7 +215,7 @@ fn alone(words: Vec<Text>) -> Option<Text>
     Some(words.remove(0))
 }
 
-// Returns the words of a list of two words.
+// Returns the words of a list that has exactly two words; `None` for any other list.
 fn pair(words: Vec<Text>) -> Option<(Text, Text)>
     ensures { result ≡ pair words.items }
 {
@@ -227,7 +227,7 @@ fn pair(words: Vec<Text>) -> Option<(Text, Text)>
     Some((first, words.remove(0)))
 }
 
-// Returns the command `mkdir` with these words after it.
+// Returns the command of the call `mkdir` with these words after it; `None` if the words are in neither of its forms.
 fn mkdir_of(words: Vec<Text>) -> Option<Command>
     ensures { result ≡ form Mkdir words.items }
 {
@@ -248,7 +248,7 @@ fn mkdir_of(words: Vec<Text>) -> Option<Command>
     })
 }
 
-// Returns the command `concat` with these words after it.
+// Returns the command of the call `concat` with these words after it; `None` if there are fewer than two.
 fn concat_of(words: Vec<Text>) -> Option<Command>
     ensures { result ≡ form Concat words.items }
 {
@@ -263,7 +263,7 @@ fn concat_of(words: Vec<Text>) -> Option<Command>
     })
 }
 
-// Returns the command `chmod` with these words after it.
+// Returns the command of the call `chmod` with these words after it; `None` if they are not a mode and a path.
 fn chmod_of(words: Vec<Text>) -> Option<Command>
     ensures { result ≡ form Chmod words.items }
 {
@@ -272,7 +272,7 @@ fn chmod_of(words: Vec<Text>) -> Option<Command>
     Some(Command::Chmod { mode, path })
 }
 
-// Returns the command `test` with these words after it.
+// Returns the command of the call `test` with these words after it; `None` if they are not an option and a path.
 fn test_of(words: Vec<Text>) -> Option<Command>
     ensures { result ≡ form Test words.items }
 {
@@ -323,8 +323,8 @@ fn form(applet: Applet, words: Vec<Text>) -> Option<Command>
     }
 }
 
-/// Makes the command of the call of this number. Fails with 71 `NoApplet` if its first word is no applet's name, with 72 `Usage` if the other words fit none of
-/// the applet's forms, or with 74 `Memory`.
+/// Makes the command of the call with this number. Fails with 71 `NoApplet` if its first word is no applet's name, with 72 `Usage` if the other words are in
+/// none of the applet's forms, or with 74 `Memory`.
 pub fn command_of(alloc: Global, number: usize, words: Vec<Text>) -> Result<Command, ScriptFault>
     ensures { Gives (λ c. c) result (command_of number words.items) }
 {

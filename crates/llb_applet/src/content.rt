@@ -63,7 +63,7 @@ fn content_by<'v>(
     }
 }
 
-/// Returns the contents of the files that words name, one after another; `None` if one names no file. Fails with 75 `Memory` alone.
+/// Returns the joined contents of the files that words name; `None` if one of the words names no file. Fails with 75 `Memory` alone.
 pub fn joined(
     alloc: Global,
     words: &[Text],
@@ -82,7 +82,7 @@ pub fn joined(
     Ok(Some(Bytes::new(content)))
 }
 
-// Returns whether a directory's entry of this name is a directory.
+// Returns whether the entry of this name, in the directory at a path, is a directory.
 fn is_dir_below(tree: &Tree, path: &Path, name: &Name) -> Result<bool, Memory>
     ensures { IfOk result (λ yes. yes ≡ is_dir (finite.get tree.now (path.now ++ name.now ∷ []))) }
 {
@@ -121,7 +121,7 @@ fn push_name(content: &mut Vec<u8>, tree: &Tree, path: &Path, name: &Name) -> Re
     Ok(())
 }
 
-/// Returns the lines for the directory that a word names; `None` if it names no directory. Fails with 75 `Memory` alone.
+/// Returns a line for each name in the directory that a word names; `None` if it names no directory. Fails with 75 `Memory` alone.
 pub fn listing_by(
     alloc: Global,
     path: &Text,
@@ -144,7 +144,7 @@ pub fn listing_by(
     }
 }
 
-/// Returns the env entries, each with a line end. Fails with 75 `Memory` alone.
+/// Returns the entries of the setting's environment, each with a line end. Fails with 75 `Memory` alone.
 pub fn envfile(alloc: Global, setting: &Setting) -> Result<Bytes, Memory>
     ensures { IfOk result (λ b. b ≡ flat_map line setting.now.env) }
 {

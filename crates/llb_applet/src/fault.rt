@@ -94,7 +94,7 @@ impl From<llb_wire::Memory> for Memory {
     }
 }
 
-/// A copy of a name, a path or a tree fails only for want of memory.
+/// Any fault of a tree becomes `Memory`: it is one of a copy of a name, a path or a tree, which fails only for want of memory.
 impl From<TreeFault> for Memory {
     fn from(_: TreeFault) -> Memory {
         Memory

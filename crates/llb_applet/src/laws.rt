@@ -1,4 +1,4 @@
-//! What holds for the texts of scripts.
+//! Laws that hold for the texts of all scripts.
 
 ghost use Rattle.std.specs.Prelude.{◌≡◌, None, true};
 ghost use Rattle.llb_applet.specs.Words.{bad_place_of};
@@ -12,8 +12,8 @@ pub fn reads_again(text: &str)
     let _ = text;
 }
 
-/// Proves that if `&&` is the only separator in a text, its calls are what is between the words `&&`, and each call but the first runs only if the last status
-/// is 0.
+/// Proves that if `&&` is the only separator in a text, its calls are the lists of words between the words `&&`, and each call but the first runs only if the
+/// last status is 0.
 pub fn splits_at_ands(text: &str)
     ensures { only_ands (texts_of text.now) ≡ true → IsSplitAtAnds text.now }
 {

@@ -1,7 +1,7 @@
-//! Scripts of thirteen small commands, joined by `;`, `&&` and `||`. A script is read, or refused if one of its calls is no command; then one
-//! command at a time is run on a view. It is built on `llb_mount`; there is no process and no other shell.
+//! Scripts of thirteen small commands, joined by `;`, `&&` and `||`. One call reads a script, or refuses it; another runs one of its commands on
+//! a view. The crate is built on `llb_mount`; there is no process and no other shell.
 //!
-//! Types: `Script` (commands, each with how it is joined to those before it), `Command`, `Setting` (working directory and environment),
+//! Types: `Script` (commands, each with its join to the commands before it), `Command`, `Setting` (working directory and environment),
 //! `ScriptFault` (71 to 74).
 //! Promise: `read_script` (`gives`, `last`) returns the commands of the arguments, or their first fault. `run_command` (`status`, `view`,
 //! `kept`, `err`) changes the view exactly as the definitions say, applet by applet; with a status other than 0 the view is unchanged.

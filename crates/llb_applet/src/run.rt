@@ -74,7 +74,7 @@ fn write_at(alloc: Global, view: &mut View, spot: &Spot, content: Bytes) -> Resu
     put_file(alloc, view, spot, meta, content)
 }
 
-// Writes a file with this content at a path; does nothing if there is no content.
+// Writes a file with this content at a path; if no content is given, returns false and changes nothing.
 fn write_some(
     alloc: Global,
     path: &Text,
@@ -194,7 +194,7 @@ fn chmod_at(alloc: Global, view: &mut View, spot: &Spot, mode: Mode) -> Result<b
     put_shared(alloc, view, spot, meta, content)
 }
 
-// Returns the same owner with another mode.
+// Returns the owner of `meta` with another mode.
 fn with_bits(meta: &Meta, mode: Mode) -> Meta
     ensures { result ≡ record meta.now { mode = mode } }
 {
@@ -229,7 +229,7 @@ fn is_kind(view: &View, spot: &Spot, kind: Kind) -> bool
     }
 }
 
-// Runs a command, and returns whether it is done.
+// Runs a command, and returns whether it is done; if it is not, the view is as it was.
 fn done(
     alloc: Global,
     command: &Command,

@@ -118,7 +118,7 @@ impl Reading {
     }
 }
 
-// Makes the commands of a text.
+// Makes the calls of a text into commands, or fails with the fault of the first call that makes none.
 fn read_text(alloc: Global, text: &str) -> Result<Vec<Joined>, ScriptFault>
     ensures { Gives (λ c. c.items) result (commands_of 0 (calls_of text.now)) }
 {
@@ -206,9 +206,9 @@ fn read_commands(alloc: Global, args: &[Text]) -> Result<Vec<Joined>, ScriptFaul
 /// Reads arguments as a script: `/bin/sh`, `-c` and one text, or else one call, an applet's name and its words. In a text words are between spaces, and a
 /// separator, which is a word `;`, `&&` or `||`, is between two calls; any other word has only ASCII letters and digits, `_ - . / , : + @ % =` and characters
 /// past ASCII. Fails with 73 `ShellSyntax` at the first bad position of the text, in bytes from 0: a byte that no word may have, a separator with no call
-/// before it, or the text's end if the last call is missing. Otherwise fails, for the first such call, with 71 `NoApplet` if its first word is no applet's
-/// name, or with 72 `Usage` if the other words fit none of the applet's forms. Fails with 74 `Memory` if there is no other fault, or in place of 71 if there is
-/// no memory for its text.
+/// before it, or the text's end if the last call is missing. Otherwise fails at the first call that makes no command: with 71 `NoApplet` if its first word is
+/// no applet's name, or with 72 `Usage` if the other words are in none of the applet's forms. Fails with 74 `Memory` only if there is no other fault, or in
+/// place of 71, which needs memory for its word.
 pub fn read_script(alloc: Global, args: &[Text]) -> Result<Script, ScriptFault>
     requires { 0 < length args.now }
     ensures gives { Gives (λ s. s) result (script_of args.now) }

@@ -1,5 +1,5 @@
-//! The spot that a path names on a view: a mount, and a path in its tree. A word that is no path, or whose path in the tree
-//! would have more than 128 names, names no spot.
+//! The spot that a path names on a view: a mount, and a path in the mount's tree. A word names no spot if it is no path, or if
+//! the path in the tree would have more than 128 names.
 
 ghost use Rattle.std.specs.Prelude.{◌≡◌, ◌<◌, ◌++◌, length, IfOk, IfSome, option_map, is_some};
 ghost use Rattle.llb_tree.specs.Tree.{meta_in, is_dir};
@@ -141,8 +141,8 @@ impl Spot {
         }
     }
 
-    /// Returns the content of the file at the spot, which it shares and does not copy; `None` if there is no file. Fails with 75
-    /// `Memory` alone.
+    /// Returns the content of the file at the spot, as a value that shares the file's memory; `None` if there is no file. Fails with
+    /// 75 `Memory` alone.
     pub fn shared(&self, view: &View) -> Result<Option<Content>, Memory>
         requires { self.now.mount < length view.now }
         ensures { IfOk result (λ c. c ≡ option_map (λ f. f.1) (file_in (entry_at view.now self.now))) }

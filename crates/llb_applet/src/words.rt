@@ -40,7 +40,8 @@ pub fn is_separator(word: &str) -> bool
     join_of(word).is_some()
 }
 
-// Returns the index in a word of its first bad byte; `called` says whether the word before it belongs to a call.
+// Returns the index of the first bad byte in a word: 0 in a separator with no call before it; else the first byte that no
+// word may have. `called` says whether the previous word belongs to a call.
 fn bad_in(called: bool, word: &str) -> Option<usize>
     ensures value { result ≡ bad_in called word.now }
     ensures inside { IfSome result (λ k. k < length word.now) }
@@ -51,7 +52,8 @@ fn bad_in(called: bool, word: &str) -> Option<usize>
     word.as_bytes().iter().position(|byte| !is_word_byte(*byte))
 }
 
-// Returns whether a call is begun at the end of this part: the part ends in a word of a call, or the part is empty and a call was begun before it.
+// Returns whether the last word after this part belongs to a call: the part is a word and no separator, or the part is
+// empty and the last word before it belongs to a call (`called`).
 fn called_after(called: bool, part: &str) -> bool
     ensures { result ≡ called_after called part.now }
 {
@@ -61,8 +63,9 @@ fn called_after(called: bool, part: &str) -> bool
     !is_separator(part)
 }
 
-/// Returns the first position, in bytes from 0, at which a text is no list of calls with a separator between each
-/// two; `None` if it is one.
+/// Returns the first bad position of a text, in bytes from 0: a byte that no word may have, a separator with no call
+/// before it, or the text's end if the last call is missing. Returns `None` if the text has no bad position: then it is a
+/// list of calls with a separator between each two calls.
 pub fn bad_place(text: &str) -> Option<usize>
     ensures { result ≡ bad_place_of text.now }
 {

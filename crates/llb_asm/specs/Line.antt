@@ -33,7 +33,7 @@ guard e false = Err e
 
 -- ---- the name and the value of an item, with one space between them
 
--- a line split at a position; the byte at that position is dropped
+-- a line split at a position, without the byte at that position; nothing if no position is given
 abbrev pub parted_at : List ℕ → Option ℕ → Option (List ℕ × List ℕ)
 parted_at line None = None
 parted_at line (Some at) = Some (take at line, drop 1 (drop at line))
@@ -44,15 +44,15 @@ parted line = if is_utf8 line then parted_at line (position (λ b. nat_eq b 32) 
 
 -- ---- values
 
--- the record that field f with the number v adds; no bytes if v is 0 and `may_be_empty` is false of f
+-- the record that a line of field f with the number v adds; no bytes if v is 0 and the field is left out when it is 0 (`may_be_empty` is false)
 abbrev pub number_record : NamedField → ℕ → Held
 number_record f v = Record (if (v == 0) && not (may_be_empty f) then [] else set_number f.number v)
 
--- the record that field f with these bytes adds; no bytes if there are none and `may_be_empty` is false of f
+-- the record that a line of field f with this value adds; no bytes if the value is empty and the field is left out when it is empty (`may_be_empty` is false)
 abbrev pub bytes_record : NamedField → List ℕ → Held
 bytes_record f held = Record (if (length held == 0) && not (may_be_empty f) then [] else set_bytes f.number held)
 
--- the digest text of entry k; refused if there is no such entry before this one
+-- the digest text of entry k; a refusal if k is not the number of an earlier entry
 abbrev pub labelled : List (List ℕ) → ℕ → Result (List ℕ) Refusal
 labelled labels k = or_else UnknownLabel (slice_get labels k)
 
@@ -77,11 +77,11 @@ string_record labels row text = string_of labels row.0 text >>= λ s. Ok (bytes_
 abbrev pub spelled_record : NamedField → List ℕ → Result Held Refusal
 spelled_record f text = or_else (Breaks BadValue) (option_map (bytes_record f) (bytes_spelled text))
 
--- the opening of a message, for which the text has to be `{`
+-- the opening of a message in field f; a refusal if the text is not `{`
 abbrev pub opening_in : NamedField → MessageName → List ℕ → Result Held Refusal
 opening_in f m text = if is_text text (codes "{") then Ok (Opens f.number m) else Err (Breaks BadValue)
 
--- what a field of this kind adds, if the text spells its value; else a refusal
+-- what the line of a field adds, if the text spells a value of this kind; else a refusal
 abbrev pub held_by : List (List ℕ) → Row → FieldKind → List ℕ → Result Held Refusal
 held_by labels row (kind.Message m) text = opening_in row.1 m text
 held_by labels row kind.String text = string_record labels row text
@@ -92,7 +92,7 @@ held_by labels row kind.Uint32 text = or_else (Breaks BadValue) (option_map (num
 held_by labels row kind.Enum text = or_else (Breaks BadValue) (option_map (number_record row.1) (number_in kind.Enum text))
 held_by labels row kind.Bool text = or_else (Breaks BadValue) (option_map (number_record row.1) (number_in kind.Bool text))
 
--- what the field of a row of the table adds, if the text spells its value; else a refusal
+-- what the line of a field adds, if the text spells a value of the kind that the field's row in the table says; else a refusal
 unfoldable pub held_in : List (List ℕ) → Row → List ℕ → Result Held Refusal
 held_in labels row text = held_by labels row row.1.kind text
 
@@ -112,7 +112,7 @@ behind here f = record {
   ended = false;
 }
 
--- the context of the line after a line of extra bytes; no more lines of the message may follow this one
+-- the context after the line of the extra bytes, which has to be the last item of its message
 abbrev pub at_end : Here → Here
 at_end here = record { message = here.message; last = here.last; set = here.set; count = here.count; ended = true }
 

@@ -20,7 +20,7 @@ without_end line = reverse (without_front (reverse line))
 unfoldable pub stripped : List ℕ → List ℕ
 stripped line = without_end (without_front line)
 
--- whether a line is empty, or a comment: UTF-8 that begins with `#`
+-- whether a line is empty, or is a comment, which is UTF-8 that begins with `#`
 abbrev pub is_dropped : List ℕ → Bool
 is_dropped [] = true
 is_dropped (b ∷ line) = (b == 35) && is_utf8 (b ∷ line)
@@ -29,11 +29,11 @@ is_dropped (b ∷ line) = (b == 35) && is_utf8 (b ∷ line)
 abbrev pub Line : Type 0
 Line = ℕ × List ℕ
 
--- the lines, stripped, with their numbers from n up
+-- the lines without blanks at their ends, each with its number; the first line has number n
 abbrev pub numbered : ℕ → List (List ℕ) → List Line
 numbered n [] = []
 numbered n (line ∷ lines) = (n, stripped line) ∷ numbered (n + 1) lines
 
--- the lines of a text that are not dropped: stripped, and with their numbers in the text, which begin with 1
+-- the lines of a text that are neither empty nor comments, without blanks at their ends, each with its number in the text, counted from 1
 unfoldable pub kept : List ℕ → List Line
 kept text = filter (λ l. not (is_dropped l.1)) (numbered 1 (slice_split (λ b. nat_eq b 10) text))

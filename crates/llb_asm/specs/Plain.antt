@@ -17,16 +17,16 @@ use Rattle.llb_wire.specs.Texts.{is_text}
 
 -- ---- values
 
--- the number of the first entry whose digest text is this one
+-- the number of the first entry with this digest text; nothing if there is none
 abbrev pub label_for : List (List ℕ) → List ℕ → Option ℕ
 label_for labels digest = position (is_text digest) labels
 
--- the value that is written for a string: the label of entry k if one is given, else the string between quotes
+-- the value that is written for a string: the label of entry k if a number k is given, else the string between quotes
 abbrev pub labelled_text : List ℕ → Option ℕ → List ℕ
 labelled_text string None = string_text string
 labelled_text string (Some k) = label_text k
 
--- the value that is written for a string: in a field `digest` the label of the entry with this digest text, if there is one; else the string between quotes
+-- the value that is written for a string: an entry's label, if the field is `digest` and the string is the entry's digest text; else the string in quotes
 abbrev pub string_for : List (List ℕ) → List ℕ → List ℕ → List ℕ
 string_for labels name string = labelled_text string (if is_text name (codes "digest") then label_for labels string else None)
 
@@ -64,7 +64,7 @@ abbrev pub extra_lines : ℕ → List ℕ → List PlainLine
 extra_lines depth [] = []
 extra_lines depth (b ∷ more) = item_line depth (codes "extra") (hex_text (b ∷ more)) ∷ []
 
--- the lines of the fields of a message
+-- the lines that are written for the fields of a message; `depth` is the depth of these lines
 abbrev pub field_lines : List (List ℕ) → ℕ → Fields → List PlainLine
 field_lines labels depth (extra more) = extra_lines depth more
 field_lines labels depth (number row v rest) = item_line depth row.0 (number_text row.1.kind v) ∷ field_lines labels depth rest
@@ -74,7 +74,7 @@ field_lines labels depth (message row inner rest) =
 
 -- ---- entries
 
--- an entry is written as an op if it is read as an op whose canonical bytes are just the entry
+-- the entry is read as an op, and the canonical bytes of that op are exactly the entry; such an entry is written as an op
 abbrev pub IsStructured : List ℕ → Type 0
 IsStructured entry = (op : Op) × (op_of entry ≡ Ok op) × (op_bytes op ≡ entry)
 
@@ -83,7 +83,7 @@ pub data Form : Type 0 where
   structured : (op : Op) → HasFields op → Form
   raw : Form
 
--- the form in which an entry is written: as the op that it is read as, if its bytes are that op's canonical bytes; else raw
+-- an entry has the form of an op if it is read as this op and is the op's canonical bytes; it has the form `raw` if there is no such op
 abbrev pub HasForm : List ℕ → Form → Type 0
 HasForm entry (structured op has) = (op_of entry ≡ Ok op) × (op_bytes op ≡ entry)
 HasForm entry raw = ¬ IsStructured entry
@@ -102,7 +102,7 @@ abbrev pub HaveForms : List Formed → Type 0
 HaveForms [] = Unit {0}
 HaveForms (x ∷ xs) = HasForm x.0 x.1 × HaveForms xs
 
--- these are the entries, each with its form
+-- `xs` has the entries in their order, each with its form
 pub record AreFormed (entries : List (List ℕ)) (xs : List Formed) : Type 0 where
   pub same : map (λ x. x.0) xs ≡ entries
   pub forms : HaveForms xs
@@ -128,7 +128,7 @@ plain_text xs = text_of_lines (plain_lines [] xs)
 
 -- ---- the law: a written text is read back
 
--- the text of the entries of a definition is read as these entries
+-- the text that is written for the entries of a definition is read as the same entries
 abbrev pub ReadsBack : List (List ℕ) → Type 0
 ReadsBack entries =
     definition_of (definition_bytes entries) ≡ Ok entries → (xs : List Formed) → AreFormed entries xs

@@ -1,4 +1,4 @@
--- Which lines are the items of a message and the entries of a definition, as which entries lines are read, and which line is the first that is
+-- Which lines spell the items of a message, which lines spell the entries of a definition, and which line of a text is the first that is
 -- refused. This file says nothing of the code that reads the lines.
 use Rattle.std.specs.Prelude.{◌≡◌, ◌≢◌, ◌≤◌, ℕ, ◌+◌, ◌&&◌, ◌⊎◌, nat_lt, nat_le, Bool, if◌then◌else◌, List, [], ◌∷◌, ◌++◌, length, map, codes, Option}
 use Rattle.std.specs.Prelude.{Some, None, Result, Ok, Err}
@@ -42,30 +42,30 @@ is_within earlier size = nat_le size entry_limit && nat_le (length (definition_b
 
 -- ---- the current message
 
--- the current message: the context of its next line, its bytes so far, and `room`: `room n` says whether the entry is within the limits if this message
--- has n bytes, and it and all messages around it are then closed
+-- the current message: the context of its next line, its bytes so far, and `room`. `room n` says whether the entry is within the limits if this message has
+-- n bytes when all messages are closed.
 pub record Hand : Type 0 where
   pub here : Here
   pub bytes : List ℕ
   pub room : ℕ → Bool
 
--- how many bytes a line adds; an opening adds the record of an empty message
+-- how many bytes a line adds to its message; a line that opens a message counts as the record of an empty message
 abbrev pub added : Held → ℕ
 added (Record bytes) = length bytes
 added (Opens number m) = record_length number 0
 
--- the item that a line adds to the current message, if the entry is within the limits after it; else a refusal
+-- the item that a line adds to the current message, if the entry is within the limits with this item; else a refusal
 abbrev pub item_at : List (List ℕ) → Hand → List ℕ → Result Item Refusal
 item_at labels hand line = do
   i ← line_in labels hand.here line
   _ ← guard (Breaks OverLimit) (hand.room (length hand.bytes + added i.held))
   Ok i
 
--- the current message after some more bytes
+-- the current message after these bytes are added to it; `next` is the context of its next line
 abbrev pub beyond : Hand → Here → List ℕ → Hand
 beyond hand next bytes = record { here = next; bytes = hand.bytes ++ bytes; room = hand.room }
 
--- the current message after a line that opens a message inside it
+-- the message that a line has just opened inside the current one, and which is now the current message
 abbrev pub within : Hand → ℕ → MessageName → Hand
 within hand number sub = record { here = inside sub; bytes = []; room = λ size. hand.room (length hand.bytes + record_length number size) }
 
@@ -108,7 +108,7 @@ IsWhole (unclosed line next number sub inner) = ⊥
 abbrev pub item : Here → Held → Item
 item next held = record { next = next; held = held }
 
--- the items are read in the current message: each line adds its item there
+-- each line of the items is read as its item, in the message that is current at that line
 abbrev pub AreItems : List (List ℕ) → Hand → Items → Type 0
 AreItems labels hand done = Unit {0}
 AreItems labels hand (single line next bytes rest) = (item_at labels hand line ≡ Ok (item next (Record bytes))) × AreItems labels (beyond hand next bytes) rest
@@ -118,7 +118,7 @@ AreItems labels hand (nested line next number sub inner rest) =
 AreItems labels hand (unclosed line next number sub inner) = (item_at labels hand line ≡ Ok (item next (Opens number sub)))
     × AreItems labels (within hand number sub) inner
 
--- the current message after these items: if the last item is a message that is not closed, it is the innermost message that is open
+-- the message that is current after these items: the innermost message that the items leave open; or, if they leave none open, the one that was current before
 abbrev pub at_hand : Hand → Items → Hand
 at_hand hand done = hand
 at_hand hand (single line next bytes rest) = at_hand (beyond hand next bytes) rest
@@ -127,7 +127,7 @@ at_hand hand (unclosed line next number sub inner) = at_hand (within hand number
 
 -- ---- the entries of a text
 
--- what a line begins: a raw entry with its bytes, or an op; or why it begins no entry
+-- what a line begins: a raw entry with its bytes, or an op; or why the line begins no entry
 abbrev pub begun_by : List ℕ → Option (List ℕ × List ℕ) → Result Begun Refusal
 begun_by line None = Err (Breaks Syntax)
 begun_by line (Some p) =
@@ -135,12 +135,12 @@ begun_by line (Some p) =
     else if is_text p.0 (codes "raw") then (or_else (Breaks BadValue) (bytes_spelled p.1) >>= λ bytes. Ok (Raw bytes))
     else Err (Breaks Syntax)
 
--- how many bytes an entry has after its first line
+-- how many bytes an entry has after its first line: all bytes of a raw entry, and none of an op
 abbrev pub begun_size : Begun → ℕ
 begun_size (Raw bytes) = length bytes
 begun_size Structured = 0
 
--- what a line begins after the earlier entries, if these with the new entry are within the limits; else a refusal
+-- what a line begins, if the earlier entries and the new one together are within the limits of a definition; else a refusal
 unfoldable pub begun_in : List (List ℕ) → List ℕ → Result Begun Refusal
 begun_in earlier line = do
   b ← begun_by line (parted line)
@@ -152,7 +152,7 @@ abbrev pub canonical_of : Result Op OpFault → Option (List ℕ)
 canonical_of (Err f) = None
 canonical_of (Ok op) = Some (op_bytes op)
 
--- these canonical bytes, if there are some and the entry is within the limits; else a refusal
+-- the canonical bytes that are given, if an entry of these bytes is within the limits; a refusal if it is not, or if none are given
 abbrev pub canonical_in : List (List ℕ) → Option (List ℕ) → Result (List ℕ) Refusal
 canonical_in earlier None = Err (Breaks OverLimit)
 canonical_in earlier (Some entry) = if is_within earlier (length entry) then Ok entry else Err (Breaks OverLimit)
@@ -204,7 +204,7 @@ AreClosed (raw line bytes rest) = AreClosed rest
 AreClosed (op line items entry rest) = AreClosed rest
 AreClosed (open_op line items) = ⊥
 
--- each entry is what its lines are read as, after the earlier entries
+-- the lines of each entry are read as this entry, given the entries before it
 abbrev pub AreEntries : List (List ℕ) → Entries → Type 0
 AreEntries earlier none = Unit {0}
 AreEntries earlier (raw line bytes rest) = (begun_in earlier line ≡ Ok (Raw bytes)) × AreEntries (earlier ++ bytes ∷ []) rest
@@ -229,7 +229,7 @@ IsRefusedIn earlier items line e =
     ((line ≡ closing) × IsWhole items × (entry_in earlier (records_of items) ≡ Err e))
     ⊎ ((line ≢ closing) × (item_at (labels_of earlier) (at_hand (outermost earlier) items) line ≡ Err e))
 
--- A line after these entries is refused with e; the last of them may be an op that is not closed.
+-- A line after these entries is refused with e; the last entry may be an op that is not closed.
 abbrev pub IsRefused : List (List ℕ) → Entries → List ℕ → Refusal → Type 0
 IsRefused earlier none line e = begun_in earlier line ≡ Err e
 IsRefused earlier (raw l bytes rest) line e = IsRefused (earlier ++ bytes ∷ []) rest line e
@@ -261,7 +261,7 @@ pub record EndsOpen (lines : List Line) (n : ℕ) : Type 0 where
 abbrev pub FaultAt : List Line → ℕ → Refusal → Type 0
 FaultAt lines n e = StopsAt lines n e ⊎ (EndsOpen lines n × (e ≡ Breaks Unclosed))
 
--- what assembling a text returns: its entries, the fault of the first line that is refused, or the fault for refused memory
+-- what assembling a text returns: the entries, or the fault of the first line that is refused, or the fault for refused memory
 abbrev pub Assembles : List ℕ → Result (List (List ℕ)) AsmFault → Type 0
 Assembles text (Ok entries) = SpellsEntries (kept text) entries
 Assembles text (Err (fault.Line n rule)) = FaultAt (kept text) n (Breaks rule)

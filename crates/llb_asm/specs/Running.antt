@@ -31,7 +31,7 @@ pub record OpenOp : Type 0 where
   pub bytes : List ℕ
   pub below : List Frame
 
--- an open op as the code keeps it: there the messages around it are stored with the innermost last
+-- an open op, made from the code's type for it, which has the messages around the current one in the other order, the innermost last
 abbrev pub open_op_of : Open → OpenOp
 open_op_of s = record { here = s.here; bytes = s.bytes; below = reverse s.below }
 
@@ -48,7 +48,7 @@ room_in room (f ∷ below) size = room_in room below (length f.bytes + record_le
 abbrev pub hand_of : (ℕ → Bool) → OpenOp → Hand
 hand_of room s = record { here = s.here; bytes = s.bytes; room = room_in room s.below }
 
--- the open op after one more item, with the context of the next line
+-- the open op after a line that adds `held`; `next` is the context of the line after it
 abbrev pub with_held : OpenOp → Here → Held → OpenOp
 with_held s next (Record bytes) = record { here = next; bytes = s.bytes ++ bytes; below = s.below }
 with_held s next (Opens number sub) = record { here = inside sub; bytes = []; below = record { here = next; number = number; bytes = s.bytes } ∷ s.below }
@@ -57,7 +57,7 @@ with_held s next (Opens number sub) = record { here = inside sub; bytes = []; be
 abbrev pub with_item : OpenOp → Item → OpenOp
 with_item s i = with_held s i.next i.held
 
--- what the end of the current message leaves: the records of the whole op, or the op with the message around it as the current one
+-- what the end of the current message leaves: the records of the op, if the op is whole; else the open op, in which the next message outward is current
 pub data Ending : Type 0 where
   whole : List ℕ → Ending
   still : OpenOp → Ending
@@ -71,7 +71,7 @@ closing_on bytes (f ∷ below) = still (record { here = f.here; bytes = f.bytes 
 abbrev pub closing_of : OpenOp → Ending
 closing_of s = closing_on s.bytes s.below
 
--- what a closing line leaves, from the code's value for this
+-- what a closing line leaves, made from the code's type for it
 abbrev pub ended : Closed → Ending
 ended (Whole bytes) = whole bytes
 ended (Still s) = still (open_op_of s)
@@ -91,21 +91,21 @@ between earlier = record { earlier = earlier; current = None }
 abbrev pub amid : List (List ℕ) → OpenOp → Progress
 amid earlier s = record { earlier = earlier; current = Some s }
 
--- the progress after the line that begins an entry: a raw entry is whole, and an op is open, at its start
+-- the progress after the line that begins an entry: a raw entry is whole after this line; an op is open after it, and has no items yet
 abbrev pub with_begun : List (List ℕ) → Begun → Progress
 with_begun earlier (Raw bytes) = between (earlier ++ bytes ∷ [])
 with_begun earlier Structured = amid earlier at_front
 
--- the progress, from the whole entries and the open op that the code has
+-- the progress, made from the whole entries and the open op that the code has
 abbrev pub progress_of : List (List ℕ) → Option Open → Progress
 progress_of earlier current = record { earlier = earlier; current = option_map open_op_of current }
 
--- the progress after a line, from the result of the code; or the refusal of the line
+-- the progress after a line, made from the result of the code's call; or the refusal of the line
 abbrev pub progresses : List (List ℕ) → Result (Option Open) Refusal → Result Progress Refusal
 progresses earlier (Ok current) = Ok (progress_of earlier current)
 progresses earlier (Err e) = Err e
 
--- the progress after the current message ends
+-- the progress after a message with these bytes ends; or the refusal of the op's entry, if this message is the whole op
 abbrev pub closed_on : List (List ℕ) → List ℕ → List Frame → Result Progress Refusal
 closed_on earlier bytes [] = entry_in earlier bytes >>= λ entry. Ok (between (earlier ++ entry ∷ []))
 closed_on earlier bytes (f ∷ below) = Ok (amid earlier (record { here = f.here; bytes = f.bytes ++ set_bytes f.number bytes; below = below }))
@@ -116,7 +116,7 @@ step_in earlier s line =
     if is_text line closing then closed_on earlier s.bytes s.below
     else (item_at (labels_of earlier) (hand_of (is_within earlier) s) line >>= λ i. Ok (amid earlier (with_item s i)))
 
--- the progress after a line, or why the line is refused: it begins an entry if no op is open; else it is a line inside the op
+-- the progress after a line, or why the line is refused; if no op is open, the line begins an entry; else it is a line inside the open op
 abbrev pub step_on : List (List ℕ) → Option OpenOp → List ℕ → Result Progress Refusal
 step_on earlier None line = begun_in earlier line >>= λ b. Ok (with_begun earlier b)
 step_on earlier (Some s) line = step_in earlier s line
@@ -130,13 +130,13 @@ abbrev pub finish : ℕ → List (List ℕ) → Option OpenOp → Result (List (
 finish n earlier None = Ok earlier
 finish n earlier (Some s) = Err (n, Breaks Unclosed)
 
--- the final result, from the result of line n: the result of the lines after it, or the refusal of line n
+-- the final result, given the progress after line n or its refusal: what `go` makes of the progress, or the refusal with the number n
 abbrev pub next : ℕ → (Progress → Result (List (List ℕ)) (ℕ × Refusal)) → Result Progress Refusal → Result (List (List ℕ)) (ℕ × Refusal)
 next n go (Ok p) = go p
 next n go (Err e) = Err (n, e)
 
--- the entries of numbered lines from a progress on, or the first refusal with the number of its line; `last` is the number of the line before them,
--- or 0 if there is none; an op that is open after all lines is refused with the number of the last line
+-- the result of reading these lines after this progress: all entries, or the first refusal with the number of its line. `last` is the number of the line
+-- before these lines, or 0 if there is none. An op that is open after all lines is refused with the number of the last line.
 unfoldable pub run_from : ℕ → Progress → List Line → Result (List (List ℕ)) (ℕ × Refusal)
 run_from last p [] = finish last p.earlier p.current
 run_from last p (l ∷ lines) = next l.0 (λ q. run_from l.0 q lines) (step_of p l.1)

@@ -20,16 +20,16 @@ use Rattle.llb_ops.specs.declared.table.FieldKind.TheVariants.{Int64, Int32, Uin
 abbrev pub negated : ℕ → ℕ → Option ℕ
 negated limit n = where_so (nat_lt 0 n && nat_le n limit) (2 ^ 64 - n)
 
--- the number that decimal digits spell, with or without a minus in front, from -limit to limit - 1; `-0` spells none
+-- the number from -limit to limit - 1 that a text spells, in two's complement; the text is decimal digits, perhaps after a minus, but `-0` spells no number
 unfoldable pub signed_in : ℕ → List ℕ → Option ℕ
 signed_in limit [] = None
 signed_in limit (b ∷ text) = if b == 45 then then_in (magnitude text) (negated limit) else then_in (magnitude (b ∷ text)) (below limit)
 
--- the number of `true` or `false`: 1 or 0
+-- 1 for `true`, 0 for `false`, and nothing for any other text
 abbrev pub flag_in : List ℕ → Option ℕ
 flag_in text = if is_text text (codes "true") then Some 1 else where_so (is_text text (codes "false")) 0
 
--- the number that a text spells for a field of this kind, as it is in a varint
+-- the number that a text spells for a field of this kind, as a varint has this number; nothing if the text spells none
 abbrev pub number_in : FieldKind → List ℕ → Option ℕ
 number_in Int64 text = signed_in (2 ^ 63) text
 number_in Int32 text = signed_in (2 ^ 31) text
@@ -48,7 +48,7 @@ signed_text v = if nat_lt v (2 ^ 63) then decimal v else 45 ∷ decimal (2 ^ 64 
 abbrev pub flag_text : ℕ → List ℕ
 flag_text v = if v == 0 then codes "false" else codes "true"
 
--- the text that is written for a number in a field of this kind, as it is in a varint; empty for the kinds that hold no number
+-- the text that is written for v, the number that a varint has for a field of this kind; empty for the kinds that hold no number
 abbrev pub number_text : FieldKind → ℕ → List ℕ
 number_text Int64 v = signed_text v
 number_text Int32 v = signed_text v
@@ -72,11 +72,11 @@ pub data Escape : Type 0 where
 abbrev pub digit_of : ℕ → ℕ
 digit_of b = if nat_le b 57 then b - 48 else b - 87
 
--- a string with one more byte in front of it
+-- the string with byte b in front, if there is a string
 abbrev pub after_it : ℕ → Option (List ℕ) → Option (List ℕ)
 after_it b text = option_map (λ t. b ∷ t) text
 
--- the string that the rest of a text spells, up to a quote at its end: `\"`, `\\`, and `\x` with two digits up to 7f are one byte each
+-- the string that the rest of a text spells from this state up to a quote at the text's end: `\"`, `\\`, and `\x` with two digits up to 7f are one byte each
 unfoldable pub string_from : Escape → List ℕ → Option (List ℕ)
 string_from e [] = None
 string_from closed (b ∷ text) =
@@ -98,12 +98,12 @@ lower_digit b = where_so (is_lower b) (digit_of b)
 abbrev pub escape_of : ℕ → ℕ → Option ℕ
 escape_of a b = where_so (is_lower a && is_lower b && nat_lt (digit_of a) 8) (16 * digit_of a + digit_of b)
 
--- in this state, a text spells a byte and then the rest of a string; or it spells no string
+-- from this state, a text spells the given byte and then the rest of a string; or nothing is given, and the text spells no string
 abbrev pub Continues : Escape → List ℕ → Option (ℕ × Bor (List ℕ)) → Type 0
 Continues e text None = string_from e text ≡ None
 Continues e text (Some x) = (string_from e text ≡ after_it x.0 (string_from closed x.1.now)) × (length x.1.now < length text)
 
--- outside an escape, a text spells a byte and then the rest of a string; or it is the closing quote, or spells no string
+-- outside an escape, a text spells the given byte and then the rest of a string; or nothing is given, and the text is the closing quote or spells no string
 abbrev pub Leads : List ℕ → Option (ℕ × Bor (List ℕ)) → Type 0
 Leads text None = (text ≢ 34 ∷ []) → string_from closed text ≡ None
 Leads text (Some x) = (string_from closed text ≡ after_it x.0 (string_from closed x.1.now)) × (length x.1.now < length text)
@@ -113,14 +113,14 @@ unfoldable pub string_in : List ℕ → Option (List ℕ)
 string_in [] = None
 string_in (b ∷ text) = if b == 34 then string_from closed text else None
 
--- a byte as it is written: quotes, backslashes and control characters escaped
+-- a byte as it is written in a string: quotes, backslashes and control characters are escaped
 abbrev pub escaped : ℕ → List ℕ
 escaped b =
     if (b == 34) || (b == 92) then 92 ∷ b ∷ []
     else if nat_lt b 32 || (b == 127) then 92 ∷ 120 ∷ encode_lower (b ∷ [])
     else b ∷ []
 
--- the text that is written for a string: its bytes as they are written, between quotes
+-- the text that is written for a string: a quote, the bytes of the string, some of them escaped, and a quote
 unfoldable pub string_text : List ℕ → List ℕ
 string_text s = 34 ∷ (flat_map escaped s ++ 34 ∷ [])
 
@@ -167,7 +167,7 @@ pub record EndsSolid (t : List ℕ) : Type 0 where
   pub is : t ≡ before ++ byte ∷ []
   pub above : 33 ≤ byte
 
--- a text without control characters and line ends, and without a blank at either end
+-- the text is UTF-8 without bytes below 0x20, so without line ends, and has no blank at either end
 pub record IsSolid (t : List ℕ) : Type 0 where
   pub begins : BeginsSolid t
   pub ends : EndsSolid t

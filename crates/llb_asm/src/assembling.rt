@@ -28,7 +28,7 @@ impl Refusal {
 }
 
 #[tactic(auto, using(crate::proofs::Room::begun_room))]
-/// Reads a line that begins an entry, and returns the op that it opens, if any.
+/// Reads the first line of an entry, and returns the op that this line opens, if it opens one.
 fn begin(
     alloc: Global,
     earlier: &mut Earlier,
@@ -47,7 +47,7 @@ fn begin(
 }
 
 #[tactic(auto, using(crate::proofs::Room::entry_room))]
-// Reads the closing line of the current message, and returns the op that is still open, if any.
+// Reads the closing line of the current message, and returns the op that is still open, if one is.
 fn close(
     alloc: Global,
     earlier: &mut Earlier,
@@ -67,7 +67,7 @@ fn close(
     }
 }
 
-/// Reads a line inside an op, and returns the op that is open after it, if any.
+/// Reads a line inside an op, and returns the op that is open after the line, if one is.
 fn go_on(
     alloc: Global,
     earlier: &mut Earlier,
@@ -85,7 +85,7 @@ fn go_on(
     }
 }
 
-/// Reads a line, and returns the op that is open after it, if any.
+/// Reads a line, and returns the op that is open after the line, if one is.
 fn step(
     alloc: Global,
     earlier: &mut Earlier,

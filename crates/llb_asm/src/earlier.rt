@@ -12,7 +12,7 @@ use std::alloc::Global;
 use std::marker::Model;
 
 #[tactic(auto, using(crate::proofs::Lengths::length_last, crate::proofs::Lengths::length_small, crate::proofs::Lengths::length_positive))]
-/// Returns the length of the shortest spelling of a number, in at most `more` + 1 bytes.
+/// Returns how many bytes the shortest varint of a number has, at most `more` + 1.
 fn shortest_length(value: u64, more: u32) -> usize
     requires { more ≤ 9 }
     ensures same { result ≡ length (shortest more value) }
@@ -24,7 +24,7 @@ fn shortest_length(value: u64, more: u32) -> usize
     1 + shortest_length(value / 0x80, more - 1)
 }
 
-/// Returns how long a record with a payload of this length is.
+/// Returns how many bytes the record of a LEN field with this number has if its payload has `size` bytes.
 pub(crate) fn record_length(number: u32, size: usize) -> usize
     requires { size ≤ entry_limit }
     ensures same { result ≡ record_length number size }

@@ -1,5 +1,5 @@
-//! The labels of the earlier entries: their digest texts, looked up in an ordered index, so that no choice of entries
-//! makes a look-up slow.
+//! The labels of the earlier entries: their digest texts, in an ordered index, so that looking up a text is fast whatever
+//! the entries are.
 
 ghost use Rattle.std.specs.Prelude.{◌≡◌, ◌++◌, ◌∷◌, [], IfOk, OnOk, OnErr};
 ghost use Rattle.llb_wire.specs.Digest.{digest_text};
@@ -34,7 +34,7 @@ fn learn(first: &mut BTreeMap<String, u64>, texts: &[Text], text: &Text) -> Resu
 /// The labels of the earlier entries. Contracts see their digest texts, in order.
 pub struct Labels {
     texts: Vec<Text>,
-    /// The first entry with each text.
+    /// For each text, the number of the first entry that has it.
     first: BTreeMap<String, u64>,
 }
 
@@ -67,7 +67,7 @@ impl Labels {
         }
     }
 
-    /// Returns the least entry whose digest text is this one.
+    /// Returns the least number of an entry with this digest text; `None` if there is none.
     pub(crate) fn label_for(&self, digest: &str) -> Option<u64>
         ensures { result ≡ label_for self.now digest.now }
     {

@@ -1,4 +1,4 @@
-//! Laws of all texts and all entries.
+//! Laws that hold for all texts and all entries.
 
 ghost use Rattle.llb_asm.specs.Reading.{HasOneAnswer};
 ghost use Rattle.llb_asm.specs.Plain.{ReadsBack};

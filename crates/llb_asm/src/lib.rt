@@ -1,8 +1,8 @@
-//! The text of a definition's entries, which a person can read and write. It is built on `llb_ops`.
+//! The text of a definition's entries, which a person can read and write. The crate is built on `llb_ops`.
 //!
 //! Types: `AsmFault` (161 to 164) and `Rule` (what is wrong with a line).
-//! Promise: `assemble` returns the entries that the text spells, or the first faulty line with its first fault, by a relation that does not mention the code.
-//! `disassemble` (`prints`, `some`) writes exactly the one text of the entries. Laws: `one_answer`, `reads_back`.
+//! Promise: `assemble` returns the entries that the text spells, or the first faulty line with its first fault. What a text spells is defined without
+//! reference to the code. `disassemble` (`prints`, `some`) writes exactly the one text of the entries. Laws: `one_answer`, `reads_back`.
 //!
 //! A caller:
 //!

@@ -37,7 +37,7 @@ pub struct Here {
     pub set: bool,
     /// How often the last field has occurred in the message.
     pub count: usize,
-    /// Whether the extra bytes have come.
+    /// Whether a line of extra bytes was read.
     pub ended: bool,
 }
 
@@ -71,7 +71,7 @@ pub(crate) fn inside(message: MessageName) -> Here
 }
 
 impl Here {
-    // Returns the context after one more field, which may follow.
+    // Returns the context after a line of this field, which has to be within the limit of repeated fields.
     fn behind(self, field: NamedField) -> Here
         requires { has_room self field ≡ true }
         ensures { result ≡ behind self field }
@@ -192,7 +192,7 @@ fn bytes_record(alloc: Global, field: NamedField, bytes: &[u8]) -> Result<Held, 
     Ok(Held::Record(Bytes::new(out)))
 }
 
-/// Returns the record of a digest that is given by a label.
+/// Returns the record of a field whose value is a label: it has the digest text of the entry that the label names.
 fn label_record(
     alloc: Global,
     labels: &[Text],
@@ -248,7 +248,7 @@ fn opening_in(field: NamedField, message: MessageName, text: &[u8]) -> Result<He
     Err(Refusal::Breaks(Rule::BadValue))
 }
 
-/// Reads the value of a field from its spelling.
+/// Reads the text of a field's value, and returns what the line of the field adds, or why it is refused.
 #[tactic(auto, unfolding(crate::specs::Line::held_in))]
 fn held_in(
     alloc: Global,
@@ -269,7 +269,7 @@ fn held_in(
     }
 }
 
-/// Returns what the line of the extra bytes adds.
+/// Returns what the line of the extra bytes adds, or why it is refused.
 fn extra_in(alloc: Global, here: Here, text: &[u8]) -> Result<Result<Item, Refusal>, Memory>
     ensures { IfOk result (λ r. r ≡ extra_in here text.now) }
 {
@@ -285,7 +285,7 @@ fn extra_in(alloc: Global, here: Here, text: &[u8]) -> Result<Result<Item, Refus
     }
 }
 
-/// Returns what the line of a field adds.
+/// Returns what the line of the field with this name adds, or why it is refused.
 fn field_in(
     alloc: Global,
     labels: &[Text],

@@ -60,7 +60,7 @@ pub(crate) fn stripped(line: &[u8]) -> &[u8]
     without_end(without_front(line))
 }
 
-// Returns whether a line is empty, or a comment. What is not UTF-8 is no comment.
+// Returns whether a line is empty, or is a comment: UTF-8 that begins with `#`.
 pub(crate) fn is_dropped(line: &[u8]) -> bool
     ensures { result ≡ is_dropped line.now }
 {

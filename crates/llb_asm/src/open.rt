@@ -33,7 +33,7 @@ pub struct Open {
 pub enum Closed {
     /// The op is closed: the bytes of its records.
     Whole(Bytes),
-    /// A message around the closed one is the current one.
+    /// The op is still open: the message around the closed one is now the current one.
     Still(Open),
 }
 
@@ -77,7 +77,7 @@ impl Open {
         }
     }
 
-    /// Returns what a line adds, if it is within the limits, or why it is refused.
+    /// Returns what a line adds to the current message, or why the line is refused, for example because of a limit.
     pub(crate) fn item_at(
         &self,
         alloc: Global,

@@ -1,4 +1,4 @@
-//! Writes entries as text: goes through their canonical bytes from left to right, by the table of messages.
+//! Writes entries as text. The canonical bytes of an op are read from left to right, by the table of messages.
 
 ghost use Rattle.std.specs.Prelude.{◌≡◌, ◌<◌, ◌+◌, ◌*◌, ◌++◌, ◌∷◌, [], ◌^◌, ◌↔◌, ℕ, Bool, List, length, codes, replicate, OnOk, IfOk, IfSome, IsTrue};
 ghost use Rattle.std.specs.Prelude.{true, false};
@@ -52,7 +52,7 @@ fn front_of(bytes: &[u8]) -> Option<Front<'_>>
     }
 }
 
-// Begins a line: appends two spaces a level, and a name.
+// Begins a line: appends two spaces for each level, and then a name.
 fn push_name(out: &mut Vec<u8>, depth: usize, name: &[u8]) -> Result<(), Memory>
     requires { depth < 2 ^ 62 }
     ensures { OnOk result (out.new.items ≡ out.old.items ++ (replicate (2 * depth) 32 ++ name.now)) }
@@ -84,7 +84,7 @@ fn push_closing(out: &mut Vec<u8>, depth: usize) -> Result<(), Memory>
     Ok(())
 }
 
-// Appends the line of a number.
+// Appends the line of a field with this number.
 fn push_number_line(
     alloc: Global,
     out: &mut Vec<u8>,
@@ -102,7 +102,8 @@ fn push_number_line(
     Ok(())
 }
 
-// Appends a string between quotes, or a label if the string is the digest text of an earlier entry.
+// Appends the value of a String field: in a field `digest`, the label of the earlier entry with this digest text, if there
+// is one; else the string between quotes.
 fn push_text(
     alloc: Global,
     out: &mut Vec<u8>,
@@ -139,7 +140,7 @@ fn push_held(
     }
 }
 
-// Appends the line of a string or of bytes; none for an empty key or value of a map entry.
+// Appends the line of a String or Bytes field; appends nothing for an empty key or value of a map entry.
 fn push_held_line(
     alloc: Global,
     out: &mut Vec<u8>,
@@ -176,7 +177,7 @@ fn push_extra(alloc: Global, out: &mut Vec<u8>, depth: usize, extra: &[u8]) -> R
     Ok(())
 }
 
-// Appends the lines of a message's canonical bytes.
+// Appends the lines of a message's fields, given the canonical bytes of the message.
 fn push_fields(
     alloc: Global,
     out: &mut Vec<u8>,
@@ -226,7 +227,7 @@ fn push_op(alloc: Global, out: &mut Vec<u8>, labels: &Labels, bytes: &[u8]) -> R
     push_closing(out, 0)
 }
 
-// Appends the line of an entry's bytes.
+// Appends the line of an entry that is written as raw bytes.
 fn push_raw(alloc: Global, out: &mut Vec<u8>, entry: &[u8]) -> Result<(), Memory>
     ensures { OnOk result (out.new.items ≡ out.old.items ++ text_of_lines (entry_lines [] entry.now Form.raw)) }
 {
@@ -316,11 +317,11 @@ fn entries_have_forms(entries: &[Bytes])
     }
 }
 
-/// Writes the text of entries to a sink, one entry at a time: an entry that is the canonical bytes of an op as that op,
-/// field by field, else `raw` and its bytes.
+/// Writes the text of entries to a sink, one entry at a time. An entry that is the canonical bytes of an op is written as
+/// that op, field by field; any other entry is written as `raw` and its bytes.
 ///
-/// Fails with 163 `Memory` if memory is refused, and with 164 `Write` if the sink failed: a prefix of the text is
-/// written then.
+/// Fails with 163 `Memory` if memory is refused, and with 164 `Write` if the sink failed. After either fault, a prefix
+/// of the text is written.
 pub fn disassemble<W: Sink>(alloc: Global, entries: &Entries, out: &mut W) -> Result<(), AsmFault>
     ensures prints { (xs : List Formed) → AreFormed entries.now xs → Prints (W.taken out.old) (W.taken out.new) (W.failed out.new) (plain_text xs) result }
     ensures some { (xs : List Formed) × AreFormed entries.now xs }

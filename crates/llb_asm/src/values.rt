@@ -15,7 +15,7 @@ use llb_wire::{Bytes, Memory, is_hex, magnitude, read_hex};
 use std::alloc::Global;
 use std::str::from_utf8;
 
-// Reads a number from `-limit` up to `limit - 1`, in two's complement.
+// Reads a decimal number from `-limit` to `limit - 1`, and returns it in two's complement; `None` for any other text.
 #[tactic(auto, unfolding(crate::specs::Values::signed_in))]
 fn signed_in(limit: u64, text: &[u8]) -> Option<u64>
     requires { limit ≤ 2 ^ 63 }
@@ -55,7 +55,7 @@ fn flag_in(text: &[u8]) -> Option<u64>
     None
 }
 
-/// Reads a number of a field of this kind, as it is in a varint. Negative numbers are in two's complement.
+/// Reads the number that a text spells for a field of this kind, and returns it as a varint has it: a negative one in two's complement.
 pub(crate) fn number_in(kind: FieldKind, text: &[u8]) -> Option<u64>
     ensures { result ≡ number_in kind text.now }
 {
@@ -101,7 +101,7 @@ fn two_digits(text: &[u8]) -> Option<(u8, &[u8])>
     }
 }
 
-/// Reads the byte that a backslash and the start of this text, which comes after the backslash, spell together; returns it with the text that remains.
+/// Reads the byte of an escape, given the text after its backslash, and returns the byte with the text after the escape.
 fn behind_backslash(text: &[u8]) -> Option<(u8, &[u8])>
     ensures { Continues backslash text.now result }
 {
@@ -112,7 +112,7 @@ fn behind_backslash(text: &[u8]) -> Option<(u8, &[u8])>
     }
 }
 
-/// Reads the first byte of a text, as it is spelled in a string, and returns it with the text after it. A quote spells no byte.
+/// Reads the byte of a string that the start of a text spells, and returns it with the text after its spelling. A quote spells no byte.
 fn next_byte(text: &[u8]) -> Option<(u8, &[u8])>
     ensures { Leads text.now result }
 {
@@ -225,7 +225,7 @@ pub(crate) fn push_number(
     }
 }
 
-// Appends bytes to a text, in lower-case hexadecimal, `-` for none.
+// Appends bytes to a text in lower-case hexadecimal; appends `-` if there are no bytes.
 pub(crate) fn push_bytes(alloc: Global, out: &mut Vec<u8>, bytes: &[u8]) -> Result<(), Memory>
     ensures { OnOk result (out.new.items ≡ out.old.items ++ hex_text bytes.now) }
 {

@@ -1,5 +1,5 @@
--- The tree after sources in a second tree are copied to a destination, or the first fault. Each entry at or below a
--- source is copied to its path with the source's target in place of the source.
+-- The tree after sources in a second tree are copied to a destination, or the first fault. Each source has a target, and each
+-- entry at or below the source is copied to the target's path followed by the names that the entry's path has after the source.
 use Rattle.std.specs.Prelude.{ℕ, ◌-◌, Bool, true, false, ◌||◌, ◌&&◌, nat_eq, nat_lt, List, [], ◌∷◌, ◌++◌, length, drop, map, Option, Some}
 use Rattle.std.specs.Prelude.{None, Result, Ok, Err, if◌then◌else◌}
 use Rattle.std.specs.List.{ends_with}
@@ -37,7 +37,7 @@ chosen_by c =
     if c.allow_wildcard then (on_pattern (pattern_of c.src) >>= λ pattern. Ok (EachMatch pattern))
     else (on_tree (path_of c.src) >>= λ p. Ok (OnePath p))
 
--- these paths; the fault `NotFound` if there are none, unless the first argument allows that
+-- these paths; or the fault `NotFound` if there are none and the first argument is false
 abbrev pub some_match : Bool → List (List (List ℕ)) → Result (List (List (List ℕ))) TreeFault
 some_match true ps = Ok ps
 some_match false [] = Err NotFound
@@ -80,14 +80,14 @@ abbrev pub all_land : TreeMap → List (List (List ℕ) × Entry) → Result (Un
 all_land t [] = Ok tt
 all_land t (e ∷ es) = fits e.0 >>= λ _. meets (finite.get t e.0) e.1 >>= λ _. all_land t es
 
--- the entry at a path after a copied one is put there: a copied directory leaves a directory that was there as it is
+-- the entry at a path after a copied entry is put there; if both are directories, the one that was there stays as it is
 abbrev pub landed : (MetaValue → MetaValue) → Option Entry → Entry → Entry
 landed given (Some (Dir m)) (Dir n) = Dir m
 landed given (Some (File m old)) (Dir n) = Dir (given n)
 landed given None (Dir n) = Dir (given n)
 landed given there (File n bytes) = File (given n) bytes
 
--- a copied entry with its path, as it is after the copy
+-- the path of a copied entry, with the entry that is there after the copy
 abbrev pub landed_on : (MetaValue → MetaValue) → TreeMap → List (List ℕ) × Entry → List (List ℕ) × Entry
 landed_on given t e = (e.0, landed given (finite.get t e.0) e.1)
 
@@ -104,7 +104,7 @@ abbrev pub parents_for : Bool → List (List ℕ) → TreeMap → Result TreeMap
 parents_for true p t = make_all new_dir_meta (parents p) t
 parents_for false p t = walk (finite.get t) p >>= λ _. Ok t
 
--- the tree after these entries are put at their paths, or the fault; `given` makes the mode and the owner of each from those that it had
+-- the tree after these entries are put at their paths, or the fault; `given` makes the mode and the owner of a copied entry from those in the second tree
 abbrev pub land : (MetaValue → MetaValue) → List (List (List ℕ) × Entry) → TreeMap → Result TreeMap TreeFault
 land given es t = all_land t es >>= λ _. Ok (laid_on given t es)
 
@@ -112,16 +112,16 @@ land given es t = all_land t es >>= λ _. Ok (laid_on given t es)
 abbrev pub copy_to : CopyFile → TreeMap → List (List ℕ) → List (List ℕ) → TreeMap → Result TreeMap TreeFault
 copy_to c second s goal t = fits goal >>= λ _. parents_for c.create_dest_path goal t >>= land (copied c.mode c.owner) (at_target second s goal)
 
--- the tree after one source is copied
+-- the tree after one source is copied to its target, or the fault
 abbrev pub copy_one : CopyFile → List (List ℕ) × Bool → TreeMap → List (List ℕ) → TreeMap → Result TreeMap TreeFault
 copy_one c dest second s t = copy_to c second s (target c dest second s t) t
 
--- the tree after these sources are copied, one after another
+-- the tree after these sources are copied, one after another, or the fault
 abbrev pub copy_each : CopyFile → List (List ℕ) × Bool → TreeMap → List (List (List ℕ)) → TreeMap → Result TreeMap TreeFault
 copy_each c dest second [] t = Ok t
 copy_each c dest second (s ∷ ss) t = copy_one c dest second s t >>= copy_each c dest second ss
 
--- the tree after the chosen sources are copied, one after another, in path order
+-- the tree after the chosen sources are copied, one after another, in path order, or the fault
 abbrev pub copy_chosen : CopyFile → List (List ℕ) × Bool → TreeMap → TreeMap → Chosen → Result TreeMap TreeFault
 copy_chosen c dest t second chosen = sources c.allow_empty_wildcard second chosen >>= λ ss. copy_each c dest second ss t
 

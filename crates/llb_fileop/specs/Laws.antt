@@ -8,14 +8,14 @@ use Rattle.llb_tree.specs.Tree.{TreeMap, Dir, File}
 use Rattle.llb_fileop.specs.Owners.{copied}
 use Rattle.llb_fileop.specs.Copying.{target, copy_one}
 
--- at q, which is at or above the target `goal`, nothing was before, and a directory 0755 0:0 is after the copy
+-- q is at or above the target `goal`; before the copy nothing was at q, and after the copy a directory 0755 0:0 is there
 pub record IsMadeParent (t u : TreeMap) (goal q : List (List ℕ)) : Type 0 where
   pub above : is_within q goal ≡ true
   pub was : finite.get t q ≡ None
   pub is : finite.get u q ≡ Some (Dir new_dir_meta)
 
--- each entry at or below the source is at its path in the target, but a directory that was already there stays; everything else is unchanged, except
--- for the parents that were made
+-- after the copy each entry at or below the source is at the same path at or below the target, with the action's mode and owner, but a directory that was
+-- already there stays as it was; nothing else changes, except that missing parents of the target may be made
 pub record IsCopied (c : CopyFile) (second t u : TreeMap) (s goal : List (List ℕ)) : Type 0 where
   pub files : (q : List (List ℕ)) (m : MetaValue) (bytes : List ℕ)
       → finite.get second (s ++ q) ≡ Some (File m bytes) → finite.get u (goal ++ q) ≡ Some (File (copied c.mode c.owner m) bytes)
@@ -28,6 +28,6 @@ pub record IsCopied (c : CopyFile) (second t u : TreeMap) (s goal : List (List �
   pub beside : (q : List (List ℕ)) → finite.get second (s ++ q) ≡ None → finite.get u (goal ++ q) ≡ finite.get t (goal ++ q)
   pub outside : (q : List (List ℕ)) → is_within goal q ≡ false → (finite.get u q ≡ finite.get t q) ⊎ IsMadeParent t u goal q
 
--- if the copy of one source is granted, the source is copied to its target as `IsCopied` says
+-- if the copy of one source is granted, `IsCopied` says what the tree after the copy has at each path
 abbrev pub CopiesOne : CopyFile → List (List ℕ) × Bool → TreeMap → TreeMap → List (List ℕ) → Type 0
 CopiesOne c dest t second s = (u : TreeMap) → copy_one c dest second s t ≡ Ok u → IsCopied c second t u s (target c dest second s t)

@@ -36,13 +36,13 @@ group_in (Some o) = id_in o.group
 abbrev pub made : ℤ → Option ChownOpt → MetaValue
 made mode owner = record { mode = mode_of mode; uid = unwrap_or (user_in owner) 0; gid = unwrap_or (group_in owner) 0 }
 
--- the mode of what is copied; -1 keeps the mode of the entry
+-- the mode of a copied entry by the mode of the action: -1 keeps `own`, the mode that the entry has
 abbrev pub mode_from : ℤ → ℕ → ℕ
 mode_from (negsuc zero) own = own
 mode_from (negsuc (suc n)) own = mode_of (negsuc (suc n))
 mode_from (pos n) own = mode_of (pos n)
 
--- the mode and the owner of what is copied: the mode stays if it is -1; a user or group that is not given by number stays
+-- the mode and the owner of a copied entry: the entry's mode stays if the action's mode is -1; a user or group that the action does not give by number stays
 abbrev pub copied : ℤ → Option ChownOpt → MetaValue → MetaValue
 copied mode owner own =
     record { mode = mode_from mode own.mode; uid = unwrap_or (user_in owner) own.uid; gid = unwrap_or (group_in owner) own.gid }

@@ -1,4 +1,4 @@
--- The steps in which copied entries are put into a tree: whether each can be put, and what is at each path after a directory is merged in.
+-- The steps in which copied entries are put into a tree: whether each entry can be put at its path, and what is at each path after a directory is merged in.
 use Rattle.std.specs.Prelude.{◌≡◌, ℕ, ◌+◌, nat_lt, List, [], ◌∷◌, length, Option, Some, None, Result, Ok, Err, if◌then◌else◌}
 use Rattle.std.specs.FinMap as finite
 use Rattle.llb_wire.specs.Answer.{◌>>=◌}
@@ -13,7 +13,7 @@ abbrev pub put : Entry → TreeMap → List (List ℕ) → Result TreeMap TreeFa
 put (Dir m) t p = put_dir t p m
 put (File m bytes) t p = put_file t p m bytes
 
--- at no path does a file of one tree meet a directory of the other
+-- at no path does one tree have a file and the other tree a directory
 abbrev pub AgreeOn : TreeMap → TreeMap → Type 0
 AgreeOn t source = (q : List (List ℕ)) (e : Entry) → finite.get source q ≡ Some e → meets (finite.get t q) e ≡ Ok tt
 
@@ -28,7 +28,7 @@ all_below here depth [] = Ok tt
 all_below here depth (e ∷ es) =
     if nat_lt 128 (depth + length e.0) then Err BadName else (meets (finite.get here e.0) e.1 >>= λ _. all_below here depth es)
 
--- what is at a path after a copied tree is merged into another tree: a directory that both trees have stays as that other tree has it
+-- what is at a path after a copied tree is merged into another tree; where both trees have a directory, the directory of that other tree stays as it is
 abbrev pub laid : (MetaValue → MetaValue) → Option Entry → Option Entry → Option Entry
 laid given there None = there
 laid given there (Some e) = Some (landed given there e)
@@ -38,10 +38,10 @@ abbrev pub put_some : Option Entry → TreeMap → List (List ℕ) → Result Tr
 put_some None t p = Ok t
 put_some (Some e) t p = put e t p
 
--- the tree after the entries are put at their paths, if all parents of the target exist
+-- the tree after the entries are put at their paths, or the fault; all parents of the target `goal` have to exist
 abbrev pub land_at : (MetaValue → MetaValue) → List (List (List ℕ) × Entry) → List (List ℕ) → TreeMap → Result TreeMap TreeFault
 land_at given es goal t = walk (finite.get t) goal >>= λ _. land given es t
 
--- the path, if it has at most 128 names; else the fault
+-- the path, if it has at most 128 names; else the fault `BadName`
 abbrev pub placed : List (List ℕ) → Result (List (List ℕ)) TreeFault
 placed p = fits p >>= λ _. Ok p

@@ -14,7 +14,7 @@ use Rattle.llb_glob.specs.Pattern.{pattern_of}
 use Rattle.llb_fileop.specs.declared.fault.ActFault.{ActFault}
 use Rattle.llb_fileop.specs.Faults.{on_tree, on_pattern}
 
--- the tree, unchanged, if it is allowed that nothing is there; else the fault `NotFound`
+-- the result of a removal if nothing is there: the unchanged tree, if this is allowed; else the fault `NotFound`
 abbrev pub absent : Bool → TreeMap → Result TreeMap TreeFault
 absent true t = Ok t
 absent false t = Err NotFound
@@ -28,7 +28,7 @@ removed allowed p None t = absent allowed t
 abbrev pub rm_path : Bool → TreeMap → List (List ℕ) → Result TreeMap TreeFault
 rm_path allowed t p = not_root p >>= λ _. removed allowed p (finite.get t p) t
 
--- the paths that match, in path order
+-- the paths of a tree that match a pattern, in path order
 abbrev pub matching : List (List Item) → TreeMap → List (List (List ℕ))
 matching pattern t = filter (path_matches pattern) (finite.keys t)
 
@@ -36,11 +36,11 @@ matching pattern t = filter (path_matches pattern) (finite.keys t)
 abbrev pub is_below_any : List (List (List ℕ)) → List (List ℕ) → Bool
 is_below_any ps q = list_any (λ p. is_within p q) ps
 
--- the tree without the paths that match and what is below them
+-- the tree without the paths that match a pattern and what is below these paths
 abbrev pub left : List (List Item) → TreeMap → TreeMap
 left pattern t = finite.retain_keys t (λ q. not (is_below_any (matching pattern t) q))
 
--- the tree after these paths, and what is below them, are removed; if there are no paths, `absent` says the result
+-- the tree after these paths, and what is below them, are removed; if there are no paths, the unchanged tree if `allowed` is true, else the fault `NotFound`
 abbrev pub removed_all : Bool → List (List (List ℕ)) → TreeMap → Result TreeMap TreeFault
 removed_all allowed [] t = absent allowed t
 removed_all allowed (p ∷ ps) t = Ok (finite.retain_keys t (λ q. not (is_below_any (p ∷ ps) q)))

@@ -1,4 +1,4 @@
-//! What an action does to a tree. It works on a copy, so a fault leaves the given tree unchanged.
+//! What an action does to a tree. The action works on a copy, so a fault leaves the given tree unchanged.
 
 ghost use Rattle.std.specs.Prelude.{option_map, unwrap_or};
 ghost use Rattle.llb_tree.specs.Tree.{empty_tree};

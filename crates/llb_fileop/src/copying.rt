@@ -19,7 +19,7 @@ use llb_ops::CopyFile;
 use llb_tree::{Meta, Path, Tree, TreeFault};
 use std::alloc::Global;
 
-// The destination of a copy: the path that its text reads as, and whether the text ends in `/`, so that the sources go into the directory.
+// The destination of a copy: the path that its text is read as, and whether the text ends in `/`; if it does, sources are copied into that directory.
 #[derive(Drop)]
 struct Dest {
     path: Path,
@@ -110,7 +110,7 @@ fn copy_one(
     land(alloc, action, second, source, &goal, tree)
 }
 
-// Returns the path that a source is copied to.
+// Returns the target of a source: the path that the source is copied to.
 fn target(
     action: &CopyFile,
     dest: &Dest,
@@ -140,7 +140,7 @@ fn place_in(dest: &Path, source: &Path) -> Result<Path, TreeFault>
     Ok(goal)
 }
 
-// Copies what is at and below a source to its target and below it.
+// Copies what is at and below a source to the same paths at and below its target.
 fn land(
     alloc: Global,
     action: &CopyFile,

@@ -8,8 +8,8 @@ use crate::fault::ActFault;
 use llb_tree::Path;
 use std::alloc::Global;
 
-/// Returns the path that a text reads as, from the root, and whether the text ends in `/`. Fails with 51 `File` and 26 `BadName` if the
-/// text does not read as a path; otherwise it can only fail with 53 `Memory`.
+/// Returns the path that a text is read as, from the root, and whether the text ends in `/`. Fails with 51 `File` and 26 `BadName` if the
+/// text is no path; otherwise fails with 53 `Memory` alone.
 pub fn resolve(alloc: Global, text: &str) -> Result<(Path, bool), ActFault>
     ensures gives { Gives (λ r. r) result (on_tree (resolved text.now)) }
     ensures last { MemoryLast result (on_tree (resolved text.now)) }

@@ -22,7 +22,8 @@ pub fn mkfile(alloc: Global, make: &MkFile, base: &Tree) -> Result<Tree, TreeFau
     Ok(tree)
 }
 
-/// Returns the tree with a directory at a path, which is made if it is not there. Fails as `Tree::put_dir` does, or with 26 `BadName` if the text is no path.
+/// Returns the tree with a directory at the action's path; a directory that is there stays as it is. Fails as `Tree::put_dir` does, or with 26 `BadName` if the
+/// text is no path.
 pub fn mkdir(alloc: Global, make: &MkDir, base: &Tree) -> Result<Tree, TreeFault>
     ensures { Gives (λ t. t) result (mkdir make.now base.now) }
 {

@@ -1,5 +1,5 @@
-//! Puts copied entries into a tree: a file at its path; a directory, with what is below it, merged with what is there. To merge them, the copied directory is
-//! laid over a copy of what is there, and the result replaces it.
+//! Puts copied entries into a tree. A file is put at its path. A directory is merged, with what is below it, with the directory that is there: the copied
+//! directory is laid over a copy of that directory, and the result replaces it.
 
 ghost use Rattle.std.specs.Prelude.{◌≡◌, ◌≤◌, [], length, false, Ok, None, Some, IsSome, map, IfErr};
 ghost use Rattle.std.specs.FinMap as finite;
@@ -36,8 +36,8 @@ pub fn land_file(
     copy_from(action, second, source, goal, tree)
 }
 
-/// Puts a copy of a directory, with what is below it, at its target. The directory is given as the root of a tree. Fails with 24 `Conflict` if a file meets a
-/// directory, else as `Tree::put_dir` and `Tree::graft` do.
+/// Puts a copy of a directory, with what is below it, at its target. The directory is given as the root of a tree. Fails with 24 `Conflict` if a file would
+/// replace a directory or a directory a file, else as `Tree::put_dir` and `Tree::graft` do.
 pub fn land_dir(
     alloc: Global,
     action: &CopyFile,
@@ -59,7 +59,7 @@ pub fn land_dir(
     merge_at(action, source, goal, tree)
 }
 
-// Puts a copy of the entry that another tree has at a path, if it has one.
+// Puts a copy of the entry that another tree has at a path, if there is one, at the target.
 fn copy_from(
     action: &CopyFile,
     from: &Tree,
@@ -75,7 +75,7 @@ fn copy_from(
     }
 }
 
-// Puts a copy of an entry. The content of a file is shared, not copied.
+// Puts a copy of an entry at the target. The copy of a file shares the content in memory.
 fn put_copy(
     action: &CopyFile,
     held: Entry,
@@ -119,8 +119,8 @@ fn may_land(here: &Tree, source: &Tree, goal: &Path) -> Result<(), TreeFault>
     first_fault(here, source, goal)
 }
 
-// Checks whether each entry of a tree can be put over what another tree has at the same path. If the other tree has nothing at a path, it has nothing below it
-// either, so the entries below that path are passed over.
+// Checks whether each entry of a tree can be put over what another tree has at the same path. Where the other tree has nothing at a path, it has nothing below
+// that path either, so the entries below that path are passed over.
 fn may_meet(here: &Tree, source: &Tree) -> Result<(), TreeFault>
     ensures { Gives (λ u. u) result (all_meet here.now (finite.entries source.now)) }
 {
@@ -136,7 +136,7 @@ fn may_meet(here: &Tree, source: &Tree) -> Result<(), TreeFault>
     Ok(())
 }
 
-// Checks the entries one by one, and fails with the fault of the first that can't be put.
+// Checks the entries one by one, and fails with the fault of the first entry that can't be put below a path.
 fn first_fault(here: &Tree, source: &Tree, goal: &Path) -> Result<(), TreeFault>
     ensures { Gives (λ u. u) result (all_below here.now (length goal.now) (finite.entries source.now)) }
 {

@@ -9,7 +9,7 @@ use llb_ops::{ChownOpt, CopyFile, User, UserOpt};
 use llb_tree::{Meta, OverlaySettings};
 use llb_wire::Boxed;
 
-/// Returns the mode and the owner of what an action makes: user or group 0 if none is given.
+/// Returns the mode and the owner of what an action makes; the user or the group is 0 if none is given.
 pub fn made(mode: i32, owner: &Option<Boxed<ChownOpt>>) -> Meta
     ensures { result ≡ made mode owner.now }
 {
@@ -18,7 +18,7 @@ pub fn made(mode: i32, owner: &Option<Boxed<ChownOpt>>) -> Meta
     Meta::new(low_bits(mode), uid, gid).unwrap()
 }
 
-/// Returns the mode and the owner of what is copied: its own if the action gives none.
+/// Returns the mode and the owner of a copied entry: those of the action, or the entry's own (`own`) where the action gives none.
 pub fn copied(action: &CopyFile, own: Meta) -> Meta
     ensures { result ≡ copied action.now.mode action.now.owner own }
 {
@@ -28,7 +28,7 @@ pub fn copied(action: &CopyFile, own: Meta) -> Meta
     Meta::new(mode_from(action.mode, own.mode()), uid, gid).unwrap()
 }
 
-/// Returns the `OverlaySettings` by which what is copied is laid over a tree: a directory that is there stays as it is.
+/// Returns the settings with which copied entries are laid over a tree: a directory that is there stays as it is.
 pub fn settings(action: &CopyFile) -> OverlaySettings
     ensures given { (m : MetaValue) → laid_meta result m ≡ copied action.now.mode action.now.owner m }
     ensures keeps { result.keeps ≡ true }

@@ -1,4 +1,4 @@
-//! Removes a path, or all paths that match a pattern, from a copy of a tree. The copy shares what stays as it is.
+//! Removes a path, or all paths that match a pattern, from a copy of a tree. The copy shares with the tree what is not removed.
 
 ghost use Rattle.llb_tree.specs.Tree as tree;
 ghost use Rattle.llb_fileop.specs.Faults.{Gives};
@@ -25,8 +25,8 @@ pub fn rm(alloc: Global, remove: &Rm, base: &Tree) -> Result<Tree, ActFault>
     Ok(tree)
 }
 
-// Returns the tree without what is at and below a path. Fails with 25 `Root` at the root, with 21 `NotFound` if nothing
-// is there and that is not allowed.
+// Returns the tree without what is at and below a path. Fails with 25 `Root` at the root, and with 21 `NotFound` if nothing
+// is there and `allowed` is false.
 fn rm_path(path: &Path, allowed: bool, base: &Tree) -> Result<Tree, TreeFault>
     ensures { tree.Gives (λ t. t) result (rm_path allowed base.now path.now) }
 {

@@ -24,12 +24,12 @@ Gives = answer.Gives is_memory
 abbrev pub MemoryLast : {X Y : Type 0} → Result X TextFault → Result Y TextFault → Type 0
 MemoryLast = answer.MemoryLast is_memory
 
--- whether a fault of writing a text is the one for refused memory
+-- whether a fault of writing a text is `Memory`
 abbrev pub is_refused_memory : PrintFault → Bool
 is_refused_memory print.Memory = true
 is_refused_memory print.Write = false
 
--- a text is written, or a prefix of it if memory was refused or the sink has failed
+-- a call that succeeded has written the whole text; a call that failed, for want of memory or because the sink has failed, has written a prefix of the text
 abbrev pub Prints : Option (List ℕ) → Option (List ℕ) → Bool → List ℕ → Result (Unit {0}) PrintFault → Type 0
 Prints = output.Writes is_refused_memory
 
@@ -40,7 +40,7 @@ reading_text (text.Order line) = codes "32 " ++ decimal line
 reading_text (text.NoParent line) = codes "33 " ++ decimal line
 reading_text text.Memory = codes "34"
 
--- the text of a fault of writing a text: the fault's number alone; for refused memory reading has this number too (docs/FAULTS.md)
+-- the text of a fault of writing a text: the fault's number alone; for refused memory, reading and writing have the same number (docs/FAULTS.md)
 abbrev pub printing_text : PrintFault → List ℕ
 printing_text print.Memory = codes "34"
 printing_text print.Write = codes "35"

@@ -1,4 +1,4 @@
--- The fields of a line, each as it is written. Only this file and the proofs know how a line is split into fields.
+-- How a line is split into its fields, and how each field is read. Only this file and the proofs know this.
 use Rattle.std.specs.Prelude.{ℕ, ◌+◌, ◌-◌, ◌*◌, ◌^◌, ◌==◌, ◌&&◌, ◌||◌, not, nat_lt, nat_le, nat_eq, Bool, false, if◌then◌else◌, List}
 use Rattle.std.specs.Prelude.{[], ◌∷◌, length, codes, Option, Some, None}
 use Rattle.std.specs.List.{list_all, position_or_len, before_first, after_first}
@@ -34,11 +34,11 @@ unfoldable pub number_from : ℕ → List ℕ → Option ℕ
 number_from n [] = Some n
 number_from n (b ∷ text) = if nat_lt (n * 10 + (b - 48)) (2 ^ 32) then number_from (n * 10 + (b - 48)) text else None
 
--- the number whose decimal spelling is exactly this text; nothing if no number of at most 32 bits has it
+-- the number whose decimal spelling is exactly this text; nothing if no number of at most 32 bits has this spelling
 abbrev pub decimal_in : List ℕ → Option ℕ
 decimal_in text = on (number_from 0 text) (λ n. if pointwise nat_eq text (decimal n) then Some n else None)
 
--- the mode and the owners at the start of a text, and the text after them
+-- the mode, the user and the group at the start of a text, each with a space after it, and the text after them; nothing if the text does not begin so
 abbrev pub meta_in : List ℕ → Option (MetaValue × List ℕ)
 meta_in text = on (cut_at 32 text) (λ m. on (cut_at 32 m.1) (λ u. on (cut_at 32 u.1) (λ g.
     on (mode_in m.0) (λ mode. on (decimal_in u.0) (λ uid. on (decimal_in g.0) (λ gid. on (meta_of mode uid gid) (λ meta. Some (meta, g.1))))))))
@@ -47,12 +47,12 @@ meta_in text = on (cut_at 32 text) (λ m. on (cut_at 32 m.1) (λ u. on (cut_at 3
 abbrev pub are_names : List ℕ → Bool
 are_names text = list_all is_name (parts_of text) && nat_le (length (parts_of text)) 128
 
--- whether a text is a slash, and after it names or nothing
+-- whether a text is one slash, or is a slash and then at most 128 names with slashes between them
 abbrev pub is_path : List ℕ → Bool
 is_path [] = false
 is_path (b ∷ names) = (b == 47) && ((length names == 0) || are_names names)
 
--- the fields of a line: the mode and the owners, the digits of a file's content (none for a directory), and the text of the path
+-- the fields of a line: the mode with the user and the group, the digits of a file's content (none for a directory), and the text of the path
 abbrev pub Fields : Type 0
 Fields = MetaValue × Option (List ℕ) × List ℕ
 
@@ -68,7 +68,7 @@ dir_parts m path = if is_path path then Some (m, None, path) else None
 abbrev pub file_parts : MetaValue → List ℕ → List ℕ → Option Fields
 file_parts m digits path = if is_hex digits && is_path path && not (nat_lt (length path) 2) then Some (m, Some digits, path) else None
 
--- the fields of a line; nothing if it is not spelled as lines are written
+-- the fields of a line; nothing if the line is not spelled as the lines of entries are written
 abbrev pub parts_in : List ℕ → Option Fields
 parts_in line = on (cut_at 32 line) (λ k. on (meta_in k.1) (λ m.
     if pointwise nat_eq k.0 (codes "d") then dir_parts m.0 m.1
@@ -93,19 +93,19 @@ entry_of m (Some content) = File m content
 abbrev pub pair_of : Row → List (List ℕ) × Entry
 pair_of r = (r.path, entry_of r.meta r.content)
 
--- a directory at the path that the text reads as; nothing if it reads as no path
+-- a directory at the path that the text is read as; nothing if the text is read as no path
 abbrev pub dir_in : MetaValue → List ℕ → Option (List (List ℕ) × Entry)
 dir_in m path = on (result_ok (path_of path)) (λ p. Some (p, Dir m))
 
--- a file with the bytes that the digits spell, at the path that the text reads as; nothing if the digits spell no bytes or the text reads as no path
+-- a file with the bytes that the digits spell, at the path that the text is read as; nothing if there are no such bytes or there is no such path
 abbrev pub file_in : MetaValue → List ℕ → List ℕ → Option (List (List ℕ) × Entry)
 file_in m digits path = on (bytes_in digits) (λ content. on (result_ok (path_of path)) (λ p. Some (p, File m content)))
 
--- the path and the entry that these fields spell, if they do
+-- the path and the entry that these fields spell; nothing if they spell none
 abbrev pub row_from : Fields → Option (List (List ℕ) × Entry)
 row_from (m, None, path) = dir_in m path
 row_from (m, Some digits, path) = file_in m digits path
 
--- the path and the entry that a line spells, if it does
+-- the path and the entry that a line spells; nothing if the line spells none
 abbrev pub row_in : List ℕ → Option (List (List ℕ) × Entry)
 row_in line = on (parts_in line) row_from

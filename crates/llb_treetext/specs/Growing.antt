@@ -9,7 +9,7 @@ use Rattle.llb_treetext.specs.declared.parts.Parts.{Parts}
 use Rattle.llb_treetext.specs.declared.grow.Growing.{Growing}
 use Rattle.llb_treetext.specs.declared.grow.Open.{Open}
 
--- tree t has at and below a path what `dir` has, and everywhere else what `above` has
+-- tree t has, at and below the path `at`, what the tree `dir` has from its root down; everywhere else, t has what the tree `above` has
 pub record HasBelow (t above : TreeMap) (at : List (List ℕ)) (dir : TreeMap) : Type 0 where
   pub inside : (q : List (List ℕ)) → finite.get t (at ++ q) ≡ finite.get dir q
   pub outside : (q : List (List ℕ)) → is_within at q ≡ false → finite.get t q ≡ finite.get above q
@@ -23,12 +23,12 @@ IsKept kept (Some o) t = HasBelow t o.above o.at kept × (o.text.now ≡ names_t
 abbrev pub IsGrown : Growing → TreeMap → Type 0
 IsGrown g t = IsKept g.tree g.open t
 
--- t is the tree of the lines so far, if there is such a tree
+-- t is the tree of the lines so far, if the code still has this tree (it has none once memory is refused)
 abbrev pub IsGrownIfAny : Option Growing → TreeMap → Type 0
 IsGrownIfAny None t = Unit {0}
 IsGrownIfAny (Some g) t = IsGrown g t
 
--- t is the tree that is given, if one is given
+-- t is the given tree, if a tree is given
 abbrev pub IsIfAny : Option TreeMap → TreeMap → Type 0
 IsIfAny None t = Unit {0}
 IsIfAny (Some u) t = u ≡ t

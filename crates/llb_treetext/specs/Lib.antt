@@ -1,5 +1,5 @@
--- Read first TreeText (the text of a tree) and Reading (which texts those are, and what is wrong with others), then Output (what is written) and Faults.
--- Fields, Placing, Growing and Lines say how the code goes through a text.
+-- Read first TreeText (the text of a tree) and Reading (which texts are texts of trees, and the first fault of any other text), then Output (how much of a
+-- text is written) and Faults. Fields, Placing, Growing and Lines say how the code reads a text.
 pub mod TreeText
 pub mod Faults
 pub mod Output

@@ -7,7 +7,7 @@ use Rattle.llb_treetext.specs.Reading.{IsRow, Begins}
 use Rattle.llb_treetext.specs.Fields.{parts_seen, parts_from}
 use Rattle.llb_treetext.specs.declared.parts.Parts.{Parts}
 
--- the line is the line of an entry, and has these fields; or no fields are given, and it is not the line of any entry
+-- the line is the line of an entry, and has the given fields; or no fields are given, and the line is not the line of any entry
 abbrev pub Spells : List ℕ → Option Parts → Type 0
 Spells line None = (row : List (List ℕ) × Entry) → IsRow row → line ≢ row_text row
 Spells line (Some x) = (row : List (List ℕ) × Entry) × IsRow row × (line ≡ row_text row) × (parts_seen x ≡ parts_from row)

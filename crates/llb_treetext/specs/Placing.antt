@@ -1,4 +1,4 @@
--- The result of putting the entry of the next line into the tree. Only this file and the proofs know that a text is read line by line.
+-- What the tree is after the entry of the next line is put into it. Only this file and the proofs know that a text is read line by line.
 use Rattle.std.specs.Prelude.{◌≡◌, ℕ, ◌+◌, ◌<◌, ◌==◌, Bool, true, false, List, [], ◌∷◌, ◌++◌, length, map, None, Result, Ok, Err, if◌then◌else◌}
 use Rattle.std.specs.FinMap as finite
 use Rattle.std.specs.declared.cmp.Ordering.{Ordering}
@@ -24,18 +24,18 @@ put_row t (p, File m content) = put_file t p m content
 abbrev pub IsOf : List (List ℕ) × Entry → Parts → Type 0
 IsOf row x = IsRow row × (parts_seen x ≡ parts_from row)
 
--- one more line is in the tree: the text of the tree followed by the rest is the same as before, and the rest is shorter
+-- one more line is in the tree: the text of the tree and the text that remains to be read are together the same as before, and less text remains
 pub record GoesOn (old new : TreeMap) (rest later : List ℕ) : Type 0 where
   pub tree : IsTree new
   pub text : tree_text old ++ rest ≡ tree_text new ++ later
   pub shorter : length later < length rest
 
--- the tree of the lines at the start of a text, and the rest of the text
+-- t is the tree of the lines at the start of some bytes, and `rest` is the bytes after these lines
 pub record IsFront (bytes : List ℕ) (t : TreeMap) (rest : List ℕ) : Type 0 where
   pub tree : IsTree t
   pub text : bytes ≡ tree_text t ++ rest
 
--- ---- checks without allocating: of the tree so far only the last line's path and kind are needed
+-- ---- checks without allocating: to check a line, the code needs only the path of the line before it, and whether that line's entry is a directory
 
 -- whether an entry is a directory
 abbrev pub is_dir : Entry → Bool
@@ -50,8 +50,8 @@ rank b = if b == 47 then 0 else b
 abbrev pub trail_cmp : List ℕ → List ℕ → Ordering
 trail_cmp p q = slice_cmp nat_cmp (map rank p) (map rank q)
 
--- whether a path with which the text of the last path begins is the path of a directory, given the text after it there: if no text follows, `dir` says
--- whether the last entry is a directory; else a slash has to follow, and then another name
+-- Let the text of the last entry's path be a text A and then the given bytes: whether A is the path of a directory. If no bytes are given, A is the path of
+-- the last entry, and `dir` says whether that entry is a directory; else the bytes have to begin with a slash.
 abbrev pub opens : List ℕ → Bool → Bool
 opens [] dir = dir
 opens (b ∷ later) dir = b == 47
@@ -64,12 +64,12 @@ pub record IsLast (t : TreeMap) (place : Place) : Type 0 where
   pub names : place.names.now ≡ names_text row.0
   pub kind : place.is_dir ≡ is_dir row.1
 
--- the first line is read: its tree, or what is wrong with the line
+-- the result of reading the first line: the tree of this line alone, or the fault of the line
 abbrev pub Starts : List ℕ → Result Line TextFault → Type 0
 Starts bytes (Ok x) = let t = finite.insert empty_tree [] (Dir x.parts.meta) in IsFront bytes t x.later.now × IsLast t x.place × (finite.len t ≡ 1)
 Starts bytes (Err e) = (is_memory e ≡ false) × IsFault [] bytes e
 
--- one more line is read: the tree with its entry, at whose path nothing was, or what is wrong with the line
+-- the result of reading one more line: the tree with the entry of this line, at a path at which nothing was before; or the fault of the line
 abbrev pub GoesTo : TreeMap → List ℕ → Result Line TextFault → Type 0
 GoesTo t rest (Ok x) = (row : List (List ℕ) × Entry) × IsOf row x.parts × (finite.get t row.0 ≡ None) × (put_row t row ≡ Ok (finite.insert t row.0 row.1))
     × GoesOn t (finite.insert t row.0 row.1) rest x.later.now × IsLast (finite.insert t row.0 row.1) x.place

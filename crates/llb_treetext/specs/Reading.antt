@@ -1,4 +1,4 @@
--- Which texts are texts of trees, and the first fault of any other text. Nothing here depends on how a text is read.
+-- Which texts are texts of trees, and the first fault of any other text. These definitions do not depend on how the code reads a text.
 use Rattle.std.specs.Prelude.{◌≡◌, ◌≢◌, ℕ, ◌+◌, Bool, true, false, List, [], ◌∷◌, ◌++◌, length, Result, Ok, Err, MatchResult, ◌⊎◌}
 use Rattle.std.specs.Ordering.{is_lt}
 use Rattle.std.specs.FinMap as finite
@@ -20,11 +20,11 @@ pub record IsText (bytes : List ℕ) (t : TreeMap) : Type 0 where
   pub tree : IsTree t
   pub text : bytes ≡ tree_text t
 
--- these are no entries, or all entries of a tree, in path order
+-- the list is empty, or has all entries of a tree in path order
 abbrev pub AreBefore : List (List (List ℕ) × Entry) → Type 0
 AreBefore rows = (rows ≡ []) ⊎ ((t : TreeMap) × IsTree t × (rows ≡ finite.entries t))
 
--- whether a path may come next after some entries: first the root, and then only a path after the last one
+-- whether a path may come next after some entries: if there are none, only the root; else only a path after the path of the last entry
 abbrev pub comes_next : List (List (List ℕ) × Entry) → List (List ℕ) → Bool
 comes_next [] [] = true
 comes_next [] (n ∷ p) = false
@@ -35,8 +35,8 @@ comes_next (r ∷ s ∷ rows) p = comes_next (s ∷ rows) p
 abbrev pub Begins : List ℕ → List (List ℕ) × Entry → Type 0
 Begins text row = IsRow row × ((later : List ℕ) × (text ≡ line_of row ++ later))
 
--- the first thing that is wrong with the line after some entries: it is not the line of an entry; or its path does not come after the last one;
--- or a directory above its path is missing
+-- the first fault of the line after some entries: it is not the line of an entry; or its path does not come after the path of the last entry; or a
+-- directory above its path is missing
 abbrev pub IsFault : List (List (List ℕ) × Entry) → List ℕ → TextFault → Type 0
 IsFault rows rest (BadLine n) = (n ≡ length rows + 1) × ((row : List (List ℕ) × Entry) → ¬ Begins rest row)
 IsFault rows rest (Order n) = (n ≡ length rows + 1) × ((row : List (List ℕ) × Entry) × Begins rest row × (comes_next rows row.0 ≡ false))
@@ -44,7 +44,7 @@ IsFault rows rest (NoParent n) = (n ≡ length rows + 1)
     × ((row : List (List ℕ) × Entry) × Begins rest row × (comes_next rows row.0 ≡ true) × (walk (λ q. finite.find path_cmp q rows) row.0 ≢ Ok tt))
 IsFault rows rest Memory = ⊥
 
--- the text begins with the lines of a tree (perhaps none), and the line after them has this fault; if the text is empty, the missing line is faulty
+-- the text begins with no lines or with the lines of a tree, and the line after these has this fault; in an empty text, line 1, which is missing, has the fault
 pub record Stops (bytes : List ℕ) (e : TextFault) : Type 0 where
   pub rows : List (List (List ℕ) × Entry)
   pub rest : List ℕ
@@ -53,7 +53,7 @@ pub record Stops (bytes : List ℕ) (e : TextFault) : Type 0 where
   pub more : rest ≡ [] → rows ≡ []
   pub fault : IsFault rows rest e
 
--- the result of reading a text: the tree, or the first fault; it says nothing of refused memory
+-- the result of reading a text: the tree, or the first fault; this allows the fault `Memory` for any text
 abbrev pub Answers : List ℕ → Result TreeMap TextFault → Type 0
 Answers bytes (Ok t) = IsText bytes t
 Answers bytes (Err e) = is_memory e ≡ false → Stops bytes e

@@ -10,7 +10,7 @@ use Rattle.llb_tree.specs.Tree.{Entry, Dir, File, MetaValue, TreeMap}
 abbrev pub mode_text : ℕ → List ℕ
 mode_text mode = decimal (mode / 512) ++ (decimal (mode / 64 % 8) ++ (decimal (mode / 8 % 8) ++ decimal (mode % 8)))
 
--- the mode of an entry in four octal digits, and its user and its group in decimal, each of the three with a space after it
+-- the mode of an entry in four octal digits, and the user and the group in decimal, with a space after each of the three
 abbrev pub meta_text : MetaValue → List ℕ
 meta_text m = mode_text m.mode ++ (codes " " ++ (decimal m.uid ++ (codes " " ++ (decimal m.gid ++ codes " "))))
 

@@ -1,4 +1,4 @@
-//! The digest of a tree: SHA-256 of its text, a line at a time.
+//! The digest of a tree: SHA-256 of the tree's text, which is hashed a line at a time.
 
 ghost use Rattle.std.specs.Prelude.{◌≡◌, IfOk, Ok};
 ghost use Rattle.sha2.specs.Sha256.{sha256};

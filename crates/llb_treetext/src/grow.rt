@@ -1,6 +1,6 @@
-//! The tree of a text while it is read. The files of a directory often follow one another, so the directory of the last
-//! line is kept apart as a tree, into which a file is put by its name alone; later it is put back at its path as a
-//! whole.
+//! The tree of a text while the text is read. The files of a directory often follow one another, so the directory of the
+//! last line is kept apart as a tree of its own: a file is put into it by the file's name alone. Later this whole
+//! directory is put back at its path.
 
 ghost use Rattle.std.specs.Prelude.{◌≡◌, ◌++◌, ◌∷◌, ℕ, List, [], Ok, None, true, false, IfSome, IfOk};
 ghost use Rattle.std.specs.FinMap as finite;
@@ -17,7 +17,7 @@ use llb_tree::{Meta, Name, Path, Tree, TreeFault};
 use llb_wire::{Memory, read_hex};
 use std::alloc::Global;
 
-// A tree, or a directory that is kept apart with the tree that it belongs to.
+// The tree of the lines so far: a whole tree, or a directory that is kept apart, with the tree to which it belongs.
 #[derive(Drop)]
 pub(crate) struct Growing<'a> {
     tree: Tree,
@@ -74,7 +74,7 @@ fn whole(growing: Growing<'_>) -> Option<Tree>
     }
 }
 
-// Returns the whole tree; `None` if memory was refused before, or is now.
+// Returns the whole tree; `None` if memory was refused before this call or in it.
 pub(crate) fn whole_if_any(growing: Option<Growing<'_>>) -> Option<Tree>
     ensures { (t : TreeMap) → IsGrownIfAny growing.entry t → IsIfAny result t }
 {
@@ -108,7 +108,7 @@ fn path_of_name(alloc: Global, text: &str) -> Result<Option<Path>, Memory>
 }
 
 // Puts a line's file by its name into the directory that is kept apart, and returns whether it did so; a line that is not the line of a file directly below
-// that directory changes nothing. A refusal of memory is an error and not `false`, so that it is reported.
+// that directory changes nothing. If memory is refused, the result is an error and not `false`, so that this is reported.
 fn is_put_below(alloc: Global, growing: &mut Growing<'_>, parts: &Parts<'_>) -> Result<bool, Memory>
     ensures put { IfOk result (λ is_put. is_put ≡ true → (t : TreeMap) → IsGrown growing.old t → (row : List (List ℕ) × TreeEntry)
         → Follows t row parts.now → IsGrown growing.new (finite.insert t row.0 row.1)) }
@@ -136,7 +136,7 @@ fn is_put_below(alloc: Global, growing: &mut Growing<'_>, parts: &Parts<'_>) -> 
     }
 }
 
-// Adds a directory to a tree, and keeps it apart; `None` if memory is refused.
+// Adds a directory to a tree, and keeps the directory apart; `None` if memory is refused.
 fn opened<'a>(
     alloc: Global,
     above: Tree,

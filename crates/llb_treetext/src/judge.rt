@@ -1,5 +1,5 @@
-//! Checks a line without allocating. The lines before it are those of a tree, so the last of them is enough to know whether this one comes after them all, and
-//! whether the directory that its path is in is there.
+//! Checks a line without allocating. The lines before the checked line are the lines of a tree, so the last of them is enough to know whether the checked line
+//! comes after all of them, and whether the parent directory of its path is there.
 
 ghost use Rattle.std.specs.Prelude.{◌≡◌, ◌≢◌, ◌+◌, ◌++◌, ◌∷◌, ℕ, List, IsTrue, true};
 ghost use Rattle.std.specs.FinMap as finite;
@@ -20,7 +20,7 @@ pub(crate) struct Place<'a> {
     pub is_dir: bool,
 }
 
-// A line: its fields, its `Place`, and the bytes after it.
+// A line: its fields, the `Place` of its entry, and the bytes after the line.
 #[derive(Clone, Copy)]
 pub(crate) struct Line<'a> {
     pub parts: Parts<'a>,
@@ -61,7 +61,7 @@ fn is_before(first: &[u8], second: &[u8]) -> bool
     first.len() < second.len()
 }
 
-// Returns what is before the last slash of some names.
+// Returns the text of the parent of a path: the bytes before the last slash of the path's names.
 fn parent(names: &[u8]) -> &[u8]
     ensures { (front last : List ℕ) → All (λ b. b ≢ 47) last → names.now ≡ front ++ 47 ∷ last → result.now ≡ front }
 {
@@ -89,7 +89,7 @@ fn holds(place: &Place<'_>, dir: &[u8]) -> bool
     }
 }
 
-// Reads the first line, which is the root's. Fails with 31 `BadLine`, else with 32 `Order`. Does not allocate.
+// Reads the first line, which has to be the line of the root. Fails with 31 `BadLine`, or else with 32 `Order` if the path is not the root. Does not allocate.
 pub(crate) fn first_line(bytes: &[u8]) -> Result<Line<'_>, TextFault>
     ensures { Starts bytes.now result }
 {
@@ -107,7 +107,7 @@ pub(crate) fn first_line(bytes: &[u8]) -> Result<Line<'_>, TextFault>
     })
 }
 
-// Reads the next line. Fails with 31 `BadLine`, else with 32 `Order`, else with 33 `NoParent`. Does not allocate.
+// Reads the next line. Fails with the first of 31 `BadLine`, 32 `Order` and 33 `NoParent` that applies. Does not allocate.
 pub(crate) fn next_line<'a>(
     last: &Place<'_>,
     rest: &'a [u8],

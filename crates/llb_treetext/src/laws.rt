@@ -1,4 +1,4 @@
-//! Laws of all texts and all trees.
+//! Laws that hold for all texts and all trees.
 
 ghost use Rattle.llb_treetext.specs.Reading.{HasOneAnswer, ReadsBack};
 

@@ -1,4 +1,4 @@
-//! The text of a tree: a line for each entry in path order. It is built on `llb_tree`, and knows no op.
+//! The text of a tree: a line for each entry in path order. The crate is built on `llb_tree`, and does not use ops.
 //!
 //! Types: `TextFault` (why a text is not the text of a tree), `PrintFault`.
 //! Promise: `print_tree` (`prints`) writes exactly the text of the tree, or a prefix of it if memory is refused or the sink fails. `read_tree`

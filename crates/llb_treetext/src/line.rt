@@ -1,5 +1,5 @@
-//! The line of an entry: its kind, its mode and owners, the content of a file, and its path. It is
-//! appended to a text, so that one text's memory is used for all lines.
+//! The line of an entry: the kind, the mode, the user and the group, the content of a file, and the path.
+//! The caller gives the text to which a line is written, so that the memory of one text serves all lines.
 
 ghost use Rattle.std.specs.Prelude.{◌≡◌, ◌++◌, ◌<◌, OnOk, string_bytes};
 ghost use Rattle.std.specs.Fmt.{decimal};
@@ -66,8 +66,8 @@ fn push_names(line: &mut String, names: &[Name]) -> Result<(), AllocError>
     Ok(())
 }
 
-/// Appends the text of a path to a text: a slash before each name, and a single slash for the root. Fails with `AllocError` alone; then a part of it may be
-/// written.
+/// Appends the text of a path to a text: a slash before each name, and a single slash for the root. Fails with `AllocError` alone; then a part of the path may
+/// be written.
 pub fn push_path(line: &mut String, path: &Path) -> Result<(), AllocError>
     ensures { OnOk result (string_bytes line.new ≡ string_bytes line.old ++ path_text path.now) }
 {
@@ -78,7 +78,7 @@ pub fn push_path(line: &mut String, path: &Path) -> Result<(), AllocError>
     push_names(line, path.names())
 }
 
-// Appends the line of an entry to a text, without its end.
+// Appends the line of an entry to a text, without the line end.
 fn push_row(
     alloc: Global,
     line: &mut String,

@@ -11,7 +11,7 @@ ghost use Rattle.llb_treetext.specs.Lines.{Spells, BeginsWith};
 use llb_tree::{Meta, Mode, Name};
 use llb_wire::is_hex;
 
-// A line's mode and owners, the digits of a file's content, and the text of the path.
+// The fields of a line: the mode with the user and the group, the digits of a file's content, and the text of the path.
 #[derive(Clone, Copy)]
 pub(crate) struct Parts<'a> {
     pub meta: Meta,
@@ -49,8 +49,8 @@ fn mode_of(text: &str) -> Option<Mode>
     Mode::read(text)
 }
 
-// Reads decimal digits as a number; `None` above 2^32 - 1. Bytes that are no digits give a number too, so `decimal_of` checks that the text is the spelling of
-// the number.
+// Reads decimal digits as a number; `None` above 2^32 - 1. Other bytes are read as if they were digits, so `decimal_of` checks that the text is the spelling
+// of the number.
 fn number(text: &str) -> Option<u32>
     ensures { result ≡ number_from 0 text.now }
 {
@@ -83,7 +83,7 @@ fn is_decimal(text: &[u8], number: u32) -> bool
     }
 }
 
-// Reads a number as it is written, without leading zeros.
+// Reads a decimal number without leading zeros; `None` for any other text.
 fn decimal_of(text: &str) -> Option<u32>
     ensures { result ≡ decimal_in text.now }
 {
@@ -95,7 +95,7 @@ fn decimal_of(text: &str) -> Option<u32>
     }
 }
 
-// Reads the mode and the owners at the start of a text, and returns them with what is after them.
+// Reads the mode, the user and the group at the start of a text, and returns them with the text after them.
 fn front(text: &str) -> Option<(Meta, &str)>
     ensures { option_map (λ x. (x.0, x.1.now)) result ≡ meta_in text.now }
 {
@@ -124,7 +124,7 @@ fn are_names(text: &str) -> bool
     true
 }
 
-// Returns whether a text is a path as it is written.
+// Returns whether a text is a path as `print_tree` writes it.
 fn is_path(text: &str) -> bool
     ensures { result ≡ is_path text.now }
 {
@@ -134,7 +134,7 @@ fn is_path(text: &str) -> bool
     }
 }
 
-// Reads the fields of a text; `None` if it is not the line of an entry.
+// Reads the fields of a line that is UTF-8; `None` if it is not the line of an entry.
 fn parts_in(text: &str) -> Option<Parts<'_>>
     ensures { option_map parts_seen result ≡ parts_in text.now }
 {
@@ -203,7 +203,7 @@ fn line_end(bytes: &[u8]) -> Option<usize>
     bytes.iter().position(|b| *b == b'\n')
 }
 
-// Reads the fields of the line at the start of some bytes, and returns them with the bytes after it.
+// Reads the fields of the line at the start of some bytes, and returns them with the bytes after the line; `None` if the bytes begin with no entry's line.
 pub(crate) fn next_parts(bytes: &[u8]) -> Option<(Parts<'_>, &[u8])>
     ensures { BeginsWith bytes.now result }
 {

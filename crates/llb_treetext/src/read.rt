@@ -1,5 +1,5 @@
-//! Reads the text of a tree in one pass: each line is checked without allocating, and then its entry is put into the tree.
-//! Once memory is refused, the later lines are only checked.
+//! Reads the text of a tree in one pass: each line is checked without allocating, and then the line's entry is put into the
+//! tree. Once memory is refused, the lines that follow are only checked.
 
 ghost use Rattle.llb_treetext.specs.Reading.{Answers, MemoryIsLast};
 
@@ -9,9 +9,9 @@ use crate::judge::{first_line, next_line};
 use llb_tree::Tree;
 use std::alloc::Global;
 
-/// Reads the tree of a text, as `print_tree` writes it; else fails with the first fault of the first line that has one: 31 `BadLine`, 32 `Order`, 33
-/// `NoParent`. An empty text, and a last line without its end, have fault 31. Fails with 34 `Memory` only if the text is a tree's: once memory is refused, the
-/// later lines are checked without allocating.
+/// Reads a tree from its text, which has to be spelled as `print_tree` writes it; else fails with the first fault of the first faulty line: 31 `BadLine`, 32
+/// `Order` or 33 `NoParent`. An empty text, and a last line without its end, have fault 31. Fails with 34 `Memory` only if the text is the text of a tree: once
+/// memory is refused, the lines that follow are still checked, without allocating.
 pub fn read_tree(alloc: Global, bytes: &[u8]) -> Result<Tree, TextFault>
     ensures answers { Answers bytes.now result }
     ensures last { MemoryIsLast bytes.now result }

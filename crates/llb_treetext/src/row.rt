@@ -1,4 +1,4 @@
-//! The path and the entry of a line. Unlike the checks of a line, making them needs memory.
+//! Makes the path and the entry of a line. This needs memory, unlike the checks of a line.
 
 ghost use Rattle.std.specs.Prelude.{◌≡◌, IfOk};
 ghost use Rattle.std.specs.Option.{option_map};
@@ -61,7 +61,7 @@ fn file_row(alloc: Global, meta: Meta, digits: &str, path: &str) -> Result<Optio
     }
 }
 
-// Makes the entry of a line from its fields.
+// Makes the entry of a line from its fields; `None` if the fields spell no entry.
 pub(crate) fn row_from(alloc: Global, parts: &Parts<'_>) -> Result<Option<Row>, Memory>
     ensures { IfOk result (λ o. option_map pair_of o ≡ row_from (parts_seen parts.now)) }
 {
