@@ -53,7 +53,7 @@ pub enum Command {
     Sha256 { path: Text, out: Text },
 }
 
-// Written by hand, so that it is proved once; a derived one is proved again in every function that drops such a value.
+// This `Drop` is written by hand, so it is proved once; a derived `Drop` is proved again in every function that drops such a value.
 impl Drop for Command {
     fn drop(self) {
         match self {

@@ -24,7 +24,7 @@ pub struct Joined {
     pub command: Command,
 }
 
-// Written by hand, so that it is proved once; a derived one is proved again in every function that drops such a value.
+// This `Drop` is written by hand, so it is proved once; a derived `Drop` is proved again in every function that drops such a value.
 impl Drop for Joined {
     fn drop(self) {
         let Joined {

@@ -25,7 +25,7 @@ pub struct Script {
     commands: Arc<Vec<Joined>>,
 }
 
-// Written by hand, so that it is proved once; a derived one is proved again in every function that drops such a value.
+// This `Drop` is written by hand, so it is proved once; a derived `Drop` is proved again in every function that drops such a value.
 impl Drop for Script {
     fn drop(self) {
         let Script { commands: _ } = self;

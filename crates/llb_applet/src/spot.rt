@@ -21,7 +21,7 @@ pub struct Spot {
     pub place: Path,
 }
 
-// Written by hand, so that it is proved once; a derived one is proved again in every function that drops such a value.
+// This `Drop` is written by hand, so it is proved once; a derived `Drop` is proved again in every function that drops such a value.
 impl Drop for Spot {
     fn drop(self) {
         let Spot {

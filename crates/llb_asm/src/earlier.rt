@@ -42,7 +42,7 @@ pub struct Earlier {
     size: usize,
 }
 
-// Written by hand, so that it is proved once; a derived one is proved again in every function that drops such a value.
+// This `Drop` is written by hand, so it is proved once; a derived `Drop` is proved again in every function that drops such a value.
 impl Drop for Earlier {
     fn drop(self) {
         let Earlier {

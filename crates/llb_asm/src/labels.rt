@@ -38,7 +38,7 @@ pub struct Labels {
     first: BTreeMap<String, u64>,
 }
 
-// Written by hand, so that it is proved once; a derived one is proved again in every function that drops such a value.
+// This `Drop` is written by hand, so it is proved once; a derived `Drop` is proved again in every function that drops such a value.
 impl Drop for Labels {
     fn drop(self) {
         let Labels { texts: _, first: _ } = self;

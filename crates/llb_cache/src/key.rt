@@ -26,7 +26,7 @@ pub struct Seed {
     pub index: u32,
 }
 
-// `Drop` is written by hand, so that it is proved once; a derived `Drop` is proved again in every function that drops such a value.
+// This `Drop` is written by hand, so it is proved once; a derived `Drop` is proved again in every function that drops such a value.
 impl Drop for Seed {
     fn drop(self) {
         let Seed {
@@ -44,7 +44,7 @@ pub struct Key {
     pub mode: Mode,
 }
 
-// `Drop` is written by hand, so that it is proved once; a derived `Drop` is proved again in every function that drops such a value.
+// This `Drop` is written by hand, so it is proved once; a derived `Drop` is proved again in every function that drops such a value.
 impl Drop for Key {
     fn drop(self) {
         let Key {

@@ -29,7 +29,7 @@ pub struct Lent {
     out: Vec<Option<Many<Instance>>>,
 }
 
-// `Drop` is written by hand, so that it is proved once; a derived `Drop` is proved again in every function that drops such a value.
+// This `Drop` is written by hand, so it is proved once; a derived `Drop` is proved again in every function that drops such a value.
 impl Drop for Lent {
     fn drop(self) {
         let Lent {

@@ -22,7 +22,7 @@ pub(crate) struct Rows {
     pub(crate) order: Vec<usize>,
 }
 
-// `Drop` is written by hand, so that it is proved once; a derived `Drop` is proved again in every function that drops such a value.
+// This `Drop` is written by hand, so it is proved once; a derived `Drop` is proved again in every function that drops such a value.
 impl Drop for Rows {
     fn drop(self) {
         let Rows {

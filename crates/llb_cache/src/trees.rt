@@ -14,7 +14,7 @@ pub(crate) struct Trees {
     items: Vec<Tree>,
 }
 
-// `Drop` is written by hand, so that it is proved once; a derived `Drop` is proved again in every function that drops such a value.
+// This `Drop` is written by hand, so it is proved once; a derived `Drop` is proved again in every function that drops such a value.
 impl Drop for Trees {
     fn drop(self) {
         let Trees { items: _ } = self;

@@ -22,7 +22,7 @@ pub struct Steps {
     pub(crate) by: ByKind,
 }
 
-// This `Drop` is written by hand, so that it is proved once; a derived one is proved again in every function that drops such a value.
+// This `Drop` is written by hand, so it is proved once; a derived `Drop` is proved again in every function that drops such a value.
 impl Drop for Steps {
     fn drop(self) {
         let Steps { by: _ } = self;

@@ -40,7 +40,7 @@ pub struct Workspace {
     pub(crate) own: WorkState,
 }
 
-// This `Drop` is written by hand, so that it is proved once; a derived one is proved again in every function that drops such a value.
+// This `Drop` is written by hand, so it is proved once; a derived `Drop` is proved again in every function that drops such a value.
 impl Drop for Workspace {
     fn drop(self) {
         let Workspace { own: _ } = self;

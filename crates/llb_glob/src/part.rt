@@ -22,7 +22,7 @@ pub struct Part {
     items: Vec<Item>,
 }
 
-// Written by hand, so that it is proved once; a derived one is proved again in every function that drops such a value.
+// This `Drop` is written by hand, so it is proved once; a derived `Drop` is proved again in every function that drops such a value.
 impl Drop for Part {
     fn drop(self) {
         let Part { items: _ } = self;

@@ -18,7 +18,7 @@ pub struct Pattern {
     parts: Vec<Part>,
 }
 
-// Written by hand, so that it is proved once; a derived one is proved again in every function that drops such a value.
+// This `Drop` is written by hand, so it is proved once; a derived `Drop` is proved again in every function that drops such a value.
 impl Drop for Pattern {
     fn drop(self) {
         let Pattern { parts: _ } = self;

@@ -34,7 +34,7 @@ pub struct Vertex {
     pub outputs: u32,
 }
 
-// Written by hand, so that it is proved once; a derived one is proved again in every function that drops such a value.
+// This `Drop` is written by hand, so it is proved once; a derived `Drop` is proved again in every function that drops such a value.
 impl Drop for Vertex {
     fn drop(self) {
         let Vertex {
@@ -67,7 +67,7 @@ pub struct Graph {
     result: Edge,
 }
 
-// Written by hand, so that it is proved once; a derived one is proved again in every function that drops such a value.
+// This `Drop` is written by hand, so it is proved once; a derived `Drop` is proved again in every function that drops such a value.
 impl Drop for Graph {
     fn drop(self) {
         let Graph {

@@ -37,7 +37,7 @@ struct Linked {
     seen: Vec<bool>,
 }
 
-// Written by hand, so that it is proved once; a derived one is proved again in every function that drops such a value.
+// This `Drop` is written by hand, so it is proved once; a derived `Drop` is proved again in every function that drops such a value.
 impl Drop for Linked {
     fn drop(self) {
         let Linked {

@@ -16,7 +16,7 @@ pub struct Shown {
     pub tree: Tree,
 }
 
-// Written by hand, so that it is proved once; a derived one is proved again in every function that drops such a value.
+// This `Drop` is written by hand, so it is proved once; a derived `Drop` is proved again in every function that drops such a value.
 impl Drop for Shown {
     fn drop(self) {
         let Shown {

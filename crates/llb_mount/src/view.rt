@@ -26,7 +26,7 @@ pub struct View {
     order: Option<Arc<Vec<Row>>>,
 }
 
-// Written by hand, so that it is proved once; a derived one is proved again in every function that drops such a value.
+// This `Drop` is written by hand, so it is proved once; a derived `Drop` is proved again in every function that drops such a value.
 impl Drop for View {
     fn drop(self) {
         let View {

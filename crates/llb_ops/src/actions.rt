@@ -26,7 +26,7 @@ pub struct MkFile {
     pub extra: Bytes,
 }
 
-// Written by hand, so that it is proved once; a derived one is proved again in every function that drops such a value.
+// This `Drop` is written by hand, so it is proved once; a derived `Drop` is proved again in every function that drops such a value.
 impl Drop for MkFile {
     fn drop(self) {
         let MkFile {
@@ -94,7 +94,7 @@ pub struct MkDir {
     pub extra: Bytes,
 }
 
-// Written by hand, so that it is proved once; a derived one is proved again in every function that drops such a value.
+// This `Drop` is written by hand, so it is proved once; a derived `Drop` is proved again in every function that drops such a value.
 impl Drop for MkDir {
     fn drop(self) {
         let MkDir {
@@ -170,7 +170,7 @@ pub struct CopyFile {
     pub extra: Bytes,
 }
 
-// Written by hand, so that it is proved once; a derived one is proved again in every function that drops such a value.
+// This `Drop` is written by hand, so it is proved once; a derived `Drop` is proved again in every function that drops such a value.
 impl Drop for CopyFile {
     fn drop(self) {
         let CopyFile {
@@ -278,7 +278,7 @@ pub struct Rm {
     pub extra: Bytes,
 }
 
-// Written by hand, so that it is proved once; a derived one is proved again in every function that drops such a value.
+// This `Drop` is written by hand, so it is proved once; a derived `Drop` is proved again in every function that drops such a value.
 impl Drop for Rm {
     fn drop(self) {
         let Rm {

@@ -25,7 +25,7 @@ pub struct ExecOp {
     pub extra: Bytes,
 }
 
-// Written by hand, so that it is proved once; a derived one is proved again in every function that drops such a value.
+// This `Drop` is written by hand, so it is proved once; a derived `Drop` is proved again in every function that drops such a value.
 impl Drop for ExecOp {
     fn drop(self) {
         let ExecOp {
@@ -48,7 +48,7 @@ pub struct Meta {
     pub extra: Bytes,
 }
 
-// Written by hand, so that it is proved once; a derived one is proved again in every function that drops such a value.
+// This `Drop` is written by hand, so it is proved once; a derived `Drop` is proved again in every function that drops such a value.
 impl Drop for Meta {
     fn drop(self) {
         let Meta {
@@ -76,7 +76,7 @@ pub struct Mount {
     pub extra: Bytes,
 }
 
-// Written by hand, so that it is proved once; a derived one is proved again in every function that drops such a value.
+// This `Drop` is written by hand, so it is proved once; a derived `Drop` is proved again in every function that drops such a value.
 impl Drop for Mount {
     fn drop(self) {
         let Mount {
@@ -99,7 +99,7 @@ pub struct TmpfsOpt {
     pub extra: Bytes,
 }
 
-// Written by hand, so that it is proved once; a derived one is proved again in every function that drops such a value.
+// This `Drop` is written by hand, so it is proved once; a derived `Drop` is proved again in every function that drops such a value.
 impl Drop for TmpfsOpt {
     fn drop(self) {
         let TmpfsOpt { size: _, extra: _ } = self;
@@ -114,7 +114,7 @@ pub struct CacheOpt {
     pub extra: Bytes,
 }
 
-// Written by hand, so that it is proved once; a derived one is proved again in every function that drops such a value.
+// This `Drop` is written by hand, so it is proved once; a derived `Drop` is proved again in every function that drops such a value.
 impl Drop for CacheOpt {
     fn drop(self) {
         let CacheOpt {

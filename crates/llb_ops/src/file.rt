@@ -20,7 +20,7 @@ pub struct FileOp {
     pub extra: Bytes,
 }
 
-// Written by hand, so that it is proved once; a derived one is proved again in every function that drops such a value.
+// This `Drop` is written by hand, so it is proved once; a derived `Drop` is proved again in every function that drops such a value.
 impl Drop for FileOp {
     fn drop(self) {
         let FileOp {
@@ -35,7 +35,7 @@ pub struct Actions {
     shared: Arc<Vec<Action>>,
 }
 
-// Written by hand, so that it is proved once; a derived one is proved again in every function that drops such a value.
+// This `Drop` is written by hand, so it is proved once; a derived `Drop` is proved again in every function that drops such a value.
 impl Drop for Actions {
     fn drop(self) {
         let Actions { shared: _ } = self;
@@ -52,7 +52,7 @@ pub struct Action {
     pub extra: Bytes,
 }
 
-// Written by hand, so that it is proved once; a derived one is proved again in every function that drops such a value.
+// This `Drop` is written by hand, so it is proved once; a derived `Drop` is proved again in every function that drops such a value.
 impl Drop for Action {
     fn drop(self) {
         let Action {

@@ -32,7 +32,7 @@ pub struct Op {
     pub extra: Bytes,
 }
 
-// Written by hand, so that it is proved once; a derived one is proved again in every function that drops such a value.
+// This `Drop` is written by hand, so it is proved once; a derived `Drop` is proved again in every function that drops such a value.
 impl Drop for Op {
     fn drop(self) {
         let Op {
@@ -62,7 +62,7 @@ pub struct Input {
     pub extra: Bytes,
 }
 
-// Written by hand, so that it is proved once; a derived one is proved again in every function that drops such a value.
+// This `Drop` is written by hand, so it is proved once; a derived `Drop` is proved again in every function that drops such a value.
 impl Drop for Input {
     fn drop(self) {
         let Input {

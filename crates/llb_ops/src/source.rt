@@ -21,7 +21,7 @@ pub struct SourceOp {
     pub extra: Bytes,
 }
 
-// Written by hand, so that it is proved once; a derived one is proved again in every function that drops such a value.
+// This `Drop` is written by hand, so it is proved once; a derived `Drop` is proved again in every function that drops such a value.
 impl Drop for SourceOp {
     fn drop(self) {
         let SourceOp {
@@ -38,7 +38,7 @@ pub struct Attributes {
     held: IndexMap<Text, Attribute>,
 }
 
-// Written by hand, so that it is proved once; a derived one is proved again in every function that drops such a value.
+// This `Drop` is written by hand, so it is proved once; a derived `Drop` is proved again in every function that drops such a value.
 impl Drop for Attributes {
     fn drop(self) {
         let Attributes { held: _ } = self;
@@ -51,7 +51,7 @@ pub struct Attribute {
     pub extra: Bytes,
 }
 
-// Written by hand, so that it is proved once; a derived one is proved again in every function that drops such a value.
+// This `Drop` is written by hand, so it is proved once; a derived `Drop` is proved again in every function that drops such a value.
 impl Drop for Attribute {
     fn drop(self) {
         let Attribute { value: _, extra: _ } = self;

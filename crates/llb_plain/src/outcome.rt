@@ -42,7 +42,7 @@ pub struct Outcomes {
     items: Vec<Outcome>,
 }
 
-// This `Drop` is written by hand, so that it is proved once; a derived one is proved again in every function that drops such a value.
+// This `Drop` is written by hand, so it is proved once; a derived `Drop` is proved again in every function that drops such a value.
 impl Drop for Outcomes {
     fn drop(self) {
         let Outcomes { items: _ } = self;

@@ -29,7 +29,7 @@ pub struct Stepper {
     breaks: Breakpoints,
 }
 
-// Written by hand, so that it is proved once; a derived `drop` is proved again in every function that drops a stepper.
+// This `Drop` is written by hand, so it is proved once; a derived `Drop` is proved again in every function that drops a stepper.
 impl Drop for Stepper {
     fn drop(self) {
         let Stepper {

@@ -17,7 +17,7 @@ pub struct Name {
     text: String,
 }
 
-// Written by hand, so that it is proved once; a derived one is proved again in every function that drops such a value.
+// This `Drop` is written by hand, so it is proved once; a derived `Drop` is proved again in every function that drops such a value.
 impl Drop for Name {
     fn drop(self) {
         let Name { text: _ } = self;

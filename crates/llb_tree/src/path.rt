@@ -18,7 +18,7 @@ pub struct Path {
     names: Vec<Name>,
 }
 
-// Written by hand, so that it is proved once; a derived one is proved again in every function that drops such a value.
+// This `Drop` is written by hand, so it is proved once; a derived `Drop` is proved again in every function that drops such a value.
 impl Drop for Path {
     fn drop(self) {
         let Path { names: _ } = self;

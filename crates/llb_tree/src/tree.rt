@@ -24,7 +24,7 @@ pub struct Tree {
     pub(crate) alloc: Global,
 }
 
-// Written by hand, so that it is proved once; a derived one is proved again in every function that drops a tree.
+// This `Drop` is written by hand, so it is proved once; a derived `Drop` is proved again in every function that drops a tree.
 impl Drop for Tree {
     fn drop(self) {
         let Tree {

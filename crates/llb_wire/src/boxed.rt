@@ -12,7 +12,7 @@ pub struct Boxed<T> {
     place: Box<T>,
 }
 
-// Written by hand, so that it is proved once; a derived one is proved again in every function that drops such a value.
+// This `Drop` is written by hand, so it is proved once; a derived `Drop` is proved again in every function that drops such a value.
 impl<T: Drop> Drop for Boxed<T> {
     fn drop(self) {
         let Boxed { place: _ } = self;
