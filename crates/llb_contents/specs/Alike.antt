@@ -15,7 +15,7 @@ use Rattle.llb_applet.specs.Commands.{line, listed}
 use Rattle.llb_model.specs.Program.{MicroStep, ReadLocal, Act, LayInput, Run, Workspace, LocalTree, Files, Layers, Mounted, Work, Left}
 use Rattle.llb_model.specs.Outcome.{Ending, Done, Failed, Outcome, Ended, Blocked}
 
--- the relation relates the empty content to itself, and is kept by appending: contents made by appending related contents to related ones are related
+-- R relates the empty content to itself, and appending keeps R: if R relates a to b, and c to d, then R relates a followed by c to b followed by d
 pub record IsKept (R : List ℕ → List ℕ → Type 0) : Type 0 where
   pub empty : R [] []
   pub appended : (a b c d : List ℕ) → R a b → R c d → R (a ++ c) (b ++ d)
@@ -73,7 +73,7 @@ AreAlikeViews R = BothLists (AreAlikeMounts R)
 abbrev pub AreLikeFiles : (List ℕ → List ℕ → Type 0) → MetaValue × List ℕ → MetaValue × List ℕ → Type 0
 AreLikeFiles R f g = (f.0 ≡ g.0) × R f.1 g.1
 
--- each text that a command writes and does not read from a file is related to itself; if it writes digests, digests of related contents are related
+-- R relates to itself each text that a command writes and does not read from a file; if the command writes digests, R relates digests of related contents
 abbrev pub RelatesTexts : (List ℕ → List ℕ → Type 0) → Setting → Command → Type 0
 RelatesTexts R setting (command.Write path word) = R (line word) (line word)
 RelatesTexts R setting (command.Append path word) = R (line word) (line word)

@@ -30,12 +30,12 @@ By test a b = test a b ≡ true
 abbrev pub LaysAlike : TreeMap → TreeMap → Type 0
 LaysAlike t v = (test : List ℕ → List ℕ → Bool) (u w : TreeMap) → AreAlike (By test) t u → AreAlike (By test) v w → AreAlike (By test) (lay t v) (lay u w)
 
--- an action fails with the same fault on trees alike to `t` and `v` as on `t` and `v`, or has an alike result, if what the action writes is related to itself
+-- on trees that are alike to `t` and `v`, an action has the same fault as on `t` and `v`, or an alike result, if `RelatesBody` holds of the action
 abbrev pub ActsAlike : Option ActionKind → TreeMap → TreeMap → Type 0
 ActsAlike a t v = (test : List ℕ → List ℕ → Bool) (u w : TreeMap) → RelatesBody (By test) a → AreAlike (By test) t u → AreAlike (By test) v w
     → BothResults (AreAlike (By test)) (act a t v) (act a u w)
 
--- on two alike views the command fails on both or has alike results, if appending keeps the relation, and `RelatesTexts` holds of the command
+-- a command on two alike views fails both times, or leaves alike views, if appending keeps the relation, and `RelatesTexts` holds of the command
 abbrev pub RunsAlike : Setting → List Shown → Command → Type 0
 RunsAlike s v c = (test : List ℕ → List ℕ → Bool) (w : List Shown) → IsKept (By test) → RelatesTexts (By test) s c → AreAlikeViews (By test) v w
     → BothOptions (AreAlikeViews (By test)) (run s v c) (run s w c)
@@ -47,7 +47,7 @@ RunsAlike s v c = (test : List ℕ → List ℕ → Bool) (w : List Shown) → I
 abbrev pub RelatesWritten : (List ℕ → List ℕ → Type 0) → Numbered → ℕ → Type 0
 RelatesWritten R g v = (k : ℕ) (x : Vertex) → Reached (links g.vertices) v k → slice_get g.vertices k ≡ Some x → All (RelatesStep R) (program_of x).steps
 
--- vertex v, or one before it, is the local source of this name
+-- a vertex at or before v is the local source with this name
 pub record IsSourceOf (g : Numbered) (v : ℕ) (name : List ℕ) : Type 0 where
   pub number : ℕ
   pub source : Vertex
@@ -128,7 +128,7 @@ step_digests ReadLocal = false
 step_digests (Act action) = false
 step_digests (LayInput i) = false
 
--- whether a command may write the byte that begins tokens; a listing may, since names of files can have it, and a digest does not
+-- whether a command may write the byte that begins tokens; a listing may, since names of files can have that byte, and a digest never has it
 abbrev pub writes_mark : Setting → Command → Bool
 writes_mark setting (command.Write path word) = has_mark (line word)
 writes_mark setting (command.Append path word) = has_mark (line word)
@@ -186,7 +186,7 @@ HandsTokensOn g = (table : ℕ → List ℕ) (ls ms : List Local) (v : ℕ) → 
 abbrev pub MakesNoDigest : Numbered → ℕ → Type 0
 MakesNoDigest g v = (k : ℕ) (x : Vertex) → Reached (links g.vertices) v k → slice_get g.vertices k ≡ Some x → list_any step_digests (program_of x).steps ≡ false
 
--- `HandsOn` with another premise: no digest is made at or before the vertex; it is for relations that relate each content to itself
+-- `HandsOn` with another premise in place of `RelatesWritten`, for relations that relate each content to itself: no digest is made at or before the vertex
 abbrev pub HandsOnUndigested : (List ℕ → List ℕ → Type 0) → Numbered → Type 0
 HandsOnUndigested R g = (ls ms : List Local) (v : ℕ) → MakesNoDigest g v → HaveAlikeSources R g v ls ms → HasAlikeOutcomes R g ls ms v
 

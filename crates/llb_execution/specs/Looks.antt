@@ -21,7 +21,7 @@ trees_with (Files inputs results) trees = inputs ++ results
 trees_with (Layers inputs t) trees = inputs ++ t ∷ []
 trees_with (Mounted mounts caches last) trees = map shown_tree (filled mounts caches trees)
 
--- the tree that a `Look` of the code names, if the cache instances have these trees
+-- the tree that a value of the code's type `Look` names: a tree that the value borrows, or tree k of these trees of the cache instances
 abbrev pub looked : List TreeMap → Option Look → Option TreeMap
 looked trees None = None
 looked trees (Some (look.Here t)) = Some t.now

@@ -14,7 +14,7 @@ pub data Mark : Type 0 where
   Laid : TreeMap → Mark
   Mounts : List Shown → ℕ → Mark
 
--- what a mark of the code represents
+-- the mark that a value of the code's type `StateBefore` represents
 abbrev pub mark_in : StateBefore → Mark
 mark_in was.Nothing = Nothing
 mark_in (was.Results count) = Results count
@@ -28,8 +28,8 @@ mark_of (Files inputs results) = Results (length results)
 mark_of (Layers inputs t) = Laid t
 mark_of (Mounted mounts caches last) = Mounts mounts last
 
--- a workspace after a mark is put back: it has only its first `count` results, or the tree that was laid when the mark was made, or the mounts and the last
--- status of that moment; a mark of another kind of workspace changes nothing
+-- a workspace after a mark is put back: the results (the first `count` of them), or the laid tree, or the mounts and the last status are those of the moment at
+-- which the mark was made; a mark of another kind of workspace changes nothing
 abbrev pub put_back : Mark → Workspace → Workspace
 put_back Nothing workspace = workspace
 put_back (Results count) (Files inputs results) = Files inputs (take count results)

@@ -20,7 +20,7 @@ abbrev pub vertex_at : List Vertex → ℕ → Vertex
 vertex_at vertices n = slice_index_or vertices n
     (record { digest = []; op = record { inputs = []; kind = None; extra = [] }; script = None; inputs = []; steps = 0; outputs = 0 })
 
--- the edge of an input that leads to this vertex
+-- the edge to this vertex, with the output index of this input
 abbrev pub edge_to : ℕ → Input → Edge
 edge_to vertex input = record { vertex = vertex; index = nat_abs input.index }
 

@@ -1,4 +1,4 @@
--- The results of the checks of the marked rows, which are the reached rows: each check goes through them in order and stops at the first row that fails it.
+-- What the checks of the reached rows return. These rows are marked; each check goes through the marked rows in order and stops at the first row that fails.
 use Rattle.std.specs.Prelude.{◌≡◌, ◌≢◌, ℕ, ◌<◌, ◌==◌, ◌⊎◌, Bool, false, cond, List, [], length, slice_index_or, Some, None}
 use Rattle.llb_ops.specs.declared.op.Op.{Op}
 use Rattle.llb_loader.specs.declared.row.Row.{Row}

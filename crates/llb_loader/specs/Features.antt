@@ -1,4 +1,4 @@
--- The features of ops that are not supported.
+-- The unsupported features of ops, and the order in which they are looked for.
 use Rattle.std.specs.Prelude.{◌==◌, Bool, true, false, not, ◌||◌, nat_eq, List, [], ◌∷◌, length, Option, Some, None, codes}
 use Rattle.std.specs.List.{list_any, find, starts_with}
 use Rattle.llb_ops.specs.declared.op.Op.{Op}

@@ -61,7 +61,7 @@ pub record IsVertex (v : Vertex) : Type 0 where
 
 -- ---- what holds of a vertex of each kind
 
--- a source is local, and a name follows `local://`
+-- a source is local, with a name of at least one byte after `local://`; the vertex has one micro-step and one output
 pub record IsSourceVertex (v : Vertex) (s : SourceOp) : Type 0 where
   pub name : List ℕ
   pub local : source_name s ≡ Some name

@@ -10,7 +10,7 @@ use Rattle.llb_ops.specs.declared.op.Kind.TheVariants.{Source}
 use Rattle.llb_ops.specs.declared.source.SourceOp.{SourceOp}
 use Rattle.llb_tree.specs.Tree.{TreeMap}
 
--- the rest of a text after a prefix, if the text begins with it
+-- the rest of a text after a prefix, if the text begins with that prefix
 abbrev pub behind : List ℕ → List ℕ → Option (List ℕ)
 behind prefix text = cond (starts_with nat_eq text prefix) (Some (drop (length prefix) text)) None
 

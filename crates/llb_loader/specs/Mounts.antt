@@ -75,7 +75,7 @@ pub record ReadsPaths (mounts : List Mount) (meta : Option Meta) : Type 0 where
 
 -- ---- caches
 
--- an output with whose tree a new instance of a cache begins: the digest text of the output's op, and the output's index
+-- the output whose tree is the first tree of a new cache instance: the digest text of the output's op, and the output's index
 pub record Seed : Type 0 where
   pub digest : List ℕ
   pub index : ℤ
@@ -85,7 +85,7 @@ abbrev pub seed_by : Option Input → Option Seed
 seed_by (Some i) = Some (record { digest = i.digest; index = i.index })
 seed_by None = None
 
--- the output with which a new instance of a cache begins: the output that the input with this number names; none if there is no such input, as for -1
+-- the seed of a cache: the output that the input with this number names; none if there is no such input, as for -1
 abbrev pub seed_of : List Input → ℤ → Option Seed
 seed_of inputs (pos n) = seed_by (slice_get inputs n)
 seed_of inputs (negsuc n) = None

@@ -1,4 +1,4 @@
--- What becomes of a row that is not numbered yet: it joins the ready rows, or waits for a row that it names.
+-- Where a row that is not numbered yet (the row of a `Waiter`) goes: the row joins the ready rows, or waits for a row that it names.
 use Rattle.std.specs.Prelude.{◌≡◌, ℕ, ◌<◌, ◌≤◌, Bool, true, false, cond, List, [], ◌∷◌, ◌++◌, ◌⊎◌, length, slice_index, slice_index_or, slice_set, ◌==◌}
 use Rattle.std.specs.List.{All}
 use Rattle.llb_loader.specs.declared.numbering.Waiter.{Waiter}

@@ -27,7 +27,7 @@ pub record IsLinked (l : Linked) : Type 0 where
   pub seen : length l.seen.items ≡ length l.rows.items
   pub exact : (k : ℕ) → IsMarked l.seen.items k ↔ ReachedRow (plan_in l) k
 
--- n is what the digest texts in the inputs of the rows are resolved to; the rows are read as these ops. The terminal and the row of the result
+-- n has the rows that the inputs name, found by digest text; the rows are read as these ops. The terminal and the row of the result
 -- are those of the rows' plan, each input of a reached row names a row, and `seen` marks the reached rows.
 pub record AreNames (rows : List Row) (ops : List Op) (n : Names) : Type 0 where
   pub planned : IsPlanOf rows ops (plan rows ops n.terminal n.start)

@@ -1,7 +1,7 @@
 -- How the two models of caches are related. llb_cache models caches as rows, in the order in which the keys were first leased; a row is a key with the list of
--- its trees. llb_cache also gives each lease a number. Its callers list keys in that order, and return a lease by its number. The machine models caches as a
--- store, a map from instances to trees: if two workers lease two new keys, the store is the same in either order, but the rows are not, since a new key is put
--- last. This file says which store the rows represent, which rows there are after an event, and which leases the running workers have.
+-- its trees. llb_cache also numbers the leases. Callers of llb_cache list the keys in the order of the rows, and return a lease by number. The machine models
+-- caches as a store, a map from instances to trees. If two workers lease two new keys, the store is the same whoever is first, but the rows differ, since a new
+-- key is put last. This file says which store the rows represent, which rows there are after an event, and which leases the running workers have.
 use Rattle.std.specs.Prelude.{◌≡◌, ◌⊎◌, ℕ, ◌+◌, true, List, [], ◌∷◌, ◌++◌, length, map, Option, Some, None, slice_get, slice_set, nat_lt}
 use Rattle.std.specs.Prelude.{if◌then◌else◌}
 use Rattle.std.specs.FinMap as finite
@@ -75,11 +75,11 @@ pub record HoldsAs (out : Leases) (workers : List WorkerStatus) : Type 0 where
   pub leased : (p : Instance) → Has (held workers) p → is_held out p ≡ true
   pub running : (p : Instance) → is_held out p ≡ true → Has (held workers) p
 
--- l is a worker's item in a list of lease numbers. Either it is the number of a lease of these instances, or it is empty and there are no instances
+-- l, a worker's item in a list of lease numbers, is the number of a lease of these instances; or the item is empty, and there are no instances
 abbrev pub HasLease : Leases → Option (Option ℕ) → List Instance → Type 0
 HasLease out l ps = ((k : ℕ) × (l ≡ Some (Some k)) × cache.Has out k ps) ⊎ ((l ≡ Some None) × (ps ≡ []))
 
--- each running worker that holds instances has a lease of exactly these instances; no two workers have the same lease, and every lease is that of a worker
+-- each running worker that holds instances has a lease of exactly these instances; no two workers have the same lease, and every lease belongs to a worker
 pub record AreLeased (out : Leases) (workers : List WorkerStatus) (ls : List (Option ℕ)) : Type 0 where
   pub count : length ls ≡ length workers
   pub has : (w : ℕ) (x : Execution) → slice_get workers w ≡ Some (Runs x) → HasLease out (slice_get ls w) x.places

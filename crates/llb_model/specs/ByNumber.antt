@@ -1,7 +1,7 @@
--- Lists that are built from the front: each item is computed from those before it.
+-- Lists that are built from the front: each item is computed from the items before it.
 use Rattle.std.specs.Prelude.{List, [], ◌∷◌, ◌++◌}
 
--- the list `before`, and after it an item for each item of `xs`, computed from all items before it and from that item of `xs`
+-- the list `before`, with one item appended for each item x of `xs`: `next` computes the appended item from the whole list so far and from x
 abbrev pub by_number : {A B : Type 0} → (List B → A → B) → List B → List A → List B
 by_number next before [] = before
 by_number next before (x ∷ xs) = by_number next (before ++ next before x ∷ []) xs

@@ -9,7 +9,7 @@ use Rattle.llb_cache.specs.KeyOrder.{mode_place}
 use Rattle.llb_tree.specs.Coded.{coded_tree}
 use Rattle.llb_model.specs.Caches.{Instance, Store}
 
--- the mode of this number: 0 Shared, 1 Private, any other Locked
+-- the mode with this number (by `mode_place` of llb_cache): 0 is Shared, 1 is Private, any other number is Locked
 abbrev pub mode_at : ℕ → Mode
 mode_at zero = Shared
 mode_at (suc zero) = Private

@@ -6,7 +6,7 @@ use Rattle.llb_model.specs.Program.{Build}
 use Rattle.llb_model.specs.Outcome.{Done, inputs_from}
 use Rattle.llb_model.specs.State.{Running, Settled, Execution, Runs, State, ending_at, is_waiting}
 
--- statuses and workers agree
+-- the statuses of the vertices agree with what the workers run, with the graph, and with each other
 pub record IsConsistent (b : Build) (s : State) : Type 0 where
   -- each vertex has a status
   pub count : length s.statuses ≡ length b.graph.vertices

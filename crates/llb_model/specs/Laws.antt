@@ -73,7 +73,7 @@ with_content p t s = record s { store = put s.store p t }
 abbrev pub with_content_after : Instance → TreeMap → State × Reply → State × Reply
 with_content_after p t a = (with_content p t a.0, a.1)
 
--- another worker's event does not read an instance that a running worker holds exclusively: whatever tree it has, reply and effect elsewhere are the same
+-- another worker's event does not read an instance that is held exclusively: whatever tree the instance has, the reply and effect elsewhere are the same
 abbrev pub OthersIgnore : Build → Type 0
 OthersIgnore b = (s : State) (e : Event) (t : TreeMap) → IsReached b s → (w : ℕ) (x : Execution) (p : Instance) → slice_get s.workers w ≡ Some (Runs x)
     → Has x.places p → IsExclusive p.key.mode → worker_of e ≢ w → table b (with_content p t s) e ≡ option_map (with_content_after p t) (table b s e)
@@ -135,7 +135,7 @@ HeldAreThere b = (s : State) → IsReached b s → (w : ℕ) (x : Execution) →
 abbrev pub at_start : List Shown → List ℕ → List TreeMap → Work
 at_start mounts caches trees = record { own = Mounted mounts caches 0; trees = trees }
 
--- the last command that ran among those up to number k: it is k if command k runs after the status `last`, else `before`, the last that ran before command k
+-- the number of the last command that ran, up to command k: k if command k runs after the status `last`, else `before`, the last one that ran before k
 abbrev pub later_ran : ℕ → Option Joined → ℕ → ℕ → ℕ
 later_ran k None last before = before
 later_ran k (Some c) last before = if is_run c.join last then k else before
@@ -158,7 +158,7 @@ pub record EndsByLastStatus (setting : Setting) (cs : List Joined) (work : Work)
   pub fails : is_over (runs_of setting cs) k (part (runs_of setting cs) work k) ≡ true
       → (part (runs_of setting cs) work k).fault ≡ fault_of (last_ran setting cs work k) (last_of (part (runs_of setting cs) work k).work.own)
 
--- `EndsByLastStatus` holds for every script after any number of micro-steps: once it is finished, it has failed exactly if the last status is not 0
+-- `EndsByLastStatus` holds for every script after any number of micro-steps: an exec that is finished has failed exactly if its last status is not 0
 abbrev pub FailsByLastStatus : Type 0
 FailsByLastStatus = (setting : Setting) (cs : List Joined) (mounts : List Shown) (caches : List ℕ) (trees : List TreeMap) (k : ℕ)
     → EndsByLastStatus setting cs (at_start mounts caches trees) k

@@ -50,11 +50,11 @@ stands_after (Some k) p left = Waiting
 
 -- ---- the order
 
--- the state after vertex v gets its new status, and the trees of this result are written to its instances
+-- the state after vertex v gets its new status, and the trees of this result are written to the instances of its claim
 abbrev pub left_by : Order → ℕ → List Instance → Program → Option ℕ → Left → Order
 left_by o v ps p cut left = record { statuses = slice_set o.statuses v (stands_after cut p left); store = put_all o.store ps left.work.trees }
 
--- the state after the work of a claim, if that work begins with the trees of the inputs and of the instances
+-- the state after a claim of vertex v and its work, given the `Start` of the vertex (its inputs' trees) and the instances that the claim takes
 abbrev pub whole_at : Build → Order → ℕ → Start → List Instance → Option ℕ → Order
 whole_at b o v start ps cut =
     left_by o v ps (program_of start.vertex) cut (done_of cut (program_of start.vertex).steps (begin_at b o.store start ps))

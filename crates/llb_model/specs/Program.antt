@@ -57,8 +57,8 @@ pub record Program : Type 0 where
   pub output_numbers : List ℤ
 
 -- what a program works on, without the trees of caches. Source: its local tree. File op: the trees of its inputs and the results so far. Merge: the trees of
--- its inputs and what is laid so far. Exec: its mounts, the numbers of those that show caches (their trees are empty here), and the status of the last command
--- that ran, which is 0 before any has run
+-- its inputs and what is laid so far. Exec: its mounts, the numbers of the cache mounts (whose trees are empty here), and the status of the last command
+-- that ran, which is 0 before any command has run
 pub data Workspace : Type 0 where
   LocalTree : TreeMap → Workspace
   Files : List TreeMap → List TreeMap → Workspace
@@ -113,7 +113,7 @@ abbrev pub index_of : ℤ → ℕ
 index_of (pos n) = n
 index_of (negsuc n) = 0
 
--- a key's seed (the digest of an entry, and an output index), with the loader's integer index as a natural number
+-- a seed of the loader (the digest of an entry, and an output index) as a seed of llb_cache: the index becomes a natural number
 abbrev pub seed_as : mounts.Seed → Seed
 seed_as s = record { digest = s.digest; index = index_of s.index }
 
@@ -121,7 +121,7 @@ seed_as s = record { digest = s.digest; index = index_of s.index }
 abbrev pub key_as : CacheKey → Key
 key_as k = record { id = k.id; seed = option_map seed_as k.seed; mode = mode_of k.mode }
 
--- the needs of mount i and of the mounts after it: if mount i shows a cache, its need is put before the others
+-- the needs of mount i and of the mounts after it, given the key of the cache that mount i shows, if it shows one, and the needs of the mounts after it
 abbrev pub with_need : ℕ → Mount → Option CacheKey → List Need → List Need
 with_need i m (Some k) needs = record { mount = i; key = key_as k; input = m.input } ∷ needs
 with_need i m None needs = needs
@@ -146,7 +146,7 @@ abbrev pub setting_of : Option Meta → Setting
 setting_of (Some m) = record { cwd = path_in m.cwd; env = m.env }
 setting_of None = record { cwd = []; env = [] }
 
--- whether a command runs only after a status of 0
+-- whether a join is And: a command with this join runs only after status 0
 abbrev pub is_and : Join → Bool
 is_and And = true
 is_and Then = false
@@ -184,7 +184,7 @@ program_at None = record { steps = []; outputs = 0; output_numbers = [] }
 abbrev pub local_tree : List Local → Vertex → TreeMap
 local_tree locals v = unwrap_or (tree_of_local locals (unwrap_or (local_name v.op) [])) empty_tree
 
--- the tree of this number among the trees of an op's inputs and the results of its earlier actions; the empty tree for -1, or if there is no such tree
+-- tree n of a list (the trees of an op's inputs, then the results of its earlier actions); the empty tree for -1, or if the list has no tree n
 abbrev pub base_in : ℤ → List TreeMap → TreeMap
 base_in (pos n) trees = unwrap_or (slice_get trees n) empty_tree
 base_in (negsuc n) trees = empty_tree
@@ -271,17 +271,17 @@ filled mounts [] trees = mounts
 filled mounts (m ∷ ms) [] = mounts
 filled mounts (m ∷ ms) (t ∷ trees) = filled (with_tree_of mounts m t) ms trees
 
--- the list `trees`, with each item replaced by the tree that the mount with the number at the same position shows; items past the last number stay
+-- the trees that the mounts with these numbers show, one in place of each item of `trees`; if there are fewer numbers than trees, the other items stay
 abbrev pub taken : List Shown → List ℕ → List TreeMap → List TreeMap
 taken mounts ms [] = []
 taken mounts [] (t ∷ trees) = t ∷ trees
 taken mounts (m ∷ ms) (t ∷ trees) = (mount_at mounts m).tree ∷ taken mounts ms trees
 
--- the mounts after the mounts with these numbers get the empty tree; numbers past the length of `trees` have no effect
+-- the mounts after each mount with one of these numbers gets the empty tree; of the numbers, only as many are used as there are `trees`
 abbrev pub blanked : List Shown → List ℕ → List TreeMap → List Shown
 blanked mounts ms trees = filled mounts ms (map (λ t. empty_tree) trees)
 
--- the work after a command with status 0: the mounts of the view that the command left, the empty tree in each mount of a cache, and the trees of the caches
+-- the work after a command with status 0: the mounts as the command left them, but with the empty tree in each cache mount, and the trees of the cache mounts
 abbrev pub parted : List ℕ → List TreeMap → List Shown → Work
 parted caches trees mounts = record { own = Mounted (blanked mounts caches trees) caches 0; trees = taken mounts caches trees }
 

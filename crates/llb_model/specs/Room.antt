@@ -8,7 +8,7 @@ use Rattle.llb_events.specs.declared.event.Event.TheVariants.{Claim, Step, Settl
 use Rattle.llb_model.specs.Table.{HasStepped, HasSettled, HasCancelled}
 use Rattle.llb_model.specs.Table.{Reply, Claimed}
 
--- the most events that a vertex can take: its claim, its micro-steps, its settle
+-- the most events that one claim of a vertex can lead to: the claim itself, the vertex's micro-steps, and its settle
 abbrev pub events_of : Vertex → ℕ
 events_of v = length (program_of v).steps + 2
 
@@ -23,7 +23,7 @@ is_cancel_of v (HasCancelled r) = r.vertex == v
 abbrev pub cancels_in : ℕ → List Reply → ℕ
 cancels_in v rs = count_by (is_cancel_of v) rs
 
--- for each vertex, by number: how often it was cancelled
+-- how often each of these vertices, which are numbered from k, was cancelled
 abbrev pub counts_from : ℕ → List Vertex → List Reply → List ℕ
 counts_from k [] rs = []
 counts_from k (v ∷ vs) rs = cancels_in k rs ∷ counts_from (k + 1) vs rs

@@ -40,7 +40,7 @@ pub record State : Type 0 where
   pub workers : List WorkerStatus
   pub store : Store
 
--- what a machine is opened with besides the build: how many workers there are, and the contents of the caches
+-- what a machine is opened with besides the graph and the local trees: how many workers there are, and the contents of the caches
 pub record Opening : Type 0 where
   pub workers : ℕ
   pub store : Store
@@ -49,7 +49,7 @@ pub record Opening : Type 0 where
 abbrev pub opening : Build → Opening → State
 opening b o = record { statuses = replicate (length b.graph.vertices) Waiting; workers = replicate o.workers Idle; store = o.store }
 
--- the instances that a worker holds; none if it is idle or does not exist
+-- the instances that a worker holds; none if the worker is idle or does not exist
 abbrev pub places_at : Option WorkerStatus → List Instance
 places_at (Some (Runs x)) = x.places
 places_at (Some Idle) = []
@@ -74,7 +74,7 @@ start_from statuses (Some (Running w)) v = None
 start_from statuses (Some (Settled e)) v = None
 start_from statuses None v = None
 
--- what the work on vertex v begins with, if v is Ready: it waits, and the trees of all its inputs are there
+-- what the work on vertex v begins with, if v is Ready, that is, if v waits and the trees of all its inputs are there
 abbrev pub ready : Build → List Status → ℕ → Option Start
 ready b statuses v = start_from statuses (slice_get statuses v) (slice_get b.graph.vertices v)
 
@@ -101,7 +101,7 @@ is_failed (Some (Failed f)) = true
 is_failed (Some (Done trees)) = false
 is_failed None = false
 
--- whether the next vertex, v, is stopped: it has failed, or is downstream of a failed vertex (`before` says which vertices with lower numbers are stopped)
+-- whether vertex v has failed or is downstream of a failed vertex; `before` says the same for all vertices before v, so its length is the number of v
 abbrev pub next_stopped : List Status → List Bool → Vertex → Bool
 next_stopped statuses before v =
     is_failed (ending_at statuses (length before)) || list_any (λ (e : Edge). unwrap_or (slice_get before e.vertex) false) v.inputs
@@ -161,12 +161,12 @@ abbrev pub above : List Instance → ℕ
 above [] = 0
 above (p ∷ ps) = p.number + 1 + above ps
 
--- the first of the `tries` numbers n, n + 1 and so on whose instance of the key is not in the list; n + tries if there is none
+-- the least number i from n to n + tries - 1 for which instance i of the key is not in the list; n + tries if there is no such number
 abbrev pub first_free : List Instance → Key → ℕ → ℕ → ℕ
 first_free ps k n zero = n
 first_free ps k n (suc tries) = if is_in ps (place k n) then first_free ps k (n + 1) tries else n
 
--- the number of the instance that a claim takes of a key: for a private cache the least number whose instance is not held; for any other cache 0
+-- which instance of a key a claim takes, by number, while the instances `ps` are held: for a private cache the least one that is not held, else instance 0
 abbrev pub number_for : List Instance → Key → Mode → ℕ
 number_for ps k Shared = 0
 number_for ps k Locked = 0

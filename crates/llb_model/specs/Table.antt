@@ -33,8 +33,8 @@ worker_of (Step w) = w
 worker_of (Settle w) = w
 worker_of (Cancel w) = w
 
--- what a claim hands out: the worker, the vertex and its program, how many micro-steps are done, the work, with the trees of the instances as they are at the
--- claim, and the numbers of these instances in the order of the vertex's needs
+-- what a claim hands out: the worker, the vertex and its program, how many micro-steps are done, the work (with the trees that the instances have at the
+-- claim), and the numbers of these instances in the order of the vertex's needs
 pub record Job : Type 0 where
   pub worker : ℕ
   pub vertex : ℕ
@@ -57,7 +57,7 @@ abbrev pub or_not_ready : {A : Type 0} → Option A → Result A ClaimFault
 or_not_ready (Some x) = Ok x
 or_not_ready None = Err claim.NotReady
 
--- the start of vertex v if its worker is idle and v is Ready; else the first cause why the claim is refused
+-- the start of vertex v if the worker that claims v is idle and v is Ready; else the first cause why the claim is refused
 abbrev pub claim_start : List Status → ℕ → Option WorkerStatus → Option Vertex → Result Start ClaimFault
 claim_start statuses v None vertex = Err claim.NoWorker
 claim_start statuses v (Some (Runs x)) vertex = Err claim.Busy
@@ -114,7 +114,7 @@ abbrev pub unless_failed : Option VertexFault → of_step.Stepped → of_step.St
 unless_failed None done = done
 unless_failed (Some f) done = did.Fault f
 
--- what the reply to micro-step k says, given the workspace before it and its result; for a command that ran, its status, even if the exec fails by that status
+-- what the reply to micro-step k says, given the workspace before it and its result; for a command that ran, the reply has its status, even one other than 0
 abbrev pub step_done : ℕ → MicroStep → Workspace → Left → of_step.Stepped
 step_done k ReadLocal before left = unless_failed left.fault did.Read
 step_done k (Act action) before left = unless_failed left.fault (did.Acted k)
@@ -139,7 +139,7 @@ abbrev pub step_with : State → ℕ → Execution → Option MicroStep → Resu
 step_with s w x None = Err step.NothingLeft
 step_with s w x (Some m) = Ok (step_by s w x m (step_on x.done (Some m) (work_of s x)))
 
--- the result of a step, given what the worker does; the step is refused if there is no such worker, if it is idle, or if what it runs is finished
+-- the result of a step, given what the worker does; the step is refused if there is no such worker, or if the worker is idle, or if its execution is finished
 abbrev pub stepped : Build → State → ℕ → Option WorkerStatus → Result (State × Reply) StepFault
 stepped b s w None = Err step.NoWorker
 stepped b s w (Some Idle) = Err step.NotRunning

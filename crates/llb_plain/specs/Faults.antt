@@ -1,4 +1,4 @@
--- What a call returns: the fault `Memory`, or the result of its rule (the definition of the result if memory is never refused). No rule returns `Memory`.
+-- What a call returns: the fault `Memory`, or what the call's rule returns. A call's rule is the definition of the result without that fault.
 use Rattle.std.specs.Prelude.{◌≡◌, Bool, true, false, Result, Ok, Err}
 use Rattle.llb_wire.specs.Answer as answer
 use Rattle.llb_plain.specs.declared.fault.PlainFault.{PlainFault}
@@ -14,14 +14,14 @@ is_memory (HasCache v) = false
 abbrev pub Gives : {X Y : Type 0} → (X → Y) → Result X PlainFault → Result Y PlainFault → Type 0
 Gives = answer.Gives is_memory
 
--- whether a call may need memory, given the result of its rule: it may if the rule refuses nothing, or refuses a missing local tree, whose name the call copies
+-- whether a call may need memory, given the result of its rule: true for outcomes, and for the refusal of a missing local tree, whose name the call copies
 abbrev pub may_want_memory : {Y : Type 0} → Result Y PlainFault → Bool
 may_want_memory (Ok y) = true
 may_want_memory (Err (MissingLocal name)) = true
 may_want_memory (Err (HasCache v)) = false
 may_want_memory (Err Memory) = false
 
--- a call fails with `Memory` only if its rule refuses nothing, or refuses a missing local tree
+-- a call fails with `Memory` only if its rule returns outcomes, or the refusal of a missing local tree
 abbrev pub MemoryLast : {X Y : Type 0} → Result X PlainFault → Result Y PlainFault → Type 0
 MemoryLast (Ok x) rule = Unit {0}
 MemoryLast (Err e) rule = is_memory e ≡ true → may_want_memory rule ≡ true

@@ -14,7 +14,7 @@ HasPart v = (0 < v.num) × (0 < v.den)
 abbrev pub HasAll : Hand → Type 0
 HasAll v = v.num ≡ v.den
 
--- A pass has the same fraction after it puts or takes.
+-- The two passes have the same fraction, as one pass has before and after it puts or takes.
 abbrev pub SamePart : Hand → Hand → Type 0
 SamePart old new = (new.num ≡ old.num) × (new.den ≡ old.den)
 
@@ -26,11 +26,11 @@ first_hand room = hand 1 1 room [] []
 abbrev pub widened : Hand → Hand
 widened v = hand v.num v.den (v.room + 1) v.put v.taken
 
--- A number that a pass puts follows those that it put before.
+-- The pass after it puts x: x follows the numbers that the pass put before.
 abbrev pub with_put : Hand → ℕ → Hand
 with_put v x = hand v.num v.den v.room (v.put ++ x ∷ []) v.taken
 
--- A number that a pass takes follows those that it took before.
+-- The pass after it takes x: x follows the numbers that the pass took before.
 abbrev pub with_taken : Hand → ℕ → Hand
 with_taken v x = hand v.num v.den v.room v.put (v.taken ++ x ∷ [])
 
