@@ -117,7 +117,7 @@ pub record AreAlikeLefts (R : List ℕ → List ℕ → Type 0) (x y : Left) : T
   pub work : AreAlikeWorks R x.work y.work
   pub fault : x.fault ≡ y.fault
 
--- each content that a micro-step writes, and does not take from a file, is related to itself; if it writes digests, digests of related contents are related
+-- R relates to itself each content that a micro-step writes and does not read from a file; if digests are made, R relates digests of related contents
 abbrev pub RelatesStep : (List ℕ → List ℕ → Type 0) → MicroStep → Type 0
 RelatesStep R (Act action) = RelatesBody R action.kind
 RelatesStep R (Run setting command ends) = RelatesTexts R setting command.command

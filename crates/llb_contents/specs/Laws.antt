@@ -42,8 +42,8 @@ RunsAlike s v c = (test : List ℕ → List ℕ → Bool) (w : List Shown) → I
 
 -- ---- a law for each relation between contents
 
--- each content that a micro-step of a vertex at or before vertex v writes, and does not take from a file, is related to itself; and digests of related contents
--- are related, if such a micro-step makes digests
+-- `RelatesStep` holds of each micro-step of each vertex at or before v: R relates to itself each content that is written and not read from a file, and, if
+-- digests are made, R relates digests of related contents
 abbrev pub RelatesWritten : (List ℕ → List ℕ → Type 0) → Numbered → ℕ → Type 0
 RelatesWritten R g v = (k : ℕ) (x : Vertex) → Reached (links g.vertices) v k → slice_get g.vertices k ≡ Some x → All (RelatesStep R) (program_of x).steps
 
@@ -64,7 +64,7 @@ HaveAlikeSources R g v ls ms = (name : List ℕ) → IsSourceOf g v name → Bot
 abbrev pub HasAlikeOutcomes : (List ℕ → List ℕ → Type 0) → Numbered → List Local → List Local → ℕ → Type 0
 HasAlikeOutcomes R g ls ms v = BothOptions (AreAlikeOutcomes R) (outcome (record { graph = g; locals = ls }) v) (outcome (record { graph = g; locals = ms }) v)
 
--- if `RelatesWritten` holds of a vertex, and the trees of its sources are alike in two lists of local trees, its plain outcomes with the two lists are alike
+-- a vertex has alike plain outcomes with two lists of local trees, if `RelatesWritten` holds of it, and the sources at or before it have alike trees in both
 abbrev pub HandsOn : (List ℕ → List ℕ → Type 0) → Numbered → Type 0
 HandsOn R g = (ls ms : List Local) (v : ℕ) → RelatesWritten R g v → HaveAlikeSources R g v ls ms → HasAlikeOutcomes R g ls ms v
 
@@ -87,8 +87,8 @@ abbrev pub ExpandsToOne : TreeMap → Type 0
 ExpandsToOne t = (expand : List ℕ → Option (List ℕ)) (u w : TreeMap) → AreAlike (ExpandsTo expand) t u → AreAlike (ExpandsTo expand) t w → u ≡ w
 
 -- what the rest of a content expands to. The byte 255, which no text in UTF-8 has, begins a token; the four bytes after it are the token's number, the most
--- significant first. If the rest begins inside a token, `left` of its bytes are still to be read, and n is the number by the bytes so far. Each byte outside a
--- token expands to itself.
+-- significant first. If the rest begins inside a token, `left` bytes of this token are still to be read, and the bytes before them are the number n. Each byte
+-- outside a token expands to itself.
 abbrev pub spelled_from : (ℕ → List ℕ) → List ℕ → ℕ → ℕ → Option (List ℕ)
 spelled_from table [] zero n = Some []
 spelled_from table [] (suc left) n = None

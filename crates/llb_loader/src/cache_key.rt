@@ -1,5 +1,6 @@
-//! The key of a cache: its ID, the output with which a new instance begins, and its sharing mode. A key borrows these
-//! parts from the op. Keys are ordered by ID, then mode, then seed, so that a set can be searched for an equal key.
+//! The key of a cache: its ID, its seed, and its sharing mode. The seed is the output whose tree is the first tree of a
+//! new instance. A key borrows from the op. Keys are ordered by ID, then mode, then seed, so that a set can be searched
+//! for an equal key.
 
 ghost use Rattle.std.specs.Prelude.{◌≡◌, Some};
 ghost use Rattle.std.specs.Option.{option_copied, option_cmp};
@@ -11,7 +12,7 @@ use llb_ops::{Input, Mount};
 use std::cmp::Ordering;
 use std::marker::Model;
 
-/// The key of a cache. The seed, which is the output with which a new instance begins, is kept as the input that names this output.
+/// The key of a cache. The seed is kept as the input that names the output.
 #[derive(Drop)]
 pub(crate) struct Key<'a> {
     id: &'a str,

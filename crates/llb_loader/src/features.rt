@@ -1,4 +1,4 @@
-//! The features of an op that are not supported. Each function looks at ops of one kind, and looks for features in the order of the definition `features`.
+//! Finds the unsupported features of ops. Each function looks at ops of one kind, and looks for features in the order of the definition `features`.
 
 ghost use Rattle.std.specs.Prelude.{◌≡◌};
 ghost use Rattle.std.specs.List.{list_any, find};
@@ -15,7 +15,7 @@ use llb_ops::{
     UserOpt,
 };
 
-// Returns the first feature of the op that is not supported.
+// Returns the first unsupported feature of the op.
 pub(crate) fn first_feature(op: &Op) -> Option<Feature>
     ensures { result ≡ feature_of op.now }
 {
@@ -30,7 +30,7 @@ pub(crate) fn first_feature(op: &Op) -> Option<Feature>
     }
 }
 
-// Returns the first feature of a source that is not supported.
+// Returns the first unsupported feature of a source.
 fn source_feature(source: &SourceOp) -> Option<Feature>
     ensures { result ≡ find (has (Some (kind.Source source.now))) features }
 {
@@ -40,7 +40,7 @@ fn source_feature(source: &SourceOp) -> Option<Feature>
     None
 }
 
-// Returns the first feature of an exec that is not supported.
+// Returns the first unsupported feature of an exec.
 fn exec_feature(exec: &ExecOp) -> Option<Feature>
     ensures { result ≡ find (has (Some (kind.Exec exec.now))) features }
 {
@@ -69,7 +69,7 @@ fn any_of_type(mounts: &[Mount], mount_type: MountType) -> bool
     false
 }
 
-// Returns the first feature of a file op that is not supported.
+// Returns the first unsupported feature of a file op.
 fn file_feature(file: &FileOp) -> Option<Feature>
     ensures { result ≡ find (has (Some (kind.File file.now))) features }
 {

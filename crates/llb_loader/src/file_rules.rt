@@ -58,7 +58,7 @@ fn input_stands(count: usize, place: usize, input: i64) -> bool
     input < place || input - place < count
 }
 
-// Returns whether the second input of a copy is -1, one of `count` inputs, or an earlier result; true for other actions, which have no use of it.
+// Returns whether the second input of a copy is -1, one of `count` inputs, or an earlier result; true for other actions, which do not read a second input.
 fn second_stands(count: usize, place: usize, action: &Action) -> bool
     ensures { IsTrue result ↔ TakesSecond (count + place) action.now.kind action.now.secondary_input }
 {

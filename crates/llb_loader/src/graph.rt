@@ -113,7 +113,7 @@ impl Graph {
         self.shared.as_slice()
     }
 
-    /// Copies the graph, which shares the vertices. Fails with 92 `Memory` alone.
+    /// Copies the graph; the copy shares the vertices. Fails with 92 `Memory` alone.
     pub fn copy(&self) -> Result<Graph, Memory>
         ensures { IfOk result (λ g. g ≡ self.now) }
     {

@@ -6,7 +6,8 @@ ghost use Rattle.llb_loader.specs.Missing.{missing_local};
 use crate::graph::Graph;
 use crate::locals::Locals;
 
-/// Returns the name of the first local source, by vertex, that has no tree; `None` if each has one. Does not allocate.
+/// Returns the name of the first local source, in the order of the vertices, for which no tree is given; `None` if every local source has a tree. Does not
+/// allocate.
 pub fn missing_local<'a>(graph: &'a Graph, locals: &Locals) -> Option<&'a str>
     ensures { option_map (λ t. t.now) result ≡ missing_local locals.now graph.now.vertices }
 {

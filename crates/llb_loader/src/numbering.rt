@@ -13,7 +13,8 @@ use std::alloc::{AllocError, Global};
 use std::collections::BTreeSet;
 use std::mem;
 
-/// A row that waits for the row that its input `checked` names. The rows that its inputs before `checked` name are numbered.
+/// A row that is not numbered yet. The rows that its first `checked` inputs name are numbered. In a list of waiters, the row waits for the row that its input
+/// of index `checked` names.
 #[derive(Clone, Copy)]
 struct Waiter {
     row: usize,
