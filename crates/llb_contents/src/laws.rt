@@ -29,8 +29,8 @@ pub fn acts_alike(action: &Action, base: &Tree, second: &Tree)
     let _ = second;
 }
 
-/// Proves that a command on two alike views fails on both, or results in alike views, if appending keeps the relation and each text that the command itself
-/// writes is related to itself (a digest of contents: to the digest of related contents).
+/// Proves that a command on two alike views fails on both, or results in alike views. The premises: appending keeps the relation; each text that the command
+/// itself writes is related to itself; and if the command writes digests, digests of related contents are related.
 pub fn runs_alike(setting: &Setting, view: &View, command: &Command)
     ensures { RunsAlike setting.now view.now command.now }
 {
@@ -43,11 +43,11 @@ pub fn runs_alike(setting: &Setting, view: &View, command: &Command)
 /// contents of files, and these contents are related, then the plain outcomes of the vertex with the two lists differ only in related contents: both are
 /// blocked, both failed with the same fault, or both are done with as many outputs. Each clause is for one kind of relation, with further premises.
 /// `relations`: any relation that appending keeps, if each content that the ops themselves write is related to itself, and digests of related contents are
-/// related. `expansions`: with the same premises, the second content is what the first expands to. `tokens`: the same for tokens (the byte 255 and a number of
-/// four bytes), if no exec at or before the vertex makes a listing, nothing there writes the byte 255, and the sources at or before each exec that makes a
-/// digest have the same trees in both lists, without the byte 255. `undigested`: any relation that appending keeps and that relates each content to itself, if
-/// no exec at or before the vertex makes a digest. `contents`: with the premises of `undigested`, the second content is the first with some pieces replaced,
-/// each by its partner in a list of pairs.
+/// related. `expansions`: with the same premises, the relation that the second content is what the first expands to. `tokens`: the same relation for contents
+/// with tokens (the byte 255 and a number of four bytes), if no exec at or before the vertex makes a listing, nothing there writes the byte 255, and the
+/// sources at or before each exec that makes a digest have the same trees in both lists, without the byte 255. `undigested`: any relation that appending keeps
+/// and that relates each content to itself, if no exec at or before the vertex makes a digest. `contents`: if no such exec makes a digest, the relation that
+/// the second content is the first with some pieces replaced, each by its partner in a list of pairs.
 pub fn contents_are_handed_on(graph: &Graph)
     ensures relations { HandsRelationsOn graph.now }
     ensures expansions { HandsExpansionsOn graph.now }
@@ -65,9 +65,10 @@ pub fn expands_to_one(tree: &Tree)
     let _ = tree;
 }
 
-/// Proves a law for a vertex that is done or failed on two boards over one graph, with no cache mount at or before it. If the trees of its sources differ only
-/// in related contents, the vertex ended alike on both: done with outputs that differ only in related contents, or failed with the same fault. The premises are
-/// those of `relations` and `contents` of `contents_are_handed_on`. This holds for any workers and any order of events.
+/// Proves a law for a vertex that is done or failed on two boards over one graph, with no cache mount at or before it. If the trees of the sources at or
+/// before the vertex differ only in related contents, the vertex ended alike on both boards: done with outputs that differ only in related contents, or failed
+/// with the same fault. The other premises are those of `relations` and `contents` of `contents_are_handed_on`. This holds for any workers and any order of
+/// events.
 pub fn boards_settle_alike(board: &Board, other: &Board)
     ensures relations { SettleAlike board.now other.now }
     ensures contents { SettleExchanged board.now other.now }

@@ -1,5 +1,5 @@
-//! Runs a command on mounts, some of which show caches; the trees of the caches are put into their mounts for that one command. It is built on mounts and
-//! commands; it knows neither keys nor instances.
+//! Runs a command on mounts, some of which show caches; the trees of the caches are put into their mounts for that one command. This file knows mounts and
+//! commands, but neither the keys nor the instances of caches.
 
 ghost use Rattle.std.specs.Prelude.{◌≡◌, ◌<◌, length, replicate, IfOk, OnErr};
 ghost use Rattle.std.specs.List.{All};
@@ -35,7 +35,8 @@ fn blanks(alloc: Global, count: usize) -> Result<Vec<Tree>, NoMemory>
     Ok(trees)
 }
 
-// Swaps each tree with the tree of the mount whose number is at the same index. During a swap the mount has the spare tree.
+// Swaps each tree with the tree of the mount whose number is at the same index. During a swap the list has the spare tree in place of the tree that it moves
+// to the mount.
 fn swap_all(mounts: &mut Mounts, numbers: &[u32], trees: &mut Vec<Tree>, spare: Tree) -> Tree
     requires apart { Distinct numbers.now }
     requires within { All (λ n. n < length mounts.old) numbers.now }

@@ -1,4 +1,4 @@
-//! The gate: a worker passes it once before it works on a vertex, and the gate may stop the worker there.
+//! The gate: before a worker works on a vertex, the worker passes the gate once, and the gate may stop the worker there.
 
 ghost use Rattle.std.specs.Prelude.{ℕ, Bool, IfErr, IsTrue};
 

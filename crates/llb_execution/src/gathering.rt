@@ -9,7 +9,7 @@ use llb_tree::Tree;
 use llb_wire::Memory;
 use std::alloc::Global;
 
-/// Vertices by number, of which some are done.
+/// The outputs of vertices, by vertex number; only vertices that are done have outputs.
 pub trait Outputs {
     /// How each vertex ended; `None` for a vertex that has not ended.
     ghost ending: { Self → ℕ → Option Ending };

@@ -1,11 +1,11 @@
-//! One vertex's execution: its program of micro-steps, the workspace that they change, and the work of a whole job away from any board, behind
-//! a gate. The crate keeps no caches. It is built on `llb_model`.
+//! One vertex's execution: its program of micro-steps, the workspace that the micro-steps change, and the work of a whole job away from any board,
+//! behind a gate. The crate keeps no caches. It is built on `llb_model`.
 //!
 //! Types: `Program`, `Steps`, `MicroStep`, `Workspace` (what a program works on), `Job` (a program with its workspace and cache trees), `Outcome`, `Outputs`
 //! (vertices by number, from which the trees of inputs are gathered), `Gate`, `WorkFault`.
 //! Promise: `Workspace::step` (`left`, `err`) leaves exactly what the machine's micro-step leaves; if memory is refused, nothing is changed.
-//! `work` (`job`, `stopped`) does all remaining micro-steps of a job, and is stopped (143) only if the type of the gate says that the gate may stop that
-//! worker at that vertex.
+//! `work` (`job`, `stopped`) does all remaining micro-steps of a job; it fails with 143 only if the gate's `may_stop` is true for that worker and that
+//! vertex.
 //!
 //! A caller:
 //!

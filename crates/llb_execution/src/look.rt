@@ -120,7 +120,7 @@ fn mount_part(mounts: &Mounts, i: usize) -> Option<Part<'_>>
     }
 }
 
-// Returns a tree that the workspace owns as a `Look`.
+// Returns, as a `Look`, a tree that the workspace owns.
 fn here(tree: Option<&Tree>) -> Option<Look<'_>>
     ensures { (trees : List TreeMap) → looked trees result ≡ option_map (λ t. t.now) tree.entry }
 {

@@ -50,7 +50,7 @@ impl Workspace {
         Ok(Mark { was: held })
     }
 
-    /// Restores what a mark has kept of the workspace. Does not allocate.
+    /// Restores in the workspace what the mark has kept. Does not allocate.
     pub fn put_back(&mut self, mark: Mark)
         ensures { self.new ≡ put_back mark self.old }
     {

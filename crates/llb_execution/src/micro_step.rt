@@ -1,4 +1,4 @@
-//! One micro-step, which borrows from the list of micro-steps that has it. Nothing here does a micro-step.
+//! One micro-step. It borrows its data from the list of micro-steps that it is taken from. Nothing here does a micro-step.
 
 ghost use Rattle.std.specs.Prelude.{◌≡◌, ◌∷◌, [], map, option_map, slice_get};
 ghost use Rattle.llb_model.specs.Program.{ReadLocal, Act, LayInput, runs_of};

@@ -17,7 +17,7 @@ use std::alloc::Global;
 use std::marker::Model;
 
 /// The outcome of a job: how many micro-steps remained, and what they left: the workspace, the trees of the cache instances, and the fault if there is one. By
-/// the type's invariant this is the result of the job's program, so no board has to check it.
+/// the type's invariant an outcome is the result of its job's remaining micro-steps, so no board has to check it.
 #[derive(Drop)]
 pub struct Outcome {
     job: Job,
@@ -95,8 +95,9 @@ impl Outcome {
     }
 }
 
-/// Does all remaining micro-steps of a job, behind a gate. Fails with 143 `Stopped` if the gate stops the worker, which it may do only where its `may_stop` is
-/// true, or with 142 `Memory`; then the job is dropped. The micro-steps are done on copies of the job's workspace and trees.
+/// Does all remaining micro-steps of a job, behind a gate. Fails with 143 `Stopped` if the gate stops the worker, or with 142 `Memory`; then the job is
+/// dropped. The gate can stop the worker only if its `may_stop` is true for this worker and vertex. The micro-steps are done on copies of the job's workspace
+/// and trees.
 pub fn work<G: Gate>(alloc: Global, job: Job, gate: &G) -> Result<Outcome, WorkFault>
     ensures job { IfOk result (λ o. o.job ≡ job) }
     ensures stopped { result ≡ Err work.Stopped → IsTrue (G.may_stop job.worker job.vertex) }

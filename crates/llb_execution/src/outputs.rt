@@ -1,5 +1,5 @@
-//! The outputs of a vertex, taken from its workspace after all its micro-steps, each in place of the empty tree that
-//! was made for it. Nothing here allocates.
+//! Takes the outputs of a vertex from its workspace after all its micro-steps. Each output replaces an empty tree that
+//! was made for it beforehand. Nothing here allocates.
 
 ghost use Rattle.std.specs.Prelude.{◌≡◌, map, length, replicate, slice_get};
 ghost use Rattle.std.specs.List.{range_with_len};

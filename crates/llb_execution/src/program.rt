@@ -40,7 +40,7 @@ impl Model for Program {
 }
 
 impl Program {
-    /// Makes the program of a vertex, which shares the actions and commands of the vertex. Fails with 5 `Memory` alone.
+    /// Makes the program of a vertex. The program shares the vertex's actions and commands. Fails with 5 `Memory` alone.
     pub fn of(alloc: Global, vertex: &Vertex) -> Result<Program, Memory>
         ensures { IfOk result (λ p. p ≡ program_of vertex.now) }
     {

@@ -1,4 +1,4 @@
-//! The fault of refused memory. The calls whose faults are converted here can fail with nothing else.
+//! The fault of refused memory. The calls whose faults are converted here fail only for want of memory.
 
 use llb_applet::ScriptFault;
 use llb_tree::TreeFault;
@@ -27,42 +27,42 @@ impl<T: Drop> From<AllocFailed<T>> for NoMemory {
     }
 }
 
-/// Converts the fault of a copy of a text or of actions.
+/// Converts the fault of copying a text or actions.
 impl From<Memory> for NoMemory {
     fn from(_: Memory) -> NoMemory {
         NoMemory
     }
 }
 
-/// Converts the fault of a new tree or of a copy of one, which can only lack memory.
+/// Converts the fault of making or copying a tree, which fails only for want of memory.
 impl From<TreeFault> for NoMemory {
     fn from(_: TreeFault) -> NoMemory {
         NoMemory
     }
 }
 
-/// Converts the fault of a copy of a script, which can only lack memory.
+/// Converts the fault of copying a script, which fails only for want of memory.
 impl From<ScriptFault> for NoMemory {
     fn from(_: ScriptFault) -> NoMemory {
         NoMemory
     }
 }
 
-/// Converts the fault of a view of mounts.
+/// Converts the fault of making or copying a view of mounts.
 impl From<llb_mount::Memory> for NoMemory {
     fn from(_: llb_mount::Memory) -> NoMemory {
         NoMemory
     }
 }
 
-/// Converts the fault of a laying.
+/// Converts the fault of laying one tree over another.
 impl From<llb_merge::Memory> for NoMemory {
     fn from(_: llb_merge::Memory) -> NoMemory {
         NoMemory
     }
 }
 
-/// Converts the fault of a command.
+/// Converts the fault of running a command.
 impl From<llb_applet::Memory> for NoMemory {
     fn from(_: llb_applet::Memory) -> NoMemory {
         NoMemory

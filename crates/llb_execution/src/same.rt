@@ -72,7 +72,7 @@ impl Same for Steps {
     }
 }
 
-// Returns whether two vertices have the same micro-steps. Vertices of two kinds have the same micro-steps only if neither has any.
+// Returns whether two vertices have the same micro-steps. Vertices of different kinds have the same micro-steps only if neither vertex has any.
 fn are_steps(steps: &ByKind, other: &ByKind) -> bool
     ensures { IsTrue result ↔ (steps_in steps.now ≡ steps_in other.now) }
 {

@@ -1,6 +1,6 @@
-//! The workspace: what a program works on. It owns its data, and begins with the trees of the vertex's inputs; each micro-step
-//! changes it; at the end the outputs are taken from it. One action is done by `llb_fileop`, one laying by `llb_merge`, one command
-//! by `filling`.
+//! The workspace: what a program works on. A workspace owns its data. At first it has the trees of the vertex's inputs; micro-steps
+//! change the workspace; at the end the outputs are taken from it. Actions are done by `llb_fileop`, layings by `llb_merge`,
+//! commands by `filling`.
 
 ghost use Rattle.std.specs.Prelude.{◌≡◌, ◌<◌, List, length, map, option_map, replicate, unwrap_or, Some, None, Result, IfOk, OnOk, OnErr};
 ghost use Rattle.std.specs.List.{All};
@@ -71,8 +71,8 @@ impl Model for Workspace {
 }
 
 impl Workspace {
-    /// Makes the workspace of a vertex before its first micro-step: on the trees of its inputs, with the numbers of the mounts
-    /// that show caches, in ascending order. Fails with 5 `Memory` alone.
+    /// Makes the workspace of a vertex before its first micro-step. `inputs` are the trees of the vertex's inputs, and `caches`
+    /// the numbers of its cache mounts, in ascending order. Fails with 5 `Memory` alone.
     pub fn on(
         alloc: Global,
         locals: &Locals,
@@ -156,8 +156,8 @@ impl Workspace {
         }
     }
 
-    /// Returns the outputs after all micro-steps of the vertex, each in place of an empty tree that was made for
-    /// it (`empty_trees`). Does not allocate.
+    /// Returns the outputs of the vertex after all its micro-steps. Each output replaces an empty tree of `outputs`,
+    /// which the caller makes by `empty_trees`. Does not allocate.
     pub fn into_outputs(self, outputs: Vec<Tree>, vertex: &Vertex) -> Vec<Tree>
         requires { outputs.items ≡ replicate vertex.now.outputs empty_tree }
         ensures { result.items ≡ outputs_of (program_of vertex.now) self }
@@ -166,7 +166,7 @@ impl Workspace {
         outputs_of(own, outputs, vertex)
     }
 
-    // Appends the tree that action `k` made to the results; if the action failed, returns its fault.
+    // Appends to the results the tree that action `k` made; if the action failed, returns its fault.
     fn put_result(
         &mut self,
         k: u32,
@@ -267,8 +267,8 @@ impl Workspace {
         }
     }
 
-    // Runs command `k` on an exec's mounts, or skips it, by its join and the last status. While it runs, the mounts that show caches have the trees `trees`.
-    // Returns the exec's fault: the command's status, if it is not 0 and no later command may run.
+    // Runs command `k` on an exec's mounts, or skips it, by its join and the last status. While the command runs, the cache mounts have the trees `trees`.
+    // Returns the exec's fault: the command's status, if this status is not 0 and no later command may run.
     fn run(
         &mut self,
         k: u32,
@@ -442,8 +442,8 @@ fn are_ands(commands: &[Joined]) -> bool
 }
 
 // Returns the exec's fault after a command: the command's status, if it is not 0 and no later command may run. Later commands are looked at only if the status
-// is not 0, and only up to the first that is not joined by `&&`. The commands before that one are all skipped, so over a whole script this takes time in the
-// length of the script.
+// is not 0, and only up to the first that is not joined by `&&`. The commands before that one will all be skipped, so over a whole script each command is
+// looked at at most once.
 fn exit_of(command: u32, status: u32, later: &[Joined]) -> Option<VertexFault>
     ensures { result ≡ exit_of command (all_and later.now) status }
 {

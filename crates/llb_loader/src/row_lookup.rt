@@ -1,5 +1,5 @@
 //! Which rows are distinct, and which row a digest text names. Look-ups by digest use a map that is sorted by the digest texts, so that no choice of entries
-//! makes look-ups slow. No look-up is made if a guessed row has the digest. The digest of the terminal names no row.
+//! makes look-ups slow. Before a look-up, one row is guessed; if that row has the digest text, no look-up is made. The terminal's digest text names no row.
 
 ghost use Rattle.std.specs.Prelude.{◌≡◌, ◌<◌, ◌≤◌, ◌↔◌, ℕ, false, length, map, IfOk, IfErr, OnOk, IsTrue, Some};
 ghost use Rattle.std.specs.List.{filter_map};

@@ -1,4 +1,4 @@
-//! Finds vertices that mount a cache. The outcome of such a vertex, and of a vertex downstream of one, may depend on the order in which vertices run; so no
+//! Finds vertices that mount a cache. The outcome of such a vertex, and of each vertex downstream of it, may depend on the order in which vertices run; so no
 //! graph with a cache is evaluated.
 
 ghost use Rattle.std.specs.Prelude.{◌≡◌};

@@ -19,8 +19,9 @@ use llb_wire::Text;
 use std::alloc::Global;
 
 /// Returns the plain outcome of every vertex: `Blocked` if an input of the vertex is not done; else the outputs or the first fault of the vertex's whole
-/// program, run on the trees of its inputs. Fails with 101 `MissingLocal` and the name of the first local source, by vertex, that has no tree; else with 102
-/// `HasCache` and the least vertex that mounts a cache; else with 103 `Memory`. If memory for the name is refused, 103 takes the place of 101.
+/// program, run on the trees of its inputs. Fails with 101 `MissingLocal` and the name of the first local source, in the order of the vertices, for which no
+/// tree is given; else with 102 `HasCache` and the least vertex that mounts a cache; else with 103 `Memory`. If memory for the name is refused, 103 takes the
+/// place of 101.
 pub fn evaluate(alloc: Global, graph: &Graph, locals: &Locals) -> Result<Outcomes, PlainFault>
     ensures gives { Gives (λ o. o) result (evaluate_of (record { graph = graph.now; locals = locals.now })) }
     ensures last { MemoryLast result (evaluate_of (record { graph = graph.now; locals = locals.now })) }

@@ -53,7 +53,7 @@ impl From<llb_wire::Memory> for PlainFault {
     }
 }
 
-/// Converts the fault of a call on a tree that can only lack memory, or of the reading of a text that is a path.
+/// Converts the fault of a call on a tree that fails only for want of memory, such as the reading of a text that is known to be a path.
 impl From<TreeFault> for PlainFault {
     ghost use Rattle.std.specs.Prelude.{◌≡◌};
     ghost use Rattle.llb_plain.specs.declared.fault.PlainFault.TheVariants as plain;

@@ -1,9 +1,9 @@
-//! The plain outcome of every vertex of a graph that mounts no cache, by number: on one thread, with no board, record or workers. It is built
-//! on `llb_execution`, as the board is.
+//! Computes the plain outcome of every vertex of a graph in which no vertex mounts a cache: on one thread, with no board, record or workers. The
+//! crate is built on `llb_execution`, as the board is.
 //!
 //! Types: `Outcomes`, `Outcome` (done with its outputs, failed, or blocked), `PlainFault` (101 to 103).
-//! Promise: `evaluate` (`gives`, `last`) returns exactly the plain outcomes of `llb_model`. It fails with 101 and the name of the first local source, by
-//! vertex, that has no tree; else with 102 and the least vertex that mounts a cache.
+//! Promise: `evaluate` (`gives`, `last`) returns exactly the plain outcomes of `llb_model`. It fails with 101 and the name of the first local source, in
+//! the order of the vertices, for which no tree is given; else with 102 and the least vertex that mounts a cache.
 //!
 //! A caller:
 //!

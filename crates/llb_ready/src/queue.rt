@@ -40,7 +40,7 @@ impl ReadyQueue {
     {
         let (queue, whole) = RuledArrayQueue::ruled(alloc, n as usize)?;
         let mut pass = whole;
-        // In the rule of a new queue the room is 0; each of the `n` rounds makes it larger by one. What the queue holds stays the same.
+        // In the rule of a new queue the room is 0; each of the `n` rounds makes this room larger by one. The numbers in the queue stay the same.
         for _i in 0..n {
             drop(queue.another::<Widens>(&mut pass));
         }
@@ -81,8 +81,8 @@ impl ReadyQueue {
         ensures ok { OnOk result (hand_of pass.new ≡ with_put (hand_of pass.old) v) }
         ensures full { IfErr result (λ e. (e.0 ≡ v) × (hand_of pass.new ≡ hand_of pass.old)) }
 
-        // With the whole pass the call fails exactly if the queue is full: the numbers that were put, less those that were taken, are as many as it has room
-        // for.
+        // With the whole pass the call fails exactly if the queue is full: as many numbers were put as the sum of the numbers taken and the room of the
+        // queue.
         ensures whole { let before = hand_of pass.old in IsWhole pass.old → MatchResult result (λ _. HasRoom before) (λ _. HasNoRoom before) }
     {
         let ReadyPass { pass } = pass;

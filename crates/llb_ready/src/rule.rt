@@ -78,7 +78,8 @@ impl Lesson<u32, Hand> for Takes {
     ghost fact = { Knows };
 }
 
-/// What the whole pass says of the queue: its numbers are conserved, and the queue holds no more numbers than it has room for.
+/// What is known with the whole pass: how often each number was put is how often it was taken plus how often it is in the queue, and the queue holds no more
+/// numbers than it has room for.
 pub(crate) struct Learns;
 
 impl Lesson<u32, Hand> for Learns {
