@@ -48,7 +48,7 @@ pub record HasInputs (vertices : List Vertex) (v : Vertex) : Type 0 where
   pub each : (i : ℕ) (input : Input) (e : Edge) → i < length v.inputs
       → IsEdgeOfInput vertices (slice_index_or v.op.inputs i input) (slice_index_or v.inputs i e)
 
--- what holds of each vertex: its op is within the limits, meets the rules and has no unsupported feature; `script`, `steps` and `outputs` are those of the op
+-- what holds of each vertex: its op is within the limits of llb_ops, meets the rules and has no unsupported feature; the other fields are those of the op
 pub record IsVertex (v : Vertex) : Type 0 where
   pub within : IsWithinLimits v.op
   pub featureless : feature_of v.op ≡ None

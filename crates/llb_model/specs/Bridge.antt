@@ -34,7 +34,7 @@ store_of rows = store_from rows rows
 
 -- ---- rows after an event
 
--- the rows after each of these instances, which all exist, gets the tree at the same position of the list
+-- the rows after each of these instances, which all exist, gets the tree at the same position of the list of trees
 abbrev pub put_each : List Row → List Instance → List TreeMap → List Row
 put_each rows [] ts = rows
 put_each rows (p ∷ ps) [] = rows

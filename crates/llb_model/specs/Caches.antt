@@ -38,7 +38,7 @@ content s p = finite.get s p
 unfoldable pub put : Store → Instance → TreeMap → Store
 put s p t = finite.insert s p t
 
--- the contents after each of these trees is put in the instance at the same position of the list
+-- the contents after each of these trees is put in the instance at the same position of the list of instances
 abbrev pub put_all : Store → List Instance → List TreeMap → Store
 put_all s [] ts = s
 put_all s (p ∷ ps) [] = s
@@ -52,7 +52,7 @@ tree_of s p = unwrap_or (content s p) empty_tree
 abbrev pub trees_at : Store → List Instance → List TreeMap
 trees_at s ps = map (λ p. unwrap_or (content s p) empty_tree) ps
 
--- each of these instances has the tree at the same position of the list
+-- each of these instances has the tree at the same position of the list of trees
 abbrev pub Hold : Store → List Instance → List TreeMap → Type 0
 Hold s [] [] = Unit {0}
 Hold s [] (t ∷ ts) = ⊥

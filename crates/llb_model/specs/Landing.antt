@@ -28,7 +28,7 @@ abbrev pub further : List MicroStep → ℕ → Left → ℕ → Left
 further steps k left zero = left
 further steps k left (suc n) = further steps (k + 1) (go_on steps k left) n
 
--- no further micro-step can be done: there was a fault, or no micro-step has number k
+-- whether no further micro-step can be done: there was a fault, or no micro-step has number k
 abbrev pub is_over : List MicroStep → ℕ → Left → Bool
 is_over steps k left = is_some left.fault || nat_le (length steps) k
 

@@ -108,7 +108,7 @@ mount_of n = n.mount
 abbrev pub mode_of : ℤ → Mode
 mode_of n = if int_eq n (pos 1) then Private else if int_eq n (pos 2) then Locked else Shared
 
--- an integer as the index of an output; 0 for a negative one, which a loaded graph does not have
+-- an integer as the index of an output; 0 for a negative integer (in a loaded graph no index is negative)
 abbrev pub index_of : ℤ → ℕ
 index_of (pos n) = n
 index_of (negsuc n) = 0

@@ -28,7 +28,7 @@ next_of b w [] = None
 next_of b w (Idle ∷ workers) = next_of b (w + 1) workers
 next_of b w (Runs x ∷ workers) = Some (if is_finished (program_in b x).steps x then Settle w else Step w)
 
--- the least of the n numbers v, v + 1 and so on that passes a test
+-- the least of the n numbers v, v + 1 and so on that passes a test; none if no number does
 abbrev pub least : (ℕ → Bool) → ℕ → ℕ → Option ℕ
 least test v zero = None
 least test v (suc n) = if test v then Some v else least test (v + 1) n
@@ -53,7 +53,7 @@ is_settled (Some (Running w)) = false
 is_settled (Some Waiting) = false
 is_settled None = false
 
--- each of the n numbers v, v + 1 and so on passes a test
+-- whether each of the n numbers v, v + 1 and so on passes a test
 abbrev pub each : (ℕ → Bool) → ℕ → ℕ → Bool
 each test v zero = true
 each test v (suc n) = test v && each test (v + 1) n

@@ -195,7 +195,7 @@ cancel_reply v k = HasCancelled (record { vertex = v; done = k })
 abbrev pub cancel_with : State → ℕ → ℕ → ℕ → State × Reply
 cancel_with s w v k = (after_end s w v Waiting, cancel_reply v k)
 
--- the result of a cancel, given what the worker does; the cancel is refused if the worker runs nothing
+-- the result of a cancel, given what the worker does; the cancel is refused unless the worker runs an execution
 abbrev pub cancelled : State → ℕ → Option WorkerStatus → Result (State × Reply) CancelFault
 cancelled s w None = Err cancel.NoWorker
 cancelled s w (Some Idle) = Err cancel.NotRunning
