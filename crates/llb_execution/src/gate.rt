@@ -14,7 +14,7 @@ pub trait Gate {
     /// Whether the gate may stop this worker at this vertex.
     ghost may_stop: { ℕ → ℕ → Bool };
 
-    /// Lets worker `w` work on vertex `v`, or fails with 143 `Stopped`. The call may wait, but returns after a bounded number of turns.
+    /// Lets worker `w` work on vertex `v`, or fails with 143 `Stopped`. The call may wait in a loop, but it returns after a bounded number of rounds.
     fn pass(&self, w: u32, v: u32) -> Result<(), Stopped>
         ensures { IfErr result (λ _. IsTrue (may_stop w v)) };
 }

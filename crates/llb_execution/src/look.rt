@@ -14,7 +14,7 @@ use llb_tree::{Path, Tree};
 pub enum Look<'a> {
     /// A tree that the workspace owns.
     Here(&'a Tree),
-    /// The tree of the cache instance of the cache mount with this index, counted among the vertex's cache mounts alone.
+    /// The tree of a cache instance; the number is the index of the instance's mount among the cache mounts of the vertex.
     Cached(usize),
 }
 

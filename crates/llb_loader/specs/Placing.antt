@@ -1,4 +1,4 @@
--- Where a row that is not numbered yet (the row of a `Waiter`) goes: the row joins the ready rows, or waits for a row that it names.
+-- Where an unnumbered row goes: to the ready rows, or to a row that it waits for. A `Waiter` is an unnumbered row, with how many of its inputs were checked.
 use Rattle.std.specs.Prelude.{◌≡◌, ℕ, ◌<◌, ◌≤◌, Bool, true, false, cond, List, [], ◌∷◌, ◌++◌, ◌⊎◌, length, slice_index, slice_index_or, slice_set, ◌==◌}
 use Rattle.std.specs.List.{All}
 use Rattle.llb_loader.specs.declared.numbering.Waiter.{Waiter}

@@ -21,7 +21,7 @@ pub struct Edge {
 
 /// A vertex, made from a reached row. Its number is its index in the list of vertices.
 pub struct Vertex {
-    /// `sha256:` and 64 hexadecimal digits, if the graph was loaded from a definition.
+    /// The digest text of the row: `sha256:` and 64 hexadecimal digits, if the graph was loaded from a definition.
     pub digest: Text,
     pub op: Op,
     /// The commands of an exec; `None` for an op of another kind.

@@ -27,7 +27,7 @@ pub fn one_answer(rows: &[Row])
     let _ = rows;
 }
 
-/// Proves that a definition has at most one result.
+/// Proves that a definition has at most one result: one graph, or one refusal.
 pub fn one_answer_in(bytes: &[u8])
     ensures { HasOneAnswerIn bytes.now }
 {

@@ -98,7 +98,7 @@ fn bytes_of(alloc: Global, rows: &[Row]) -> Result<Vec<Bytes>, Memory>
     Ok(entries)
 }
 
-// Links rows that have no bytes themselves; their bytes are the entries. Fails as `link` does.
+// Links rows that have no bytes themselves; `entries` has their bytes. Fails as `link` does.
 pub(crate) fn link_entries(
     alloc: Global,
     rows: Vec<Row>,

@@ -1,4 +1,4 @@
-//! Loads a definition: its entries become rows, each under its digest text. Entries are dropped one by one, once they are read as ops.
+//! Loads a definition: each entry becomes a row with the digest text of the entry. Entries are dropped one by one, once they are read as ops.
 
 ghost use Rattle.std.specs.Prelude.{◌≡◌, ◌≤◌, false, length, IfOk, IfErr};
 ghost use Rattle.llb_loader.specs.Faults.{is_memory};

@@ -17,7 +17,7 @@ use llb_wire::{Bytes, Same, Text};
 use std::alloc::{AllocError, Global};
 use std::collections::BTreeMap;
 
-/// Returns whether there are fewer than two distinct rows; the bytes of the rows are the entries.
+/// Returns whether there are fewer than two distinct rows; `entries` has the bytes of the rows.
 pub(crate) fn all_same(rows: &[Row], entries: &[Bytes]) -> bool
     requires { length entries.now ≡ length rows.now }
     ensures { IsTrue result ↔ AllSame (with_bytes rows.now entries.now) }

@@ -36,7 +36,7 @@ pub record IsWorkedElsewhere (g : Numbered) (ls : List Local) (v : ℕ) (b : Boa
   pub runs : slice_get b.state.workers w ≡ Some (Runs x)
   pub first : x.done ≡ 0
 
--- if its numbers of worker and vertex are replaced by w and w's vertex, the outcome can be landed on board b, and is the only outcome of w's job there
+-- the outcome, with its numbers of worker and vertex replaced by w and w's vertex, can be landed on board b, and is the only outcome of w's job there
 pub record LandsHere (b : BoardValue) (w : ℕ) (x : Execution) (o : OutcomeValue) : Type 0 where
   pub known : IsKnown b w (given_to w x.vertex o.job)
   pub can : CanLand b w (given_to w x.vertex o.job)
