@@ -88,7 +88,7 @@ fn first_unknown(
     None
 }
 
-// Checks that no marked row has a feature that is not supported. Fails with 88 `Unsupported` alone.
+// Checks that no marked row has an unsupported feature. Fails with 88 `Unsupported` alone.
 pub(crate) fn check_features(ops: &[Op], seen: &[bool]) -> Result<(), LoadFault>
     requires len { length seen.now ≡ length ops.now }
     requires few { length ops.now ≤ 65_536 }

@@ -1,4 +1,4 @@
-//! The rules on execs, in five groups: what is run, where the mounts are, what they show and output, their caches, and the script.
+//! The rules on execs, in five groups: what is run, where the mounts are, what the mounts show and output, the cache mounts, and the script.
 
 ghost use Rattle.std.specs.Prelude.{◌≡◌, ◌↔◌, Some, IsSome, IfOk, IsTrue, List};
 ghost use Rattle.std.specs.List.{All};

@@ -81,7 +81,7 @@ impl fmt::Debug for LoadFault {
 
 impl error::Error for LoadFault {}
 
-/// A feature of an op that is not supported. If an op has several, the fault names the first of them.
+/// An unsupported feature of an op. If an op has several, the fault names the first one, in the order of the variants.
 #[derive(Clone, Copy, Debug, PartialEq, Eq)]
 pub enum Feature {
     /// A diff op.

@@ -1,5 +1,5 @@
-//! Loads a definition as a numbered graph: links its entries by their SHA-256 digests, checks them, and numbers them. It is built on `llb_applet`
-//! and `llb_ops`.
+//! Loads a definition as a numbered graph: links the entries by their SHA-256 digests, checks the entries, and numbers them. The crate is built on
+//! `llb_applet` and `llb_ops`.
 //!
 //! Types: `Graph` (vertices by number, and the result), `Vertex`, `Edge`, `Row` (an entry and its digest text), `Locals` (trees by name),
 //! `LoadFault` (81 to 91).

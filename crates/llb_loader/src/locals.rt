@@ -47,7 +47,7 @@ impl Locals {
         }
     }
 
-    /// Adds a tree under a name. The tree replaces the one that the name had; if the name had none, the tree comes after all others.
+    /// Adds a tree under a name. The tree replaces the tree that the name had; if the name had none, the new tree comes after all others.
     ///
     /// Fails with 92 `Memory` alone; then the list is unchanged.
     #[tactic(auto, using(crate::proofs::Trees::locals_added, crate::proofs::Trees::last_given))]
@@ -67,7 +67,7 @@ impl Locals {
         copied(&self.trees)
     }
 
-    /// Returns the tree with a name; `None` if the name has none.
+    /// Returns the tree that was given for a name; `None` if no tree was given for that name.
     pub fn get(&self, name: &str) -> Option<&Tree>
         ensures { option_map (λ t. t.now) result ≡ tree_of_local self.now name.now }
     {
