@@ -1,4 +1,4 @@
-//! Does all remaining micro-steps of a vertex, one after another, on a given workspace. It is built on `Workspace::step`.
+//! Does all remaining micro-steps of a vertex, one after another, on a given workspace. Each micro-step is done by `Workspace::step`.
 
 ghost use Rattle.std.specs.Prelude.{◌≡◌, ◌+◌, ◌<◌, ◌^◌, length, IfOk, None};
 ghost use Rattle.std.specs.List.{All};

@@ -1,5 +1,5 @@
-//! The program of a vertex, which owns its data: its micro-steps, how many outputs it has, and the output number of each mount of an
-//! exec.
+//! The program of a vertex: its micro-steps, how many outputs it has, and the output number of each mount of an exec. A program owns its
+//! data.
 
 ghost use Rattle.std.specs.Prelude.{◌≡◌, IfOk};
 ghost use Rattle.llb_loader.specs.Rules.{mount_outputs};

@@ -442,8 +442,8 @@ fn are_ands(commands: &[Joined]) -> bool
 }
 
 // Returns the exec's fault after a command: the command's status, if it is not 0 and no later command may run. Later commands are looked at only if the status
-// is not 0, and only up to the first that is not joined by `&&`. The commands before that one will all be skipped, so over a whole script each command is
-// looked at at most once.
+// is not 0, and only up to the first that is not joined by `&&`. The commands before that one will all be skipped, so over a whole script no command is looked
+// at twice.
 fn exit_of(command: u32, status: u32, later: &[Joined]) -> Option<VertexFault>
     ensures { result ≡ exit_of command (all_and later.now) status }
 {

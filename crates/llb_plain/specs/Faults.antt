@@ -1,4 +1,4 @@
--- What a call returns: the fault `Memory`, or what the call's rule returns. A call's rule is the definition of the result without that fault.
+-- What a call returns: the fault `Memory`, or what the call's rule returns. The rule of a call defines what the call returns if no memory is refused.
 use Rattle.std.specs.Prelude.{◌≡◌, Bool, true, false, Result, Ok, Err}
 use Rattle.llb_wire.specs.Answer as answer
 use Rattle.llb_plain.specs.declared.fault.PlainFault.{PlainFault}
