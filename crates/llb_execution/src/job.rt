@@ -1,5 +1,5 @@
-//! A job is what a worker has to do: a vertex's program, and what the program works on. A job owns all its data. By an invariant of the type, its micro-steps
-//! can be done.
+//! A job is what a worker has to do: a vertex's program, and what the program works on. A job owns all its data. By an invariant of the type, the job's
+//! micro-steps can be done.
 
 ghost use Rattle.std.specs.Prelude.{◌≡◌};
 ghost use Rattle.llb_execution.specs.Jobs.{IsWorkable};

@@ -2,7 +2,7 @@
 //! behind a gate. The crate keeps no caches. It is built on `llb_model`.
 //!
 //! Types: `Program`, `Steps`, `MicroStep`, `Workspace` (what a program works on), `Job` (a program with its workspace and cache trees), `Outcome`, `Outputs`
-//! (vertices by number, from which the trees of inputs are gathered), `Gate`, `WorkFault`.
+//! (the outputs of vertices, by vertex number, from which the trees of inputs are gathered), `Gate`, `WorkFault`.
 //! Promise: `Workspace::step` (`left`, `err`) leaves exactly what the machine's micro-step leaves; if memory is refused, nothing is changed.
 //! `work` (`job`, `stopped`) does all remaining micro-steps of a job; it fails with 143 only if the gate's `may_stop` is true for that worker and that
 //! vertex.

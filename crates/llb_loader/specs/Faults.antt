@@ -13,7 +13,7 @@ use Rattle.llb_loader.specs.declared.fault.Rule.TheVariants as rule
 use Rattle.llb_loader.specs.declared.fault.LoadFault.{LoadFault}
 use Rattle.llb_loader.specs.declared.fault.LoadFault.TheVariants as fault
 
--- whether a fault is `Memory`: only a call of the code fails with this fault, never a definition of a call's result
+-- whether a fault is `Memory`: only the code fails with this fault; no definition of a result returns it
 abbrev pub is_memory : LoadFault → Bool
 is_memory fault.Memory = true
 is_memory _ = false

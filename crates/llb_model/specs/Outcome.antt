@@ -59,7 +59,7 @@ ending_in (Some (Ended e)) = Some e
 ending_in (Some Blocked) = None
 ending_in None = None
 
--- the outcome of a vertex, given the outcomes of all vertices with lower numbers; all inputs of the vertex are among those
+-- the outcome of a vertex, given the outcomes of all vertices with lower numbers; every input of the vertex is an output of one of those vertices
 abbrev pub next_outcome : Build → List Outcome → Vertex → Outcome
 next_outcome b before v = outcome_on b v (inputs_from (λ k. ending_in (slice_get before k)) v.inputs)
 

@@ -1,4 +1,4 @@
--- How many events can still come, how many a whole run can have, and how much room its record needs.
+-- How many events can still come, how many events a whole run can have, and how much room the record of a run needs.
 use Rattle.std.specs.Prelude.{ℕ, zero, suc, ◌+◌, ◌-◌, ◌*◌, ◌==◌, Bool, false, List, [], ◌∷◌, length, count_by, Option, Some, None, slice_get}
 use Rattle.llb_loader.specs.declared.graph.Vertex.{Vertex}
 use Rattle.llb_model.specs.Program.{Build, program_of}

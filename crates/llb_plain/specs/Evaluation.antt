@@ -1,4 +1,4 @@
--- What an evaluation returns: a refusal for a missing local tree, else one for a cache, else the plain outcome of each vertex.
+-- What an evaluation returns: the refusal for a missing local tree, else the refusal for a vertex that mounts a cache, else the plain outcome of each vertex.
 use Rattle.std.specs.Prelude.{ℕ, ◌+◌, List, [], ◌∷◌, Option, Some, None, Result, Ok, Err, if◌then◌else◌}
 use Rattle.llb_loader.specs.declared.graph.Vertex.{Vertex}
 use Rattle.llb_model.specs.Program.{Build, has_cache}
@@ -12,7 +12,7 @@ abbrev pub cache_from : ℕ → List Vertex → Option ℕ
 cache_from k [] = None
 cache_from k (v ∷ vs) = if has_cache v then Some k else cache_from (k + 1) vs
 
--- the refusal for a missing local tree, else the one for a vertex that mounts a cache, else the outcomes
+-- the refusal for a missing local tree, else the refusal for a vertex that mounts a cache, else the outcomes
 abbrev pub unless_refused : Option (List ℕ) → Option ℕ → List Outcome → Result (List Outcome) PlainFault
 unless_refused (Some name) cache all = Err (MissingLocal name)
 unless_refused None (Some v) all = Err (HasCache v)
