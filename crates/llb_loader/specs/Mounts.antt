@@ -43,7 +43,7 @@ value_at values a = slice_index_or values a None
 abbrev pub Share : {X : Type 0} → Option X → Option X → Type 0
 Share {X} a b = (x : X) × (a ≡ Some x) × (b ≡ Some x)
 
--- no value is at two positions of a list
+-- no value is at two different positions of a list
 pub record AreApart {X : Type 0} (values : List (Option X)) : Type 0 where
   pub apart : (a b : ℕ) → a < b → ¬ Share (value_at values a) (value_at values b)
 

@@ -1,4 +1,4 @@
-//! A queue of numbers that threads share. A thread needs a pass to put and take. Contracts know for each pass which numbers were put and taken with it.
+//! A queue of numbers that threads share. A thread needs a pass to put and take numbers. For each pass, contracts know which numbers were put and taken.
 //! Each pass is a fraction of one whole. The crate is built on the array queue of `crossbeam_queue`, whose steps keep the rule in `rule.rt`.
 //!
 //! Types: `ReadyQueue`, `ReadyPass` (a fraction of the whole), `Full` and `ReadyFault`.
