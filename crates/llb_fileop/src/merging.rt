@@ -59,7 +59,7 @@ pub fn land_dir(
     merge_at(action, source, goal, tree)
 }
 
-// Puts a copy of the entry that another tree has at a path, if there is one, at the target.
+// Puts a copy of the entry that another tree has at a path at the target; does nothing if that tree has no entry there.
 fn copy_from(
     action: &CopyFile,
     from: &Tree,
@@ -119,8 +119,8 @@ fn may_land(here: &Tree, source: &Tree, goal: &Path) -> Result<(), TreeFault>
     first_fault(here, source, goal)
 }
 
-// Checks whether each entry of a tree can be put over what another tree has at the same path. Where the other tree has nothing at a path, it has nothing below
-// that path either, so the entries below that path are passed over.
+// Checks whether each entry of a tree can be put over what another tree has at the same path. If the other tree has nothing at a path, it has nothing below
+// that path either, so the check skips the entries below that path.
 fn may_meet(here: &Tree, source: &Tree) -> Result<(), TreeFault>
     ensures { Gives (λ u. u) result (all_meet here.now (finite.entries source.now)) }
 {
