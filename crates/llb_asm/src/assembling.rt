@@ -28,7 +28,7 @@ impl Refusal {
 }
 
 #[tactic(auto, using(crate::proofs::Room::begun_room))]
-/// Reads the first line of an entry, and returns the op that this line opens, if it opens one.
+/// Reads the first line of an entry: appends a raw entry to the earlier entries, or returns the op that the line opens.
 fn begin(
     alloc: Global,
     earlier: &mut Earlier,
@@ -47,7 +47,7 @@ fn begin(
 }
 
 #[tactic(auto, using(crate::proofs::Room::entry_room))]
-// Reads the closing line of the current message, and returns the op that is still open, if one is.
+// Reads the closing line of the current message. Returns the op if it is still open; otherwise appends the op's entry to the earlier entries.
 fn close(
     alloc: Global,
     earlier: &mut Earlier,

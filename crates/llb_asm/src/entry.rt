@@ -66,7 +66,7 @@ pub(crate) fn begun_in(
     }
 }
 
-// Reads bytes as an op, and returns its canonical bytes; `None` if they can't be read as one.
+// Reads bytes as an op, and returns the op's canonical bytes; `None` if the bytes can't be read as an op.
 pub(crate) fn canonical(alloc: Global, bytes: &[u8]) -> Result<Option<Bytes>, Memory>
     ensures { IfOk result (λ o. o ≡ canonical_of (op_of bytes.now)) }
 {

@@ -52,7 +52,7 @@ wire_fits (Some Bytes) w = false
 wire_fits (Some Text) wire.Len = true
 wire_fits (Some Text) w = false
 
--- the result of the wire reader, with its fault as an op's fault
+-- the result of reading a record, with a fault of the wire as a fault of an op
 abbrev pub from_wire : {A : Type 0} → Result A WireFault → Result A OpFault
 from_wire (Ok x) = Ok x
 from_wire (Err f) = Err (Wire f)
@@ -61,7 +61,7 @@ from_wire (Err f) = Err (Wire f)
 abbrev pub first_record : Shape → List ℕ → Result Field OpFault
 first_record shape bytes = from_wire (field_at bytes 0) >>= λ f. if wire_fits (form_of shape f.number) f.wire then Ok f else Err WrongWireType
 
--- the records of the bytes after the first `skip` bytes, which belong to a record that was read before
+-- the records of the bytes, or the first fault; the first `skip` bytes are passed over, since they belong to a record that was already read
 unfoldable pub records_from : Shape → ℕ → List ℕ → Result (List Record) OpFault
 records_from shape skip [] = Ok []
 records_from shape (suc skip) (b ∷ bytes) = records_from shape skip bytes
@@ -88,11 +88,11 @@ abbrev pub text_ok : Option Form → List ℕ → Bool
 text_ok (Some Text) payload = is_utf8 payload
 text_ok o payload = true
 
--- whether a record is UTF-8, if its field is a text; true for any other field
+-- whether the payload of a record is UTF-8, if the record's field is a text; true for any other field
 abbrev pub text_fits : Shape → Record → Bool
 text_fits shape r = text_ok (form_of shape r.number) r.payload
 
--- whether all records of text fields are UTF-8
+-- whether the payloads of all records of text fields are UTF-8
 abbrev pub texts_fit : Shape → List Record → Bool
 texts_fit shape rs = list_all (text_fits shape) rs
 
@@ -156,7 +156,7 @@ payloads rs = map (λ r. r.payload) rs
 abbrev pub joined : List Record → List ℕ
 joined rs = flat_map (λ r. r.payload) rs
 
--- a singular message, read from its joined payloads; none if it has no record; or the first fault
+-- the message in a singular field, read from the joined payloads of the field's records; none if there are no records; or the first fault
 unfoldable pub one : {A : Type 0} → (List ℕ → Result A OpFault) → List Record → Result (Option A) OpFault
 one read rs = if length rs == 0 then Ok None else (read (joined rs) >>= λ m. Ok (Some m))
 
@@ -171,11 +171,11 @@ unnamed shape rs = flat_map (λ r. r.text) (filter (λ r. is_none (form_of shape
 
 -- ---- a oneof
 
--- whether a record is of one of these members of a oneof
+-- whether the field of a record is one of these members of a oneof
 abbrev pub is_member : List ℕ → Record → Bool
 is_member members r = list_any (λ m. m == r.number) members
 
--- the number of the member of a oneof that is set: that of the last of all records that belong to its members
+-- the number of the member of a oneof that is set: the field number of the last record of any member
 abbrev pub chosen : List ℕ → List Record → Option ℕ
 chosen members rs = option_map (λ r. r.number) (last_of (filter (is_member members) rs))
 
@@ -187,7 +187,7 @@ kept p rs r = if p r then [] else rs ++ r ∷ []
 abbrev pub since : (Record → Bool) → List Record → List Record
 since p rs = fold (kept p) [] rs
 
--- whether a record is of a member of the oneof other than n
+-- whether the field of a record is a member of the oneof other than n
 abbrev pub is_other : List ℕ → ℕ → Record → Bool
 is_other members n r = is_member members r && not (r.number == n)
 

@@ -42,7 +42,7 @@ impl Drop for Actions {
     }
 }
 
-/// `FileAction`: one action, its inputs, and the number of the output that its result becomes; -1 if the result becomes none.
+/// `FileAction`: one action, its inputs, and the number of the output that its result becomes; -1 if the result becomes no output.
 pub struct Action {
     pub input: i64,
     pub secondary_input: i64,

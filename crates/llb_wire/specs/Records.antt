@@ -16,11 +16,11 @@ pub record Record : Type 0 where
   pub payload : List ℕ
   pub text : List ℕ
 
--- the record with its bytes, made from a field f that was read at the start of these bytes
+-- the record of field f, with its payload and its text; f was read at the start of the given bytes
 abbrev pub record_of : List ℕ → Field → Record
 record_of bytes f = record { number = f.number; wire = f.wire; value = f.value; payload = drop f.start (take f.«end» bytes); text = take f.«end» bytes }
 
--- the record with its bytes, made from a field f that was read at position `at` of these bytes
+-- the record of field f, with its payload and its text; f was read at position `at` of the given bytes
 abbrev pub record_at : List ℕ → ℕ → Field → Record
 record_at bytes at f = record {
   number = f.number;

@@ -44,7 +44,7 @@ pub record CutVarint (bytes : List ℕ) (at : ℕ) : Type 0 where
   pub more : IsOpen (drop at bytes)
   pub few : length (drop at bytes) ≤ 9
 
--- the first n bytes are at least 128, so the varint goes on after each of them, and the byte after them is above 1
+-- the first `more` bytes are at least 128, so the varint goes on after each of them, and the byte after these bytes is above 1
 abbrev pub IsLong : ℕ → List ℕ → Type 0
 IsLong more [] = ⊥
 IsLong zero (b ∷ bs) = 1 < b
@@ -119,7 +119,7 @@ PayloadCause wire bytes at LongVarint = LongPayload wire bytes at
 PayloadCause wire bytes at BadField = ⊥
 PayloadCause wire bytes at BadWireType = ⊥
 
--- a valid tag is at a position, and `wrong` holds of its wire type and the bytes after it
+-- a valid tag is at a position, and `wrong` holds of the tag's wire type and the bytes after the tag
 pub record BehindTag (wrong : Wire → List ℕ → ℕ → Type 0) (bytes : List ℕ) (at : ℕ) : Type 0 where
   pub number : ℕ
   pub wire : Wire
