@@ -36,7 +36,7 @@ use Rattle.llb_asm.specs.Line.{or_else, guard, parted, inside, line_in}
 abbrev pub record_length : ℕ → ℕ → ℕ
 record_length number size = length (tag_text number wire.Len) + (length (varint_text size) + size)
 
--- whether neither an entry of this length nor a definition of the earlier entries and this one is too long
+-- whether, with one more entry of this length after the earlier ones, both the entry and the definition are within their limits of bytes
 abbrev pub is_within : List (List ℕ) → ℕ → Bool
 is_within earlier size = nat_le size entry_limit && nat_le (length (definition_bytes earlier) + record_length 1 size) definition_limit
 
@@ -213,7 +213,7 @@ AreEntries earlier (op line items entry rest) =
     × (entry_in earlier (records_of items) ≡ Ok entry) × AreEntries (earlier ++ entry ∷ []) rest
 AreEntries earlier (open_op line items) = (begun_in earlier line ≡ Ok Structured) × AreItems (labels_of earlier) (outermost earlier) items
 
--- The lines are read as these entries.
+-- The lines are read as these entries, and no op is left open.
 pub record SpellsEntries (lines : List Line) (entries : List (List ℕ)) : Type 0 where
   pub parts : Entries
   pub are : AreEntries [] parts

@@ -78,7 +78,7 @@ ended (Still s) = still (open_op_of s)
 
 -- ---- the text
 
--- how far the text was read: the whole entries, and the op that is open, if one is
+-- how far the text was read: the whole entries, and the open op, if an op is open
 pub record Progress : Type 0 where
   pub earlier : List (List ℕ)
   pub current : Option OpenOp
@@ -149,7 +149,7 @@ GivesEntries (Err (fault.UnknownLabel n)) r = r ≡ Err (n, UnknownLabel)
 GivesEntries (Err fault.Memory) r = Unit {0}
 GivesEntries (Err fault.Write) r = ⊥
 
--- these entries if the call succeeded; else its fault
+-- these entries if the call succeeded; else the fault of the call
 abbrev pub reached : List (List ℕ) → Result (Unit {0}) AsmFault → Result (List (List ℕ)) AsmFault
 reached entries (Ok u) = Ok entries
 reached entries (Err f) = Err f

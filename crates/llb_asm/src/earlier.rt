@@ -89,14 +89,14 @@ impl Earlier {
         self.entries.len() >= ENTRIES_LIMIT
     }
 
-    /// Returns whether neither an entry of this length nor a definition of the entries so far and this one is too long.
+    /// Returns whether, with one more entry of this length, both the entry and the definition are within their limits of bytes.
     pub(crate) fn has_room(&self, size: usize) -> bool
         ensures { result ≡ is_within self.now size }
     {
         size <= ENTRY_LIMIT && self.size + record_length(1, size) <= DEFINITION_LIMIT
     }
 
-    // Appends an entry. The caller ensures by `has_room` that it is not too long.
+    // Appends an entry, whose length is within the limits by `has_room`.
     pub(crate) fn push(&mut self, alloc: Global, entry: Bytes) -> Result<(), Memory>
         requires { is_within self.old (length entry) ≡ true }
         ensures { OnOk result (self.new ≡ self.old ++ entry ∷ []) }

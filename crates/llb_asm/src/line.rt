@@ -152,7 +152,7 @@ fn may_be_empty(field: NamedField) -> bool
     field.member || field.repeated || field.of_entry
 }
 
-// Returns whether the value is left out: it is 0 or empty, and this field is not written with such a value.
+// Returns whether the value is left out: the value is 0 or empty, and this field is not written with such a value.
 fn is_left_out(field: NamedField, is_default: bool) -> bool
     ensures { result ≡ is_default && not (may_be_empty field) }
 {
@@ -192,7 +192,7 @@ fn bytes_record(alloc: Global, field: NamedField, bytes: &[u8]) -> Result<Held, 
     Ok(Held::Record(Bytes::new(out)))
 }
 
-/// Returns the record of a field whose value is a label: it has the digest text of the entry that the label names.
+/// Returns the record of a field whose value is a label: the record has the digest text of the entry that the label names.
 fn label_record(
     alloc: Global,
     labels: &[Text],

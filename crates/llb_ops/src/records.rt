@@ -334,7 +334,7 @@ pub fn within_limits(repeated: &[u32], records: &[Record<'_>]) -> bool
     true
 }
 
-/// Returns the number of the member of a oneof that is set: the number of the last record of any member; `None` if there is none.
+/// Returns the number of the member of a oneof that is set: the field number of the last record of any member; `None` if there is no such record.
 pub fn chosen(records: &[Record<'_>], members: &[u32]) -> Option<u32>
     ensures { result ≡ chosen_of members.now (views records.now) }
 {
