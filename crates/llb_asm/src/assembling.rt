@@ -67,7 +67,7 @@ fn close(
     }
 }
 
-/// Reads a line inside an op, and returns the op that is open after the line, if one is.
+/// Reads a line inside an op, and returns the op that is open after the line, if an op is.
 fn go_on(
     alloc: Global,
     earlier: &mut Earlier,
@@ -85,7 +85,7 @@ fn go_on(
     }
 }
 
-/// Reads a line, and returns the op that is open after the line, if one is.
+/// Reads a line, and returns the op that is open after the line, if an op is.
 fn step(
     alloc: Global,
     earlier: &mut Earlier,

@@ -44,7 +44,7 @@ pub struct Here {
 /// What a line adds to its message.
 #[derive(Drop)]
 pub enum Held {
-    /// A record, which may be empty.
+    /// The bytes of a record; no bytes if the value is left out.
     Record(Bytes),
     /// The opening of a message, in the field with this number.
     Opens(u32, MessageName),
@@ -71,7 +71,7 @@ pub(crate) fn inside(message: MessageName) -> Here
 }
 
 impl Here {
-    // Returns the context after a line of this field, which has to be within the limit of repeated fields.
+    // Returns the context after a line of this field. The caller ensures that the value of the line is within the limit of repeated fields.
     fn behind(self, field: NamedField) -> Here
         requires { has_room self field ≡ true }
         ensures { result ≡ behind self field }

@@ -66,7 +66,7 @@ fn added(held: &Held) -> usize
 }
 
 impl Open {
-    /// Returns an op at its start.
+    /// Returns an open op that has no items yet.
     pub(crate) fn new(alloc: Global) -> Open
         ensures { open_op_of result ≡ at_front }
     {
