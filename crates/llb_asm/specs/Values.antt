@@ -14,7 +14,7 @@ use Rattle.llb_ops.specs.Fields.{IsNumberOf}
 use Rattle.llb_ops.specs.declared.table.FieldKind.{FieldKind}
 use Rattle.llb_ops.specs.declared.table.FieldKind.TheVariants.{Int64, Int32, Uint32, Enum, Bool as Flag, String, Bytes, Message}
 
--- ---- numbers as they are in a varint: negative ones in two's complement of 64 bits
+-- ---- numbers as they are in a varint: negative numbers in two's complement of 64 bits
 
 -- -n in two's complement of 64 bits, if n is from 1 to the limit; else nothing
 abbrev pub negated : ℕ → ℕ → Option ℕ

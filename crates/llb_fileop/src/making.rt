@@ -54,7 +54,7 @@ fn make_dir(
 }
 
 /// Makes the missing parents of a path. Fails with 22 `NotDir` at the first parent that is a file, or with 27 `Memory`;
-/// then some parents may be made.
+/// after a failure, some parents may have been made.
 pub fn make_parents(
     alloc: Global,
     tree: &mut Tree,

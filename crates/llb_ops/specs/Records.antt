@@ -26,11 +26,11 @@ use Rattle.llb_ops.specs.Limits.{field_limit}
 abbrev pub Shape : Type 0
 Shape = List (ℕ × Form)
 
--- a record without the position of its bytes
+-- a record of the code, with its payload and its text as lists of bytes
 abbrev pub view : Held → Record
 view r = record { number = r.number; wire = r.wire; value = r.value; payload = r.payload.now; text = r.text.now }
 
--- records in their order, each without the position of its bytes
+-- records of the code in their order, each with its payload and its text as lists of bytes
 abbrev pub views : List Held → List Record
 views rs = map view rs
 
@@ -81,7 +81,7 @@ Starts shape bytes (Ok None) = records_from shape 0 bytes ≡ Ok []
 Starts shape bytes (Ok (Some f)) = IsFront shape bytes f
 Starts shape bytes (Err e) = records_from shape 0 bytes ≡ Err e
 
--- ---- after the last record: its texts are UTF-8
+-- ---- after the last record is read: the texts of all records are UTF-8
 
 -- whether a payload is UTF-8, if its field is a text; true for any other field
 abbrev pub text_ok : Option Form → List ℕ → Bool
@@ -110,7 +110,7 @@ wires_fit shape rs = list_all (λ r. wire_fits (form_of shape r.number) r.wire) 
 abbrev pub fitting : Shape → List Record → Result (List Record) OpFault
 fitting shape rs = if wires_fit shape rs then (if texts_fit shape rs then Ok rs else Err NotUtf8) else Err WrongWireType
 
--- a message that `read` makes from the records of its bytes, or the first fault
+-- the message that `read` makes from the records of these bytes, or the first fault
 unfoldable pub message_of : {A : Type 0} → Shape → (List Record → Result A OpFault) → List ℕ → Result A OpFault
 message_of shape read bytes = parts shape bytes >>= read
 
@@ -179,11 +179,11 @@ is_member members r = list_any (λ m. m == r.number) members
 abbrev pub chosen : List ℕ → List Record → Option ℕ
 chosen members rs = option_map (λ r. r.number) (last_of (filter (is_member members) rs))
 
--- the records that are kept after one more record: none if that record passes the test, else the record is added
+-- the records that are kept after one more record: none if that record passes the test p, else the kept records and that record
 abbrev pub kept : (Record → Bool) → List Record → Record → List Record
 kept p rs r = if p r then [] else rs ++ r ∷ []
 
--- the records after the last one that passes the test
+-- the records after the last record that passes the test p
 abbrev pub since : (Record → Bool) → List Record → List Record
 since p rs = fold (kept p) [] rs
 
@@ -195,12 +195,12 @@ is_other members n r = is_member members r && not (r.number == n)
 abbrev pub member : List ℕ → ℕ → List Record → List Record
 member members n rs = all n (since (is_other members n) rs)
 
--- the member of a oneof that is set, read from its records
+-- the member of a oneof with this number, read from the member's records; none if no number is given; or the first fault
 abbrev pub member_of : {A : Type 0} → List ℕ → (ℕ → List Record → Result A OpFault) → Option ℕ → List Record → Result (Option A) OpFault
 member_of members read None rs = Ok None
 member_of members read (Some n) rs = read n (member members n rs) >>= λ a. Ok (Some a)
 
--- the oneof of a message, read from the records of the member that is set
+-- the oneof of a message, read from the records of the member that is set; none if no member is set; or the first fault
 abbrev pub one_of : {A : Type 0} → List ℕ → (ℕ → List Record → Result A OpFault) → List Record → Result (Option A) OpFault
 one_of members read rs = member_of members read (chosen members rs) rs
 

@@ -1,4 +1,4 @@
--- A record with its bytes but without a position, and which bytes spell a list of records.
+-- The type of a record with its bytes but without a position, and the rule by which bytes spell a list of records.
 use Rattle.std.specs.Prelude.{◌≡◌, ℕ, ◌+◌, ◌-◌, ◌*◌, ◌≤◌, List, [], ◌∷◌, ◌++◌, length, take, drop, Some, None, Ok}
 use Rattle.std.specs.List.{AllByRecursion, flat_map}
 use Rattle.std.specs.Int.{Width, w32, w64, byte_len, to_le_bytes, from_le_bytes}
