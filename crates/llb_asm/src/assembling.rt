@@ -136,12 +136,12 @@ fn run_lines(alloc: Global, text: &[u8]) -> Result<Entries, AsmFault>
 
 /// Reads the entries that a text spells.
 ///
-/// Each line has one item. The call drops empty lines, lines that begin with `#`, and the spaces, tabs and carriage
-/// returns at the ends of a line. An entry is `raw HEX`, or `op {`, items and `}`; docs/FORMATS.md has the grammar. The
-/// entry of an op is the op's canonical bytes. The call fails at the first faulty line, with the line's first fault in
-/// this order: 161 `Line` with `Syntax`, `UnknownField`, `Order` or `BadValue`, 162 `UnknownLabel`, 161 `Line` with
-/// `OverLimit`. If no line has one of these faults, but an op is left open, the call fails with 161 `Line` with
-/// `Unclosed` and the last line that is not dropped. Fails with 163 `Memory` if memory is refused.
+/// Each line has one item. The call drops the spaces, tabs and carriage returns at the ends of a line, and then each line
+/// that is empty, or that is UTF-8 and begins with `#`. An entry is `raw HEX`, or `op {`, items and `}`; docs/FORMATS.md
+/// has the grammar. The entry of an op is the op's canonical bytes. The call fails at the first faulty line, with the
+/// line's first fault in this order: 161 `Line` with `Syntax`, `UnknownField`, `Order` or `BadValue`, 162 `UnknownLabel`,
+/// 161 `Line` with `OverLimit`. If no line has one of these faults, but an op is left open, the call fails with 161 `Line`
+/// with `Unclosed` and the last line that is not dropped. Fails with 163 `Memory` if memory is refused.
 pub fn assemble(alloc: Global, text: &[u8]) -> Result<Entries, AsmFault>
     ensures { Assembles text.now result }
 {

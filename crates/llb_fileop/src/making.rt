@@ -71,7 +71,7 @@ pub fn make_parents(
     Ok(())
 }
 
-// Makes a directory at a path if nothing is there. A directory that is there stays as it is; a file there is a fault.
+// Makes a directory at a path if nothing is there. A directory that is there stays as it is; a file there is the fault 22 `NotDir`.
 fn keep_or_make(tree: &mut Tree, path: &Path, meta: Meta) -> Result<(), TreeFault>
     ensures gives { Gives (λ _. tree.new) result (kept_or_made meta path.now (finite.get tree.old path.now) tree.old) }
 {
