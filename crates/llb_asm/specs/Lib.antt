@@ -1,5 +1,5 @@
 -- Read first Reading (which lines are read as which entries), with Lines, Line and Values for one line and one value; then Plain (the one text that is written
--- for entries), Printing (how much of a text is written) and Faults (their texts). Running says how the code reads lines, and Labels how it looks up labels.
+-- for entries), Printing (how much of a text is written) and Faults (the texts of faults). Running and Labels say how the code reads lines and finds labels.
 pub mod Values
 pub mod Lines
 pub mod Line

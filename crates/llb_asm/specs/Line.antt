@@ -92,7 +92,7 @@ held_by labels row kind.Uint32 text = or_else (Breaks BadValue) (option_map (num
 held_by labels row kind.Enum text = or_else (Breaks BadValue) (option_map (number_record row.1) (number_in kind.Enum text))
 held_by labels row kind.Bool text = or_else (Breaks BadValue) (option_map (number_record row.1) (number_in kind.Bool text))
 
--- what the line of a field adds, if the text spells a value of the kind that the field's row in the table says; else a refusal
+-- what the line of a field adds, if the text spells a value of the kind that the table has for the field; else a refusal
 unfoldable pub held_in : List (List ℕ) → Row → List ℕ → Result Held Refusal
 held_in labels row text = held_by labels row row.1.kind text
 

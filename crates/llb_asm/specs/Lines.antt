@@ -29,11 +29,11 @@ is_dropped (b ∷ line) = (b == 35) && is_utf8 (b ∷ line)
 abbrev pub Line : Type 0
 Line = ℕ × List ℕ
 
--- the lines without blanks at their ends, each with its number; the first line has number n
+-- the lines without blanks at either end, each with its number; the first line has number n
 abbrev pub numbered : ℕ → List (List ℕ) → List Line
 numbered n [] = []
 numbered n (line ∷ lines) = (n, stripped line) ∷ numbered (n + 1) lines
 
--- the lines of a text that are neither empty nor comments, without blanks at their ends, each with its number in the text, counted from 1
+-- the lines of a text that are neither empty nor comments, without blanks at either end, each with its number in the text, counted from 1
 unfoldable pub kept : List ℕ → List Line
 kept text = filter (λ l. not (is_dropped l.1)) (numbered 1 (slice_split (λ b. nat_eq b 10) text))

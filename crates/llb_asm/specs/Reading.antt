@@ -36,7 +36,7 @@ use Rattle.llb_asm.specs.Line.{or_else, guard, parted, inside, line_in}
 abbrev pub record_length : ℕ → ℕ → ℕ
 record_length number size = length (tag_text number wire.Len) + (length (varint_text size) + size)
 
--- whether one more entry of this length, after the earlier ones, is within the limits of a definition
+-- whether, with one more entry of this length after the earlier ones, both the entry and the definition are within their limits of bytes
 abbrev pub is_within : List (List ℕ) → ℕ → Bool
 is_within earlier size = nat_le size entry_limit && nat_le (length (definition_bytes earlier) + record_length 1 size) definition_limit
 
@@ -65,7 +65,7 @@ item_at labels hand line = do
 abbrev pub beyond : Hand → Here → List ℕ → Hand
 beyond hand next bytes = record { here = next; bytes = hand.bytes ++ bytes; room = hand.room }
 
--- the message that a line has just opened inside the current one, and which is now the current message
+-- the new current message after a line opens a message in field `number` of the current one
 abbrev pub within : Hand → ℕ → MessageName → Hand
 within hand number sub = record { here = inside sub; bytes = []; room = λ size. hand.room (length hand.bytes + record_length number size) }
 
@@ -104,11 +104,11 @@ IsWhole (single line next bytes rest) = IsWhole rest
 IsWhole (nested line next number sub inner rest) = IsWhole rest
 IsWhole (unclosed line next number sub inner) = ⊥
 
--- the item of a line: what the line adds (`held`), and the context of the line after it (`next`)
+-- the item of a line: what the line adds (`held`), and the context of the next line of the same message (`next`)
 abbrev pub item : Here → Held → Item
 item next held = record { next = next; held = held }
 
--- each line of the items is read as its item, in the message that is current at that line
+-- each line of the items is read, in the message that is current at that line, as the item that is given with the line
 abbrev pub AreItems : List (List ℕ) → Hand → Items → Type 0
 AreItems labels hand done = Unit {0}
 AreItems labels hand (single line next bytes rest) = (item_at labels hand line ≡ Ok (item next (Record bytes))) × AreItems labels (beyond hand next bytes) rest
@@ -152,7 +152,7 @@ abbrev pub canonical_of : Result Op OpFault → Option (List ℕ)
 canonical_of (Err f) = None
 canonical_of (Ok op) = Some (op_bytes op)
 
--- the canonical bytes that are given, if an entry of these bytes is within the limits; a refusal if it is not, or if none are given
+-- the canonical bytes, if they are given and an entry of them is within the limits; else a refusal
 abbrev pub canonical_in : List (List ℕ) → Option (List ℕ) → Result (List ℕ) Refusal
 canonical_in earlier None = Err (Breaks OverLimit)
 canonical_in earlier (Some entry) = if is_within earlier (length entry) then Ok entry else Err (Breaks OverLimit)
@@ -165,7 +165,7 @@ entry_in earlier records = canonical_in earlier (canonical_of (op_of records))
 abbrev pub labels_of : List (List ℕ) → List (List ℕ)
 labels_of earlier = map digest_text earlier
 
--- what the code keeps of the entries: their digest texts, and how many bytes a definition of them has
+-- what the code keeps with the entries: their digest texts, and how many bytes a definition of these entries has
 pub record IsKept (entries labels : List (List ℕ)) (size : ℕ) : Type 0 where
   pub digests : labels ≡ labels_of entries
   pub bytes : size ≡ length (definition_bytes entries)
@@ -213,7 +213,7 @@ AreEntries earlier (op line items entry rest) =
     × (entry_in earlier (records_of items) ≡ Ok entry) × AreEntries (earlier ++ entry ∷ []) rest
 AreEntries earlier (open_op line items) = (begun_in earlier line ≡ Ok Structured) × AreItems (labels_of earlier) (outermost earlier) items
 
--- The lines are read as these entries.
+-- The lines are read as these entries, and no op is left open.
 pub record SpellsEntries (lines : List Line) (entries : List (List ℕ)) : Type 0 where
   pub parts : Entries
   pub are : AreEntries [] parts
@@ -261,7 +261,7 @@ pub record EndsOpen (lines : List Line) (n : ℕ) : Type 0 where
 abbrev pub FaultAt : List Line → ℕ → Refusal → Type 0
 FaultAt lines n e = StopsAt lines n e ⊎ (EndsOpen lines n × (e ≡ Breaks Unclosed))
 
--- what assembling a text returns: the entries, or the fault of the first line that is refused, or the fault for refused memory
+-- what assembling a text returns: the entries, or the first fault of the text (`FaultAt`), or the fault for refused memory
 abbrev pub Assembles : List ℕ → Result (List (List ℕ)) AsmFault → Type 0
 Assembles text (Ok entries) = SpellsEntries (kept text) entries
 Assembles text (Err (fault.Line n rule)) = FaultAt (kept text) n (Breaks rule)

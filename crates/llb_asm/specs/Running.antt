@@ -31,7 +31,7 @@ pub record OpenOp : Type 0 where
   pub bytes : List ℕ
   pub below : List Frame
 
--- an open op, made from the code's type for it, which has the messages around the current one in the other order, the innermost last
+-- the open op that the code keeps as an `Open`, in which the messages around the current one are in the opposite order: the innermost is last
 abbrev pub open_op_of : Open → OpenOp
 open_op_of s = record { here = s.here; bytes = s.bytes; below = reverse s.below }
 
@@ -48,37 +48,37 @@ room_in room (f ∷ below) size = room_in room below (length f.bytes + record_le
 abbrev pub hand_of : (ℕ → Bool) → OpenOp → Hand
 hand_of room s = record { here = s.here; bytes = s.bytes; room = room_in room s.below }
 
--- the open op after a line that adds `held`; `next` is the context of the line after it
+-- the open op after a line that adds `held`; `next` is the context of the next line of the same message
 abbrev pub with_held : OpenOp → Here → Held → OpenOp
 with_held s next (Record bytes) = record { here = next; bytes = s.bytes ++ bytes; below = s.below }
 with_held s next (Opens number sub) = record { here = inside sub; bytes = []; below = record { here = next; number = number; bytes = s.bytes } ∷ s.below }
 
--- the open op after this item: its record is added to the current message, or the message that it opens becomes the current one
+-- the open op after this item: the item's record is added to the current message, or the message that the item opens becomes the current one
 abbrev pub with_item : OpenOp → Item → OpenOp
 with_item s i = with_held s i.next i.held
 
--- what the end of the current message leaves: the records of the op, if the op is whole; else the open op, in which the next message outward is current
+-- the state after the current message ends: the op is whole, with the bytes of its records; or it is still open, and the next message outward is current
 pub data Ending : Type 0 where
   whole : List ℕ → Ending
   still : OpenOp → Ending
 
--- what the end of a message with these bytes leaves, given the messages around it
+-- the state after a message with these bytes ends, given the messages around it
 abbrev pub closing_on : List ℕ → List Frame → Ending
 closing_on bytes [] = whole bytes
 closing_on bytes (f ∷ below) = still (record { here = f.here; bytes = f.bytes ++ set_bytes f.number bytes; below = below })
 
--- what the end of the current message of an open op leaves
+-- the state after the current message of an open op ends
 abbrev pub closing_of : OpenOp → Ending
 closing_of s = closing_on s.bytes s.below
 
--- what a closing line leaves, made from the code's type for it
+-- the state after a closing line, which the code returns as a `Closed`
 abbrev pub ended : Closed → Ending
 ended (Whole bytes) = whole bytes
 ended (Still s) = still (open_op_of s)
 
 -- ---- the text
 
--- how far the text was read: the whole entries, and the op that is open, if one is
+-- how far the text was read: the whole entries, and the open op, if an op is open
 pub record Progress : Type 0 where
   pub earlier : List (List ℕ)
   pub current : Option OpenOp
@@ -96,7 +96,7 @@ abbrev pub with_begun : List (List ℕ) → Begun → Progress
 with_begun earlier (Raw bytes) = between (earlier ++ bytes ∷ [])
 with_begun earlier Structured = amid earlier at_front
 
--- the progress, made from the whole entries and the open op that the code has
+-- the progress that the code keeps as the whole entries and the open op, if one is open
 abbrev pub progress_of : List (List ℕ) → Option Open → Progress
 progress_of earlier current = record { earlier = earlier; current = option_map open_op_of current }
 
@@ -149,7 +149,7 @@ GivesEntries (Err (fault.UnknownLabel n)) r = r ≡ Err (n, UnknownLabel)
 GivesEntries (Err fault.Memory) r = Unit {0}
 GivesEntries (Err fault.Write) r = ⊥
 
--- these entries if the call succeeded; else its fault
+-- these entries if the call succeeded; else the fault of the call
 abbrev pub reached : List (List ℕ) → Result (Unit {0}) AsmFault → Result (List (List ℕ)) AsmFault
 reached entries (Ok u) = Ok entries
 reached entries (Err f) = Err f

@@ -14,7 +14,7 @@ use Rattle.llb_ops.specs.Fields.{IsNumberOf}
 use Rattle.llb_ops.specs.declared.table.FieldKind.{FieldKind}
 use Rattle.llb_ops.specs.declared.table.FieldKind.TheVariants.{Int64, Int32, Uint32, Enum, Bool as Flag, String, Bytes, Message}
 
--- ---- numbers as they are in a varint: negative ones in two's complement of 64 bits
+-- ---- numbers as they are in a varint: negative numbers in two's complement of 64 bits
 
 -- -n in two's complement of 64 bits, if n is from 1 to the limit; else nothing
 abbrev pub negated : ℕ → ℕ → Option ℕ
@@ -29,7 +29,7 @@ signed_in limit (b ∷ text) = if b == 45 then then_in (magnitude text) (negated
 abbrev pub flag_in : List ℕ → Option ℕ
 flag_in text = if is_text text (codes "true") then Some 1 else where_so (is_text text (codes "false")) 0
 
--- the number that a text spells for a field of this kind, as a varint has this number; nothing if the text spells none
+-- the number that a text spells for a field of this kind, as the field's varint has it; nothing if the text spells no number
 abbrev pub number_in : FieldKind → List ℕ → Option ℕ
 number_in Int64 text = signed_in (2 ^ 63) text
 number_in Int32 text = signed_in (2 ^ 31) text
@@ -48,7 +48,7 @@ signed_text v = if nat_lt v (2 ^ 63) then decimal v else 45 ∷ decimal (2 ^ 64 
 abbrev pub flag_text : ℕ → List ℕ
 flag_text v = if v == 0 then codes "false" else codes "true"
 
--- the text that is written for v, the number that a varint has for a field of this kind; empty for the kinds that hold no number
+-- the text that is written for v, the number in the varint of a field of this kind; empty for the kinds that hold no number
 abbrev pub number_text : FieldKind → ℕ → List ℕ
 number_text Int64 v = signed_text v
 number_text Int32 v = signed_text v
@@ -72,7 +72,7 @@ pub data Escape : Type 0 where
 abbrev pub digit_of : ℕ → ℕ
 digit_of b = if nat_le b 57 then b - 48 else b - 87
 
--- the string with byte b in front, if there is a string
+-- the given string with byte b in front; nothing if no string is given
 abbrev pub after_it : ℕ → Option (List ℕ) → Option (List ℕ)
 after_it b text = option_map (λ t. b ∷ t) text
 
@@ -98,12 +98,12 @@ lower_digit b = where_so (is_lower b) (digit_of b)
 abbrev pub escape_of : ℕ → ℕ → Option ℕ
 escape_of a b = where_so (is_lower a && is_lower b && nat_lt (digit_of a) 8) (16 * digit_of a + digit_of b)
 
--- from this state, a text spells the given byte and then the rest of a string; or nothing is given, and the text spells no string
+-- a byte and a shorter text are given: from this state, a text spells the byte, then what the shorter text spells; or nothing: the text spells no string
 abbrev pub Continues : Escape → List ℕ → Option (ℕ × Bor (List ℕ)) → Type 0
 Continues e text None = string_from e text ≡ None
 Continues e text (Some x) = (string_from e text ≡ after_it x.0 (string_from closed x.1.now)) × (length x.1.now < length text)
 
--- outside an escape, a text spells the given byte and then the rest of a string; or nothing is given, and the text is the closing quote or spells no string
+-- as `Continues`, for a text outside an escape; but if nothing is given, the text may also be the closing quote alone
 abbrev pub Leads : List ℕ → Option (ℕ × Bor (List ℕ)) → Type 0
 Leads text None = (text ≢ 34 ∷ []) → string_from closed text ≡ None
 Leads text (Some x) = (string_from closed text ≡ after_it x.0 (string_from closed x.1.now)) × (length x.1.now < length text)

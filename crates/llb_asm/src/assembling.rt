@@ -28,7 +28,7 @@ impl Refusal {
 }
 
 #[tactic(auto, using(crate::proofs::Room::begun_room))]
-/// Reads the first line of an entry, and returns the op that this line opens, if it opens one.
+/// Reads the first line of an entry: appends a raw entry to the earlier entries, or returns the op that the line opens.
 fn begin(
     alloc: Global,
     earlier: &mut Earlier,
@@ -47,7 +47,7 @@ fn begin(
 }
 
 #[tactic(auto, using(crate::proofs::Room::entry_room))]
-// Reads the closing line of the current message, and returns the op that is still open, if one is.
+// Reads the closing line of the current message. Returns the op if it is still open; otherwise appends the op's entry to the earlier entries.
 fn close(
     alloc: Global,
     earlier: &mut Earlier,
@@ -67,7 +67,7 @@ fn close(
     }
 }
 
-/// Reads a line inside an op, and returns the op that is open after the line, if one is.
+/// Reads a line inside an op, and returns the op that is open after the line, if an op is.
 fn go_on(
     alloc: Global,
     earlier: &mut Earlier,
@@ -85,7 +85,7 @@ fn go_on(
     }
 }
 
-/// Reads a line, and returns the op that is open after the line, if one is.
+/// Reads a line, and returns the op that is open after the line, if an op is.
 fn step(
     alloc: Global,
     earlier: &mut Earlier,
@@ -136,12 +136,12 @@ fn run_lines(alloc: Global, text: &[u8]) -> Result<Entries, AsmFault>
 
 /// Reads the entries that a text spells.
 ///
-/// Each line has one item; spaces, tabs and carriage returns at its ends, empty lines and lines that begin with
-/// `#` are dropped. An entry is `raw HEX`, or `op {`, items and `}`; docs/FORMATS.md has the grammar. The entry of an
-/// op is its canonical bytes. The call fails at the first faulty line, with the first of its faults in this order: 161
-/// `Line` with `Syntax`, `UnknownField`, `Order` or `BadValue`, 162 `UnknownLabel`, 161 `Line` with `OverLimit`; and,
-/// after all of these, 161 `Line` with `Unclosed` and the last line that is not dropped. Fails with 163 `Memory` if
-/// memory is refused.
+/// Each line has one item. The call drops the spaces, tabs and carriage returns at the ends of a line, and then each line
+/// that is empty, or that is UTF-8 and begins with `#`. An entry is `raw HEX`, or `op {`, items and `}`; docs/FORMATS.md
+/// has the grammar. The entry of an op is the op's canonical bytes. The call fails at the first faulty line, with the
+/// line's first fault in this order: 161 `Line` with `Syntax`, `UnknownField`, `Order` or `BadValue`, 162 `UnknownLabel`,
+/// 161 `Line` with `OverLimit`. If no line has one of these faults, but an op is left open, the call fails with 161 `Line`
+/// with `Unclosed` and the last line that is not dropped. Fails with 163 `Memory` if memory is refused.
 pub fn assemble(alloc: Global, text: &[u8]) -> Result<Entries, AsmFault>
     ensures { Assembles text.now result }
 {

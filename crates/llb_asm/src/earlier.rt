@@ -1,4 +1,4 @@
-//! The whole entries so far, with their digest texts and the size of the definition that they make.
+//! The whole entries so far, with their digest texts and the size of a definition of these entries.
 
 ghost use Rattle.std.specs.Prelude.{◌≡◌, ◌+◌, ◌++◌, ◌∷◌, ◌≤◌, [], OnOk, length, true, not, nat_lt};
 ghost use Rattle.llb_wire.specs.Spelling.{shortest, varint_text};
@@ -89,14 +89,14 @@ impl Earlier {
         self.entries.len() >= ENTRIES_LIMIT
     }
 
-    /// Returns whether one more entry of this length is within the limits of a definition.
+    /// Returns whether, with one more entry of this length, both the entry and the definition are within their limits of bytes.
     pub(crate) fn has_room(&self, size: usize) -> bool
         ensures { result ≡ is_within self.now size }
     {
         size <= ENTRY_LIMIT && self.size + record_length(1, size) <= DEFINITION_LIMIT
     }
 
-    // Appends an entry, which is within the limits.
+    // Appends an entry, whose length is within the limits by `has_room`.
     pub(crate) fn push(&mut self, alloc: Global, entry: Bytes) -> Result<(), Memory>
         requires { is_within self.old (length entry) ≡ true }
         ensures { OnOk result (self.new ≡ self.old ++ entry ∷ []) }

@@ -42,7 +42,7 @@ fn begun_by(alloc: Global, line: &[u8]) -> Result<Result<Begun, Refusal>, Memory
     }
 }
 
-/// Returns what a line begins, or why the line is refused: it begins no entry, or the entry would be past a limit.
+/// Returns what a line begins, or why the line is refused: the line begins no entry, or a limit would be exceeded.
 #[tactic(auto, unfolding(crate::specs::Reading::begun_in))]
 pub(crate) fn begun_in(
     alloc: Global,
@@ -66,7 +66,7 @@ pub(crate) fn begun_in(
     }
 }
 
-// Reads bytes as an op, and returns its canonical bytes; `None` if they can't be read as one.
+// Reads bytes as an op, and returns the op's canonical bytes; `None` if the bytes can't be read as an op.
 pub(crate) fn canonical(alloc: Global, bytes: &[u8]) -> Result<Option<Bytes>, Memory>
     ensures { IfOk result (λ o. o ≡ canonical_of (op_of bytes.now)) }
 {
@@ -87,8 +87,8 @@ fn written(alloc: Global, op: Op) -> Result<Option<Bytes>, Memory>
     }
 }
 
-// Returns the canonical bytes of the op that the records are read as, or a refusal if these bytes are past the limits or
-// the records can't be read as an op.
+// Returns the canonical bytes of the op that the records are read as. Refuses the line if these bytes exceed the limits,
+// or if the records can't be read as an op.
 #[tactic(auto, unfolding(crate::specs::Reading::entry_in))]
 pub(crate) fn entry_in(
     alloc: Global,

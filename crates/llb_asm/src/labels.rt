@@ -19,7 +19,7 @@ pub(crate) fn digest_of(alloc: Global, entry: &[u8]) -> Result<Text, Memory>
     text_of_digest(alloc, &Sha256::digest(entry))
 }
 
-// Adds a text to an index, with the number of texts before it, unless the index has the text already.
+// Adds a text to an index, with the number of texts before this text, unless the index has the text already.
 fn learn(first: &mut BTreeMap<String, u64>, texts: &[Text], text: &Text) -> Result<(), Memory>
     requires { IsIndex texts.now first.old }
     ensures learnt { OnOk result (IsIndex (texts.now ++ text.now ∷ []) first.new) }
@@ -34,7 +34,7 @@ fn learn(first: &mut BTreeMap<String, u64>, texts: &[Text], text: &Text) -> Resu
 /// The labels of the earlier entries. Contracts see their digest texts, in order.
 pub struct Labels {
     texts: Vec<Text>,
-    /// For each text, the number of the first entry that has it.
+    /// For each digest text, the number of the first entry with this digest.
     first: BTreeMap<String, u64>,
 }
 

@@ -5,7 +5,7 @@ ghost use Rattle.llb_asm.specs.Plain.{ReadsBack};
 
 use llb_ops::Entries;
 
-/// Proves that a text either is read as one list of entries or has one first fault, and never both.
+/// Proves that a text is read as at most one list of entries, has at most one first fault, and never has both.
 pub fn one_answer(text: &[u8])
     ensures { HasOneAnswer text.now }
 {

@@ -44,7 +44,7 @@ pub struct Here {
 /// What a line adds to its message.
 #[derive(Drop)]
 pub enum Held {
-    /// A record, which may be empty.
+    /// The bytes of a record; no bytes if the value is left out.
     Record(Bytes),
     /// The opening of a message, in the field with this number.
     Opens(u32, MessageName),
@@ -71,7 +71,7 @@ pub(crate) fn inside(message: MessageName) -> Here
 }
 
 impl Here {
-    // Returns the context after a line of this field, which has to be within the limit of repeated fields.
+    // Returns the context after a line of this field. The caller ensures that the value of the line is within the limit of repeated fields.
     fn behind(self, field: NamedField) -> Here
         requires { has_room self field ≡ true }
         ensures { result ≡ behind self field }
@@ -152,7 +152,7 @@ fn may_be_empty(field: NamedField) -> bool
     field.member || field.repeated || field.of_entry
 }
 
-// Returns whether the value is left out: it is 0 or empty, and this field is not written with such a value.
+// Returns whether the value is left out: the value is 0 or empty, and this field is not written with such a value.
 fn is_left_out(field: NamedField, is_default: bool) -> bool
     ensures { result ≡ is_default && not (may_be_empty field) }
 {
@@ -192,7 +192,7 @@ fn bytes_record(alloc: Global, field: NamedField, bytes: &[u8]) -> Result<Held, 
     Ok(Held::Record(Bytes::new(out)))
 }
 
-/// Returns the record of a field whose value is a label: it has the digest text of the entry that the label names.
+/// Returns the record of a field whose value is a label: the record has the digest text of the entry that the label names.
 fn label_record(
     alloc: Global,
     labels: &[Text],

@@ -52,7 +52,7 @@ fn without_end(line: &[u8]) -> &[u8]
     rest
 }
 
-/// Returns a line without the spaces, tabs and carriage returns at its ends.
+/// Returns a line without the spaces, tabs and carriage returns at its start and at its end.
 #[tactic(auto, unfolding(crate::specs::Lines::stripped))]
 pub(crate) fn stripped(line: &[u8]) -> &[u8]
     ensures { result.now ≡ stripped line.now }

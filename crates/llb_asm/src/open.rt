@@ -28,7 +28,7 @@ pub struct Open {
     pub below: Many<Frame>,
 }
 
-/// What a closing line leaves: a whole op, or one that is still open.
+/// The state after a closing line: the op is whole, or it is still open.
 #[derive(Drop)]
 pub enum Closed {
     /// The op is closed: the bytes of its records.
@@ -54,7 +54,7 @@ fn has_room(earlier: &Earlier, below: &[Frame], size: usize) -> bool
     }
 }
 
-/// Returns how many bytes a line adds.
+/// Returns how many bytes a line adds to its message; a line that opens a message counts as the record of an empty message.
 fn added(held: &Held) -> usize
     ensures same { result ≡ added held.now }
     ensures small { result < 2 ^ 63 }
@@ -66,7 +66,7 @@ fn added(held: &Held) -> usize
 }
 
 impl Open {
-    /// Returns an op at its start.
+    /// Returns an open op that has no items yet.
     pub(crate) fn new(alloc: Global) -> Open
         ensures { open_op_of result ≡ at_front }
     {

@@ -84,7 +84,7 @@ fn push_closing(out: &mut Vec<u8>, depth: usize) -> Result<(), Memory>
     Ok(())
 }
 
-// Appends the line of a field with this number.
+// Appends the line of a field whose value is this number.
 fn push_number_line(
     alloc: Global,
     out: &mut Vec<u8>,

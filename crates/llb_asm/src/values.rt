@@ -1,4 +1,4 @@
-//! How the values of fields are spelled: read from a text, and appended to one.
+//! Reads the values of fields from their texts, and appends the texts of values.
 
 ghost use Rattle.std.specs.Prelude.{◌≡◌, ◌==◌, ◌||◌, ◌^◌, ◌≤◌, ◌++◌, nat_lt, IfOk, OnOk};
 ghost use Rattle.std.specs.Option.{option_map};
@@ -55,7 +55,7 @@ fn flag_in(text: &[u8]) -> Option<u64>
     None
 }
 
-/// Reads the number that a text spells for a field of this kind, and returns it as a varint has it: a negative one in two's complement.
+/// Reads the number that a text spells for a field of this kind, and returns it as the field's varint has it: a negative number is in two's complement.
 pub(crate) fn number_in(kind: FieldKind, text: &[u8]) -> Option<u64>
     ensures { result ≡ number_in kind text.now }
 {
@@ -149,7 +149,7 @@ pub(crate) fn string_in(alloc: Global, text: &[u8]) -> Result<Option<Bytes>, Mem
     }
 }
 
-// Reads the bytes that lower-case hexadecimal digits spell; `-` spells none.
+// Reads the bytes that lower-case hexadecimal digits spell; `-` spells no bytes.
 #[tactic(auto, unfolding(crate::specs::Values::bytes_spelled))]
 pub(crate) fn bytes_spelled(alloc: Global, text: &[u8]) -> Result<Option<Bytes>, Memory>
     ensures { IfOk result (λ o. o ≡ bytes_spelled text.now) }

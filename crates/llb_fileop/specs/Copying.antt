@@ -54,8 +54,8 @@ sources allow_empty second (EachMatch pattern) = some_match allow_empty (matchin
 abbrev pub last_name : List (List ℕ) → List (List ℕ)
 last_name p = drop (length p - 1) p
 
--- the target of a source: the destination itself for a directory of which only the contents are copied; else, if the destination's text ends in `/` or a
--- directory is there, the source's last name in the destination; else the destination itself
+-- The target of a source. If only the contents of a directory are copied: the destination itself. Else, if the destination's text ends in `/` or a directory
+-- is at the destination: the source's last name in the destination. Else the destination itself.
 abbrev pub target : CopyFile → List (List ℕ) × Bool → TreeMap → List (List ℕ) → TreeMap → List (List ℕ)
 target c dest second s t =
     if c.dir_copy_contents && is_dir (finite.get second s) then dest.0
@@ -104,7 +104,7 @@ abbrev pub parents_for : Bool → List (List ℕ) → TreeMap → Result TreeMap
 parents_for true p t = make_all new_dir_meta (parents p) t
 parents_for false p t = walk (finite.get t) p >>= λ _. Ok t
 
--- the tree after these entries are put at their paths, or the fault; `given` makes the mode and the owner of a copied entry from those in the second tree
+-- the tree after these entries are put at their paths, or the fault; `given` makes an entry's new mode and owner from its mode and owner in the second tree
 abbrev pub land : (MetaValue → MetaValue) → List (List (List ℕ) × Entry) → TreeMap → Result TreeMap TreeFault
 land given es t = all_land t es >>= λ _. Ok (laid_on given t es)
 

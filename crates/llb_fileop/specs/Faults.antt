@@ -1,4 +1,4 @@
--- The results of this crate's calls, and the faults of paths, trees and patterns as faults of an action.
+-- How a call's result follows its rule (the definition of what the call returns); the faults of paths, trees and patterns as faults of an action.
 use Rattle.std.specs.Prelude.{Bool, true, false, Result, Ok, Err}
 use Rattle.llb_wire.specs.Answer as answer
 use Rattle.llb_tree.specs.declared.fault.TreeFault.{TreeFault}

@@ -1,4 +1,4 @@
--- The tree after a granted copy of one source, path by path.
+-- What the tree has at each path after a copy of one source that does not fail.
 use Rattle.std.specs.Prelude.{◌≡◌, ℕ, zero, negsuc, Bool, true, false, List, ◌++◌, Some, None, Ok, ◌⊎◌}
 use Rattle.std.specs.FinMap as finite
 use Rattle.llb_ops.specs.declared.actions.CopyFile.{CopyFile}
@@ -28,6 +28,6 @@ pub record IsCopied (c : CopyFile) (second t u : TreeMap) (s goal : List (List �
   pub beside : (q : List (List ℕ)) → finite.get second (s ++ q) ≡ None → finite.get u (goal ++ q) ≡ finite.get t (goal ++ q)
   pub outside : (q : List (List ℕ)) → is_within goal q ≡ false → (finite.get u q ≡ finite.get t q) ⊎ IsMadeParent t u goal q
 
--- if the copy of one source is granted, `IsCopied` says what the tree after the copy has at each path
+-- if the copy of one source does not fail, `IsCopied` says what the tree after the copy has at each path
 abbrev pub CopiesOne : CopyFile → List (List ℕ) × Bool → TreeMap → TreeMap → List (List ℕ) → Type 0
 CopiesOne c dest t second s = (u : TreeMap) → copy_one c dest second s t ≡ Ok u → IsCopied c second t u s (target c dest second s t)

@@ -1,4 +1,4 @@
--- Read Act first (the tree after an action), with Owners, Making, Removing and Copying, then Laws (a granted copy, path by path) and Faults.
+-- Read Act first (the tree after an action), with Owners, Making, Removing and Copying, then Laws (what a copy puts at each path) and Faults.
 -- Parts has the steps in which the code puts copied entries into a tree.
 pub mod Faults
 pub mod Owners

@@ -15,7 +15,7 @@ use Rattle.llb_fileop.specs.Owners.{made}
 abbrev pub mkfile : file.MkFile → TreeMap → Result TreeMap TreeFault
 mkfile m t = path_of m.path >>= λ p. put_file t p (made m.mode m.owner) m.body
 
--- the tree after a directory is made at a path, if nothing is there; a directory that is there stays, and a file there is refused
+-- the tree with a directory at a path: a new directory if nothing is there; a directory that is there stays as it is; a file there is the fault `NotDir`
 abbrev pub kept_or_made : MetaValue → List (List ℕ) → Option Entry → TreeMap → Result TreeMap TreeFault
 kept_or_made m p None t = put_dir t p m
 kept_or_made m p (Some (Dir n)) t = Ok t

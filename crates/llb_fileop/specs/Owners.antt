@@ -11,23 +11,23 @@ abbrev pub mode_of : ℤ → ℕ
 mode_of (pos n) = n % 4096
 mode_of (negsuc n) = 4095 - n % 4096
 
--- the number of a user or a group; nothing if it is given by name or not at all
+-- the number of a user or a group; nothing if the user or group is given by name or not at all
 abbrev pub number_in : Option User → Option ℕ
 number_in (Some (ById n)) = Some n
 number_in (Some (ByName name)) = None
 number_in None = None
 
--- the number in the message of a user or a group; nothing if there is none
+-- the number in the message of a user or a group; nothing if there is no message or no number in it
 abbrev pub id_in : Option UserOpt → Option ℕ
 id_in None = None
 id_in (Some u) = number_in u.user
 
--- the number of an owner's user; nothing if it is given by name or not at all
+-- the number of an owner's user; nothing if the user is given by name or not at all
 abbrev pub user_in : Option ChownOpt → Option ℕ
 user_in None = None
 user_in (Some o) = id_in o.user
 
--- the number of an owner's group; nothing if it is given by name or not at all
+-- the number of an owner's group; nothing if the group is given by name or not at all
 abbrev pub group_in : Option ChownOpt → Option ℕ
 group_in None = None
 group_in (Some o) = id_in o.group

@@ -13,27 +13,27 @@ abbrev pub put : Entry → TreeMap → List (List ℕ) → Result TreeMap TreeFa
 put (Dir m) t p = put_dir t p m
 put (File m bytes) t p = put_file t p m bytes
 
--- at no path does one tree have a file and the other tree a directory
+-- no path has a file in one of the two trees and a directory in the other
 abbrev pub AgreeOn : TreeMap → TreeMap → Type 0
 AgreeOn t source = (q : List (List ℕ)) (e : Entry) → finite.get source q ≡ Some e → meets (finite.get t q) e ≡ Ok tt
 
--- fails with the fault of the first entry that can't be put over what a tree has at its path; else succeeds
+-- fails with the fault of the first of these entries that can't be put over what a tree has at the entry's path; else succeeds
 abbrev pub all_meet : TreeMap → List (List (List ℕ) × Entry) → Result (Unit {0}) TreeFault
 all_meet here [] = Ok tt
 all_meet here (e ∷ es) = meets (finite.get here e.0) e.1 >>= λ _. all_meet here es
 
--- fails with the fault of the first entry that can't be put below a path of `depth` names, over the tree that is there; else succeeds
+-- fails with the fault of the first of these entries that can't be put below a path of `depth` names, over the tree that is already there; else succeeds
 abbrev pub all_below : TreeMap → ℕ → List (List (List ℕ) × Entry) → Result (Unit {0}) TreeFault
 all_below here depth [] = Ok tt
 all_below here depth (e ∷ es) =
     if nat_lt 128 (depth + length e.0) then Err BadName else (meets (finite.get here e.0) e.1 >>= λ _. all_below here depth es)
 
--- what is at a path after a copied tree is merged into another tree; where both trees have a directory, the directory of that other tree stays as it is
+-- what is at a path after a copied tree is merged into another tree; if both trees have a directory at the path, the other tree's directory stays as it is
 abbrev pub laid : (MetaValue → MetaValue) → Option Entry → Option Entry → Option Entry
 laid given there None = there
 laid given there (Some e) = Some (landed given there e)
 
--- the tree after an entry is put at a path, if there is an entry
+-- the tree after an entry is put at a path; if no entry is given, the unchanged tree
 abbrev pub put_some : Option Entry → TreeMap → List (List ℕ) → Result TreeMap TreeFault
 put_some None t p = Ok t
 put_some (Some e) t p = put e t p

@@ -13,9 +13,9 @@ use llb_ops::{Action, ActionKind};
 use llb_tree::Tree;
 use std::alloc::Global;
 
-/// Returns the tree after an action on a base, by the rules of file actions. A copy reads the second tree, or the empty tree if there is
-/// none; other actions do not read it. Fails with 51 `File` and the first fault of the tree (21 to 26), with 52 `BadPattern` if a
-/// text is not a pattern, or with 53 `Memory` if memory is refused. The base is not changed.
+/// Returns the tree after an action on the tree `base`, by the rules of file actions. A copy reads the second tree, or the empty tree if
+/// there is none; other actions ignore the second tree. Fails with 51 `File` and the first fault of the tree (21 to 26), with 52
+/// `BadPattern` if a text is not a pattern, or with 53 `Memory` if memory is refused. The base is not changed.
 pub fn act(
     alloc: Global,
     action: &Action,

@@ -1,5 +1,5 @@
-//! Why an action is refused. A fault prints what follows the word `fault` in a refusal: its number, and after 51 the number of the tree's
-//! fault. Refusals of memory of any kind become `Memory` by `?`.
+//! Why an action is refused. A fault prints what follows the word `fault` in a refusal: the number of the fault, and after 51 the number of the
+//! tree's fault. `?` makes `Memory` of each kind of refused memory.
 
 use llb_glob::PatternFault;
 use llb_tree::TreeFault;

@@ -54,7 +54,7 @@ fn make_dir(
 }
 
 /// Makes the missing parents of a path. Fails with 22 `NotDir` at the first parent that is a file, or with 27 `Memory`;
-/// then some parents may be made.
+/// after a failure, some parents may have been made.
 pub fn make_parents(
     alloc: Global,
     tree: &mut Tree,
@@ -71,7 +71,7 @@ pub fn make_parents(
     Ok(())
 }
 
-// Makes a directory at a path if nothing is there. A directory that is there stays as it is; a file there is a fault.
+// Makes a directory at a path if nothing is there. A directory that is there stays as it is; a file there is the fault 22 `NotDir`.
 fn keep_or_make(tree: &mut Tree, path: &Path, meta: Meta) -> Result<(), TreeFault>
     ensures gives { Gives (λ _. tree.new) result (kept_or_made meta path.now (finite.get tree.old path.now) tree.old) }
 {

@@ -15,8 +15,8 @@ use llb_ops::CopyFile;
 use llb_tree::{Content, Entry, Path, Tree, TreeFault};
 use std::alloc::Global;
 
-/// Puts a copy of a file at its target. Fails with 24 `Conflict` if a directory is there, else as `Tree::put_content`
-/// does.
+/// Puts a copy of a file at its target. Fails with 24 `Conflict` if a directory is there; else fails as
+/// `Tree::put_content` does.
 pub fn land_file(
     action: &CopyFile,
     second: &Tree,
@@ -37,7 +37,7 @@ pub fn land_file(
 }
 
 /// Puts a copy of a directory, with what is below it, at its target. The directory is given as the root of a tree. Fails with 24 `Conflict` if a file would
-/// replace a directory or a directory a file, else as `Tree::put_dir` and `Tree::graft` do.
+/// replace a directory, or a directory would replace a file; else fails as `Tree::put_dir` and `Tree::graft` do.
 pub fn land_dir(
     alloc: Global,
     action: &CopyFile,
@@ -59,7 +59,7 @@ pub fn land_dir(
     merge_at(action, source, goal, tree)
 }
 
-// Puts a copy of the entry that another tree has at a path, if there is one, at the target.
+// Puts a copy of an entry of another tree at the target; does nothing if the other tree has no entry at the path.
 fn copy_from(
     action: &CopyFile,
     from: &Tree,
@@ -119,8 +119,8 @@ fn may_land(here: &Tree, source: &Tree, goal: &Path) -> Result<(), TreeFault>
     first_fault(here, source, goal)
 }
 
-// Checks whether each entry of a tree can be put over what another tree has at the same path. Where the other tree has nothing at a path, it has nothing below
-// that path either, so the entries below that path are passed over.
+// Checks whether each entry of a tree can be put over what another tree has at the same path. If the other tree has nothing at a path, it has nothing below
+// that path either, so the check skips the entries below that path.
 fn may_meet(here: &Tree, source: &Tree) -> Result<(), TreeFault>
     ensures { Gives (λ u. u) result (all_meet here.now (finite.entries source.now)) }
 {
@@ -151,7 +151,7 @@ fn first_fault(here: &Tree, source: &Tree, goal: &Path) -> Result<(), TreeFault>
     Ok(())
 }
 
-// Checks whether an entry can be put over what is at a path: no file over a directory, no directory over a file.
+// Checks whether an entry can be put over what is at a path: a file can't replace a directory, and a directory can't replace a file.
 fn meet(here: &Tree, path: &Path, entry: Entry) -> Result<(), TreeFault>
     ensures meets { result ≡ meets (finite.get here.now path.now) (seen entry.entry) }
     ensures known { IfErr result (λ e. is_memory e ≡ false) }

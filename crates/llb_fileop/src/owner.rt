@@ -9,7 +9,7 @@ use llb_ops::{ChownOpt, CopyFile, User, UserOpt};
 use llb_tree::{Meta, OverlaySettings};
 use llb_wire::Boxed;
 
-/// Returns the mode and the owner of what an action makes; the user or the group is 0 if none is given.
+/// Returns the mode and the owner of what an action makes; a user or group that is not given by number is 0.
 pub fn made(mode: i32, owner: &Option<Boxed<ChownOpt>>) -> Meta
     ensures { result ≡ made mode owner.now }
 {
@@ -18,7 +18,8 @@ pub fn made(mode: i32, owner: &Option<Boxed<ChownOpt>>) -> Meta
     Meta::new(low_bits(mode), uid, gid).unwrap()
 }
 
-/// Returns the mode and the owner of a copied entry: those of the action, or the entry's own (`own`) where the action gives none.
+/// Returns the mode and the owner of a copied entry: the mode, user and group of the action. The entry keeps its own mode if the action's mode is -1, and its
+/// own user or group if the action gives none by number.
 pub fn copied(action: &CopyFile, own: Meta) -> Meta
     ensures { result ≡ copied action.now.mode action.now.owner own }
 {
@@ -28,7 +29,7 @@ pub fn copied(action: &CopyFile, own: Meta) -> Meta
     Meta::new(mode_from(action.mode, own.mode()), uid, gid).unwrap()
 }
 
-/// Returns the settings with which copied entries are laid over a tree: a directory that is there stays as it is.
+/// Returns the settings with which a copied directory is laid over a tree: a directory that is there keeps its mode and owner.
 pub fn settings(action: &CopyFile) -> OverlaySettings
     ensures given { (m : MetaValue) → laid_meta result m ≡ copied action.now.mode action.now.owner m }
     ensures keeps { result.keeps ≡ true }

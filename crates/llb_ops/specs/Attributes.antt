@@ -1,19 +1,19 @@
--- The attributes of a source (the encoding guide of Protocol Buffers, "Maps": the last entry for a key holds).
+-- The attributes of a source (the encoding guide of Protocol Buffers, "Maps": of several entries with one key, the last counts).
 use Rattle.std.specs.Prelude.{ℕ, List, [], fold, nat_eq}
 use Rattle.std.specs.Cmp.Lexicographic.{pointwise}
 use Rattle.indexmap.specs.IndexMap.{insert_entry}
 use Rattle.llb_ops.specs.declared.source.Attribute.{Attribute}
 use Rattle.llb_ops.specs.declared.source.AttributeEntry.{AttributeEntry}
 
--- a key with its attribute
+-- a key with its attribute: the value and the extra bytes of the map's entry
 abbrev pub Held : Type 0
 Held = List ℕ × Attribute
 
--- the entry of the map for an attribute and its key
+-- the entry of the map, as a message, for a key with its attribute
 abbrev pub entry_of : Held → AttributeEntry
 entry_of p = record { key = p.0; value = p.1.value; extra = p.1.extra }
 
--- the attributes after one more entry: its attribute replaces the one that has the same key; if there is none, the attribute is appended
+-- the attributes after one more entry: the entry's attribute replaces the attribute with the same key, at its position; a new key is appended
 abbrev pub put : List Held → AttributeEntry → List Held
 put held e = insert_entry (pointwise nat_eq) held e.key (record { value = e.value; extra = e.extra })
 

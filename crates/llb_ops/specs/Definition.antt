@@ -46,7 +46,7 @@ abbrev pub counted : Result (List (List ℕ)) OpFault → Result (ℕ × Bool) O
 counted (Ok entries) = Ok (length entries, are_short entries)
 counted (Err f) = Err f
 
--- how many entries there are, and whether none is too long, after one more record
+-- the pair of `counted` (how many entries there are, and whether none is too long) after one more record
 abbrev pub one_more : ℕ × Bool → Record → ℕ × Bool
 one_more t r = if r.number == 1 then (t.0 + 1, t.1 && nat_le (length r.payload) entry_limit) else t
 

@@ -5,7 +5,7 @@ use Rattle.llb_wire.specs.Faults.{wire_text}
 use Rattle.llb_ops.specs.declared.fault.OpFault.{OpFault}
 use Rattle.llb_ops.specs.declared.fault.OpFault.TheVariants.{Wire, WrongWireType, NotUtf8, OverLimit, Memory}
 
--- whether a fault is `Memory`, which no definition of a result has
+-- whether a fault is `Memory`, the one fault that no definition of a result returns
 abbrev pub is_memory : OpFault → Bool
 is_memory Memory = true
 is_memory (Wire f) = false

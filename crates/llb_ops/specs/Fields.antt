@@ -71,18 +71,18 @@ IsBytesOf String held = is_utf8 held ≡ true
 IsBytesOf Bytes held = Unit {0}
 IsBytesOf (Message m) held = ⊥
 
--- The bytes are read as records, all of fields that the message does not name.
+-- The bytes are read as records, and the message names the field of none of these records.
 pub record AreUnnamed (m : MessageName) (more : List ℕ) : Type 0 where
   pub records : List Record
   pub read : parts (shape_of m) more ≡ Ok records
   pub unnamed : AllByRecursion (λ r. is_none (form_of (shape_of m) r.number) ≡ true) records
 
--- whether the records were read, and each is of a field that the message does not name; false if the read failed
+-- whether the records were read, and the message names the field of none of them; false if the read failed
 abbrev pub only_unnamed : MessageName → Result (List Record) OpFault → Bool
 only_unnamed m (Ok records) = list_all (λ r. is_none (form_of (shape_of m) r.number)) records
 only_unnamed m (Err f) = false
 
--- whether bytes are read as records, all of fields that the message does not name
+-- whether bytes are read as records, and the message names the field of none of these records
 unfoldable pub are_unnamed : MessageName → List ℕ → Bool
 are_unnamed m more = only_unnamed m (parts (shape_of m) more)
 
@@ -109,11 +109,11 @@ without_empty (message row inner rest) = message row (without_empty inner) (with
 
 -- ---- no field occurs too often
 
--- how often the field n has occurred in succession if it follows the field `last`, which has occurred `count` times
+-- how often field n has now occurred in succession, if n comes after `count` occurrences of the field `last`
 abbrev pub one_more_of : ℕ → ℕ → ℕ → ℕ
 one_more_of last count n = if last == n then count + 1 else 1
 
--- after the field `last`, which occurred `count` times, no field occurs too often, also in nested messages
+-- no field occurs more than `field_limit` times, also in nested messages; before these fields, the field `last` has occurred `count` times
 abbrev pub AreFew : ℕ → ℕ → Fields → Type 0
 AreFew last count (extra more) = Unit {0}
 AreFew last count (number row v rest) = (one_more_of last count row.1.number ≤ field_limit) × AreFew row.1.number (one_more_of last count row.1.number) rest
@@ -123,8 +123,8 @@ AreFew last count (message row inner rest) =
 
 -- ---- the law of canonical bytes
 
--- An op's canonical bytes are fields of the message Op, none of which occurs too often. The bytes without the empty keys and values of maps are
--- not longer, no field occurs too often in them, and the same op is read from them, if they are within the limit of an entry.
+-- An op's canonical bytes are fields of the message Op, none of which occurs too often. Without the empty keys and values of maps, the bytes are not
+-- longer, and no field occurs too often. The same op is read from these shorter bytes, if they are not longer than an entry may be.
 pub record HasFields (op : Op) : Type 0 where
   pub fields : Fields
   pub are : AreFields named.Op 0 false fields

@@ -1,6 +1,6 @@
--- Read first Table (the fields of every message), Records (how fields are made from their records) and Messages (how messages are made from theirs), then
--- Definition and Limits (a whole definition, and its limits), Writing (canonical bytes), Within, Laws and Fields (what holds of reading and
--- writing together). Attributes has the one map, Kinds the names of kinds, and Faults the results of calls.
+-- Read first Table (the fields of every message), Records (how a field is read from its records) and Messages (how a message is read from its records), then
+-- Definition and Limits (a whole definition, and its limits), Writing (canonical bytes), Within (what is within the limits), Laws and Fields (what holds of
+-- reading and writing together). Attributes has the map of a source's attributes, Kinds the names of ops' kinds, and Faults the results of calls.
 pub mod Faults
 pub mod Limits
 pub mod Table

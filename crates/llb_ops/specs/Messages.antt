@@ -1,5 +1,5 @@
 -- How each message is made from its records, by its fields in the table (`ops.proto` of BuildKit). The order of the steps is the
--- order of the faults: first those of the records, then those of the message fields by their numbers, then those of the limits.
+-- order of the faults: first the faults of the records, then those of the message fields by their numbers, then `OverLimit`.
 use Rattle.std.specs.Prelude.{ℕ, List, [], ◌∷◌, length, Option, Result, Ok, Err, nat_lt, ◌==◌, if◌then◌else◌}
 use Rattle.llb_wire.specs.Answer.{◌>>=◌}
 use Rattle.llb_wire.specs.Records.{Record}
@@ -157,7 +157,7 @@ copy_file_in rs = do
   owner ← one chown_opt_of (all 3 rs)
   if within_limits (repeated_of message.FileActionCopy) rs then Ok (copy_file_with rs owner) else Err OverLimit
 
--- the `FileActionCopy` that bytes are read as, or the first fault: of its records, then of the owner, then too many patterns
+-- the `FileActionCopy` that bytes are read as, or the first fault: of its records, then of the owner, then `OverLimit` for too many patterns
 abbrev pub copy_file_of : List ℕ → Result CopyFile OpFault
 copy_file_of = message_of copy_file_shape copy_file_in
 
@@ -220,7 +220,7 @@ file_op_in rs = do
   actions ← each action_of (all 2 rs)
   if within_limits (repeated_of message.FileOp) rs then Ok (record { actions = actions; extra = unnamed file_op_shape rs }) else Err OverLimit
 
--- the `FileOp` that bytes are read as, or the first fault: of its records, then of its actions in order, then too many of them
+-- the `FileOp` that bytes are read as, or the first fault: of its records, then of its actions in order, then `OverLimit` for too many actions
 abbrev pub file_op_of : List ℕ → Result FileOp OpFault
 file_op_of = message_of file_op_shape file_op_in
 
@@ -238,7 +238,7 @@ meta_in rs = if within_limits (repeated_of message.Meta) rs then Ok (record {
   extra = unnamed meta_shape rs;
 }) else Err OverLimit
 
--- the `Meta` that bytes are read as, or the first fault: of its records, then too many arguments or variables
+-- the `Meta` that bytes are read as, or the first fault: of its records, then `OverLimit` for too many arguments or variables
 abbrev pub meta_of : List ℕ → Result Meta OpFault
 meta_of = message_of meta_shape meta_in
 
@@ -316,7 +316,7 @@ exec_op_in rs = do
     extra = unnamed exec_op_shape rs;
   }) else Err OverLimit
 
--- the `ExecOp` that bytes are read as, or the first fault: of its records, of its `Meta`, of its mounts in order, then too many mounts or secrets
+-- the `ExecOp` that bytes are read as, or the first fault: of its records, of its `Meta`, of its mounts in order, `OverLimit` for too many mounts or secrets
 abbrev pub exec_op_of : List ℕ → Result ExecOp OpFault
 exec_op_of = message_of exec_op_shape exec_op_in
 
@@ -348,7 +348,7 @@ merge_op_in rs = do
     extra = unnamed merge_op_shape rs;
   }) else Err OverLimit
 
--- the `MergeOp` that bytes are read as, or the first fault: of its records, then of its inputs in order, then too many of them
+-- the `MergeOp` that bytes are read as, or the first fault: of its records, then of its inputs in order, then `OverLimit` for too many inputs
 abbrev pub merge_op_of : List ℕ → Result MergeOp OpFault
 merge_op_of = message_of merge_op_shape merge_op_in
 
@@ -378,7 +378,7 @@ source_op_in rs = do
     extra = unnamed source_op_shape rs;
   }) else Err OverLimit
 
--- the `SourceOp` that bytes are read as, or the first fault: of its records, then of the entries of its map in order, then too many of them
+-- the `SourceOp` that bytes are read as, or the first fault: of its records, then of its map's entries in order, then `OverLimit` for too many entries
 abbrev pub source_op_of : List ℕ → Result SourceOp OpFault
 source_op_of = message_of source_op_shape source_op_in
 

@@ -26,11 +26,11 @@ use Rattle.llb_ops.specs.Limits.{field_limit}
 abbrev pub Shape : Type 0
 Shape = List (ℕ × Form)
 
--- a record without the position of its bytes
+-- a record of the code, with its payload and its text as lists of bytes
 abbrev pub view : Held → Record
 view r = record { number = r.number; wire = r.wire; value = r.value; payload = r.payload.now; text = r.text.now }
 
--- records in their order, each without the position of its bytes
+-- records of the code in their order, each with its payload and its text as lists of bytes
 abbrev pub views : List Held → List Record
 views rs = map view rs
 
@@ -52,7 +52,7 @@ wire_fits (Some Bytes) w = false
 wire_fits (Some Text) wire.Len = true
 wire_fits (Some Text) w = false
 
--- the result of the wire reader, with its fault as an op's fault
+-- the result of reading a record, with a fault of the wire as a fault of an op
 abbrev pub from_wire : {A : Type 0} → Result A WireFault → Result A OpFault
 from_wire (Ok x) = Ok x
 from_wire (Err f) = Err (Wire f)
@@ -61,7 +61,7 @@ from_wire (Err f) = Err (Wire f)
 abbrev pub first_record : Shape → List ℕ → Result Field OpFault
 first_record shape bytes = from_wire (field_at bytes 0) >>= λ f. if wire_fits (form_of shape f.number) f.wire then Ok f else Err WrongWireType
 
--- the records of the bytes after the first `skip` bytes, which belong to a record that was read before
+-- the records of the bytes, or the first fault; the first `skip` bytes are passed over, since they belong to a record that was already read
 unfoldable pub records_from : Shape → ℕ → List ℕ → Result (List Record) OpFault
 records_from shape skip [] = Ok []
 records_from shape (suc skip) (b ∷ bytes) = records_from shape skip bytes
@@ -81,18 +81,18 @@ Starts shape bytes (Ok None) = records_from shape 0 bytes ≡ Ok []
 Starts shape bytes (Ok (Some f)) = IsFront shape bytes f
 Starts shape bytes (Err e) = records_from shape 0 bytes ≡ Err e
 
--- ---- after the last record: its texts are UTF-8
+-- ---- after the last record is read: the texts of all records are UTF-8
 
 -- whether a payload is UTF-8, if its field is a text; true for any other field
 abbrev pub text_ok : Option Form → List ℕ → Bool
 text_ok (Some Text) payload = is_utf8 payload
 text_ok o payload = true
 
--- whether a record is UTF-8, if its field is a text; true for any other field
+-- whether the payload of a record is UTF-8, if the record's field is a text; true for any other field
 abbrev pub text_fits : Shape → Record → Bool
 text_fits shape r = text_ok (form_of shape r.number) r.payload
 
--- whether all records of text fields are UTF-8
+-- whether the payloads of all records of text fields are UTF-8
 abbrev pub texts_fit : Shape → List Record → Bool
 texts_fit shape rs = list_all (text_fits shape) rs
 
@@ -110,7 +110,7 @@ wires_fit shape rs = list_all (λ r. wire_fits (form_of shape r.number) r.wire) 
 abbrev pub fitting : Shape → List Record → Result (List Record) OpFault
 fitting shape rs = if wires_fit shape rs then (if texts_fit shape rs then Ok rs else Err NotUtf8) else Err WrongWireType
 
--- a message that `read` makes from the records of its bytes, or the first fault
+-- the message that `read` makes from the records of these bytes, or the first fault
 unfoldable pub message_of : {A : Type 0} → Shape → (List Record → Result A OpFault) → List ℕ → Result A OpFault
 message_of shape read bytes = parts shape bytes >>= read
 
@@ -156,7 +156,7 @@ payloads rs = map (λ r. r.payload) rs
 abbrev pub joined : List Record → List ℕ
 joined rs = flat_map (λ r. r.payload) rs
 
--- a singular message, read from its joined payloads; none if it has no record; or the first fault
+-- the message in a singular field, read from the joined payloads of the field's records; none if there are no records; or the first fault
 unfoldable pub one : {A : Type 0} → (List ℕ → Result A OpFault) → List Record → Result (Option A) OpFault
 one read rs = if length rs == 0 then Ok None else (read (joined rs) >>= λ m. Ok (Some m))
 
@@ -171,23 +171,23 @@ unnamed shape rs = flat_map (λ r. r.text) (filter (λ r. is_none (form_of shape
 
 -- ---- a oneof
 
--- whether a record is of one of these members of a oneof
+-- whether the field of a record is one of these members of a oneof
 abbrev pub is_member : List ℕ → Record → Bool
 is_member members r = list_any (λ m. m == r.number) members
 
--- the number of the member of a oneof that is set: that of the last of all records that belong to its members
+-- the number of the member of a oneof that is set: the field number of the last record of any member
 abbrev pub chosen : List ℕ → List Record → Option ℕ
 chosen members rs = option_map (λ r. r.number) (last_of (filter (is_member members) rs))
 
--- the records that are kept after one more record: none if that record passes the test, else the record is added
+-- the records that are kept after one more record: none if that record passes the test p, else the kept records and that record
 abbrev pub kept : (Record → Bool) → List Record → Record → List Record
 kept p rs r = if p r then [] else rs ++ r ∷ []
 
--- the records after the last one that passes the test
+-- the records after the last record that passes the test p
 abbrev pub since : (Record → Bool) → List Record → List Record
 since p rs = fold (kept p) [] rs
 
--- whether a record is of a member of the oneof other than n
+-- whether the field of a record is a member of the oneof other than n
 abbrev pub is_other : List ℕ → ℕ → Record → Bool
 is_other members n r = is_member members r && not (r.number == n)
 
@@ -195,12 +195,12 @@ is_other members n r = is_member members r && not (r.number == n)
 abbrev pub member : List ℕ → ℕ → List Record → List Record
 member members n rs = all n (since (is_other members n) rs)
 
--- the member of a oneof that is set, read from its records
+-- the member of a oneof with this number, read from the member's records; none if no number is given; or the first fault
 abbrev pub member_of : {A : Type 0} → List ℕ → (ℕ → List Record → Result A OpFault) → Option ℕ → List Record → Result (Option A) OpFault
 member_of members read None rs = Ok None
 member_of members read (Some n) rs = read n (member members n rs) >>= λ a. Ok (Some a)
 
--- the oneof of a message, read from the records of the member that is set
+-- the oneof of a message, read from the records of the member that is set; none if no member is set; or the first fault
 abbrev pub one_of : {A : Type 0} → List ℕ → (ℕ → List Record → Result A OpFault) → List Record → Result (Option A) OpFault
 one_of members read rs = member_of members read (chosen members rs) rs
 

@@ -36,7 +36,7 @@ member name n kind = (name, record { number = n; kind = kind; repeated = false; 
 abbrev pub of_entry : List ℕ → ℕ → FieldKind → Row
 of_entry name n kind = (name, record { number = n; kind = kind; repeated = false; member = false; of_entry = true })
 
--- the rows of a message: its named fields, in ascending order of their numbers; records of other numbers are kept as extra bytes
+-- the rows of a message: its named fields, in ascending order of their numbers; records of other fields are kept as extra bytes
 abbrev pub rows_of : MessageName → List Row
 rows_of message.Definition =
     each (codes "def") 1 Bytes ∷
@@ -180,7 +180,7 @@ pub record IsApart (m : MessageName) (row : Row) : Type 0 where
 abbrev pub AreRowsApart : MessageName → Type 0
 AreRowsApart m = AllByRecursion (IsApart m) (rows_of m)
 
--- how the payload of a field of this kind is read
+-- the form of a field of this kind, which says how the field's payload is read: as a number, as bytes, or as a text
 abbrev pub form_of_kind : FieldKind → Form
 form_of_kind Int64 = form.Number
 form_of_kind Int32 = form.Number

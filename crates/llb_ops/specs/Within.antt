@@ -27,7 +27,7 @@ abbrev pub IsMetaOptWithin : Option Meta → Type 0
 IsMetaOptWithin None = Unit {0}
 IsMetaOptWithin (Some m) = IsMetaWithin m
 
--- an `ExecOp` is within the limits: so is its `Meta`, if it has one, and it has few mounts and secrets
+-- an `ExecOp` is within the limits: it has few mounts and secrets, and its `Meta`, if there is one, is within the limits
 pub record IsExecWithin (m : ExecOp) : Type 0 where
   pub meta : IsMetaOptWithin m.meta
   pub mounts : IsFew m.mounts

@@ -16,7 +16,7 @@ use crate::writing::{put_bytes, put_each_text, put_extra, put_flag, put_message,
 use llb_wire::{Boxed, Bytes, Many, Memory, Text};
 use std::alloc::Global;
 
-/// `FileActionMkFile`: `body` is the message's `data`.
+/// `FileActionMkFile`: a file that is made; `body` is the field `data` of the message.
 pub struct MkFile {
     pub path: Text,
     pub mode: i32,

@@ -66,7 +66,7 @@ pub struct Mount {
     pub input: i64,
     pub selector: Text,
     pub dest: Text,
-    /// The number of the output that the mount's tree becomes; -1 if it becomes none.
+    /// The number of the output that the mount's tree becomes; -1 if the tree becomes no output.
     pub output: i64,
     pub readonly: bool,
     /// 0 bind, 1 secret, 2 SSH, 3 cache, 4 tmpfs.

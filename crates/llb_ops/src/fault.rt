@@ -7,7 +7,7 @@ use llb_wire::{Memory, WireFault};
 use std::alloc::AllocFailed;
 use std::{error, fmt};
 
-/// Why a message could not be read: the first fault in the order in which its bytes are checked.
+/// Why a message could not be read: the first fault, in the order in which the message is checked.
 #[derive(Clone, Copy, Debug, PartialEq, Eq)]
 pub enum OpFault {
     /// 1 to 4: a record is not readable.

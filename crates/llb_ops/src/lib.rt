@@ -1,4 +1,4 @@
-//! Messages: an op is read from the records of its entry, and written in its canonical bytes, by one table of fields. It is built on
+//! Messages: an op is read from the records of its entry, and written in its canonical bytes, by one table of fields. The crate is built on
 //! `llb_wire`.
 //!
 //! Types: `Op` with `Kind` (a source, a file op, a merge, an exec, or a build or a diff, which `llb_loader` refuses), `Entries` (of a definition),

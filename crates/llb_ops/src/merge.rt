@@ -24,7 +24,7 @@ impl Drop for MergeOp {
     }
 }
 
-/// `MergeInput`: one of the trees, by the number of an input of the op; -1 is the empty tree.
+/// `MergeInput`: names one of the trees, by the number of an input of the op; -1 is the empty tree.
 pub struct MergeInput {
     pub input: i64,
     pub extra: Bytes,

@@ -82,8 +82,8 @@ pub fn read_message<M: Message>(alloc: Global, bytes: &[u8]) -> Result<M, OpFaul
     M::read(alloc, &records)
 }
 
-/// Reads a message from the payloads of its records, joined one after the other. If there is only one record, its payload is not copied. Fails with the first
-/// fault, or with 14 `Memory`.
+/// Reads a message from the payloads of its field's records, joined one after the other. If there is only one record, its payload is not copied. Fails with the
+/// first fault, or with 14 `Memory`.
 pub fn joined_message<M: Message>(
     alloc: Global,
     records: &[Record<'_>],
@@ -98,8 +98,8 @@ pub fn joined_message<M: Message>(
     read_message(alloc, &bytes)
 }
 
-/// Reads a singular message from its payloads, joined one after the other; returns `None` if it has no record. Fails
-/// with the first fault, or with 14 `Memory`.
+/// Reads the message in a singular field from the payloads of the field's records, joined one after the other; returns
+/// `None` if there are no records. Fails with the first fault, or with 14 `Memory`.
 #[tactic(auto, unfolding(crate::specs::Records::one))]
 pub fn one<M: Message>(
     alloc: Global,

@@ -23,7 +23,7 @@ use crate::writing::{
 use llb_wire::{Boxed, Bytes, Many, Memory, Text};
 use std::alloc::Global;
 
-/// `Op`: a vertex of the build graph, as its entry spells it.
+/// `Op`: a vertex of the build graph, as an entry spells the vertex.
 pub struct Op {
     pub inputs: Many<Input>,
     /// The member of the oneof that is set, if any.
@@ -55,7 +55,7 @@ pub enum Kind {
     Diff(Bytes),
 }
 
-/// `Input`: an output of another op, by the digest of that op's bytes and the index of the output.
+/// `Input`: names an output of another op, by the digest of that op's bytes and the index of the output.
 pub struct Input {
     pub digest: Text,
     pub index: i64,
@@ -187,10 +187,10 @@ impl Message for Op {
 
 /// Reads an entry as an op.
 ///
-/// Fails with the first fault: 13 `OverLimit` for an entry of more than 16,777,216 bytes; then the faults of its messages, the outermost one first, in this
-/// order: 1 to 4 `Wire` or 11 `WrongWireType` of its records from left to right (11 only in named fields); 12 `NotUtf8` of a string; the faults of the messages
-/// in it, by the numbers of their fields, each in the same order; 13 `OverLimit` for a field that is repeated more than 1,024 times. Fails with 14 `Memory` if
-/// memory is refused.
+/// Fails with the first fault: 13 `OverLimit` for an entry of more than 16,777,216 bytes; then the faults of the message Op, in this order: 1 to 4 `Wire` or 11
+/// `WrongWireType` of the message's records from left to right (11 only in named fields); 12 `NotUtf8` of a string; the faults of nested messages, by their
+/// field numbers, each message in this same order; 13 `OverLimit` for a field that is repeated more than 1,024 times. Fails with 14 `Memory` if memory is
+/// refused.
 #[tactic(auto, unfolding(crate::specs::Messages::op_of))]
 pub fn read_op(alloc: Global, bytes: &[u8]) -> Result<Op, OpFault>
     ensures gives { Gives (λ op. op) result (op_of bytes.now) }

@@ -59,7 +59,7 @@ impl Message for ChownOpt {
     }
 }
 
-/// `UserOpt`: a user or a group; no `user` if no member of the oneof is set.
+/// `UserOpt`: a user or a group; `user` is `None` if no member of the oneof is set.
 pub struct UserOpt {
     pub user: Option<User>,
     pub extra: Bytes,

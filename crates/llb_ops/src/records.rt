@@ -80,8 +80,8 @@ fn front_of<'a>(bytes: &'a [u8], field: &Field) -> Front<'a>
 }
 
 /// Returns the record at the start of a message's bytes, and the bytes after it; `None` at the end. Fails with 1 to 4
-/// `Wire` if the record is not readable, with 11 `WrongWireType` if the message names its field, and the record has
-/// another wire type than the field.
+/// `Wire` if the record is not readable, and with 11 `WrongWireType` if the message names the record's field and the
+/// record has another wire type than the field.
 pub fn next_part<'a>(message: MessageName, bytes: &'a [u8]) -> Result<Option<Front<'a>>, OpFault>
     ensures { Starts (shape_of message) bytes.now result }
 {
@@ -220,15 +220,15 @@ fn last_payload<'a>(records: &[Record<'a>], number: u32) -> &'a [u8]
     }
 }
 
-/// Returns the bytes of a field: the payload of its last record, or no bytes if it has no record. Fails with 5 `Memory` alone.
+/// Returns the bytes of a field: the payload of its last record, or no bytes if the field has no record. Fails with 5 `Memory` alone.
 pub fn last_bytes(alloc: Global, records: &[Record<'_>], number: u32) -> Result<Bytes, Memory>
     ensures { IfOk result (λ b. b ≡ payload_of (all_of number (views records.now))) }
 {
     Bytes::from_slice(alloc, last_payload(records, number))
 }
 
-/// Returns the text of a field; empty if it has no record. The records of texts were checked to be UTF-8 when they
-/// were read. Fails with 5 `Memory` alone.
+/// Returns the text of a field; empty if the field has no record. The caller ensures that the records of text fields are
+/// UTF-8. Fails with 5 `Memory` alone.
 pub fn last_text(
     alloc: Global,
     message: MessageName,
@@ -334,7 +334,7 @@ pub fn within_limits(repeated: &[u32], records: &[Record<'_>]) -> bool
     true
 }
 
-/// Returns the number of the member of a oneof that is set: the number of the last record of any member; `None` if there is none.
+/// Returns the number of the member of a oneof that is set: the field number of the last record of any member; `None` if there is no such record.
 pub fn chosen(records: &[Record<'_>], members: &[u32]) -> Option<u32>
     ensures { result ≡ chosen_of members.now (views records.now) }
 {

@@ -2,7 +2,7 @@
 -- memory; a call returns what its rule returns, or it fails for want of memory.
 use Rattle.std.specs.Prelude.{◌≡◌, Bool, true, false, Result, Ok, Err, is_ok}
 
--- a call fails with `e`: either `e` is the fault for refused memory, or the rule fails with `e` too
+-- a call may fail with `e`: either `e` is the fault for refused memory, or the rule of the call fails with `e` too
 abbrev pub Fails : {Y F : Type 0} → (F → Bool) → F → Result Y F → Type 0
 Fails is_memory e rule = is_memory e ≡ false → rule ≡ Err e
 

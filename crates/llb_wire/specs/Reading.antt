@@ -10,13 +10,13 @@ use Rattle.llb_wire.specs.declared.field.Field.{Field}
 use Rattle.llb_wire.specs.declared.fault.WireFault.{WireFault}
 use Rattle.llb_wire.specs.declared.fault.WireFault.TheVariants.{Truncated, LongVarint, BadField, BadWireType}
 
--- The number that the varint at the start spells, and how many bytes the varint has, at most `more` + 1; or the fault. Byte number `more` + 1 is 0 or 1.
+-- The number and the length of the varint at the start of the bytes, or the fault. The varint has at most `more` + 1 bytes; byte `more` + 1 is at most 1.
 unfoldable pub varint_from : ℕ → List ℕ → Result (ℕ × ℕ) WireFault
 varint_from more [] = Err Truncated
 varint_from zero (b ∷ bs) = if nat_lt 1 b then Err LongVarint else Ok (b, 1)
 varint_from (suc more) (b ∷ bs) = if nat_lt b 128 then Ok (b, 1) else (varint_from more bs >>= λ m. Ok (b - 128 + 128 * m.0, suc m.1))
 
--- a limit for numbers: the last n + 1 bytes of a varint of ten bytes can spell only numbers below `varint_limit n`
+-- 2 times 128 to the power n: the last n + 1 bytes of a varint of ten bytes can spell only numbers below this limit
 abbrev pub varint_limit : ℕ → ℕ
 varint_limit zero = 2
 varint_limit (suc more) = 128 * varint_limit more
@@ -40,7 +40,7 @@ abbrev pub fixed_at : Width → List ℕ → ℕ → Result (ℕ × ℕ) WireFau
 fixed_at w bytes at = if nat_lt (length (drop at bytes)) (byte_len w) then
     Err Truncated else Ok (from_le_bytes w (take (byte_len w) (drop at bytes)), at + byte_len w)
 
--- a field with this number and wire type, whose payload begins at `start`; `v` is the pair of the field's value and its end
+-- a field with this number and wire type, whose payload begins at `start`; `v` is the pair of the field's value and the position after the payload
 abbrev pub as_field : ℕ → Wire → ℕ → ℕ × ℕ → Field
 as_field number wire start v = record { number = number; wire = wire; value = v.0; start = start; «end» = v.1 }
 

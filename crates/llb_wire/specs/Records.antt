@@ -1,4 +1,4 @@
--- A record with its bytes but without a position, and which bytes spell a list of records.
+-- The type of a record with its bytes but without a position, and the rule by which bytes spell a list of records.
 use Rattle.std.specs.Prelude.{◌≡◌, ℕ, ◌+◌, ◌-◌, ◌*◌, ◌≤◌, List, [], ◌∷◌, ◌++◌, length, take, drop, Some, None, Ok}
 use Rattle.std.specs.List.{AllByRecursion, flat_map}
 use Rattle.std.specs.Int.{Width, w32, w64, byte_len, to_le_bytes, from_le_bytes}
@@ -16,11 +16,11 @@ pub record Record : Type 0 where
   pub payload : List ℕ
   pub text : List ℕ
 
--- the record of field f, which was read at the start of the bytes
+-- the record of field f, with its payload and its text; f was read at the start of the given bytes
 abbrev pub record_of : List ℕ → Field → Record
 record_of bytes f = record { number = f.number; wire = f.wire; value = f.value; payload = drop f.start (take f.«end» bytes); text = take f.«end» bytes }
 
--- the record of field f, which was read at position `at` of the bytes
+-- the record of field f, with its payload and its text; f was read at position `at` of the given bytes
 abbrev pub record_at : List ℕ → ℕ → Field → Record
 record_at bytes at f = record {
   number = f.number;
@@ -30,7 +30,7 @@ record_at bytes at f = record {
   text = drop at (take f.«end» bytes);
 }
 
--- a record by its position, as a `Field`, if the bytes of the record begin at `at`
+-- a record as a `Field`, which has the positions of the payload, if the record begins at `at`
 abbrev pub placed : ℕ → Record → Field
 placed at r = record { number = r.number; wire = r.wire; value = r.value; start = at + (length r.text - length r.payload); «end» = at + length r.text }
 
@@ -59,7 +59,7 @@ pub record IsRecord (r : Record) : Type 0 where
   pub tagged : IsVarint tag (8 * r.number + code_of r.wire)
   pub payload : IsPayload r.wire behind r.value r.payload
 
--- the bytes are those of all the records, one record after another, and the bytes of each record spell this record by `IsRecord`
+-- the bytes of these records, one record after another, are exactly the given bytes; and the bytes of each record are right for it (`IsRecord`)
 pub record SpellRecords (bytes : List ℕ) (rs : List Record) : Type 0 where
   pub whole : bytes ≡ flat_map (λ r. r.text) rs
   pub each : AllByRecursion IsRecord rs

@@ -1,4 +1,4 @@
--- How a sink takes bytes. Contracts see the bytes that it took so far, if they are known, and whether it has failed.
+-- How a sink takes bytes. Contracts see the bytes that the sink took so far, if they are known, and whether the sink has failed.
 use Rattle.std.specs.Prelude.{◌≡◌, ◌≤◌, ◌<◌, ℕ, Bool, true, false, List, ◌++◌, length, take, Option, Result, Ok, Err}
 use Rattle.std.specs.Io.KnownBytes.{Appends, Keeps}
 use Rattle.llb_wire.specs.declared.sink.Failed.{Failed}

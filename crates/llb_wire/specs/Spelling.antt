@@ -44,7 +44,7 @@ pub record CutVarint (bytes : List ℕ) (at : ℕ) : Type 0 where
   pub more : IsOpen (drop at bytes)
   pub few : length (drop at bytes) ≤ 9
 
--- the first n bytes are at least 128, so the varint goes on after each of them, and the byte after them is above 1
+-- the first `more` bytes are at least 128, so the varint goes on after each of them, and the byte after these bytes is above 1
 abbrev pub IsLong : ℕ → List ℕ → Type 0
 IsLong more [] = ⊥
 IsLong zero (b ∷ bs) = 1 < b
@@ -105,7 +105,7 @@ CutPayload I64 bytes at = length bytes < at + 8
 CutPayload Len bytes at = CutVarint bytes at ⊎ ((n : ℕ) × (last : ℕ) × VarintAt bytes at n last × (length bytes < last + n))
 CutPayload I32 bytes at = length bytes < at + 4
 
--- the varint after the tag is too long: it is the value, or the length of a LEN
+-- the varint after the tag, which is the value or the length of a LEN, has a tenth byte above 1
 abbrev pub LongPayload : Wire → List ℕ → ℕ → Type 0
 LongPayload Varint bytes at = TenthAboveOne bytes at
 LongPayload I64 bytes at = ⊥
@@ -119,7 +119,7 @@ PayloadCause wire bytes at LongVarint = LongPayload wire bytes at
 PayloadCause wire bytes at BadField = ⊥
 PayloadCause wire bytes at BadWireType = ⊥
 
--- a valid tag is at a position, and `wrong` holds of its wire type and the bytes after it
+-- a valid tag is at a position, and `wrong` holds of the tag's wire type and the bytes after the tag
 pub record BehindTag (wrong : Wire → List ℕ → ℕ → Type 0) (bytes : List ℕ) (at : ℕ) : Type 0 where
   pub number : ℕ
   pub wire : Wire
@@ -160,7 +160,7 @@ shortest (suc more) n = if nat_lt n 128 then n ∷ [] else (128 + n % 128) ∷ s
 abbrev pub varint_text : ℕ → List ℕ
 varint_text n = shortest 9 n
 
--- each number of a list is a byte, so below 256
+-- each number of a list is a byte: it is below 256
 abbrev pub AreBytes : List ℕ → Type 0
 AreBytes bytes = AllByRecursion (λ b. b < 256) bytes
 
@@ -204,7 +204,7 @@ pub record Extends (old new : List ℕ) : Type 0 where
   pub more : List ℕ
   pub bytes : new ≡ old ++ more
 
--- a written record by its position, if its bytes begin at position 0
+-- a written record as a `Field`, which has the positions of the payload, if the record begins at position 0
 abbrev pub written_field : ℕ → Wire → ℕ → List ℕ → Field
 written_field number wire value payload = record {
   number = number;

@@ -7,7 +7,7 @@ use crate::same::Same;
 use std::alloc::Global;
 use std::marker::Model;
 
-/// A value on the heap. It keeps an enum with large variants small.
+/// A value on the heap. An enum stays small if its large values are boxed in this way.
 pub struct Boxed<T> {
     place: Box<T>,
 }

@@ -1,4 +1,4 @@
-//! A record by its position in some bytes.
+//! The type of a record that was read: its field number, wire type and value, and the positions of its payload.
 
 /// How the payload of a record is written.
 #[derive(Clone, Copy, Debug, PartialEq, Eq)]
@@ -13,8 +13,8 @@ pub enum Wire {
     I32,
 }
 
-/// A record by its position in some bytes: the payload is `start..end` (for `Len` the bytes after the length),
-/// and the next record begins at `end`. For `Len` the value is the length.
+/// A record that was read from some bytes, with positions in these bytes: the payload is `start..end` (for `Len` the
+/// bytes after the length), and the next record begins at `end`. For `Len` the value is the length.
 #[derive(Clone, Copy, Debug, PartialEq, Eq)]
 pub struct Field {
     pub number: u32,

@@ -39,7 +39,7 @@ fn are_lower(digits: &[u8]) -> bool
         .all(|b| *b >= b'0' && *b <= b'9' || *b >= b'a' && *b <= b'f')
 }
 
-/// Returns whether a text is what `push_hex` writes: `-`, or pairs of lower-case hexadecimal digits, at least one.
+/// Returns whether a text is what `push_hex` writes: `-`, or one or more pairs of lower-case hexadecimal digits.
 pub fn is_hex(text: &str) -> bool
     ensures { result ≡ is_hex text.now }
 {

@@ -1,11 +1,11 @@
 //! Bytes as records: the wire format of Protocol Buffers, read and written one record at a time. The crate also has what the crates above need: texts, byte
 //! strings and lists that own their memory, equality by value, and sinks that take bytes. It has no types of messages.
 //!
-//! Types: `Field` (a record by its position), `Bytes`, `Text`, `Many`, `Boxed`, `Sink` with `Over` (a sink over any writer), `Same`, `Memory`
-//! (fault 5).
+//! Types: `Field` (a record that was read, with the positions of its payload), `Bytes`, `Text`, `Many`, `Boxed`, `Sink` with `Over` (a sink over any
+//! writer), `Same`, `Memory` (fault 5).
 //! Promise: `next_record` (`found`, `only`, `ends`, `faults`) returns exactly the record that the bytes spell at a position, by a grammar that
 //! does not mention the reader, or the first fault of its tag, field number, wire type and payload. `write_record` (`shortest`, `again`, `err`)
-//! appends the shortest spelling, which is read as the same record whatever follows it.
+//! appends the shortest spelling of a record, which is read as the same record whatever bytes follow.
 //!
 //! A caller:
 //!

@@ -56,7 +56,7 @@ impl<T> Many<T> {
         self.items.is_empty()
     }
 
-    /// Returns the allocator of the items. It has no clause, since contracts do not see allocators; there is only one allocator.
+    /// Returns the allocator of the items. This call has no clause, since contracts do not see allocators; there is only one allocator.
     pub fn allocator(&self) -> Global {
         *self.items.allocator()
     }

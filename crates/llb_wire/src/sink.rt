@@ -28,7 +28,7 @@ pub trait Sink {
         ensures same { lender self.new ≡ lender self.old };
 }
 
-/// A sink over a writer. It fails at the first write that fails, or that accepts none of the bytes it is given (at least one), and writes nothing after that.
+/// A sink over a writer. The sink fails once the writer fails, or accepts none of one or more bytes; a sink that has failed does not call the writer again.
 #[derive(Drop)]
 pub struct Over<'a, W> {
     pub out: &'a mut W,
@@ -67,8 +67,8 @@ impl<'a, W: Write> Sink for Over<'a, W> {
     }
 }
 
-/// Writes all of the bytes, in as many calls as it takes. Fails with `Failed` if the sink fails; then a prefix of the
-/// bytes is written.
+/// Writes all of the bytes, in as many writes as the sink needs. Fails with `Failed` if the sink fails; then a prefix of
+/// the bytes is written.
 pub fn write_all<S: Sink>(sink: &mut S, bytes: &[u8]) -> Result<(), Failed>
     ensures takes { TakesAll (S.taken sink.old) (S.taken sink.new) (S.failed sink.new)
         bytes.now result }
