@@ -73,7 +73,7 @@ impl Applet {
     }
 }
 
-/// Returns whether a word has these bytes.
+/// Returns whether a word is exactly these bytes.
 pub fn is_word(word: &str, this: &[u8]) -> bool
     ensures { result ≡ spells this.now word.now }
 {

@@ -194,7 +194,7 @@ fn chmod_at(alloc: Global, view: &mut View, spot: &Spot, mode: Mode) -> Result<b
     put_shared(alloc, view, spot, meta, content)
 }
 
-// Returns the owner of `meta` with another mode.
+// Returns `meta` with another mode; the owner stays the same.
 fn with_bits(meta: &Meta, mode: Mode) -> Meta
     ensures { result ≡ record meta.now { mode = mode } }
 {

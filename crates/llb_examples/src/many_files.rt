@@ -40,7 +40,7 @@ fn wanted(rt: &impl Abort, alloc: Global, others: &str, of_500: &str) -> String 
     text
 }
 
-// Returns whether the text of a tree is the one that `wanted` returns.
+// Returns whether the text of a tree is the text that `wanted` returns.
 fn prints(rt: &impl Abort, alloc: Global, tree: &Tree, others: &str, of_500: &str) -> bool {
     let text = printed(alloc, tree).expect(rt, "memory");
     text.as_slice() == wanted(rt, alloc, others, of_500).as_bytes()
@@ -101,7 +101,7 @@ fn filled_at_once(
     Ok((one?, other?))
 }
 
-// Returns whether all files of the tree are empty, those of `one` have `1`, and those of `other` have `2`.
+// Returns whether all files of `tree` are empty, all files of `one` have the content `1`, and all files of `other` the content `2`.
 fn all_print(rt: &impl Abort, alloc: Global, tree: &Tree, one: &Tree, other: &Tree) -> bool {
     prints(rt, alloc, tree, "-", "-")
         && prints(rt, alloc, one, "31", "31")

@@ -200,7 +200,7 @@ fn a_definition_keeps_its_entries_and_skips_other_fields(rt: HostRuntime) {
     }
 }
 
-// Returns whether the field with this number is the one with this name.
+// Returns whether the field with this number has this name.
 fn is_field(message: MessageName, number: u32, name: &str) -> bool {
     rows_are_apart(message);
     let one = field_numbered(message, number);

@@ -45,7 +45,7 @@ impl Shown {
         })
     }
 
-    /// Returns the tree, and drops the rest.
+    /// Returns the mount's tree, and drops its paths.
     pub fn into_tree(self) -> Tree
         ensures { result ≡ self.tree }
     {

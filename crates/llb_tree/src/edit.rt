@@ -90,7 +90,7 @@ fn set_rows(
     }
 }
 
-// Does in one of the pieces, the one that the name belongs to, what `set_in` does in a list of children.
+// Does in the piece that the name belongs to what `set_in` does in a list of children.
 #[cycle(set)]
 fn set_piece(
     pieces: &mut Vec<Piece>,

@@ -9,8 +9,8 @@ ghost use Rattle.llb_tree.specs.Laying.{AreSettings, TakesWhole, owner_fits};
 use crate::meta::Meta;
 use std::marker::Model;
 
-/// What an overlay sets at each upper entry: a mode, a user and a group, each optional (an entry keeps its own where none
-/// is set); and whether a directory that both trees have stays as the lower tree has it.
+/// What an overlay sets at each upper entry: a mode, a user and a group, each optional (an entry keeps its own if none is
+/// set); and whether a directory that both trees have stays as the lower tree has it.
 #[derive(Clone, Copy)]
 pub struct OverlaySettings {
     mode: Option<u16>,
@@ -33,8 +33,8 @@ impl Model for OverlaySettings {
 }
 
 impl OverlaySettings {
-    /// Makes a `OverlaySettings` of a mode, a user and a group, each optional, and of whether a directory that both trees have stays as in the
-    /// lower one; `None` exactly if the mode is above 4095.
+    /// Makes the settings from a mode, a user and a group, each optional, and from `keeps`, which says whether a directory that both trees have
+    /// stays as in the lower tree; returns `None` exactly if the mode is above 4095.
     pub fn new(
         mode: Option<u16>,
         uid: Option<u32>,

@@ -1,4 +1,4 @@
--- What the tree is after the entry of the next line is put into it. Only this file and the proofs know that a text is read line by line.
+-- The tree after the entry of the next line is put into it. Only this crate uses these definitions, by which a text is read line by line.
 use Rattle.std.specs.Prelude.{◌≡◌, ℕ, ◌+◌, ◌<◌, ◌==◌, Bool, true, false, List, [], ◌∷◌, ◌++◌, length, map, None, Result, Ok, Err, if◌then◌else◌}
 use Rattle.std.specs.FinMap as finite
 use Rattle.std.specs.declared.cmp.Ordering.{Ordering}
@@ -20,7 +20,7 @@ abbrev pub put_row : TreeMap → List (List ℕ) × Entry → Result TreeMap Tre
 put_row t (p, Dir m) = put_dir t p m
 put_row t (p, File m content) = put_file t p m content
 
--- these are the fields of the line that is written for an entry
+-- x is the fields of the line that is written for the entry `row`
 abbrev pub IsOf : List (List ℕ) × Entry → Parts → Type 0
 IsOf row x = IsRow row × (parts_seen x ≡ parts_from row)
 
