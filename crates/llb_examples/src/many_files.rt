@@ -29,7 +29,7 @@ fn many(rt: &impl Abort, alloc: Global) -> Tree {
     filled(alloc, made(rt, alloc, &[dir("/d")]), "").expect(rt, "memory")
 }
 
-// Returns the text of such a tree: file 500 has the content `of_500`, all other files have the content `others`, both in hexadecimal.
+// Returns the text of the tree of `many` after file 500 gets the content `of_500`, and all other files get the content `others`, both in hexadecimal.
 fn wanted(rt: &impl Abort, alloc: Global, others: &str, of_500: &str) -> String {
     let mut text = String::new(alloc);
     say(rt, &mut text, "d 0755 0 0 /\nd 0755 0 0 /d\n");

@@ -16,7 +16,7 @@ pub enum Stage {
     Opened,
     /// Right after the `^` of a class that excludes.
     Caret,
-    /// After a character of a class, which may begin a range.
+    /// After a character of a class; the character may begin a range.
     Single,
     /// After the `-` of a range.
     Dash,

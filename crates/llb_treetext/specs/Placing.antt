@@ -50,7 +50,7 @@ rank b = if b == 47 then 0 else b
 abbrev pub trail_cmp : List ℕ → List ℕ → Ordering
 trail_cmp p q = slice_cmp nat_cmp (map rank p) (map rank q)
 
--- Let the text of the last entry's path be a text A and then the given bytes: whether A is the path of a directory. If no bytes are given, A is the path of
+-- whether a text A is the path of a directory, if the text of the last entry's path is A followed by the given bytes. If no bytes are given, A is the path of
 -- the last entry, and `dir` says whether that entry is a directory; else the bytes have to begin with a slash.
 abbrev pub opens : List ℕ → Bool → Bool
 opens [] dir = dir
