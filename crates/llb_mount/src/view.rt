@@ -173,7 +173,7 @@ impl View {
         &self.mounts[mount as usize].dest
     }
 
-    /// Returns the path in a mount's tree that is shown at its dest: the root if the whole tree is shown. Does not allocate.
+    /// Returns the path in a mount's tree that is shown at the mount's dest: the root if the whole tree is shown. Does not allocate.
     pub fn selector(&self, mount: u32) -> &Path
         requires { mount < length self.now }
         ensures { result.now ≡ (mount_at self.now mount).selector }

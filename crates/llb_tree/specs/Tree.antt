@@ -74,7 +74,7 @@ not_root (n ∷ p) = Ok tt
 abbrev pub put_file : TreeMap → List (List ℕ) → MetaValue → List ℕ → Result TreeMap TreeFault
 put_file t p m bytes = not_root p >>= λ _. walk (finite.get t) p >>= λ _. file_fits (finite.get t p) >>= λ _. Ok (finite.insert t p (File m bytes))
 
--- the tree after a directory is put at a path, which may be the root, or the fault; a directory that is there already gets the new mode and owner
+-- the tree after a directory is put at a path (the root too), or the fault; a directory that is already at the path gets the new mode and owner
 abbrev pub put_dir : TreeMap → List (List ℕ) → MetaValue → Result TreeMap TreeFault
 put_dir t p m = walk (finite.get t) p >>= λ _. dir_fits (finite.get t p) >>= λ _. Ok (finite.insert t p (Dir m))
 

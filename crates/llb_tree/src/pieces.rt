@@ -210,7 +210,7 @@ fn end_piece(pieces: &mut Vec<Piece>, alloc: Global, rows: Vec<Child>) -> Result
     Ok(())
 }
 
-// Puts children into pieces. All of the pieces are full, except perhaps the last one.
+// Puts children into pieces. Each piece has `MOST` children, except perhaps the last one.
 pub(crate) fn in_pieces(alloc: Global, rows: Vec<Child>) -> Result<Arc<Vec<Piece>>, AllocError>
     ensures same { IfOk result (λ v. kids_in (arc_value v).items ≡ rows.items) }
     ensures full { IfOk result (λ v. AllFull (map row_pairs (arc_value v).items)) }

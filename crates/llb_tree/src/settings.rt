@@ -80,7 +80,7 @@ impl OverlaySettings {
         !self.keeps && self.gives_nothing()
     }
 
-    // Returns the mode and the owner that a directory of both trees gets in the result.
+    // Returns the mode and the owner that a directory gets in the result if both trees have it.
     pub(crate) fn met(&self, lower: Meta, upper: Meta) -> Meta
         ensures { Dir result ≡ over self.now (Some (Dir lower)) (Dir upper) }
     {
