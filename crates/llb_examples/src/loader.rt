@@ -119,7 +119,7 @@ fn push_op(rt: &impl Abort, text: &mut String, below: u32) {
     .expect(rt, "memory");
 }
 
-// Returns the text of a chain of `count` ops and its terminal. Each op has the next one as its input, the last op makes `/a`, and the
+// Returns the text of a chain of `count` ops and its terminal. Each op has the next op as its input, the last op makes `/a`, and the
 // terminal names the first op.
 fn chain_text(rt: &impl Abort, alloc: Global, count: u32) -> String {
     let mut text = String::new(alloc);

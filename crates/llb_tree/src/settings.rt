@@ -56,7 +56,7 @@ impl OverlaySettings {
         })
     }
 
-    // Returns the mode and the owner that an upper entry gets in the result; `own` is the mode and the owner that it has in its tree.
+    // Returns the mode and the owner that an upper entry gets in the result; `own` is the mode and the owner that the entry has in the upper tree.
     pub(crate) fn laid_meta(&self, own: Meta) -> Meta
         ensures { result ≡ laid_meta self.now own }
     {
@@ -73,7 +73,7 @@ impl OverlaySettings {
         self.mode.is_none() && self.uid.is_none() && self.gid.is_none()
     }
 
-    // Returns whether the result has every upper entry as it is in its tree, also a directory that both trees have.
+    // Returns whether the result has every entry of the upper tree unchanged, also a directory that both trees have.
     pub(crate) fn takes_whole(&self) -> bool
         ensures { IsTrue result → TakesWhole self.now }
     {

@@ -60,11 +60,11 @@ Fields = MetaValue × Option (List ℕ) × List ℕ
 abbrev pub parts_seen : Parts → Fields
 parts_seen x = (x.meta, option_map (λ digits. digits.now) x.digits, x.path.now)
 
--- the fields of a directory's line; nothing if its path is not spelled as paths are written
+-- the fields of a directory's line; nothing if the path is not spelled as in the text of a tree
 abbrev pub dir_parts : MetaValue → List ℕ → Option Fields
 dir_parts m path = if is_path path then Some (m, None, path) else None
 
--- the fields of a file's line; nothing if its content or its path is not spelled as these are written, or its path is the root
+-- the fields of a file's line; nothing if the content or the path is not spelled as in the text of a tree, or if the path is the root
 abbrev pub file_parts : MetaValue → List ℕ → List ℕ → Option Fields
 file_parts m digits path = if is_hex digits && is_path path && not (nat_lt (length path) 2) then Some (m, Some digits, path) else None
 
