@@ -47,6 +47,6 @@ abbrev pub laid_over : SettingsValue → Option Entry → Option Entry → Bool 
 laid_over w there (Some e) hidden = Some (over w there e)
 laid_over w there None hidden = if hidden then None else there
 
--- the entry of the result at a path; `lower` and `upper` return the entries of the two trees
+-- the entry of the result at a path; `lower` and `upper` return the entries of the two trees at each path
 abbrev pub over_at : SettingsValue → Look → Look → Look
 over_at w lower upper p = laid_over w (lower p) (upper p) (below_file upper p)

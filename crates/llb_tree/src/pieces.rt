@@ -1,6 +1,6 @@
 //! The children of a directory in pieces. Copies of the directory share the pieces: an edit of a shared directory
-//! copies the list of the pieces and the piece that it changes. A piece that is full is split in two before another
-//! child goes into it.
+//! copies the list of the pieces and the piece that the edit changes. A piece with `MOST` children is split in two before
+//! another child goes into it.
 
 ghost use Rattle.std.specs.Prelude.{◌≡◌, ◌<◌, ◌++◌, length, map, option_map, Contains, IfOk, IfSome, OnOk};
 ghost use Rattle.std.specs.Arc.{arc_value};
