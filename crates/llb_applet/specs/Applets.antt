@@ -4,7 +4,7 @@ use Rattle.std.specs.Cmp.Lexicographic.{pointwise}
 use Rattle.llb_applet.specs.declared.applet.Applet.{Applet}
 use Rattle.llb_applet.specs.declared.applet.Applet.TheVariants.{True, False, Mkdir, Rm, Write, Append, Cp, Concat, Chmod, Test, Listing, Envfile, Sha256}
 
--- whether a word has these bytes
+-- whether a word is exactly these bytes
 abbrev pub spells : List ℕ → List ℕ → Bool
 spells this word = pointwise nat_eq word this
 

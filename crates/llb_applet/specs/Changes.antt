@@ -13,7 +13,7 @@ PutsAside (Ok (Some t)) old mount new = ((mount_at old mount).readonly ≡ false
 PutsAside (Ok None) old mount new = ((mount_at old mount).readonly ≡ true) × (new ≡ old)
 PutsAside (Err e) old mount new = new ≡ old
 
--- whether a change is done; any fault of the tree but `Memory` means that it is refused
+-- whether a change is done; any fault of the tree but `Memory` means that the change is refused
 abbrev pub settled : Result (Unit {0}) TreeFault → Result Bool Memory
 settled (Ok _) = Ok true
 settled (Err tree.Memory) = Err (record {})

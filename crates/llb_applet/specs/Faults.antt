@@ -1,5 +1,5 @@
--- The results of this crate's calls: the result of the call's rule, or the fault `Memory`. A rule is a function that returns a value
--- or a fault, and never `Memory`.
+-- A call of this crate returns the result of its rule, or it fails with `Memory`. The rule of a call is a definition: a function that returns
+-- a value or a fault, but never the fault `Memory`.
 use Rattle.std.specs.Prelude.{◌≡◌, ℕ, Bool, true, false, ◌||◌, List, ◌++◌, Result, Ok, Err, is_ok, codes}
 use Rattle.std.specs.Fmt.{decimal}
 use Rattle.llb_wire.specs.Answer as answer

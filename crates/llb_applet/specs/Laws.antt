@@ -70,7 +70,7 @@ abbrev pub joined_by_ands : List Call → Bool
 joined_by_ands [] = true
 joined_by_ands (call ∷ calls) = follows_all call.join && list_all (λ (c : Call). follows_success c.join) calls
 
--- the calls of the text are the lists of words between its words `&&`, and each call but the first is joined by `And`
+-- the calls of the text are the lists of words between the words `&&` of the text, and each call but the first is joined by `And`
 pub record IsSplitAtAnds (text : List ℕ) : Type 0 where
   pub calls : map (λ (c : Call). c.words) (calls_of text) ≡ slice_split is_and (texts_of text)
   pub joins : joined_by_ands (calls_of text) ≡ true

@@ -38,7 +38,7 @@ tree_at view spot = (mount_at view spot.mount).tree
 abbrev pub entry_at : Mounts → Spot → Option Entry
 entry_at view spot = finite.get (tree_at view spot) spot.place
 
--- whether the spot is the one that a mount's dest names
+-- whether a spot is the spot that a mount's dest names
 abbrev pub is_dest : Spot → Bool
 is_dest spot = length spot.place == spot.base
 
@@ -76,7 +76,7 @@ with_new_dir view spot = if is_dest spot || is_some (entry_at view spot) then
 abbrev pub dir_at : TreeMap → List (List ℕ) → Result TreeMap TreeFault
 dir_at t p = if is_dir (finite.get t p) then Ok t else put_dir t p new_dir_meta
 
--- the tree after a directory is made for each name, the first in p, each other one in the directory before it, unless a directory is there; or the fault
+-- the tree after a directory, if there is none, is made for each name, the first in p, each later one in the directory of the name before it; or the fault
 abbrev pub dirs_below : TreeMap → List (List ℕ) → List (List ℕ) → Result TreeMap TreeFault
 dirs_below t p [] = Ok t
 dirs_below t p (n ∷ ns) = answer.◌>>=◌ (dir_at t (p ++ n ∷ [])) (λ next. dirs_below next (p ++ n ∷ []) ns)

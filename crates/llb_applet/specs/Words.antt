@@ -52,7 +52,7 @@ is_word_byte b =
 abbrev pub bad_in : Bool → List ℕ → Option ℕ
 bad_in called word = if is_separator word then (if called then None else Some 0) else position (λ b. not (is_word_byte b)) word
 
--- whether the last word after one more part belongs to a call: a separator does not; any other word does; an empty part is no word, so it leaves `called`
+-- whether the last word so far belongs to a call, after one more part: a separator does not, any other word does, and after an empty part `called` still holds
 abbrev pub called_after : Bool → List ℕ → Bool
 called_after called part = if length part == 0 then called else not (is_separator part)
 

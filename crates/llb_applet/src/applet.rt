@@ -4,7 +4,7 @@ ghost use Rattle.std.specs.Prelude.{◌≡◌, option_map};
 ghost use Rattle.std.specs.List.{find};
 ghost use Rattle.llb_applet.specs.Applets.{name_of, applet_of, spells};
 
-/// One of the thirteen applets; `name` returns the word that calls it.
+/// One of the thirteen applets; `name` returns the word by which a call asks for the applet.
 #[derive(Clone, Copy)]
 pub enum Applet {
     True,
@@ -73,7 +73,7 @@ impl Applet {
     }
 }
 
-/// Returns whether a word has these bytes.
+/// Returns whether a word is exactly these bytes.
 pub fn is_word(word: &str, this: &[u8]) -> bool
     ensures { result ≡ spells this.now word.now }
 {

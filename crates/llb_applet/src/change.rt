@@ -198,8 +198,8 @@ pub fn make_dirs(alloc: Global, view: &mut View, spot: &Spot) -> Result<bool, Me
     }
 }
 
-// Makes a directory for each of the names, the first one in `at` and each other one in the directory before it, unless a directory is already there. After a
-// fault the tree is unchanged.
+// Makes a directory for each of the names, the first in `at` and each later one in the directory of the name before it, unless a directory is already there.
+// After a fault the tree is unchanged.
 fn dirs_below(alloc: Global, tree: &mut Tree, at: &Path, names: &[Name]) -> Result<(), TreeFault>
     requires { length at.now + length names.now ≤ 128 }
     ensures gives { Gives (λ _. tree.new) result (dirs_below tree.old at.now names.now) }
@@ -218,8 +218,8 @@ fn dirs_below(alloc: Global, tree: &mut Tree, at: &Path, names: &[Name]) -> Resu
     }
 }
 
-// Makes a directory at a path at which there is none; and below that directory, one for each of the names, each in the
-// directory before it. This is one edit; after a fault the tree is unchanged.
+// Makes a directory at a path at which there is none, and below that directory a directory for each of the names, each in
+// the directory of the name before it. All of them are made in one edit; after a fault the tree is unchanged.
 fn put_dirs(alloc: Global, tree: &mut Tree, path: &Path, names: &[Name]) -> Result<(), TreeFault>
     requires short { length path.now + length names.now ≤ 128 }
     requires missing { is_dir (finite.get tree.old path.now) ≡ false }

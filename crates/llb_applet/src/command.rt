@@ -227,7 +227,7 @@ fn pair(words: Vec<Text>) -> Option<(Text, Text)>
     Some((first, words.remove(0)))
 }
 
-// Returns the command of the call `mkdir` with these words after it; `None` if the words are in neither of its forms.
+// Returns the command of the call `mkdir` with these words after it; `None` if the words are in neither form of `mkdir`.
 fn mkdir_of(words: Vec<Text>) -> Option<Command>
     ensures { result ≡ form Mkdir words.items }
 {
@@ -248,7 +248,7 @@ fn mkdir_of(words: Vec<Text>) -> Option<Command>
     })
 }
 
-// Returns the command of the call `concat` with these words after it; `None` if there are fewer than two.
+// Returns the command of the call `concat` with these words after it; `None` if there are fewer than two words.
 fn concat_of(words: Vec<Text>) -> Option<Command>
     ensures { result ≡ form Concat words.items }
 {
@@ -263,7 +263,7 @@ fn concat_of(words: Vec<Text>) -> Option<Command>
     })
 }
 
-// Returns the command of the call `chmod` with these words after it; `None` if they are not a mode and a path.
+// Returns the command of the call `chmod` with these words after it; `None` if the words are not a mode and a path.
 fn chmod_of(words: Vec<Text>) -> Option<Command>
     ensures { result ≡ form Chmod words.items }
 {
@@ -272,7 +272,7 @@ fn chmod_of(words: Vec<Text>) -> Option<Command>
     Some(Command::Chmod { mode, path })
 }
 
-// Returns the command of the call `test` with these words after it; `None` if they are not an option and a path.
+// Returns the command of the call `test` with these words after it; `None` if the words are not an option and a path.
 fn test_of(words: Vec<Text>) -> Option<Command>
     ensures { result ≡ form Test words.items }
 {

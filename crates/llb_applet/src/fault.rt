@@ -1,5 +1,5 @@
 //! Why a script is refused, and the fault of a command for which memory is refused. A fault prints what follows the word `fault` in a
-//! refusal: its number, and its argument. Refusals of memory of any kind become `Memory` by `?`.
+//! refusal: its number, and its argument. The operator `?` turns each error for refused memory into `Memory`.
 
 ghost use Rattle.std.specs.Prelude.{Some};
 ghost use Rattle.llb_applet.specs.Faults.{script_text};
@@ -94,7 +94,7 @@ impl From<llb_wire::Memory> for Memory {
     }
 }
 
-/// Any fault of a tree becomes `Memory`: it is one of a copy of a name, a path or a tree, which fails only for want of memory.
+/// Converts the fault of copying a name, a path or a tree, a call that fails only for want of memory.
 impl From<TreeFault> for Memory {
     fn from(_: TreeFault) -> Memory {
         Memory

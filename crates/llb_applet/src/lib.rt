@@ -1,5 +1,5 @@
-//! Scripts of thirteen small commands, joined by `;`, `&&` and `||`. One call reads a script, or refuses it; another runs one of its commands on
-//! a view. The crate is built on `llb_mount`; there is no process and no other shell.
+//! Scripts: commands of thirteen small kinds, joined by `;`, `&&` and `||`. `read_script` reads a script, or refuses it; `run_command` runs one
+//! command on a view. The crate is built on `llb_mount`; there is no process and no other shell.
 //!
 //! Types: `Script` (commands, each with its join to the commands before it), `Command`, `Setting` (working directory and environment),
 //! `ScriptFault` (71 to 74).

@@ -194,7 +194,7 @@ fn chmod_at(alloc: Global, view: &mut View, spot: &Spot, mode: Mode) -> Result<b
     put_shared(alloc, view, spot, meta, content)
 }
 
-// Returns the owner of `meta` with another mode.
+// Returns `meta` with another mode; the owner stays the same.
 fn with_bits(meta: &Meta, mode: Mode) -> Meta
     ensures { result ≡ record meta.now { mode = mode } }
 {
@@ -270,10 +270,10 @@ fn done(
     }
 }
 
-/// Runs a command on a view. Returns status 0 if it is done. Otherwise returns status 1, and leaves the view as it was: for example if a path is invalid,
-/// nothing is at a path that is read, a file is where a directory is needed or a directory where a file is needed, or the change would be below a read-only
-/// mount. Paths are read from the setting's cwd and looked up by `View::route`, below the mount's selector. Fails with 75 `Memory` alone; then the view is as
-/// it was. A command changes at most one mount's tree, in place, and copies no tree.
+/// Runs a command on a view. Returns status 0 if the command is done. Otherwise returns status 1, and leaves the view as it was: for example if a path is
+/// invalid, if nothing is at a path that is read, if a file is where a directory is needed or a directory where a file is needed, or if the tree to change is
+/// that of a read-only mount. Paths are read from the setting's cwd and looked up by `View::route`, below the mount's selector. Fails with 75 `Memory` alone;
+/// then the view is as it was. A command changes at most one mount's tree, in place, and copies no tree.
 pub fn run_command(
     alloc: Global,
     command: &Command,

@@ -19,8 +19,8 @@ use std::marker::Model;
 use std::mem;
 use std::sync::Arc;
 
-/// A script: one or more commands in the order in which they run, each with its join. By the type's invariant the first one always
-/// runs. Copies of a script share the commands. Contracts see the list of them.
+/// A script: one or more commands in the order in which they run, each with its join. By the type's invariant the first command
+/// always runs. Copies of a script share the commands. Contracts see the list of the commands.
 pub struct Script {
     commands: Arc<Vec<Joined>>,
 }
@@ -118,7 +118,7 @@ impl Reading {
     }
 }
 
-// Makes the calls of a text into commands, or fails with the fault of the first call that makes none.
+// Makes the calls of a text into commands, or fails with the fault of the first call that makes no command.
 fn read_text(alloc: Global, text: &str) -> Result<Vec<Joined>, ScriptFault>
     ensures { Gives (λ c. c.items) result (commands_of 0 (calls_of text.now)) }
 {

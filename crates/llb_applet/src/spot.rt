@@ -14,7 +14,7 @@ use llb_tree::{Bytes, Content, Entry, Meta, Name, Path, TreeFault};
 use llb_wire::Text;
 use std::alloc::Global;
 
-/// A path in a mount's tree, `place`; its first `base` names are the mount's selector.
+/// A spot: the path `place` in the tree of the mount with number `mount`. The first `base` names of the path are the mount's selector.
 pub struct Spot {
     pub mount: u32,
     pub base: usize,

@@ -212,7 +212,7 @@ const SET: &str = "lease a locked -, p private 0 f\nlease s shared -\nset 0 1 g"
 
 const BACK: &str = "lease a locked -, p private 0 f\nlease s shared -\nset 0 1 g\nback 1";
 
-// The calls that change the caches after they were copied, one for each of the three cases.
+// The calls that change the caches after they were copied: one call for each of `LEASED`, `SET` and `BACK`.
 const MORE: [&str; 3] = ["set 0 1 h", "back 0", "lease s shared -"];
 
 #[test]

@@ -14,7 +14,7 @@ const P: Row<'static> = ("p", Mode::Private, Some(0), "f");
 
 const S: Row<'static> = ("s", Mode::Shared, None, "");
 
-// Returns the key of a row, made from a `KeyRef` that borrows its texts.
+// Returns the key of a row, made from a `KeyRef`, which borrows the key's texts.
 fn again(rt: &impl Abort, alloc: Global, row: &Row<'_>) -> Key {
     let (id, mode, index, _) = *row;
     let seed = match index {

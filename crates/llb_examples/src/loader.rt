@@ -44,7 +44,7 @@ fn refusal(rt: &impl Abort, alloc: Global, given: &str) -> LoadFault {
 
 // Rows, and the fault with which they are refused.
 const REFUSED: &[(&str, &str)] = &[
-    // In the first case the inputs lead from row to row in a cycle. In the second case an input names no row, in the third the terminal.
+    // In the first case the inputs lead from row to row in a cycle. In the second case an input names no row; in the third case the terminal names no row.
     ("A = ON_B; B = ON_A; T = NAMES_A", "87"),
     ("A = ON_B; B = ON_C; T = NAMES_A", "86 1 0"),
     ("A = D_ON_T; T = NAMES_A", "86 0 0"),
@@ -119,7 +119,7 @@ fn push_op(rt: &impl Abort, text: &mut String, below: u32) {
     .expect(rt, "memory");
 }
 
-// Returns the text of a chain of `count` ops and its terminal. Each op has the next one as its input, the last op makes `/a`, and the
+// Returns the text of a chain of `count` ops and its terminal. Each op has the next op as its input, the last op makes `/a`, and the
 // terminal names the first op.
 fn chain_text(rt: &impl Abort, alloc: Global, count: u32) -> String {
     let mut text = String::new(alloc);

@@ -29,7 +29,7 @@ fn many(rt: &impl Abort, alloc: Global) -> Tree {
     filled(alloc, made(rt, alloc, &[dir("/d")]), "").expect(rt, "memory")
 }
 
-// Returns the text of such a tree: file 500 has the content `of_500`, all other files have the content `others`, both in hexadecimal.
+// Returns the text of the tree of `many` after file 500 gets the content `of_500`, and all other files get the content `others`, both in hexadecimal.
 fn wanted(rt: &impl Abort, alloc: Global, others: &str, of_500: &str) -> String {
     let mut text = String::new(alloc);
     say(rt, &mut text, "d 0755 0 0 /\nd 0755 0 0 /d\n");
@@ -40,7 +40,7 @@ fn wanted(rt: &impl Abort, alloc: Global, others: &str, of_500: &str) -> String 
     text
 }
 
-// Returns whether the text of a tree is the one that `wanted` returns.
+// Returns whether the text of a tree is the text that `wanted` returns.
 fn prints(rt: &impl Abort, alloc: Global, tree: &Tree, others: &str, of_500: &str) -> bool {
     let text = printed(alloc, tree).expect(rt, "memory");
     text.as_slice() == wanted(rt, alloc, others, of_500).as_bytes()
@@ -101,7 +101,7 @@ fn filled_at_once(
     Ok((one?, other?))
 }
 
-// Returns whether all files of the tree are empty, those of `one` have `1`, and those of `other` have `2`.
+// Returns whether all files of `tree` are empty, all files of `one` have the content `1`, and all files of `other` the content `2`.
 fn all_print(rt: &impl Abort, alloc: Global, tree: &Tree, one: &Tree, other: &Tree) -> bool {
     prints(rt, alloc, tree, "-", "-")
         && prints(rt, alloc, one, "31", "31")

@@ -142,8 +142,8 @@ fn cut_at(rt: &impl Abort, tree: &mut Tree, path: &Path) {
     tree.remove(path).expect(rt, "what is there");
 }
 
-// Returns whether a tree fits below a path of `names` names. The tree has `levels` directories, each in the one before,
-// without those at depth `cut` or deeper.
+// Returns whether a tree fits below a path of `names` names. The tree has `levels` directories, each in the directory
+// before it, without the directories at depth `cut` or deeper.
 fn fits(
     rt: &impl Abort,
     alloc: Global,

@@ -88,7 +88,7 @@ const ENTRIES: &[(&[u8], Result<&[u8], OpFault>)] = &[
         b"\x22\x0C\x12\x0A\x2A\x08\x22\x02\x0A\x00\x22\x02\x12\x00",
         Ok(b"\x22\x0A\x12\x08\x2A\x06\x22\x04\x0A\x00\x12\x00"),
     ),
-    // Of a oneof the member whose record comes last is set. Of its records only those after the last record of another member count.
+    // The member of a oneof whose record comes last is set. Only the records of this member that come after the last record of another member count.
     (
         b"\x22\x02\x12\x00\x3A\x00\x22\x02\x12\x00",
         Ok(b"\x22\x02\x12\x00"),
@@ -107,7 +107,7 @@ const ENTRIES: &[(&[u8], Result<&[u8], OpFault>)] = &[
         b"\x32\x02\x0A\x00\x3A\x00\x32\x0D\x0A\x0B\x08\xFF\xFF\xFF\xFF\xFF\xFF\xFF\xFF\xFF\x01",
         Ok(b"\x32\x0D\x0A\x0B\x08\xFF\xFF\xFF\xFF\xFF\xFF\xFF\xFF\xFF\x01"),
     ),
-    // Unknown fields are kept, after the others.
+    // Unknown fields are kept, and are written after the known fields.
     (
         b"\x52\x01a\x0A\x02\x10\x02\x5A\x00",
         Ok(b"\x0A\x02\x10\x02\x52\x01a\x5A\x00"),
@@ -200,7 +200,7 @@ fn a_definition_keeps_its_entries_and_skips_other_fields(rt: HostRuntime) {
     }
 }
 
-// Returns whether the field with this number is the one with this name.
+// Returns whether the field with this number has this name.
 fn is_field(message: MessageName, number: u32, name: &str) -> bool {
     rows_are_apart(message);
     let one = field_numbered(message, number);

@@ -1,4 +1,4 @@
-//! One tree laid over another, with the modes and owners that a `OverlaySettings` sets. The stories show the entries of the resulting tree.
+//! One tree laid over another, with the modes and owners that an `OverlaySettings` sets. The stories show the entries of the resulting tree.
 
 use super::printed::{Row, is_so, made, row_holds};
 use super::stage::are_transcripts;

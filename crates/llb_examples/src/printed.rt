@@ -10,7 +10,7 @@ use std::process::Abort;
 // A row describes an entry of a tree: its path, mode, user and group, and the content if the entry is a file.
 pub(crate) type Row<'a> = (&'a str, u16, u32, u32, Option<&'a str>);
 
-// `dir` and `file` return the row of a directory and of a file with the mode and owner of a new one.
+// `dir` and `file` return the row of a directory or of a file, with the mode and owner of a new entry.
 pub(crate) const fn dir(path: &str) -> Row<'_> {
     (path, 0o755, 0, 0, None)
 }

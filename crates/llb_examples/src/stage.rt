@@ -60,7 +60,7 @@ fn transcript(rt: &impl Abort, alloc: Global, story: &str) -> String {
     text
 }
 
-// Ends the test if the lines of a text are not those of the transcript `told`, in which empty lines and comments are skipped.
+// Ends the test if the lines of a text are not the lines of the transcript `story`, in which empty lines and comments are skipped.
 pub(crate) fn is_story_of(rt: &impl Abort, text: &str, story: &str) {
     let mut lines = text.lines();
     for line in story.lines() {

@@ -325,7 +325,7 @@ fn a_tree_is_changed_call_by_call(rt: HostRuntime) {
     are_transcripts(&rt, rt.alloc(), STORIES);
 }
 
-// Returns a tree of `names` directories, each in the one before.
+// Returns a tree of `names` directories, each in the directory before it.
 pub(crate) fn deep_tree(rt: &impl Abort, alloc: Global, names: usize) -> Tree {
     let mut tree = Tree::empty(alloc).expect(rt, "memory");
     for at in 0..names {

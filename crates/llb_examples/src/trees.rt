@@ -2,9 +2,10 @@
 //!
 //! `dir PATH MODE OWNER` and `file PATH MODE OWNER CONTENT` put an entry into this tree; `\n` at the end of CONTENT is a line end. `remove PATH` removes what
 //! is at or below PATH. `graft PATH GOAL` puts a copy of what is at or below PATH at GOAL. `share PATH GOAL MODE OWNER` puts a file at GOAL with the content
-//! of the file at PATH, if there is one. `overlay MODE USER GROUP KEEPS` lays the other tree over this tree, by a `Way` of these words. `look PATH` shows the
-//! entry at PATH, `list PATH` the names in the directory PATH, and `tree` this whole tree. `copy` makes the other tree a copy of this tree, `subtree PATH` a
-//! copy of what is at or below PATH, and `below PATH` an empty tree in which this tree is at PATH. `swap` exchanges the two trees.
+//! of the file at PATH, if there is one. `overlay MODE USER GROUP KEEPS` lays the other tree over this tree, with the `OverlaySettings` of these words (`-`
+//! sets nothing). `look PATH` shows the entry at PATH, `list PATH` the names in the directory PATH, and `tree` this whole tree. `copy` makes the other tree a
+//! copy of this tree, `subtree PATH` a copy of what is at or below PATH, and `below PATH` a tree that has only this tree, at PATH. `swap` exchanges the two
+//! trees.
 
 use super::printed::{say, say_looked, say_names, say_tree};
 use llb_tree::{Bytes, Meta, OverlaySettings, Path, Tree, TreeFault};

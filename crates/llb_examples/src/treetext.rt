@@ -1,5 +1,5 @@
-//! The text of a tree: printed, hashed to the tree's digest, and read. For a text, the tree that it is read as
-//! is printed again, or the fault is printed.
+//! The text of a tree: printed, hashed to the tree's digest, and read. A test of reading prints the tree again that
+//! a text is read as, or prints the fault.
 
 use super::printed::{file, holds, is_same, is_so, made, prints, say};
 use llb_tree::Tree;

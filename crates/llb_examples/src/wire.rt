@@ -169,7 +169,7 @@ fn text_of(rt: &impl Abort, alloc: Global, text: &str) -> Text {
     Text::from_str(alloc, text).expect(rt, "memory")
 }
 
-// Returns whether a byte string of `bytes` equals its copy, differs from one of `other`, and is turned back into `bytes`.
+// Returns whether a byte string of `bytes` equals its copy, differs from a byte string of `other`, and is turned back into `bytes`.
 fn keeps_bytes(rt: &impl Abort, alloc: Global, bytes: &[u8], other: &[u8]) -> bool {
     let kept = bytes_of(rt, alloc, bytes);
     kept.is_bytes();

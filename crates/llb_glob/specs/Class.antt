@@ -18,7 +18,7 @@ abbrev pub Excluding : Bool → Type 0 → Type 0
 Excluding false P = P
 Excluding true P = ¬ P
 
--- a class matches a character: at least one of its items has it or, if the class excludes, none has
+-- a class matches a character: at least one item of the class has the character; or, if the class excludes, no item has it
 abbrev pub ClassTakes : ClassValue → ℕ → Type 0
 ClassTakes class c = Excluding class.excludes (IsInSome class.spans c)
 

@@ -19,7 +19,7 @@ Gives = answer.Gives is_memory
 abbrev pub MemoryLast : {X Y : Type 0} → Result X PatternFault → Result Y PatternFault → Type 0
 MemoryLast = answer.MemoryLast is_memory
 
--- the fault of reading a text as a pattern, if reading the text as a path has the given fault
+-- the fault of reading a text as a pattern, if reading the text as a path fails with the given fault
 abbrev pub renamed : TreeFault → PatternFault
 renamed tree.Memory = Memory
 renamed tree.NotFound = BadPattern

@@ -1,5 +1,5 @@
 -- How the characters of a part are read as items, in one pass. The effect of a character depends on the stage of the
--- reader, and on whether a `\` quotes it. The grammar, which does not mention this reading, is in Spelling.
+-- reader, and on whether a `\` quotes the character. The grammar in Spelling does not depend on this reading.
 use Rattle.std.specs.Prelude.{ℕ, ◌==◌, Bool, true, false, not, ◌&&◌, if◌then◌else◌, List, [], ◌∷◌, ◌++◌, Option, Some, None, option_to_list, Result, Ok, Err}
 use Rattle.llb_wire.specs.Answer.{◌>>=◌}
 use Rattle.llb_glob.specs.declared.fault.PatternFault.{PatternFault}
@@ -17,7 +17,7 @@ use Rattle.llb_glob.specs.Class.{none_yet, one_alone, extended}
 
 -- ---- the effect of a character
 
--- a cursor at this stage, with no `\` before the next character
+-- the reader's cursor at this stage, with no `\` that quotes the next character
 abbrev pub at : Stage → Cursor
 at stage = record { stage = stage; quotes = false }
 
@@ -63,7 +63,7 @@ dashed Range = Err BadPattern
 abbrev pub inside : Stage → ℕ → Result (Cursor × Effect) PatternFault
 inside stage c = if c == 93 then closed stage else (if c == 45 then dashed stage else Ok (literal stage c))
 
--- the effect of a character that is not a `\` and not right after one; a `^` right after the `[` makes the class exclude
+-- the effect of a character that is no `\` and that no `\` quotes; a `^` right after the `[` of a class makes the class exclude
 abbrev pub plain : Stage → ℕ → Result (Cursor × Effect) PatternFault
 plain Outside c = Ok (outside c)
 plain Opened c = if c == 94 then Ok (at Caret, Exclude) else inside Opened c
@@ -72,7 +72,7 @@ plain Single c = inside Single c
 plain Dash c = inside Dash c
 plain Range c = inside Range c
 
--- the effect of a character: right after a `\` it is literal; a `\` elsewhere quotes the next character
+-- the effect of a character, given whether a `\` quotes it: a quoted character is literal; a `\` that is not quoted quotes the next character
 abbrev pub quoted : Bool → Stage → ℕ → Result (Cursor × Effect) PatternFault
 quoted true stage c = Ok (literal stage c)
 quoted false stage c = if c == 92 then Ok (record { stage = stage; quotes = true }, Nothing) else plain stage c
@@ -114,7 +114,7 @@ is_outside Single = false
 is_outside Dash = false
 is_outside Range = false
 
--- whether a part may end at the cursor: in no class, and not right after a `\`
+-- whether a part may end at the cursor: in no class, and with no `\` that quotes the next character
 abbrev pub is_whole : Cursor → Bool
 is_whole cursor = is_outside cursor.stage && not cursor.quotes
 

@@ -28,7 +28,7 @@ Matches [] (name ∷ path) = ⊥
 Matches (part ∷ parts) [] = ⊥
 Matches (part ∷ parts) (name ∷ path) = MatchesName part (chars name) × Matches parts path
 
--- whether a letter matches a character; this and the tests below are the relations above as tests, for definitions that list all paths that match
+-- whether a letter matches a character; this test and the tests below decide the relations above, for definitions that list all paths that match
 abbrev pub takes : Letter → ℕ → Bool
 takes Any c = true
 takes (Only only) c = c == only

@@ -15,7 +15,7 @@ abbrev pub each_cut : List (List ℕ) → Result (List (List Item)) PatternFault
 each_cut [] = Ok []
 each_cut (name ∷ names) = items_of (chars name) >>= λ part. each_cut names >>= λ parts. Ok (part ∷ parts)
 
--- the pattern with the names of a path as its parts; a text that is no path is no pattern
+-- the pattern whose parts are the names of a path, each read as items; the fault `BadPattern` if the text was no path
 abbrev pub cut_path : Result (List (List ℕ)) TreeFault → Result (List (List Item)) PatternFault
 cut_path (Ok names) = each_cut names
 cut_path (Err e) = Err BadPattern

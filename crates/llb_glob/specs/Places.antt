@@ -11,6 +11,6 @@ IsIn places i = slice_index_or places i false ≡ true
 abbrev pub Reaches : List Bool → ℕ → ℕ → Type 0
 Reaches places last i = (j : ℕ) × (i ≤ j) × (j ≤ last) × IsIn places j
 
--- a position is in the set exactly if the items match the rest of the name from there
+-- a position is in the set exactly if the items match the name from this position to its end
 pub record AreStarts (items : List Item) (name : List ℕ) (places : List Bool) : Type 0 where
   pub at : (i : ℕ) → i ≤ length name → IsIn places i ↔ MatchesName items (drop i name)

@@ -10,7 +10,7 @@ use Rattle.llb_glob.specs.Items.{behind, items_from}
 abbrev pub ahead : Reading → List ℕ → Result (List Item) PatternFault
 ahead reading letters = behind reading.items.items (items_from letters reading.cursor reading.class)
 
--- a step reads one character: if it succeeds, it does not change the final result; if it fails, then with the fault of the final result or with `Memory`
+-- a step reads one character: a step that succeeds does not change the final result; a step that fails has the fault of the final result, or `Memory`
 abbrev pub Reads : Result (Unit {0}) PatternFault → Result (List Item) PatternFault → Result (List Item) PatternFault → Type 0
 Reads (Ok _) before after = before ≡ after
 Reads (Err e) before after = is_memory e ≡ false → before ≡ Err e

@@ -1,4 +1,4 @@
--- How patterns without classes are read: a `\` quotes each `[`, and an item is one character, or a `\` and the character after it.
+-- How patterns without classes are read: each `[` has to have a `\` before it, and an item is one character, or a `\` and the character after it.
 -- A law of the crate says that `pattern_of`, which also reads classes, reads such a pattern as the same items.
 use Rattle.std.specs.Prelude.{ℕ, ◌==◌, if◌then◌else◌, List, [], ◌∷◌, Result, Ok, Err}
 use Rattle.std.specs.Str.{chars}
@@ -11,7 +11,7 @@ use Rattle.llb_glob.specs.declared.item.Item.{Item}
 use Rattle.llb_glob.specs.declared.item.Item.TheVariants.{Run, One}
 use Rattle.llb_glob.specs.declared.item.Letter.TheVariants.{Any, Only}
 
--- the item of a character that is not a `\` and not right after one
+-- the item of a character that is no `\` and that no `\` quotes
 abbrev pub simple_item : ℕ → Result Item PatternFault
 simple_item c =
     if c == 91 then Err BadPattern

@@ -25,7 +25,7 @@ impl Span {
     }
 }
 
-/// A class of characters. Contracts see its items, and whether it excludes them: then it matches exactly the characters that are in none of them.
+/// A class of characters. Contracts see its items, and whether it excludes; a class that excludes matches exactly the characters that are in no item.
 pub struct Class {
     excludes: bool,
     spans: Vec<Span>,

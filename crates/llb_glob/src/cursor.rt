@@ -16,7 +16,7 @@ pub enum Stage {
     Opened,
     /// Right after the `^` of a class that excludes.
     Caret,
-    /// After a character of a class, which may begin a range.
+    /// After a character of a class; the character may begin a range.
     Single,
     /// After the `-` of a range.
     Dash,
@@ -56,7 +56,7 @@ impl Cursor {
         at(Stage::Outside)
     }
 
-    /// Returns whether a part may end at this cursor: in no class, and not right after a `\`.
+    /// Returns whether a part may end at this cursor: in no class, and with no `\` that quotes the next character.
     pub fn is_whole(self) -> bool
         ensures { result ≡ is_whole self }
     {
@@ -81,7 +81,7 @@ impl Cursor {
     }
 }
 
-// Returns the cursor at a stage, with no `\` before the next character.
+// Returns the cursor at a stage, with no `\` that quotes the next character.
 fn at(stage: Stage) -> Cursor
     ensures { result ≡ at stage }
 {
@@ -105,7 +105,7 @@ fn literal(stage: Stage, letter: char) -> (Cursor, Effect)
     }
 }
 
-// Returns the cursor after a character that is no `\` and not right after one, and the effect of the character.
+// Returns the cursor after a character that is no `\` and that no `\` quotes, and the effect of the character.
 fn plain(stage: Stage, letter: char) -> Result<(Cursor, Effect), PatternFault>
     ensures { result ≡ plain stage letter }
 {
@@ -116,7 +116,7 @@ fn plain(stage: Stage, letter: char) -> Result<(Cursor, Effect), PatternFault>
     }
 }
 
-// Returns the cursor after a character outside a class, and the effect of the character. The character is no `\` and not right after one.
+// Returns the cursor after a character outside a class, and the effect of the character. The character is no `\`, and no `\` quotes it.
 fn outside(letter: char) -> (Cursor, Effect)
     ensures { result ≡ outside letter }
 {
@@ -128,7 +128,7 @@ fn outside(letter: char) -> (Cursor, Effect)
     }
 }
 
-// Returns the cursor after a character in a class, and the effect of the character. The character is no `\` and not right after one.
+// Returns the cursor after a character in a class, and the effect of the character. The character is no `\`, and no `\` quotes it.
 fn inside(stage: Stage, letter: char) -> Result<(Cursor, Effect), PatternFault>
     ensures { result ≡ inside stage letter }
 {
@@ -139,7 +139,7 @@ fn inside(stage: Stage, letter: char) -> Result<(Cursor, Effect), PatternFault>
     }
 }
 
-// Returns the cursor after a `]`, and its effect: it closes the class. Fails with 41 `BadPattern` if the class has no item or an open range.
+// Returns the cursor after a `]`, and the effect of the `]`: it closes the class. Fails with 41 `BadPattern` if the class has no item or an open range.
 fn closed(stage: Stage) -> Result<(Cursor, Effect), PatternFault>
     ensures { result ≡ closed stage }
 {
@@ -149,7 +149,7 @@ fn closed(stage: Stage) -> Result<(Cursor, Effect), PatternFault>
     }
 }
 
-// Returns the cursor after a `-`, and its effect. Fails with 41 `BadPattern` unless the `-` is after a character that may begin a range.
+// Returns the cursor after a `-`, and the effect of the `-`. Fails with 41 `BadPattern` unless the `-` is after a character that may begin a range.
 fn dashed(stage: Stage) -> Result<(Cursor, Effect), PatternFault>
     ensures { result ≡ dashed stage }
 {

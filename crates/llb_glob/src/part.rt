@@ -1,4 +1,5 @@
-//! A part of a pattern, and how it is read. A path matches a pattern if each of its names matches the part at its index.
+//! A part of a pattern, and how it is read. A path matches a pattern if it has as many names as the pattern has parts, and each
+//! name matches the part at its index.
 
 ghost use Rattle.std.specs.Prelude.{◌≡◌, ◌↔◌, ◌≤◌, ◌∷◌, ℕ, List, length, is_ok, IsTrue};
 ghost use Rattle.std.specs.Str.{chars};

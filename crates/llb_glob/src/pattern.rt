@@ -115,8 +115,8 @@ fn is_pattern(text: &str) -> bool
     walk.sound == walk.depth
 }
 
-// The path that a text has led to so far, as two counts: `depth`, how many names it has; and `sound`, how many names are before the first one that spells no
-// part of a pattern.
+// The path that a text has led to so far, as two counts: `depth`, how many names the path has; and `sound`, how many of its names are before the first name
+// that spells no part of a pattern.
 #[derive(Drop)]
 struct Walk {
     depth: usize,

@@ -1,5 +1,5 @@
 //! Matching without backtracking. The items are taken from the last to the first; a flag for each position of the name,
-//! on the stack, says whether the items taken so far match the rest of the name from there. A name has at most 255
+//! on the stack, says whether the items taken so far match the name from this position to its end. A name has at most 255
 //! characters, so its positions are 0 to 255. An item changes the set of positions in one pass over the name.
 
 ghost use Rattle.std.specs.Prelude.{◌↔◌, ℕ, ◌+◌, ◌<◌, ◌≤◌, List, ◌∷◌, length, IsTrue, slice_index};
@@ -22,7 +22,7 @@ pub fn matches_letters(items: &[Item], name: &[char]) -> bool
     places[0]
 }
 
-// Replaces the set: a position is in the new set if the rest of the name from there matches this item followed by the items taken so far.
+// Replaces the set: a position is in the new set if this item, followed by the items taken so far, matches the name from this position to its end.
 fn step_back(item: &Item, name: &[char], places: &mut [bool])
     requires { length name.now < length places.old }
     ensures { (rest : List Item) → AreStarts rest name.now places.old → AreStarts (item.now ∷ rest) name.now places.new }

@@ -1,6 +1,6 @@
 //! Laws of laying, for all trees. Laying is not associative: if the middle one of three trees has a file where the other
 //! two have a directory, then what the lowest tree has below that path is lost if the lower two are laid first, and kept
-//! if the upper two are.
+//! if the upper two are laid first.
 
 ghost use Rattle.std.specs.Prelude.{◌≡◌, List, [], ℕ};
 ghost use Rattle.std.specs.FinMap as finite;

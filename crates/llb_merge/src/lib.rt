@@ -1,5 +1,5 @@
 //! Lays one tree over another: the result has at each path what the upper tree has there; if that is nothing, what the lower tree has, unless a file of the
-//! upper tree is above the path. The crate is built on `llb_tree`, and has no ops.
+//! upper tree is above the path. The crate is built on `llb_tree`, and does not use ops.
 //!
 //! Types: `Memory` (fault 55), the one refusal.
 //! Promise: `lay` returns the tree that the definition `lay` describes as a map. `lay_over` (`ok`, `err`) replaces the lower tree by this result, and

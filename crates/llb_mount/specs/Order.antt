@@ -34,7 +34,7 @@ pub record HasFirst (count : ℕ) (rows : List Row) : Type 0 where
   pub within : (j : ℕ) → j < length rows → mount_of rows j < count
   pub each : (i : ℕ) → i < count → (j : ℕ) × (j < length rows) × (mount_of rows j ≡ i)
 
--- no dest before the position `place` comes after the path, and each dest at or after `place` comes after the path
+-- each dest at a position before `place` is the path or comes before it, and each dest at or after position `place` comes after the path
 pub record IsPlace (ds : List (List (List ℕ))) (rows : List Row) (path : List (List ℕ)) (place : ℕ) : Type 0 where
   pub within : place ≤ length rows
   pub before : (j : ℕ) → j < place → is_before path (dest_of ds rows j) ≡ false
@@ -45,7 +45,7 @@ pub record AtRoot (ds : List (List (List ℕ))) (rows : List Row) : Type 0 where
   pub there : 0 < length rows
   pub root : dest_of ds rows 0 ≡ []
 
--- the position `above_of rows j` is before j and is not before k, and the dest at k is a prefix of the dest at that position
+-- the position `above_of rows j` is before j and at or after k, and the dest at k is a prefix of the dest at that position
 pub record IsAbove (ds : List (List (List ℕ))) (rows : List Row) (j k : ℕ) : Type 0 where
   pub up : above_of rows j < j
   pub kept : k ≤ above_of rows j

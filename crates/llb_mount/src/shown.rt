@@ -8,7 +8,7 @@ use llb_tree::{Path, Tree};
 use llb_wire::Same;
 
 /// A mount: a tree that is shown at a dest. A path below the dest is looked up in the tree, below the selector; the tree may have nothing at the selector.
-/// `View::set_tree` refuses a read-only mount.
+/// `View::set_tree` fails for a read-only mount.
 pub struct Shown {
     pub dest: Path,
     pub selector: Path,
@@ -45,7 +45,7 @@ impl Shown {
         })
     }
 
-    /// Returns the tree, and drops the rest.
+    /// Returns the mount's tree, and drops its paths.
     pub fn into_tree(self) -> Tree
         ensures { result ≡ self.tree }
     {

@@ -149,9 +149,9 @@ impl View {
         self.mounts.as_slice()
     }
 
-    /// Returns the number of the mount with the longest dest that is a prefix of the path, by names, and how many names that dest has, which the caller drops
-    /// from the path. Does not allocate. With an order of the dests it takes time in the logarithm of the number of mounts, plus the number of dests that are
-    /// prefixes of one dest; without an order, as for at most eight mounts, it compares the path with each mount's dest.
+    /// Returns the number of the mount with the longest dest that is a prefix of the path, by names, and how many names that dest has; the caller drops as
+    /// many names from the path. Does not allocate. With an order of the dests the call takes time in the logarithm of the number of mounts, plus the number of
+    /// dests that are prefixes of one dest; without an order, as for at most eight mounts, the call compares the path with each mount's dest.
     pub fn route(&self, path: &Path) -> (u32, u32)
         ensures route { result ≡ route self.now path.now }
         ensures longest { IsRoute self.now path.now result }
@@ -173,7 +173,7 @@ impl View {
         &self.mounts[mount as usize].dest
     }
 
-    /// Returns the path in a mount's tree that is shown at its dest: the root if the whole tree is shown. Does not allocate.
+    /// Returns the path in a mount's tree that is shown at the mount's dest: the root if the whole tree is shown. Does not allocate.
     pub fn selector(&self, mount: u32) -> &Path
         requires { mount < length self.now }
         ensures { result.now ≡ (mount_at self.now mount).selector }
@@ -181,7 +181,7 @@ impl View {
         &self.mounts[mount as usize].selector
     }
 
-    /// Returns whether a mount is read-only, so that its tree may not be set. Does not allocate.
+    /// Returns whether a mount is read-only, so that `set_tree` refuses a tree for it. Does not allocate.
     pub fn is_read_only(&self, mount: u32) -> bool
         requires { mount < length self.now }
         ensures { result ≡ (mount_at self.now mount).readonly }

@@ -1,4 +1,4 @@
--- Entries and trees as plain values (pairs, numbers, lists). The prover needs these to compare contract values that have trees in them; no contract uses them.
+-- Entries and trees as plain values (pairs, numbers, lists). The prover needs plain values to compare values that contain trees; no contract cites this file.
 use Rattle.std.specs.Prelude.{◌≡◌, ℕ, List, Option, Some, None, refl}
 use Rattle.std.specs.FinMap as finite
 use Rattle.std.specs.Coded.{Coded, code_by, coded×, coded_ℕ, coded_list, coded_option}

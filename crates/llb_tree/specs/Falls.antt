@@ -54,7 +54,7 @@ or_right : (a b : Option Entry) → is_some b ≡ true → is_some (option_or a 
 or_right None b h = h
 or_right (Some x) b h = refl
 
--- if each path that has an entry in one of the children has fewer than n names, the depth of each child is at most n + 1
+-- if each path in the tree of each child has fewer than n names, the depth of each child is at most n + 1
 kids_le : (n : ℕ) (ks : List Child) → ((m : List ℕ) (q : List (List ℕ)) → is_some (look_kids ks m q) ≡ true → length q + 1 ≤ n) → most deep-Child ks ≤ n + 1
 kids_le n [] h = omega arith
 kids_le n (k ∷ ks) h =
@@ -68,7 +68,7 @@ most_append : (xs ys : List Child) (n : ℕ) → most deep-Child (xs ++ ys) ≤ 
 most_append [] ys n h = (omega arith, h)
 most_append (x ∷ xs) ys n h = let rest = most_append xs ys n (omega arith) in let a : most deep-Child xs ≤ n = rest.0 in (omega arith, rest.1)
 
--- if the heights of all children in some pieces are at most n, so are the heights of the pieces
+-- if the depths of all children in some pieces are at most n, so are the depths of the pieces
 pub pieces_le : (n : ℕ) (ps : List Piece) → most deep-Child (kids_in ps) ≤ n → most deep-Piece ps ≤ n
 pieces_le n [] h = omega arith
 pieces_le n (p ∷ ps) h =

@@ -18,7 +18,7 @@ dress w t = finite.from_entries (map (λ (e : List (List ℕ) × Entry). (e.0, o
 abbrev pub dress_pair : SettingsValue → List ℕ × TreeMap → List ℕ × TreeMap
 dress_pair w k = (k.0, dress w k.1)
 
--- the new children are the old ones after the upper ones are laid over them
+-- the children `new` are the children `old` after the children `upper` are laid over them
 pub record Lays (w : SettingsValue) (upper old new : List Child) : Type 0 where
   pub sorted : AreSorted new
   pub children : (m : List ℕ) (q : List (List ℕ)) → look_in (child m new) q ≡ over_at w (look_in (child m old)) (look_in (child m upper)) q
@@ -32,7 +32,7 @@ pub record IsLaid (w : SettingsValue) (old : List Child) (upper made : Child) : 
   pub named : name_of made ≡ name_of upper
   pub laid : (q : List (List ℕ)) → finite.get made.node q ≡ over_at w (look_in (child (name_of upper) old)) (finite.get upper.node) q
 
--- for each upper child there is one made child, in the same order: the upper child laid over the lower one of its name
+-- for each upper child there is one made child, in the same order: the upper child laid over the lower child of the same name, if there is one
 abbrev pub AreLaid : SettingsValue → List Child → List Child → List Child → Type 0
 AreLaid w old [] [] = Unit {0}
 AreLaid w old [] (k ∷ made) = ⊥
@@ -46,7 +46,7 @@ PiecesLaid w old [] (p ∷ made) = ⊥
 PiecesLaid w old (u ∷ upper) [] = ⊥
 PiecesLaid w old (u ∷ upper) (p ∷ made) = AreLaid w old (rows_in u) (rows_in p) × PiecesLaid w old upper made
 
--- each upper entry is laid with its own mode and owner, whatever was at its path before
+-- the settings `w` leave each upper entry its own mode and owner, whatever the lower tree has at the entry's path
 pub record TakesWhole (w : SettingsValue) : Type 0 where
   pub own : (m : MetaValue) → laid_meta w m ≡ m
   pub upper : w.keeps ≡ false

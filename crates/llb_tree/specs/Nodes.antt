@@ -91,7 +91,7 @@ abbrev pub look_in : Option TreeMap → Look
 look_in None q = None
 look_in (Some t) q = finite.get t q
 
--- a position in a list of children, counted again after one more child is put before all of them
+-- a position in a list of children, as `Ok` or `Err`, after one more child is put before all of them: one more than before
 abbrev pub later : Result ℕ ℕ → Result ℕ ℕ
 later (Ok i) = Ok (i + 1)
 later (Err i) = Err (i + 1)

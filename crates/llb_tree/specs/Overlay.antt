@@ -1,11 +1,11 @@
 -- One tree laid over another, path by path. The result has all entries of the upper tree, with the mode and the owner that are to be set; a directory that
--- is in both trees may instead stay as in the lower one. The result has a lower tree's entry if the upper tree has nothing at its path and no file above.
+-- is in both trees may instead stay as in the lower one. The result has a lower tree's entry if the upper tree has nothing at that path and no file above it.
 use Rattle.std.specs.Prelude.{ℕ, Bool, true, false, List, map, Option, Some, None, unwrap_or, nat_lt, if◌then◌else◌}
 use Rattle.std.specs.List.{list_any}
 use Rattle.llb_tree.specs.Meta.{MetaValue}
 use Rattle.llb_tree.specs.Tree.{Entry, Dir, File, Look, parents}
 
--- whether an entry is a file; false if there is none
+-- whether there is an entry and the entry is a file
 abbrev pub is_file : Option Entry → Bool
 is_file None = false
 is_file (Some (Dir m)) = false
@@ -47,6 +47,6 @@ abbrev pub laid_over : SettingsValue → Option Entry → Option Entry → Bool 
 laid_over w there (Some e) hidden = Some (over w there e)
 laid_over w there None hidden = if hidden then None else there
 
--- the entry at a path when the upper tree, given last, is laid over the lower one
+-- the entry of the result at a path; `lower` and `upper` return the entries of the two trees at each path
 abbrev pub over_at : SettingsValue → Look → Look → Look
 over_at w lower upper p = laid_over w (lower p) (upper p) (below_file upper p)

@@ -9,7 +9,7 @@ use Rattle.llb_tree.specs.Path.{name_cmp, path_cmp}
 pub path_cmp-IsTotalOrder : IsTotalOrder path_cmp
 path_cmp-IsTotalOrder = lists_total nat_list_cmp_total
 
--- names that the order of names calls equal are equal; the same holds for paths and their order
+-- two names that `name_cmp` compares as equal are the same name; below, the same is said of paths and `path_cmp`
 pub name_cmp-IsAntisymmetric : IsAntisymmetric name_cmp
 name_cmp-IsAntisymmetric = slice_cmp-IsAntisymmetric nat_cmp-IsAntisymmetric
 

@@ -19,7 +19,7 @@ abbrev pub joined : List Pairs → Pairs
 joined [] = []
 joined (p ∷ ps) = p ++ joined ps
 
--- the pairs of all pieces, given the pieces of the code
+-- the pairs of all pieces, given these as values of the code's type `Piece`
 abbrev pub pairs_of : List Piece → Pairs
 pairs_of ps = joined (map row_pairs ps)
 
@@ -33,7 +33,7 @@ pub record IsPieced (ps : List Pairs) : Type 0 where
   pub sorted : T (finite.is_sorted name_cmp (joined ps))
   pub full : AllFull (drop 1 ps)
 
--- `IsPieced` holds for the pairs of these pieces of the code
+-- `IsPieced` holds for the pairs of these values of the code's type `Piece`
 abbrev pub ArePieced : List Piece → Type 0
 ArePieced ps = IsPieced (map row_pairs ps)
 

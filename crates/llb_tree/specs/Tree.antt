@@ -15,7 +15,7 @@ pub use Rattle.llb_tree.specs.Faults.{is_memory, Gives, MemoryLast}
 use Rattle.llb_tree.specs.declared.fault.TreeFault.{TreeFault}
 use Rattle.llb_tree.specs.declared.fault.TreeFault.TheVariants.{NotFound, NotDir, IsDir, Conflict, Root, BadName}
 
--- the entry at a path
+-- an entry of a tree: a directory with its mode and owner, or a file with its mode, its owner and its content
 pub data Entry : Type 0 where
   Dir : MetaValue → Entry
   File : MetaValue → List ℕ → Entry
@@ -42,7 +42,7 @@ abbrev pub parents : List (List ℕ) → List (List (List ℕ))
 parents [] = []
 parents (n ∷ p) = [] ∷ map (λ q. n ∷ q) (parents p)
 
--- succeeds if all entries are directories; else fails at the first other one, with `NotFound` if it is missing, with `NotDir` if it is a file
+-- succeeds if all entries are directories; else fails at the first entry that is not, with `NotFound` if it is missing, with `NotDir` if it is a file
 abbrev pub all_dirs : List (Option Entry) → Result (Unit {0}) TreeFault
 all_dirs [] = Ok tt
 all_dirs (None ∷ es) = Err NotFound
@@ -74,7 +74,7 @@ not_root (n ∷ p) = Ok tt
 abbrev pub put_file : TreeMap → List (List ℕ) → MetaValue → List ℕ → Result TreeMap TreeFault
 put_file t p m bytes = not_root p >>= λ _. walk (finite.get t) p >>= λ _. file_fits (finite.get t p) >>= λ _. Ok (finite.insert t p (File m bytes))
 
--- the tree after a directory is put at a path, which may be the root, or the fault; a directory that is there already gets the new mode and owner
+-- the tree after a directory is put at a path (the root too), or the fault; a directory that is already at the path gets the new mode and owner
 abbrev pub put_dir : TreeMap → List (List ℕ) → MetaValue → Result TreeMap TreeFault
 put_dir t p m = walk (finite.get t) p >>= λ _. dir_fits (finite.get t p) >>= λ _. Ok (finite.insert t p (Dir m))
 

@@ -33,7 +33,7 @@ AreBehind [] (l ∷ ls) = ⊥
 AreBehind (n ∷ p) [] = ⊥
 AreBehind (n ∷ p) (l ∷ ls) = (T (below_all name_cmp n (map pair_of l)) × AreSorted l) × AreBehind p ls
 
--- the entries that the walk has not passed: those of the current node, and then those after them; none if the walk has ended
+-- the entries that the walk has not passed: the entries at and below the current node, and then the entries after these; none if the walk has ended
 abbrev pub left : Option (Bor Node) → List (List ℕ) → List Children → List (List (List ℕ) × Entry)
 left None p ls = []
 left (Some node) p ls = map (moved 0 p) (finite.entries node.now) ++ behind p (levels_of ls)

@@ -1,5 +1,5 @@
-//! Contents that files share: sharing copies no bytes, so copying a file to another path, or giving it
-//! another mode or owner, costs only the edit.
+//! Contents that files share: sharing copies no bytes, so copying a file to another path, or giving a file
+//! another mode or owner, costs only the edit of the tree.
 
 ghost use Rattle.std.specs.Prelude.{◌≡◌, [], Ok, List, ℕ, IfOk, OnErr};
 ghost use Rattle.std.specs.Arc.{arc_value};

@@ -1,6 +1,6 @@
-//! Edits of nodes that may be shared. Before a directory is changed, it gets copies of what it shares with other owners: of its list of pieces, and of the
-//! children in the piece that is changed. What is below these children stays shared, and the other owners see no change. So an edit copies, for each directory
-//! on its path, the list of its pieces and one piece.
+//! Edits of nodes that may be shared. Before a directory is changed, its list of pieces and the children in the piece to be changed are copied, if they have
+//! other owners. What is below these children stays shared, and the other owners see no change. So an edit copies, for each directory on the edit's path, the
+//! directory's list of pieces and one piece.
 
 ghost use Rattle.std.specs.Prelude.{[], Ok, Err, ◌≡◌, ◌<◌, ◌≤◌, ℕ, List, length, map, option_map, IfOk, OnOk, OnErr};
 ghost use Rattle.std.specs.Arc.{arc_value};
@@ -90,7 +90,7 @@ fn set_rows(
     }
 }
 
-// Does in one of the pieces, the one that the name belongs to, what `set_in` does in a list of children.
+// Does in the piece that the name belongs to what `set_in` does in a list of children.
 #[cycle(set)]
 fn set_piece(
     pieces: &mut Vec<Piece>,

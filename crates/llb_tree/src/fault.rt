@@ -19,7 +19,7 @@ pub enum TreeFault {
     /// 24: a file is in the way of a directory.
     #[error("24")]
     Conflict,
-    /// 25: this can't be done at the root.
+    /// 25: the edit can't be done at the root.
     #[error("25")]
     Root,
     /// 26: a part of a text is no name, or a path would have more than 128 names.

@@ -1,5 +1,5 @@
-//! Checks whether the entries of a tree can be put at and below a path, so that no path gets more than 128 names. Usually the bound of the tree's depth, which
-//! the tree keeps, is enough to say so; otherwise the nodes are visited.
+//! Checks whether the entries of a tree can be put at and below a path, so that no path gets more than 128 names. A tree keeps a bound of its depth, which
+//! usually decides this; otherwise the nodes are visited.
 
 ghost use Rattle.std.specs.Prelude.{◌≡◌, ◌↔◌, ◌≤◌, IsTrue, IfErr, false};
 ghost use Rattle.std.specs.FinMap as finite;

@@ -4,8 +4,8 @@
 //!
 //! Types: `Tree`, `Path`, `Name`, `Meta` (mode and owner), `Entry`, `Node` and `Children` (the nodes in memory), `Walk` (entries in
 //! path order), `TreeFault`.
-//! Promise: `Tree::put_file` (`gives`, `last`, `err`) makes one change of the map, or fails with its first fault and changes nothing;
-//! so do the other edits. `Tree::overlaid` (`paths`) lays one tree over another; `Tree::get` (`found`, `tree`) returns the entry at a path.
+//! Promise: `Tree::put_file` (`gives`, `last`, `err`) makes one change of the map, or fails with its first fault and changes nothing; the
+//! other edits do the same. `Tree::overlaid` (`paths`) lays one tree over another; `Tree::get` (`found`, `tree`) returns the entry at a path.
 //!
 //! A caller:
 //!

@@ -17,14 +17,14 @@ use crate::tree::Tree;
 use std::alloc::Global;
 
 impl Child {
-    /// Returns the name. Does not allocate.
+    /// Returns the child's name. Does not allocate.
     pub fn name(&self) -> &Name
         ensures { result.now ≡ name_of self.now }
     {
         &self.name
     }
 
-    /// Returns the node at the name, with what is below it. Does not allocate.
+    /// Returns the child's node, with what is below it. Does not allocate.
     pub fn node(&self) -> &Node
         ensures { result.now ≡ self.now.node }
     {

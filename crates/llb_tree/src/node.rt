@@ -33,7 +33,7 @@ pub struct Node {
     pub(crate) kind: Kind,
 }
 
-// A file with its content, or a directory with the pieces of its children; each with its mode and owner.
+// A file with its content, or a directory with the pieces of its children. Both have a mode and an owner.
 #[cycle(node)]
 #[derive(Drop)]
 pub(crate) enum Kind {
@@ -78,8 +78,8 @@ impl Model for Node {
     ghost size_decreases = { λ a h. falls a.kind };
 }
 
-// Returns the index of the child with a name; if there is none, as `Err`, the index at which it would be inserted. Looks
-// at the last child first, since children are most often added in the order of their names.
+// Returns the index of the child with a name; if there is no such child, returns as `Err` the index at which the child
+// would be inserted. Looks at the last child first, since children are most often added in the order of their names.
 pub(crate) fn place_of(kids: &[Child], name: &Name) -> Result<usize, usize>
     requires { AreSorted kids.now }
     ensures place { result ≡ place name.now kids.now }
@@ -160,7 +160,7 @@ impl Node {
         })
     }
 
-    // Returns this directory with another mode and owner; if this node is a file, returns an empty directory.
+    // Returns this directory with another mode and owner; if this node is a file, returns an empty directory with them.
     fn with_meta(&self, alloc: Global, meta: Meta) -> Result<Node, AllocError>
         ensures { IfOk result (λ n. (q : List (List ℕ)) → finite.get n q ≡ dir_look meta (finite.get self.now) q) }
     {
@@ -208,7 +208,7 @@ impl Node {
         Ok(())
     }
 
-    // Copies the node; the copy shares what is below the node. Fails only if what is shared has too many owners.
+    // Copies the node; the copy shares what is below the node. Fails only if the shared content or list of children has too many owners.
     pub(crate) fn copy(&self) -> Result<Node, AllocError>
         ensures { IfOk result (λ n. n ≡ self.now) }
     {

@@ -25,8 +25,8 @@ use crate::writing::{with_node, with_rows};
 use std::alloc::{AllocError, Global};
 use std::sync::Arc;
 
-// Returns the node, and all that is below it, with the mode and the owner of the `OverlaySettings`. Contents are shared; so is
-// the whole node if the `OverlaySettings` has neither mode nor owner.
+// Returns the node, and all that is below it, with the mode and the owner that `settings` sets. Contents are shared; so is
+// the whole node if `settings` sets neither a mode nor an owner.
 #[cycle(dress)]
 fn dressed(node: &Node, alloc: Global, settings: &OverlaySettings) -> Result<Node, AllocError>
     ensures { IfOk result (λ n. n ≡ dress settings.now node.now) }
@@ -278,10 +278,10 @@ fn laid_child(
 }
 
 impl Tree {
-    /// Lays the tree `upper` over this one, and returns the result. At a path it has what `upper` has there, with the mode and the owner that `settings`
-    /// sets. If `upper` has nothing there, it has what this tree has there, unless a file of `upper` is above the path. A directory that both trees have is as
-    /// in `upper`, or as in this tree if `settings` says so. Fails with 27 `Memory` alone. The call visits only what both trees have; what only one of them
-    /// has is shared, not copied. But if `settings` sets a mode or an owner, all entries of `upper` get new nodes; even then contents are shared.
+    /// Lays the tree `upper` over this one, and returns the result. At a path the result has what `upper` has there, with the mode and the owner that
+    /// `settings` sets. If `upper` has nothing there, the result has what this tree has there, unless a file of `upper` is above the path. A directory that
+    /// both trees have is as in `upper`, or as in this tree if `settings` says so. Fails with 27 `Memory` alone. The call visits only what both trees have;
+    /// what only one tree has is shared, not copied. But if `settings` sets a mode or an owner, all entries of `upper` get new nodes, which share contents.
     pub fn overlaid(self, settings: &OverlaySettings, upper: &Tree) -> Result<Tree, TreeFault>
         ensures paths { IfOk result (λ t. (q : List (List ℕ)) → finite.get t q ≡ over_at settings.now (finite.get self) (finite.get upper.now) q) }
         ensures memory { IfErr result (λ e. is_memory e ≡ true) }

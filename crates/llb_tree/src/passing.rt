@@ -73,8 +73,8 @@ fn find_in<T: NameTest>(
 }
 
 impl Tree {
-    /// Returns, in path order, the paths that have as many names as there are tests and whose names pass, each the test at its index. Fails with 27 `Memory`
-    /// alone. Looks at no path with more names than there are tests.
+    /// Returns, in path order, the paths that have as many names as there are tests, and in which each name passes the test at its index. Fails with 27
+    /// `Memory` alone. Looks at no path with more names than there are tests.
     pub fn passing<T: NameTest>(&self, tests: &[T]) -> Result<Vec<Path>, TreeFault>
         ensures { Gives (λ v. v.items) result (Ok (filter (passes_all T.passes tests.now) (finite.keys self.now))) }
     {

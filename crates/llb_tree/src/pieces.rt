@@ -1,6 +1,6 @@
 //! The children of a directory in pieces. Copies of the directory share the pieces: an edit of a shared directory
-//! copies the list of the pieces and the piece that it changes. A piece that is full is split in two before another
-//! child goes into it.
+//! copies the list of the pieces and the piece that the edit changes. A piece with `MOST` children is split in two before
+//! another child goes into it.
 
 ghost use Rattle.std.specs.Prelude.{◌≡◌, ◌<◌, ◌++◌, length, map, option_map, Contains, IfOk, IfSome, OnOk};
 ghost use Rattle.std.specs.Arc.{arc_value};
@@ -210,7 +210,7 @@ fn end_piece(pieces: &mut Vec<Piece>, alloc: Global, rows: Vec<Child>) -> Result
     Ok(())
 }
 
-// Puts children into pieces. All of the pieces are full, except perhaps the last one.
+// Puts children into pieces. Each piece has `MOST` children, except perhaps the last one.
 pub(crate) fn in_pieces(alloc: Global, rows: Vec<Child>) -> Result<Arc<Vec<Piece>>, AllocError>
     ensures same { IfOk result (λ v. kids_in (arc_value v).items ≡ rows.items) }
     ensures full { IfOk result (λ v. AllFull (map row_pairs (arc_value v).items)) }

@@ -47,7 +47,7 @@ fn put_in(rows: &mut Arc<Vec<Child>>, alloc: Global, child: Child) -> Result<(),
     }
 }
 
-// Puts a child into one of the pieces, the one that its name belongs to, as `put_child` does into a list.
+// Puts a child into the piece that the child's name belongs to, as `put_child` does into a list.
 fn put_piece(pieces: &mut Vec<Piece>, alloc: Global, child: Child) -> Result<(), AllocError>
     requires { ArePieced pieces.old.items }
     ensures ok { OnOk result (pairs_of pieces.new.items ≡ finite.put name_cmp (name_of child) child.node (pairs_of pieces.old.items)) }

@@ -9,8 +9,8 @@ ghost use Rattle.llb_tree.specs.Laying.{AreSettings, TakesWhole, owner_fits};
 use crate::meta::Meta;
 use std::marker::Model;
 
-/// What an overlay sets at each upper entry: a mode, a user and a group, each optional (an entry keeps its own where none
-/// is set); and whether a directory that both trees have stays as the lower tree has it.
+/// What an overlay sets at each upper entry: a mode, a user and a group, each optional (an entry keeps its own if none is
+/// set); and whether a directory that both trees have stays as the lower tree has it.
 #[derive(Clone, Copy)]
 pub struct OverlaySettings {
     mode: Option<u16>,
@@ -33,8 +33,8 @@ impl Model for OverlaySettings {
 }
 
 impl OverlaySettings {
-    /// Makes a `OverlaySettings` of a mode, a user and a group, each optional, and of whether a directory that both trees have stays as in the
-    /// lower one; `None` exactly if the mode is above 4095.
+    /// Makes the settings from a mode, a user and a group, each optional, and from `keeps`, which says whether a directory that both trees have
+    /// stays as in the lower tree; returns `None` exactly if the mode is above 4095.
     pub fn new(
         mode: Option<u16>,
         uid: Option<u32>,
@@ -56,7 +56,7 @@ impl OverlaySettings {
         })
     }
 
-    // Returns the mode and the owner that an upper entry gets in the result; `own` is the mode and the owner that it has in its tree.
+    // Returns the mode and the owner that an upper entry gets in the result; `own` is the mode and the owner that the entry has in the upper tree.
     pub(crate) fn laid_meta(&self, own: Meta) -> Meta
         ensures { result ≡ laid_meta self.now own }
     {
@@ -73,14 +73,14 @@ impl OverlaySettings {
         self.mode.is_none() && self.uid.is_none() && self.gid.is_none()
     }
 
-    // Returns whether the result has every upper entry as it is in its tree, also a directory that both trees have.
+    // Returns whether the result has every entry of the upper tree unchanged, also a directory that both trees have.
     pub(crate) fn takes_whole(&self) -> bool
         ensures { IsTrue result → TakesWhole self.now }
     {
         !self.keeps && self.gives_nothing()
     }
 
-    // Returns the mode and the owner that a directory of both trees gets in the result.
+    // Returns the mode and the owner that a directory gets in the result if both trees have it.
     pub(crate) fn met(&self, lower: Meta, upper: Meta) -> Meta
         ensures { Dir result ≡ over self.now (Some (Dir lower)) (Dir upper) }
     {

@@ -1,5 +1,5 @@
 //! Removes the paths that tests of their names select, one test for each name from the root down. The call goes down only into
-//! directories whose own names pass, so it never looks deeper than there are tests.
+//! directories whose own names pass, so it visits no path with more names than there are tests.
 
 ghost use Rattle.std.specs.Prelude.{◌≡◌, ◌∷◌, Bool, List, ℕ, IfOk, option_map};
 ghost use Rattle.llb_tree.specs.Tree.{Gives, MemoryLast};
@@ -106,7 +106,7 @@ fn keep<T: NameTest>(
 
 impl Tree {
     /// Returns the tree without the paths that pass the tests and all paths below these; `None` if no path passes. Fails with 25 `Root` if there are no tests,
-    /// else with 27 `Memory`. What is unchanged is shared.
+    /// else with 27 `Memory`. The result shares all unchanged nodes with this tree.
     pub fn without_passing<T: NameTest>(&self, tests: &[T]) -> Result<Option<Tree>, TreeFault>
         ensures gives { Gives (λ o. o) result (rid_of T.passes tests.now self.now) }
         ensures last { MemoryLast result (rid_of T.passes tests.now self.now) }

@@ -17,7 +17,7 @@ use llb_wire::Bytes;
 use std::alloc::Global;
 use std::marker::Model;
 
-/// A map from paths to entries. The root is a directory, and so is each proper prefix of a path that is there.
+/// A map from paths to entries. The root is a directory, and so is each proper prefix of a path that has an entry.
 pub struct Tree {
     pub(crate) root: Node,
     pub(crate) depth: usize,

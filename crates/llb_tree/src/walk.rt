@@ -67,7 +67,7 @@ fn enter<'a>(
     Ok(&kid.node)
 }
 
-// Goes up to the nearest directory that has children left to visit, and then down to the first of these; returns `None` if no directory has.
+// Goes up to the nearest directory that has children left to visit, and then down to the first of these; returns `None` if there is no such directory.
 fn climb<'a>(path: &mut Path, levels: &mut Vec<Children<'a>>) -> Result<Option<&'a Node>, TreeFault>
     requires behind { AreBehind path.old (levels_of levels.old.items) }
     requires short { AreShort (behind path.old (levels_of levels.old.items)) }

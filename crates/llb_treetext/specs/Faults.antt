@@ -1,5 +1,5 @@
--- The results of this crate's calls: the result of the call's rule, or the fault `Memory`. A rule is a function that returns a value
--- or a fault, and never `Memory`.
+-- A call of this crate returns the result of its rule, or it fails with `Memory`. The rule of a call is a definition: a function that returns
+-- a value or a fault, but never the fault `Memory`.
 use Rattle.std.specs.Prelude.{ℕ, List, ◌++◌, Bool, true, false, Option, Result, codes}
 use Rattle.std.specs.Fmt.{decimal}
 use Rattle.llb_wire.specs.Answer as answer
@@ -20,7 +20,7 @@ is_memory (text.NoParent n) = false
 abbrev pub Gives : {X Y : Type 0} → (X → Y) → Result X TextFault → Result Y TextFault → Type 0
 Gives = answer.Gives is_memory
 
--- `Memory` is reported last: a call fails with it only if its rule has no refusal
+-- `Memory` is reported last: a call fails with it only if its rule returns a value
 abbrev pub MemoryLast : {X Y : Type 0} → Result X TextFault → Result Y TextFault → Type 0
 MemoryLast = answer.MemoryLast is_memory
 

@@ -1,4 +1,4 @@
--- How a line is split into its fields, and how each field is read. Only this file and the proofs know this.
+-- How a line is split into its fields, and how each field is read. Only this crate uses these definitions.
 use Rattle.std.specs.Prelude.{ℕ, ◌+◌, ◌-◌, ◌*◌, ◌^◌, ◌==◌, ◌&&◌, ◌||◌, not, nat_lt, nat_le, nat_eq, Bool, false, if◌then◌else◌, List}
 use Rattle.std.specs.Prelude.{[], ◌∷◌, length, codes, Option, Some, None}
 use Rattle.std.specs.List.{list_all, position_or_len, before_first, after_first}
@@ -29,7 +29,7 @@ cut_at c text = if nat_lt (position_or_len (λ b. nat_eq b c) text) (length text
 abbrev pub mode_in : List ℕ → Option ℕ
 mode_in text = if length text == 4 then mode_of text else None
 
--- the number that n and the decimal digits after it spell; nothing if it has more than 32 bits
+-- the number that the digits of n, followed by these decimal digits, spell; nothing if the number has more than 32 bits
 unfoldable pub number_from : ℕ → List ℕ → Option ℕ
 number_from n [] = Some n
 number_from n (b ∷ text) = if nat_lt (n * 10 + (b - 48)) (2 ^ 32) then number_from (n * 10 + (b - 48)) text else None
@@ -56,15 +56,15 @@ is_path (b ∷ names) = (b == 47) && ((length names == 0) || are_names names)
 abbrev pub Fields : Type 0
 Fields = MetaValue × Option (List ℕ) × List ℕ
 
--- the fields of a line, made from the code's type for them
+-- the fields of a line, made from a value of the code's type `Parts`
 abbrev pub parts_seen : Parts → Fields
 parts_seen x = (x.meta, option_map (λ digits. digits.now) x.digits, x.path.now)
 
--- the fields of a directory's line; nothing if its path is not spelled as paths are written
+-- the fields of a directory's line; nothing if the path is not spelled as in the text of a tree
 abbrev pub dir_parts : MetaValue → List ℕ → Option Fields
 dir_parts m path = if is_path path then Some (m, None, path) else None
 
--- the fields of a file's line; nothing if its content or its path is not spelled as these are written, or its path is the root
+-- the fields of a file's line; nothing if the content or the path is not spelled as in the text of a tree, or if the path is the root
 abbrev pub file_parts : MetaValue → List ℕ → List ℕ → Option Fields
 file_parts m digits path = if is_hex digits && is_path path && not (nat_lt (length path) 2) then Some (m, Some digits, path) else None
 
@@ -89,7 +89,7 @@ abbrev pub entry_of : MetaValue → Option (List ℕ) → Entry
 entry_of m None = Dir m
 entry_of m (Some content) = File m content
 
--- the path and the entry of a line, made from the code's type for them
+-- the path and the entry of a line, made from a value of the code's type `Row`
 abbrev pub pair_of : Row → List (List ℕ) × Entry
 pair_of r = (r.path, entry_of r.meta r.content)
 

@@ -1,4 +1,4 @@
--- What the tree is after the entry of the next line is put into it. Only this file and the proofs know that a text is read line by line.
+-- The tree after the entry of the next line is put into it. Only this crate uses these definitions, by which a text is read line by line.
 use Rattle.std.specs.Prelude.{◌≡◌, ℕ, ◌+◌, ◌<◌, ◌==◌, Bool, true, false, List, [], ◌∷◌, ◌++◌, length, map, None, Result, Ok, Err, if◌then◌else◌}
 use Rattle.std.specs.FinMap as finite
 use Rattle.std.specs.declared.cmp.Ordering.{Ordering}
@@ -20,7 +20,7 @@ abbrev pub put_row : TreeMap → List (List ℕ) × Entry → Result TreeMap Tre
 put_row t (p, Dir m) = put_dir t p m
 put_row t (p, File m content) = put_file t p m content
 
--- these are the fields of the line that is written for an entry
+-- x is the fields of the line that is written for the entry `row`
 abbrev pub IsOf : List (List ℕ) × Entry → Parts → Type 0
 IsOf row x = IsRow row × (parts_seen x ≡ parts_from row)
 
@@ -50,7 +50,7 @@ rank b = if b == 47 then 0 else b
 abbrev pub trail_cmp : List ℕ → List ℕ → Ordering
 trail_cmp p q = slice_cmp nat_cmp (map rank p) (map rank q)
 
--- Let the text of the last entry's path be a text A and then the given bytes: whether A is the path of a directory. If no bytes are given, A is the path of
+-- whether a text A is the path of a directory, if the text of the last entry's path is A followed by the given bytes. If no bytes are given, A is the path of
 -- the last entry, and `dir` says whether that entry is a directory; else the bytes have to begin with a slash.
 abbrev pub opens : List ℕ → Bool → Bool
 opens [] dir = dir

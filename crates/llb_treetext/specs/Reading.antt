@@ -53,7 +53,7 @@ pub record Stops (bytes : List ℕ) (e : TextFault) : Type 0 where
   pub more : rest ≡ [] → rows ≡ []
   pub fault : IsFault rows rest e
 
--- the result of reading a text: the tree, or the first fault; this allows the fault `Memory` for any text
+-- the result of reading a text: the tree, or the first fault of the text; the fault `Memory` is possible for any text
 abbrev pub Answers : List ℕ → Result TreeMap TextFault → Type 0
 Answers bytes (Ok t) = IsText bytes t
 Answers bytes (Err e) = is_memory e ≡ false → Stops bytes e

@@ -1,6 +1,6 @@
-//! The tree of a text while the text is read. The files of a directory often follow one another, so the directory of the
-//! last line is kept apart as a tree of its own: a file is put into it by the file's name alone. Later this whole
-//! directory is put back at its path.
+//! The tree of a text while the text is read. The lines of a directory's files often follow the directory's line, so a
+//! new directory is kept apart as a tree of its own: a file is put into it by the file's name alone. The directory is put
+//! back at its path before the next entry that is not such a file, or at the end.
 
 ghost use Rattle.std.specs.Prelude.{◌≡◌, ◌++◌, ◌∷◌, ℕ, List, [], Ok, None, true, false, IfSome, IfOk};
 ghost use Rattle.std.specs.FinMap as finite;
@@ -108,7 +108,7 @@ fn path_of_name(alloc: Global, text: &str) -> Result<Option<Path>, Memory>
 }
 
 // Puts a line's file by its name into the directory that is kept apart, and returns whether it did so; a line that is not the line of a file directly below
-// that directory changes nothing. If memory is refused, the result is an error and not `false`, so that this is reported.
+// that directory changes nothing. If memory is refused, the result is an error and not `false`, so that the refusal is reported.
 fn is_put_below(alloc: Global, growing: &mut Growing<'_>, parts: &Parts<'_>) -> Result<bool, Memory>
     ensures put { IfOk result (λ is_put. is_put ≡ true → (t : TreeMap) → IsGrown growing.old t → (row : List (List ℕ) × TreeEntry)
         → Follows t row parts.now → IsGrown growing.new (finite.insert t row.0 row.1)) }

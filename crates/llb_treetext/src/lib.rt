@@ -1,8 +1,9 @@
 //! The text of a tree: a line for each entry in path order. The crate is built on `llb_tree`, and does not use ops.
 //!
 //! Types: `TextFault` (why a text is not the text of a tree), `PrintFault`.
-//! Promise: `print_tree` (`prints`) writes exactly the text of the tree, or a prefix of it if memory is refused or the sink fails. `read_tree`
-//! (`answers`, `last`) returns a tree exactly if the bytes are its text, and otherwise the first fault of the first faulty line: 31, 32 or 33.
+//! Promise: `print_tree` (`prints`) writes exactly the text of the tree, or a prefix of the text if memory is refused or the sink fails. `read_tree`
+//! (`answers`, `last`) returns the tree whose text the bytes are, or fails with 34 if memory is refused. If the bytes are no text of a tree, `read_tree`
+//! fails with the first fault of the first faulty line: 31, 32 or 33.
 //!
 //! A caller:
 //!

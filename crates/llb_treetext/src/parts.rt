@@ -1,5 +1,5 @@
-//! Splits a line into its fields without allocating. Each field is accepted only as `print_tree` writes it, so a line that has all its fields is the line of an
-//! entry.
+//! Splits a line into its fields without allocating. A field is accepted only if it is spelled as `print_tree` writes it, so a line whose fields are all
+//! accepted is the line of an entry.
 
 ghost use Rattle.std.specs.Prelude.{◌≡◌, ◌↔◌, nat_eq, IsTrue, position};
 ghost use Rattle.std.specs.Fmt.{decimal};
