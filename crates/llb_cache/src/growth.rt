@@ -1,4 +1,4 @@
-//! What a lease of a key would add to the rows, known before the lease is granted; and taking a lease back, which also removes what the lease added.
+//! Finds what a lease of a key would add to the rows, before the lease is granted. Takes a lease back, and removes what the lease added.
 
 ghost use Rattle.std.specs.Prelude.{◌≡◌, ◌≢◌, List, length, AllPairs};
 ghost use Rattle.std.specs.Map.{keys_of};

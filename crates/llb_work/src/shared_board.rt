@@ -178,7 +178,7 @@ impl<S: Gated> SharedBoard<S> {
 
     /// Does what a worker has to do in one hold of the lock, by what it reports, and counts the events for the worker. Returns what the worker is to do next,
     /// and shared copies of the trees that this hold may have dropped. Adds to `news` the numbers that the worker then has to put into the queue: those of the
-    /// vertices that became ready when its vertex ended, the greatest first, and those that had waited for a key.
+    /// vertices that became ready when the worker's vertex ended, the greatest first, and those that had waited for a key.
     pub(crate) fn next_task(
         &mut self,
         w: u32,
