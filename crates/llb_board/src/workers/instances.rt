@@ -46,8 +46,8 @@ fn content(alloc: Global, caches: &Caches, place: &Instance) -> Result<Tree, Ste
     }
 }
 
-/// Leases an instance for each of these needs; `None` if there are no needs. The needs have distinct keys; `rows` has for each key the row in
-/// which to look for it first. Fails with 111 `Held` and the first locked key that is held, or with 112 `Memory`; then the caches are as they
+/// Leases an instance for each of these needs; `None` if there are no needs. The needs have distinct keys; `rows` has for each key the row
+/// that is tried first. Fails with 111 `Held` and the first locked key that is held, or with 112 `Memory`; then the caches are as they
 /// were.
 pub(crate) fn lease_for(
     caches: &mut Caches,
