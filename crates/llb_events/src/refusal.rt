@@ -19,7 +19,7 @@ pub enum ClaimFault {
     NoVertex,
     /// 134: the vertex does not wait, or an input of it is not done.
     NotReady,
-    /// 135: a running worker holds the locked cache of this key, which is the first such key in the order of the mounts.
+    /// 135: a running worker holds the locked cache of this key, the first such key in mount order.
     Held(Key),
     /// 141: memory was refused.
     Memory,
@@ -49,7 +49,7 @@ pub enum StepFault {
     NoWorker,
     /// 136: the worker is idle.
     NotRunning,
-    /// 137: the vertex that the worker runs is finished.
+    /// 137: the worker's vertex is finished.
     NothingLeft,
     /// 141: memory was refused.
     Memory,
@@ -77,7 +77,7 @@ pub enum SettleFault {
     NoWorker,
     /// 136: the worker is idle.
     NotRunning,
-    /// 138: the vertex that the worker runs is not finished.
+    /// 138: the worker's vertex is not finished.
     NotFinished,
 }
 

@@ -53,6 +53,6 @@ AreIdle s = (w : ℕ) → runs (slice_get s.workers w) ≡ None
 abbrev pub no_build : Build
 no_build = record { graph = record { vertices = []; result = record { vertex = 0; index = 0 } }; locals = [] }
 
--- a board without vertices and workers: the value where no board is given
+-- a board without vertices and workers: the value that is used where no board is given
 abbrev pub nothing : BoardValue
 nothing = opened no_build 0 []
