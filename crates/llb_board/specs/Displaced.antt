@@ -122,7 +122,7 @@ change_of c = (c.vertex, status_of c.stage)
 
 -- ---- when an event can be taken back
 
--- worker w runs something; its workspace has as many mounts once `mark` is put back as it has now; and there is a tree for each of its instances
+-- worker w runs a vertex; putting `mark` back keeps the number of mounts of its workspace; and there is a tree for each instance that w holds
 pub record IsStepped (workers : List WorkerStatus) (w : ℕ) (mark : Mark) (trees : List TreeMap) : Type 0 where
   pub x : Execution
   pub runs : slice_get workers w ≡ Some (Runs x)

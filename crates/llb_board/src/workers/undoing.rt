@@ -40,7 +40,7 @@ impl Drop for Undo {
 /// What is put back when an event is taken back, by the kind of the event.
 #[derive(Drop)]
 pub(crate) enum Back {
-    /// For a claim: the worker, the vertex, and what its lease added to the caches.
+    /// For a claim: the worker, the vertex, and what the claim's lease added to the caches.
     Unclaim(u32, u32, Vec<Growth>),
     /// For a step: the worker, what the micro-step could change of its view, and the trees of its cache instances.
     Unstep(u32, Mark, Vec<Tree>),
