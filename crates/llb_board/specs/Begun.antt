@@ -1,4 +1,4 @@
--- The job of a vertex with no cache mount at or before it: the build and the vertex alone determine this job.
+-- The job of a worker at a vertex with no cache mount at or before it: the build, the worker and the vertex alone determine this job.
 use Rattle.std.specs.Prelude.{◌≡◌, ℕ, true, [], Option, Some, None, option_map, slice_get}
 use Rattle.llb_loader.specs.declared.graph.Vertex.{Vertex}
 use Rattle.llb_model.specs.Program.{Build, Start, start_with, begin}
@@ -46,6 +46,6 @@ pub record IsKnown (b : BoardValue) (w : ℕ) (job : Job) : Type 0 where
   pub first : x.done ≡ 0
   pub same : plain_job b.build w x.vertex ≡ Some job
 
--- if `IsKnown` holds of a job, the outcome of the job can be landed
+-- if `IsKnown` holds of a worker and a job, the worker can land the outcome of the job
 abbrev pub KnownLand : BoardValue → Type 0
 KnownLand b = (w : ℕ) (job : Job) → IsKnown b w job → CanLand b w job

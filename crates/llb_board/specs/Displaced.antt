@@ -51,12 +51,12 @@ abbrev pub end_of : End → ℕ → own_event.Event
 end_of end.Settle w = event.Settle w
 end_of end.Cancel w = event.Cancel w
 
--- the refusal of a settle or a cancel by a worker that does not exist
+-- the refusal of a settle or a cancel whose worker does not exist
 abbrev pub no_worker : End → WalkFault
 no_worker end.Settle = walk.Settle no_settle.NoWorker
 no_worker end.Cancel = walk.Cancel no_cancel.NoWorker
 
--- the refusal of a settle or a cancel by an idle worker
+-- the refusal of a settle or a cancel whose worker is idle
 abbrev pub not_running : End → WalkFault
 not_running end.Settle = walk.Settle no_settle.NotRunning
 not_running end.Cancel = walk.Cancel no_cancel.NotRunning
@@ -86,13 +86,13 @@ back_in (back.Resume e w x lent) = Resume e w (left_in x) lent
 abbrev pub with_view_back : Mark → Execution → Execution
 with_view_back mark x = record x { done = x.done - 1; fault = None; own = put_back mark x.own }
 
--- what a worker did before its last micro-step, given what it does now; idle if it runs nothing
+-- the status of a worker before its last micro-step, given the worker's status now; idle if the worker runs nothing
 abbrev pub step_before : Mark → Option WorkerStatus → WorkerStatus
 step_before mark (Some (Runs x)) = Runs (with_view_back mark x)
 step_before mark (Some Idle) = Idle
 step_before mark None = Idle
 
--- what the workers did before the event
+-- the statuses of the workers before the event, given their statuses after it
 abbrev pub workers_before : Back → List WorkerStatus → List WorkerStatus
 workers_before (Unclaim w v growths) workers = slice_set workers w Idle
 workers_before (Unstep w mark trees) workers = slice_set workers w (step_before mark (slice_get workers w))
@@ -104,7 +104,7 @@ supplies_before (Unclaim w v growths) supplies = slice_set supplies w (supplies_
 supplies_before (Unstep w mark trees) supplies = supplies
 supplies_before (Resume e w left lent) supplies = slice_set supplies w left.supplies
 
--- the rows of the caches before the event, given what the workers do after it: only the instances that the event's worker holds are changed
+-- the rows of the caches before the event, given the workers' statuses and the rows after it: only instances that the event's worker holds differ
 abbrev pub rows_before : Back → List WorkerStatus → List Row → List Row
 rows_before (Unclaim w v growths) workers rows = unmade rows (places_at (slice_get workers w)) growths
 rows_before (Unstep w mark trees) workers rows = put_each rows (places_at (slice_get workers w)) trees
@@ -122,7 +122,7 @@ change_of c = (c.vertex, status_of c.stage)
 
 -- ---- when an event can be taken back
 
--- worker w runs something; its workspace has as many mounts once `mark` is put back as it has now; and there is a tree for each of its instances
+-- worker w runs a vertex; putting `mark` back keeps the number of mounts of its workspace; and there is a tree for each instance that w holds
 pub record IsStepped (workers : List WorkerStatus) (w : ℕ) (mark : Mark) (trees : List TreeMap) : Type 0 where
   pub x : Execution
   pub runs : slice_get workers w ≡ Some (Runs x)
@@ -136,7 +136,7 @@ pub record IsLeft (workers : List WorkerStatus) (w : ℕ) (left : Left) (lent : 
   pub keys : Distinct (map (λ (p : Instance). p.key) left.execution.places)
   pub ready : lent ≡ lent_of left.execution.places (length workers + 1)
 
--- the condition on the event's worker for taking the event back: after a claim, the worker exists; after a step, `IsStepped` holds; else `IsLeft` holds
+-- what must hold of the event's worker to take the event back: for a claim, the worker exists; for a step, `IsStepped`; for a settle or a cancel, `IsLeft`
 abbrev pub IsBehind : Back → List WorkerStatus → Type 0
 IsBehind (Unclaim w v growths) workers = w < length workers
 IsBehind (Unstep w mark trees) workers = IsStepped workers w mark trees

@@ -36,7 +36,7 @@ abbrev pub OthersIgnore : BoardValue → Type 0
 OthersIgnore b = (w : ℕ) (p : Instance) → HoldsInstance b w p → IsExclusive p.key.mode → (e : Event) (tree : TreeMap) → worker_of e ≢ w
     → table b.build (with_content p tree b.state) e ≡ option_map (with_content_after p tree) (table b.build b.state e)
 
--- each settled vertex and each instance that nobody holds is as if the record's claims had been run one after another, each as a whole or up to its cancel
+-- each settled vertex, and each instance that no worker holds, is as if the claimed vertices had run in claim order, each as a whole or up to its cancel
 abbrev pub StandsInClaimOrder : BoardValue → Type 0
 StandsInClaimOrder b = StandsIn b.state (order b.build (at_first b.build b.opening.store) (claims_in (replies_in b)))
 

@@ -53,7 +53,7 @@ front xs = take (length xs - 1) xs
 abbrev pub last_of : {A : Type 0} → List A → Option A
 last_of xs = slice_get xs (length xs - 1)
 
--- the room and the counts of cancels before the last event, an event of vertex v, given those after it: a claim's room is taken off; a cancel is not counted
+-- the room and the counts before the last event, which is an event of vertex v, given the room and the counts after it: what the event added is subtracted
 abbrev pub space_back : Option Event → ℕ → ℕ → Space → Space
 space_back (Some (Claim w u)) v events s = unclaimed v events s
 space_back (Some (Step w)) v events s = s

@@ -18,7 +18,7 @@ SettledArePlain b = (v : ℕ) (e : Ending) → is_plain b.build v ≡ true → s
 abbrev pub ChosenIsGranted : BoardValue → Type 0
 ChosenIsGranted b = (e : Event) → chosen b.build b.state ≡ Some e → is_some (table b.build b.state e) ≡ true
 
--- a granted event does not change the state of any worker but the event's own
+-- a granted event changes the state of no worker except the event's worker
 abbrev pub OthersKeep : BoardValue → Type 0
 OthersKeep b = (e : Event) (a : State × Reply) → table b.build b.state e ≡ Some a → (u : ℕ) → u ≢ worker_of e
     → slice_get a.0.workers u ≡ slice_get b.state.workers u

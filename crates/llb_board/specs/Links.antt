@@ -55,7 +55,7 @@ pub record HasRoom (count : ℕ) (reached : List ℕ) (room : ℕ) : Type 0 wher
   pub none : reached ≡ []
   pub fits : count ≤ room
 
--- the links are the ones of these vertices; `done` says which of the vertices are done
+-- the lists of users and the counts of open inputs are right for these vertices; `done` says which of the vertices are done
 pub record IsLinked (vs : List Vertex) (done : ℕ → Bool) (l : Linked) : Type 0 where
   pub same_users : length l.users ≡ length vs
   pub same_counts : length l.counts ≡ length vs
@@ -75,11 +75,11 @@ abbrev pub times : ℕ → List ℕ → ℕ
 times x [] = 0
 times x (y ∷ ys) = (if y == x then 1 else 0) + times x ys
 
--- each new count is the old one less how often the count's vertex occurs in the list of users
+-- the count of each vertex is lowered by the number of times that the vertex occurs in the list of users
 abbrev pub AreLowered : List ℕ → List ℕ → List ℕ → Type 0
 AreLowered users old new = (length new ≡ length old) × ((x : ℕ) → get_or new x 0 ≡ get_or old x 0 - times x users)
 
--- each new count is the old one plus how often the count's vertex occurs in the list of users
+-- the count of each vertex is raised by the number of times that the vertex occurs in the list of users
 abbrev pub AreRaised : List ℕ → List ℕ → List ℕ → Type 0
 AreRaised users old new = (length new ≡ length old) × ((x : ℕ) → x < length old → get_or new x 0 ≡ get_or old x 0 + times x users)
 
@@ -109,7 +109,7 @@ pub record Visits (users : List ℕ) (old new : List Bool) (reached reached_new 
   pub only : (x : ℕ) → is_marked new x ≡ true → (is_marked old x ≡ true) ⊎ Contains more x
   pub count : unmarked new + length more ≡ unmarked old
 
--- if the set of vertices marked before is closed (`IsClosed`), the set of those marked now is the least closed one with vertex v and all those marked before
+-- if the set of vertices marked in `old` is closed (`IsClosed`), the set marked in `new` is the least closed set that contains v and all marked in `old`
 pub record Spreads (users : List (List ℕ)) (v : ℕ) (old new : List Bool) : Type 0 where
   pub same : length new ≡ length old
   pub kept : (x : ℕ) → is_marked old x ≡ true → is_marked new x ≡ true

@@ -28,7 +28,7 @@ abbrev pub first_held_key : Leases → List Need → Option Key
 first_held_key out [] = None
 first_held_key out (n ∷ needs) = if is_locked_and_held out n.key then Some n.key else first_held_key out needs
 
--- the refusal that this key is held or, if no key is given, the needs
+-- the needs or, if a key is given, the refusal of a claim because this key is held
 abbrev pub unless_held : List Need → Option Key → Result (List Need) ClaimFault
 unless_held needs None = Ok needs
 unless_held needs (Some k) = Err (claim.Held k)
@@ -37,7 +37,7 @@ unless_held needs (Some k) = Err (claim.Held k)
 abbrev pub need_of : Wanted → Need
 need_of w = record { mount = w.mount; key = w.key; input = w.input }
 
--- the number of an instance among those of its key
+-- the number of an instance among the instances of its key
 abbrev pub number_of : Instance → ℕ
 number_of p = p.number
 
@@ -59,7 +59,7 @@ pub record IsFound (c : cache.CachesValue) (w : Wanted) : Type 0 where
 abbrev pub place_found : Wanted → Instance
 place_found w = place w.key w.found.number
 
--- the tree that an instance begins with: its own tree if the instance exists, else the tree of the input that the mount names; if none, the empty tree
+-- the tree that an instance begins with: its own tree if the instance exists, else the tree of the mount's input, or the empty tree if there is no input
 abbrev pub first_tree : List TreeMap → Wanted → TreeMap
 first_tree inputs w = unwrap_or (option_map (λ t. t.now) w.found.tree) (base_in w.input inputs)
 

@@ -27,16 +27,16 @@ out_without out None = out
 abbrev pub given_back : cache.CachesValue → Option ℕ → cache.CachesValue
 given_back c l = record c { out = out_without c.out l }
 
--- the caches after lease l is given back, if there is an l, and the instances that the lease added are removed
+-- the caches after lease l is given back and the instances that this lease added are removed; unchanged if there is no l
 abbrev pub taken_back : cache.CachesValue → Option ℕ → List Growth → cache.CachesValue
 taken_back c l gs = record (given_back c l) { rows = unmade c.rows (leased_places c.out l) gs }
 
--- a prepared lease of these instances (one that can be made without memory); none if there are no instances
+-- a prepared lease of these instances (a lease that can be granted later without memory); none if there are no instances
 abbrev pub lent_of : List Instance → ℕ → Option LentValue
 lent_of [] room = None
 lent_of (p ∷ ps) room = Some (record { places = p ∷ ps; room = room })
 
--- the number of a prepared lease once it is made, and the caches then; without a prepared lease, no number, and the caches unchanged
+-- the number that a prepared lease gets, and the caches after the lease is granted; if there is no prepared lease, no number, and the caches unchanged
 abbrev pub lent_if : cache.CachesValue → Option LentValue → Option ℕ × cache.CachesValue
 lent_if c None = (None, c)
 lent_if c (Some l) = (Some (cache.free_lease c.out), lent_again c l.places)

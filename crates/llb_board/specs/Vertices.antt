@@ -21,7 +21,7 @@ pub record VerticesValue : Type 0 where
 abbrev pub all_waiting : Build → VerticesValue
 all_waiting b = record { build = b; statuses = replicate (length b.graph.vertices) Waiting }
 
--- the value in which vertex v has this status instead
+-- the value after the status of vertex v is replaced by this status
 abbrev pub with_status : ℕ → Status → VerticesValue → VerticesValue
 with_status v s vs = record vs { statuses = slice_set vs.statuses v s }
 

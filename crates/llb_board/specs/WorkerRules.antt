@@ -62,11 +62,11 @@ worked_by x trees (Some m) = Ok (worked_to x m (step_on x.done (Some m) (work_wi
 abbrev pub worked : List MicroStep → Execution → List TreeMap → Result Worked StepFault
 worked steps x trees = worked_by x trees (next_step steps x)
 
--- the result of a micro-step with the rows of the caches after it
+-- the result of a micro-step: the execution, the rows of the caches, and the reply
 abbrev pub Written : Type 0
 Written = Execution × List Row × Reply
 
--- the result of a micro-step, with the trees of its instances written to the rows
+-- the result of a micro-step after the trees of the execution's instances are written to the rows
 abbrev pub written_by : List Row → List Instance → Result Worked StepFault → Result Written StepFault
 written_by rows ps (Ok w) = Ok (w.execution, put_each rows ps w.trees, w.reply)
 written_by rows ps (Err e) = Err e

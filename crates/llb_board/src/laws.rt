@@ -116,8 +116,8 @@ pub fn runs_in_claim_order(board: &Board)
     board.replays();
 }
 
-/// Proves a law for a list of chosen events (see `Board::chosen`) after the opening, at whose end no vertex runs: the vertices and the cache instances, shared
-/// ones included, are then as if the claimed vertices had been run one after another, in the order of their claims.
+/// Proves a law for a list of chosen events (see `Board::chosen`) that begins at the opening. If no vertex runs at the end of the list, the vertices and the
+/// cache instances, shared ones included, are then as if the claimed vertices had been run one after another, in the order of their claims.
 pub fn alone_in_claim_order(board: &Board)
     ensures { machine.AloneInClaimOrder board.now.build }
 {
@@ -179,8 +179,8 @@ pub fn outcome_by_inputs(board: &Board)
     board.is_graph();
 }
 
-/// Proves a law for a vertex with no cache mount at or before it: the build and the vertex determine the job that a claim hands out. If a worker has done no
-/// micro-step of such a vertex, the worker's work is this job, so the job's outcome can be landed without comparing trees.
+/// Proves a law for a vertex with no cache mount at or before it: the build, the worker and the vertex determine the job that a claim hands out. As long as the
+/// worker has done no micro-step of the vertex, this job is what remains for the worker, so the job's outcome can be landed without comparing trees.
 pub fn begun_are_plain(board: &Board)
     ensures begun { BegunArePlain board.now }
     ensures claims { ClaimsArePlain board.now }

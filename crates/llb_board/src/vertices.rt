@@ -176,7 +176,7 @@ impl Vertices {
         true
     }
 
-    /// Sets the state of a vertex, whatever the state was before. If the new state is done, it has as many trees as the vertex has outputs. Does not allocate.
+    /// Sets the state of a vertex, whatever the state was before. A new state `Done` must have as many trees as the vertex has outputs. Does not allocate.
     pub(crate) fn set(&mut self, v: u32, stage: Stage)
         requires low { v < length self.old.statuses }
         requires whole { IsWhole (slice_get self.old.build.graph.vertices v) (status_of stage) }

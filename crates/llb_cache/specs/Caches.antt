@@ -175,7 +175,7 @@ given_back c lease = record c { out = trimmed (slice_set c.out lease None) }
 
 -- ---- what is true of all caches
 
--- a mode is private or locked: at most one lease at a time may have an instance of a key with this mode
+-- a mode is private or locked: no two leases may have the same instance of a key with this mode at once
 abbrev pub IsExclusive : Mode → Type 0
 IsExclusive Shared = ⊥
 IsExclusive Private = Unit {0}

@@ -13,7 +13,7 @@ marked [] marks p = false
 marked (k ∷ keys) [] p = false
 marked (k ∷ keys) (m ∷ marks) p = if same_key p.key k then slice_index_or m p.number false else marked keys marks p
 
--- whether an instance is one of these
+-- whether an instance is in a list of instances
 abbrev pub is_one_of : List Instance → Instance → Bool
 is_one_of ps p = list_any (same_place p) ps
 

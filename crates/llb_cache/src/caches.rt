@@ -94,7 +94,7 @@ impl Caches {
     }
 
     /// Returns whether a lease of these needs may be requested: the keys of the needs are distinct, and fewer than 65,536 leases are current. Does not
-    /// allocate, and takes time in the square of the number of needs.
+    /// allocate. The time grows with the square of the number of needs.
     pub fn can_lease(&self, needs: &[Need]) -> bool
         ensures { IsTrue result ↔ (AllPairs (λ n m. n.key ≢ m.key) needs.now × (leases self.now.out < 65536)) }
     {

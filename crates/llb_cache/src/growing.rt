@@ -1,4 +1,4 @@
-//! How a lease takes its instances: all that can fail is done first, and then the changes, which do not allocate.
+//! How a lease takes its instances: all that can fail is done first. The changes are made after that, and do not allocate.
 
 ghost use Rattle.std.specs.Prelude.{◌≡◌, ◌<◌, ◌≤◌, ◌+◌, ℕ, true, false, map, slice_set, length, vec_len, vec_capacity, IfOk, None};
 ghost use Rattle.std.specs.List.{All};

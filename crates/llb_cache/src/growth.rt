@@ -1,4 +1,4 @@
-//! What a lease of a key would add to the rows, known before the lease is granted; and taking a lease back, which also removes what the lease added.
+//! Finds what a lease of a key would add to the rows, before the lease is granted. Takes a lease back, and removes what the lease added.
 
 ghost use Rattle.std.specs.Prelude.{◌≡◌, ◌≢◌, List, length, AllPairs};
 ghost use Rattle.std.specs.Map.{keys_of};
@@ -45,8 +45,8 @@ impl Caches {
         }
     }
 
-    /// Takes a current lease back, and removes what the lease added to the rows. For each need of the lease, `growths` has what `growth` returned before the
-    /// lease was granted. No other lease may have an instance that is removed. Does not allocate.
+    /// Takes a current lease back, and removes what the lease added to the rows. For each need of the lease, `growths` must have what `growth` returned before
+    /// the lease was granted. No other lease may have an instance that is removed. Does not allocate.
     pub fn take_back(&mut self, lease: Lease, growths: &[Growth])
         requires out { IsOut self.old.out lease }
         requires there { AreThere (taken_back self.old lease growths.now).rows (taken_back self.old lease growths.now).out }

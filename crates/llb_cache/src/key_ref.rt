@@ -33,7 +33,7 @@ impl<'a> Model for KeyRef<'a> {
 }
 
 impl<'a> KeyRef<'a> {
-    /// Returns the key with this ID, this mode and this seed (the digest text and the index of an output), if there is one.
+    /// Returns the key with this ID and this mode, and with this seed (the digest text and the index of an output) if one is given.
     /// Does not allocate.
     pub fn new(id: &'a str, seed: Option<(&'a str, u32)>, mode: Mode) -> KeyRef<'a>
         ensures { result ≡ record { id = id.now; seed = option_map (λ s. seed_by s.0.now s.1) seed.entry; mode = mode } }

@@ -87,8 +87,8 @@ fn rooms_for(alloc: Global, places: &[Instance]) -> Result<Vec<Marks>, Memory>
 }
 
 impl Caches {
-    /// Grants a prepared lease and returns it. Its instances have to exist and to have distinct keys, and no current lease may have one of them whose key is
-    /// private or locked. Fewer than 65,536 leases are current, and the prepared list has room for one more. Does not allocate.
+    /// Grants a prepared lease and returns it. The instances have to exist and to have distinct keys; those of private or locked keys may be in no current
+    /// lease. Fewer than 65,536 leases may be current, and the prepared list must have room for one more lease. Does not allocate.
     pub fn lend_again(&mut self, lent: Lent) -> Lease
         requires { CanLend self.old lent }
         ensures number { result ≡ free_lease self.old.out }

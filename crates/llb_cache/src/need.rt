@@ -30,7 +30,7 @@ pub struct Found<'a> {
     pub is_held: bool,
     /// The number of the instance that a lease of the key would take.
     pub number: u32,
-    /// The tree of that instance; `None` if the instance does not exist.
+    /// The tree of the instance `number`; `None` if this instance does not exist.
     pub tree: Option<&'a Tree>,
 }
 

@@ -1,5 +1,5 @@
 //! The rows of caches: the keys with the trees of their instances. A look-up is a binary search of the rows in the order of their keys, so for any keys
-//! it takes time in the logarithm of the number of rows.
+//! the time of a look-up grows with the logarithm of the number of rows.
 
 ghost use Rattle.std.specs.Prelude.{◌≡◌, ◌<◌, ◌+◌, ℕ, false, [], length, IfSome, OnOk, IsSome, Some};
 ghost use Rattle.std.specs.Prelude.{is_some, option_map, position, slice_get};
@@ -98,8 +98,8 @@ fn has_key(rows: &Rows, row: usize, key: &KeyRef<'_>) -> bool
     }
 }
 
-// Returns the number of the row of a key; `None` if no row has the key. Row `near` is tried first; only if it does not have the key
-// are the rows searched.
+// Returns the number of the row of a key; `None` if no row has the key. Row `near` is tried first; the other
+// rows are searched only if row `near` does not have the key.
 pub(crate) fn row_near(rows: &Rows, key: &KeyRef<'_>, near: Option<usize>) -> Option<usize>
     requires { AreOrdered rows.now }
     ensures at { result ≡ position (same_key key.now) (keys_of rows.now.entries.items) }

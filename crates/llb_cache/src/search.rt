@@ -37,7 +37,7 @@ pub(crate) fn count(out: &[Option<Many<Instance>>]) -> u32
 
 impl Caches {
     /// Returns what the caches have for a key. The row with number `near` is tried first, at the cost of one comparison;
-    /// only if it does not have the key are the rows searched. Does not allocate.
+    /// the other rows are searched only if row `near` does not have the key. Does not allocate.
     pub fn look_up(&self, key: &KeyRef<'_>, near: Option<usize>) -> Found<'_>
         ensures row { result.row ≡ position (same_key key.now) (keys_of self.now.rows) }
         ensures held { result.is_held ≡ (is_locked key.now.mode && is_held self.now.out (place key.now 0)) }

@@ -1,5 +1,5 @@
--- The text after the word `fault` when a board refuses an event: the number of the fault, and for 135 the ID of the held key. Also how contracts state the
--- result of an event: it is what the table returns, or the call fails for want of memory.
+-- The text after the word `fault` when a board refuses an event: the number of the fault, and for 135 the ID of the held key. The other definitions say what
+-- contracts state of the result of an event: the call returns what the table returns, or it fails for want of memory.
 use Rattle.std.specs.Prelude.{ℕ, Bool, true, false, List, ◌++◌, Result, Ok, Err, codes}
 use Rattle.llb_wire.specs.Answer as answer
 use Rattle.llb_cache.specs.Key.{has_text}

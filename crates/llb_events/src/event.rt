@@ -10,7 +10,7 @@ pub enum Event {
     Claim(u32, u32),
     /// The worker does the next micro-step of the vertex that it runs.
     Step(u32),
-    /// The worker ends the vertex that it runs, which is finished, and is idle again.
+    /// The worker ends the finished vertex that it runs, and is idle again.
     Settle(u32),
     /// The worker gives up the vertex that it runs, and the vertex waits again.
     Cancel(u32),

@@ -1,4 +1,4 @@
-//! Why an event is refused. A fault prints its number, and after it the ID of a held key.
+//! Why an event is refused. A fault prints its number; 135 `Held` then prints the ID of its key.
 
 ghost use Rattle.std.specs.Prelude.{Some};
 ghost use Rattle.llb_events.specs.Faults.{claim_text, step_text, settle_text, cancel_text};
@@ -19,7 +19,7 @@ pub enum ClaimFault {
     NoVertex,
     /// 134: the vertex does not wait, or an input of it is not done.
     NotReady,
-    /// 135: a running worker has the locked cache of this key, the first such key in the order of the mounts.
+    /// 135: a running worker holds the locked cache of this key, the first such key in mount order.
     Held(Key),
     /// 141: memory was refused.
     Memory,
@@ -49,7 +49,7 @@ pub enum StepFault {
     NoWorker,
     /// 136: the worker is idle.
     NotRunning,
-    /// 137: what the worker runs is finished.
+    /// 137: the worker's vertex is finished.
     NothingLeft,
     /// 141: memory was refused.
     Memory,
@@ -77,7 +77,7 @@ pub enum SettleFault {
     NoWorker,
     /// 136: the worker is idle.
     NotRunning,
-    /// 138: what the worker runs is not finished.
+    /// 138: the worker's vertex is not finished.
     NotFinished,
 }
 
@@ -151,7 +151,7 @@ impl From<TreeFault> for ClaimFault {
     }
 }
 
-/// Converts the fault of a copy of a text, and of the parts of an execution.
+/// Converts the fault of copying a text or the parts of an execution.
 impl From<llb_wire::Memory> for ClaimFault {
     ghost use Rattle.std.specs.Prelude.{◌≡◌};
     ghost use Rattle.llb_events.specs.declared.refusal.ClaimFault.TheVariants.{Memory};
@@ -163,7 +163,7 @@ impl From<llb_wire::Memory> for ClaimFault {
     }
 }
 
-/// Converts the fault of a copy of a key.
+/// Converts the fault of copying a key.
 impl From<llb_cache::Memory> for ClaimFault {
     ghost use Rattle.std.specs.Prelude.{◌≡◌};
     ghost use Rattle.llb_events.specs.declared.refusal.ClaimFault.TheVariants.{Memory};
@@ -175,7 +175,7 @@ impl From<llb_cache::Memory> for ClaimFault {
     }
 }
 
-/// Converts the fault of a lease that fails only for want of memory.
+/// Converts the fault of a lease of which the caller knows that no key is held; such a lease fails only for want of memory.
 impl From<llb_cache::LeaseFault> for ClaimFault {
     ghost use Rattle.std.specs.Prelude.{◌≡◌};
     ghost use Rattle.llb_events.specs.declared.refusal.ClaimFault.TheVariants.{Memory};
@@ -199,7 +199,7 @@ impl From<TreeFault> for StepFault {
     }
 }
 
-/// Converts the fault of a micro-step on a view; it can only be a want of memory.
+/// Converts the fault of a micro-step on a view; such a micro-step fails only for want of memory.
 impl From<llb_wire::Memory> for StepFault {
     ghost use Rattle.std.specs.Prelude.{◌≡◌};
     ghost use Rattle.llb_events.specs.declared.refusal.StepFault.TheVariants.{Memory};

@@ -22,7 +22,7 @@ pub record GoesOn (old new : BoardValue) : Type 0 where
 abbrev pub state_in : State × List Reply → State
 state_in a = a.0
 
--- `found` goes on from `start`, by equations only: the record of `start` is a prefix of that of `found`, and the further events lead to the state of `found`
+-- as `GoesOn`, but stated by equations alone: the record of `start` is a prefix of the record of `found`, and the further events lead to the state of `found`
 pub record IsAfter (start found : BoardValue) : Type 0 where
   pub build : found.build ≡ start.build
   pub opening : found.opening ≡ start.opening
@@ -53,6 +53,6 @@ AreIdle s = (w : ℕ) → runs (slice_get s.workers w) ≡ None
 abbrev pub no_build : Build
 no_build = record { graph = record { vertices = []; result = record { vertex = 0; index = 0 } }; locals = [] }
 
--- a board without vertices and workers: the value where no board is given
+-- a board without vertices and workers: the value that is used where no board is given
 abbrev pub nothing : BoardValue
 nothing = opened no_build 0 []

@@ -10,14 +10,14 @@ use Rattle.llb_work.specs.declared.shared_board.Task.TheVariants.{Work, Pass, Ag
 use Rattle.llb_work.specs.declared.shared_board.Report.{Report}
 use Rattle.llb_work.specs.declared.shared_board.Report.TheVariants.{Nothing, Number, Outcome, Fault}
 
--- worker w and vertex v exist on the board, and the job is of a claim of v by w: the `plain_job` of llb_board, if no cache mount is at or before v
+-- worker w and vertex v exist on the board, and the job has their numbers; if no cache mount is at or before v, the job is the `plain_job` (llb_board)
 pub record IsClaimed (b : BoardValue) (w v : ℕ) (job : Job) : Type 0 where
   pub worker : job.worker ≡ w
   pub vertex : job.vertex ≡ v
   pub has : is_of b w v ≡ true
   pub plain : is_plain b.build v ≡ true → plain_job b.build w v ≡ Some job
 
--- if a worker is to work on a vertex, or to pass the gate for it, the worker and the vertex exist on the board; `IsClaimed` holds for a job that it is to do
+-- what holds of a worker's task: if the task is a job, `IsClaimed` holds for the job; if the task is to pass the gate for a vertex, worker and vertex exist
 abbrev pub IsHere : BoardValue → ℕ → Task → Type 0
 IsHere b w (Work job) = IsClaimed b w job.vertex job
 IsHere b w (Pass v) = is_of b w v ≡ true
@@ -25,7 +25,7 @@ IsHere b w Again = Unit {0}
 IsHere b w Next = Unit {0}
 IsHere b w End = Unit {0}
 
--- if a worker reports an outcome, `IsClaimed` holds for its job; if it reports a stop, the gate may cause that stop
+-- what holds of a worker's report: if an outcome is reported, `IsClaimed` holds for the outcome's job; if a stop is reported, the gate may cause that stop
 abbrev pub IsReport : (ℕ → ℕ → Bool) → BoardValue → ℕ → Report → Type 0
 IsReport may_stop b w Nothing = Unit {0}
 IsReport may_stop b w (Number v) = Unit {0}

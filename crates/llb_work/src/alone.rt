@@ -16,8 +16,8 @@ use llb_board::laws::{
 
 /// Does one event after another until the board is complete: the next event of the running worker with the lowest number or, if no worker runs, worker 0's
 /// claim of the ready vertex with the least number. Ends with fault 151 `Memory` if memory is refused to a claim or a step. If the board was just opened and is
-/// complete at the end, it is then as if the vertices had been run one after another in the order of their claims, shared caches included. If the graph has no
-/// caches, every vertex of a complete board has its plain outcome.
+/// complete at the end, its vertices and caches are as if the vertices had been run one after another in claim order, shared caches included. If the graph has
+/// no caches, every vertex of a complete board has its plain outcome.
 pub fn run_alone(board: Board) -> RunEnd
     ensures goes { Goes board result.board }
     ensures fault { result.fault ≡ None ⊎ (result.fault ≡ Some RunFault.Memory) }

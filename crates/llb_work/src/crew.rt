@@ -67,8 +67,8 @@ pub(crate) struct CrewEnd {
     pub noted: Option<Noted>,
 }
 
-/// Runs a board in one thread for each of its workers; a copy of the board is kept besides. If memory is refused for what the workers need,
-/// nothing is done, and the board is returned as it was given.
+/// Runs a board in one thread for each of its workers. The copy of the board in `begin` is kept unchanged under the lock. If memory is refused for
+/// what the workers need, nothing is done, and the board is returned as it was given.
 pub(crate) fn run_crew<S: Gated + Send + Sync, G: Gate + Sync, R: Threads + Wait + Sync>(
     rt: &R,
     alloc: Global,

@@ -23,7 +23,7 @@ fn do_event(board: &mut Board, event: Event) -> bool
     }
 }
 
-/// Does the chosen events until there is none or one is refused. Returns whether there is none; if one is refused, memory was refused.
+/// Does the chosen events one after another. Returns true when there is no chosen event, false when a chosen event is refused for want of memory.
 pub(crate) fn go_to_end(board: &mut Board) -> bool
     ensures goes { Goes board.old board.new }
     ensures ends { OnTrue result (chosen board.new.build board.new.state ≡ None) }

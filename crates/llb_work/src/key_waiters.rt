@@ -115,8 +115,8 @@ impl KeyWaiters {
         self.next_at(at)
     }
 
-    /// Notes that the claim of the number `v` was granted, or was refused for a key. If `v` had waited for another key than that one, returns the next number
-    /// that waits for that other key, which may be free.
+    /// Notes that the claim of the number `v` was granted, or was refused for the key `refused`. If `v` was refused for another key than the one that `v` had
+    /// waited for, returns the next number that waits for the earlier key, which may be free.
     pub(crate) fn answered(&mut self, v: u32, refused: Option<&Key>) -> Option<u32> {
         let at = self.rows.iter().position(|row| row.put == Some(v))?;
         let row = self.rows.get_mut(at)?;

@@ -42,7 +42,7 @@ fn all_marked(marks: &[bool], inputs: &[Edge]) -> bool
     true
 }
 
-/// Returns whether a vertex is marked; false past the last mark.
+/// Returns whether a vertex is marked as one with no cache mount at or before it; false past the last mark.
 pub(crate) fn is_marked(marks: &[bool], v: u32) -> bool
     ensures { result ≡ unwrap_or (slice_get marks.now v) false }
 {

@@ -26,11 +26,11 @@ use std::thread::Threads;
 /// than it takes itself, or until the run is over.
 ///
 /// The fault is the first that is met: 151 `Memory` if memory is refused, 152 `Stopped` if the gate stops a worker, 153 `Thread` if a thread can't be started.
-/// If memory is refused for the copies of the board, the queue, the workers' lists or the table of numbers that wait for a key, no thread starts, and the board
-/// is returned as it was given. The worker that meets 151 or 152 notes the fault and cancels what it runs, both in one hold of the lock; every other worker
-/// ends what it runs, and the work of a worker without a thread is done by the caller's thread. So if threads were started, no worker runs anything on the
-/// returned board, and no cache is held. Granted events lead from the given board to the returned one, and the sum of `made` is their number; none of them is a
-/// cancel unless there is a fault. 154 `Foreign` would say that the opening board that was kept under the lock is not the given one; it never occurs.
+/// If memory is refused for the copies of the board, or for what the workers need before they start (such as the queue and their lists), no thread starts, and
+/// the board is returned as it was given. The worker that meets 151 or 152 notes the fault and cancels what it runs, both in one hold of the lock; every other
+/// worker ends what it runs, and the work of a worker without a thread is done by the caller's thread. So if threads were started, no worker runs anything on
+/// the returned board, and no cache is held. Granted events lead from the given board to the returned one, and the sum of `made` is their number; none of them
+/// is a cancel unless there is a fault. 154 `Foreign` would say that the opening board that was kept under the lock is not the given one; it never occurs.
 pub fn run_workers<G: Gate + Sync, R: Threads + Wait + Sync>(
     rt: &R,
     alloc: Global,
@@ -145,7 +145,7 @@ fn finish(board: &mut Board, noted: Option<Noted>) -> Option<RunFault>
     None
 }
 
-// Returns what was noted, as a fault.
+// Returns the fault of a run that ends for this noted reason.
 fn fault_of(noted: Noted) -> RunFault
     ensures own { is_foreign (Some result) ≡ false }
     ensures stopped { StopsAsNoted (Some noted) (Some result) }

@@ -1,6 +1,6 @@
 //! What is under the lock: the board, the board that the run began from, the ledger of the events that the workers have counted, and the fault
 //! that was noted first; which vertices have no cache mount at or before them; and the vertex numbers that wait for a key. By an invariant of
-//! the type, granted events lead from the given board to the board, and none of them is a cancel unless something is noted.
+//! the type, granted events lead from the board that the run began from to the board under the lock; if no fault is noted, none of them is a cancel.
 
 ghost use Rattle.std.specs.Prelude.{◌≡◌, ◌≤◌, ◌+◌, ℕ, length, true, Some, None, IfOk, IsSome};
 ghost use Rattle.std.specs.Bool.{OnTrue};
@@ -176,9 +176,9 @@ impl<S: Gated> SharedBoard<S> {
         self.counted = now;
     }
 
-    /// Does what a worker has to do in one hold of the lock, by what it reports, and counts the events for the worker. Returns what the worker is to do next,
-    /// and shared copies of the trees that this hold may have dropped. Adds to `news` the numbers that the worker then has to put into the queue: those of the
-    /// vertices that became ready when its vertex ended, the greatest first, and those that had waited for a key.
+    /// Does what a worker has to do in one hold of the lock, by its report, and adds the events done to the worker's count. Returns what the worker is to do
+    /// next, and shared copies of the trees that this hold may have dropped. Adds to `news` the numbers that the worker then has to put into the queue: those
+    /// of the vertices that became ready when the worker's vertex ended, the greatest first, and those that had waited for a key.
     pub(crate) fn next_task(
         &mut self,
         w: u32,
@@ -195,7 +195,7 @@ impl<S: Gated> SharedBoard<S> {
         (task, owners)
     }
 
-    // Does what a worker has to do, by what it reports.
+    // Does what a worker has to do, by its report. Returns the worker's next task.
     fn act(&mut self, w: u32, report: Report, news: &mut Vec<u32>) -> Task
         requires { IsReport S.may_stop S.start w report }
         ensures { IsHere S.start w result }
@@ -212,7 +212,8 @@ impl<S: Gated> SharedBoard<S> {
         }
     }
 
-    // Does the next event of what a worker runs: a step, or the settle if it is finished. A worker that runs nothing ends if the run is over.
+    // Does the next event of the vertex that a worker runs: the settle if the vertex is finished, else a step. A worker that runs nothing is to end if the run
+    // is over, and otherwise is to take a number from the queue.
     fn go_on(&mut self, w: u32, news: &mut Vec<u32>) -> Task
         ensures { IsHere S.start w result }
     {
@@ -277,8 +278,8 @@ impl<S: Gated> SharedBoard<S> {
         }
     }
 
-    // Lets a number wait for a key that another worker holds. If the number had waited for another key before, adds the next number that waits for that other
-    // key to `news`.
+    // Lets a number wait for a key that another worker holds. If the number had waited for a different key before, adds the next number that waits for that
+    // different key to `news`.
     fn wait_for(&mut self, key: Key, v: u32, news: &mut Vec<u32>) -> Task
         ensures { (w : ℕ) → IsHere S.start w result }
     {
@@ -297,7 +298,7 @@ impl<S: Gated> SharedBoard<S> {
         self.noted.is_some() || self.board.is_complete()
     }
 
-    // Returns how a claimed vertex is worked on: under the lock if it mounts a shared cache, otherwise away from it.
+    // Returns the task for a claimed vertex: to work on it under the lock if the vertex mounts a shared cache, otherwise away from the lock.
     fn begun(&self, w: u32, job: Job) -> Task
         requires { IsClaimed S.start w job.vertex job }
         ensures { IsHere S.start w result }

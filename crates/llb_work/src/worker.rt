@@ -26,7 +26,7 @@ pub(crate) struct WorkerKit<S: Ledger> {
 }
 
 impl<'x, S: Gated, G: Gate, R: Wait> Crew<'x, S, G, R> {
-    /// Ends what its worker runs, then takes one number after another from the queue and works on the vertex of that number, until the board is complete or a
+    /// Ends what worker `w` runs, then takes one number after another from the queue and works on the vertex of that number, until the board is complete or a
     /// fault is noted. A worker that meets a fault itself reports the fault at the lock, cancels there what it runs, and ends at once.
     pub(crate) fn serve(self, w: u32, kit: WorkerKit<S>) -> WorkerKit<S>
         requires stop { AllowsStops G.may_stop S.may_stop }

@@ -19,7 +19,7 @@ impl<S: Ledger> Promise<WorkerKit<S>> for Owed {
     ghost kept_by = { λ p r. IsPassFor p.queue.value p.worker r.pass };
 }
 
-/// A worker at work in its own thread, or what it has given back if no thread could be started.
+/// The thread in which a worker works; or, if no thread could be started, what the worker has given back.
 #[derive(Drop)]
 pub(crate) enum WorkerThread<S: Ledger> {
     Thread(PromisedHandle<WorkerKit<S>, Owed>),

@@ -1,4 +1,4 @@
-//! Takes back the last event: restores what the event displaced (changed).
+//! Takes back the last event: puts back what the event changed.
 
 ghost use Rattle.std.specs.Prelude.{◌≡◌};
 ghost use Rattle.llb_board.specs.Undo.{undone, CanUndo};

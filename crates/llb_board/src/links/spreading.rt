@@ -4,7 +4,8 @@ ghost use Rattle.std.specs.Prelude.{◌≡◌, ◌<◌, ◌≤◌, ◌+◌, [], 
 ghost use Rattle.std.specs.List.{All};
 ghost use Rattle.llb_board.specs.Links.{Spreads, Visits, unmarked};
 
-/// Marks a vertex and everything downstream of it, each once. The list `reached` is empty before and after, and has room for all vertices.
+/// Marks a vertex and everything downstream of it, if everything downstream of the marked vertices is marked already. The list `reached` is empty before and
+/// after, and has room for all vertices.
 pub(crate) fn spread(users: &[Vec<u32>], reached: &mut Vec<u32>, marks: &mut [bool], v: u32)
     requires count { length users.now ≡ length marks.old }
     requires low { v < length marks.old }

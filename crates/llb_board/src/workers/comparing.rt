@@ -25,7 +25,7 @@ pub(crate) fn is_begun(w: u32, execution: &Execution, job: &Job) -> bool
         && execution.fault.is_none()
 }
 
-/// Returns whether these instances, which all exist, have these trees, one each in the same order.
+/// Returns whether each of these instances, which all exist, has the tree at the same position of `trees`, and both lists are equally long.
 pub(crate) fn has_trees(caches: &Caches, places: &[Instance], trees: &[Tree]) -> bool
     requires { (p : model.Instance) → Has places.now p → p.number < length (trees_of caches.now.rows p.key) }
     ensures { IsTrue result ↔ (trees.now ≡ trees_at (store_of caches.now.rows) places.now) }

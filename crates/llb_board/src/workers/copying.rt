@@ -1,4 +1,4 @@
-//! Copies of what workers have. The copies share trees.
+//! Copies what workers have. A copy shares the trees.
 
 ghost use Rattle.std.specs.Prelude.{◌≡◌, map, IfOk};
 ghost use Rattle.llb_board.specs.Supplies.{ready_made};

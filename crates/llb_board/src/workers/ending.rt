@@ -8,7 +8,7 @@ use llb_execution::Workspace;
 use llb_loader::Vertex;
 use llb_tree::Tree;
 
-/// Returns the outputs, read from the view that the micro-steps left; none if there is no vertex.
+/// Returns the outputs of a vertex, read from the view that its micro-steps left; none if there is no vertex.
 pub(crate) fn outputs(view: Workspace, outputs: Vec<Tree>, vertex: Option<&Vertex>) -> Vec<Tree>
     requires { outputs.items ≡ replicate (program_at (option_map (λ v. v.now) vertex)).outputs empty_tree }
     ensures { result.items ≡ outputs_of (program_at (option_map (λ v. v.now) vertex.entry)) view }

@@ -46,8 +46,8 @@ fn content(alloc: Global, caches: &Caches, place: &Instance) -> Result<Tree, Ste
     }
 }
 
-/// Leases an instance for each of these needs; `None` if there are no needs. The needs have distinct keys; `rows` has for each key the row in
-/// which to look for it first. Fails with 111 `Held` and the first locked key that is held, or with 112 `Memory`; then the caches are as they
+/// Leases an instance for each of these needs; `None` if there are no needs. The needs must have distinct keys; `rows` has for each key the row
+/// that is tried first. Fails with 111 `Held` and the first locked key that is held, or with 112 `Memory`; then the caches are as they
 /// were.
 pub(crate) fn lease_for(
     caches: &mut Caches,
@@ -111,7 +111,7 @@ pub(crate) fn lend_again(caches: &mut Caches, lent: Option<Lent>) -> Option<Leas
     }
 }
 
-/// Replaces the trees of a lease's instances by these trees. If there is no lease, `trees` is empty.
+/// Replaces the trees of a lease's instances by these trees. If there is no lease, `trees` must be empty.
 pub(crate) fn write_back(caches: &mut Caches, lease: Option<Lease>, trees: Vec<Tree>)
     requires count { length trees.items ≡ length (leased_places caches.old.out lease) }
     requires few { length trees.items < 2 ^ 32 }

@@ -56,7 +56,7 @@ impl Workers {
     }
 }
 
-// Returns whether a job is the one that remains of an execution, with the caches as they are now.
+// Returns whether a job is the one that remains for worker `w`, which has this execution, with the caches as they are now.
 fn is_left(vertices: &Vertices, caches: &Caches, w: u32, execution: &Execution, job: &Job) -> bool
     requires vertex { is_some (slice_get vertices.now.build.graph.vertices execution.now.vertex) ≡ true }
     requires supplies { supplies_of execution.now ≡ supplies_for (slice_get vertices.now.build.graph.vertices execution.now.vertex) }

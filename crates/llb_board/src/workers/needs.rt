@@ -44,8 +44,8 @@ pub(crate) struct Taking {
     pub rows: Vec<Option<usize>>,
 }
 
-// Returns the caches that a vertex mounts, in the order of the mounts. Fails with 135 `Held` and the first locked key whose instance a lease has; then it
-// allocates for that key alone. If no key is held, fails with 141 `Memory` alone; 141 can also come in place of 135.
+// Returns the caches that a vertex mounts, in the order of the mounts. Fails with 135 `Held` and the first locked key whose instance a lease has; in that
+// case, allocates only the copy of that key, and fails with 141 `Memory` if this copy is refused. If no key is held, fails with 141 alone.
 pub(crate) fn wanted_by<'a>(
     alloc: Global,
     caches: &'a Caches,
@@ -82,7 +82,7 @@ pub(crate) fn growths_of(
     Ok(growths)
 }
 
-// Returns the row of the last locked key that a vertex mounts, or fails with the first of its locked keys whose instance a lease has. Does not allocate.
+// Returns the row of the last locked key that a vertex mounts. Fails with the first locked key of the vertex whose instance a lease has. Does not allocate.
 fn last_locked<'a>(caches: &Caches, vertex: &'a Vertex) -> Result<Option<usize>, KeyRef<'a>>
     requires { HasEdges vertex.now }
     ensures { MatchResult result (λ _. first_held_key caches.now.out (needs_of vertex.now) ≡ None)

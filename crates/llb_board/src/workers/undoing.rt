@@ -1,5 +1,5 @@
-//! What an event displaces (changes) in the workers and the caches. It is kept before the event, and put back when the event is taken back. An item is
-//! kept for each cache that the vertex of the event mounts, and none for other caches.
+//! What an event displaces (changes) in the workers and the caches is kept before the event, and is put back when the event is taken back. One item is
+//! kept for each cache that the vertex of the event mounts, and none for any other cache.
 
 ghost use Rattle.std.specs.Prelude.{◌≡◌, ◌<◌, false, length, map, option_map, slice_get, IfOk, IfErr, Err};
 ghost use Rattle.llb_events.specs.declared.event.Event.TheVariants.{Step};
@@ -40,7 +40,7 @@ impl Drop for Undo {
 /// What is put back when an event is taken back, by the kind of the event.
 #[derive(Drop)]
 pub(crate) enum Back {
-    /// For a claim: the worker, the vertex, and what its lease added to the caches.
+    /// For a claim: the worker, the vertex, and what the claim's lease added to the caches.
     Unclaim(u32, u32, Vec<Growth>),
     /// For a step: the worker, what the micro-step could change of its view, and the trees of its cache instances.
     Unstep(u32, Mark, Vec<Tree>),
@@ -87,8 +87,8 @@ impl Undo {
 }
 
 impl Workers {
-    /// Returns what is needed to take back an event that is about to be done. Fails with 131 `NoWorker` or 136 `NotRunning` if the event itself would,
-    /// and with 141 `Memory`.
+    /// Returns what is needed to take back an event that is about to be done. Fails with 131 `NoWorker` or 136 `NotRunning` if the event itself would fail
+    /// so, or with 141 `Memory`.
     pub(crate) fn before(
         &self,
         alloc: Global,
@@ -211,7 +211,7 @@ fn displace(seats: &mut Vec<Seat>, caches: &mut Caches, back: Back) -> Option<Ch
     }
 }
 
-// Returns the fault of a settle or a cancel by a worker that does not exist, 131 `NoWorker`.
+// Returns the fault 131 `NoWorker` of a settle or a cancel whose worker does not exist.
 fn no_worker(end: End) -> WalkFault
     ensures { result ≡ no_worker end }
 {
@@ -221,7 +221,7 @@ fn no_worker(end: End) -> WalkFault
     }
 }
 
-// Returns the fault of a settle or a cancel by a worker that is idle, 136 `NotRunning`.
+// Returns the fault 136 `NotRunning` of a settle or a cancel whose worker is idle.
 fn not_running(end: End) -> WalkFault
     ensures { result ≡ not_running end }
 {
