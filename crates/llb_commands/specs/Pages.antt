@@ -15,7 +15,7 @@ use Rattle.llb_commands.specs.declared.words.Refusal.{Refusal}
 use Rattle.llb_commands.specs.declared.words.WordsFault.{WordsFault}
 use Rattle.llb_commands.specs.declared.words.WordsFault.TheVariants.{Words}
 
--- the command with a name
+-- the command with this name; none if no command has the name
 abbrev pub command_named : Text → Option Command
 command_named name =
     if bytes_eq name (codes "run") then Some Run
@@ -24,7 +24,7 @@ command_named name =
     else if bytes_eq name (codes "asm") then Some Assemble
     else if bytes_eq name (codes "dis") then Some Disassemble else None
 
--- the command that the first word names
+-- the command that the first word names, if it names one
 abbrev pub named_first : List Text → Option Command
 named_first [] = None
 named_first (w ∷ ws) = command_named w

@@ -1,4 +1,4 @@
--- The lines of a record: an event by its number from 1, and its reply.
+-- The lines of a record: a line has the number of an event, counted from 1, the event, and the reply to it.
 use Rattle.std.specs.Prelude.{◌≡◌, ◌≤◌, ◌<◌, ◌+◌, ℕ, ◌-◌, ◌&&◌, nat_le, List, [], ◌++◌, length, codes, Option, Some, None, option_map, slice_get, if◌then◌else◌}
 use Rattle.std.specs.Fmt.{decimal}
 use Rattle.llb_ops.specs.Kinds.{kind_text}
@@ -85,7 +85,7 @@ replied None e = None
 replied (Some b) None = None
 replied (Some b) (Some e) = option_map (λ (p : BoardValue × Reply). (e, p.1)) (answered b e)
 
--- event i of the board's record, counted from 1, with its reply; none if there is no event i, or the board already had it when the stepper was made
+-- event i of the board's record, counted from 1, with its reply; none if there is no event i, or if the board had event i when the stepper was made
 abbrev pub record_at : Stepping → ℕ → Option (Event × Reply)
 record_at s i =
     if nat_le 1 i && nat_le i (length s.board.events) then replied (slice_get s.past (length s.board.events - i)) (slice_get s.board.events (i - 1)) else None

@@ -13,7 +13,7 @@ use Rattle.llb_stepper.specs.declared.stop.Break.{Break}
 use Rattle.llb_stepper.specs.declared.stop.Break.TheVariants as stop
 use Rattle.llb_stepper.specs.declared.stop.Stop.{Stop}
 
--- a stepper: its board, the board before each event that it did, the latest first, and its breakpoints
+-- a stepper: its board; the board before each event that the stepper did, the latest first; and its breakpoints
 pub record Stepping : Type 0 where
   pub board : BoardValue
   pub past : List BoardValue
