@@ -151,7 +151,7 @@ Refuses kinds words (Words None) = kinds ≢ []
 Refuses kinds words (Words (Some w)) = (kinds ≡ []) × IsUnsplit words w.now
 Refuses kinds words Memory = Unit {0}
 
--- what reading the words returns: what they ask for, if `clap` does not refuse them; or one of the refusals above
+-- the result of reading the words: a line, and then `clap` does not refuse the words; or a refusal, as `Refuses` says
 abbrev pub IsByWords : Kinds → List Text → Result Line WordsFault → Type 0
 IsByWords kinds words (Ok line) = kinds ≡ []
 IsByWords kinds words (Err e) = Refuses kinds words e

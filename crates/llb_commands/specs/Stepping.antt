@@ -58,7 +58,7 @@ StepsIn workers locals file commands output (Err e) =
 abbrev pub IsBroken : ℕ → List Local → Stream → Stream → List ℕ → Type 0
 IsBroken workers locals commands output bytes = (f : SessionFault) × IsSession workers locals commands output (Err f) bytes
 
--- How `step` ends, which reads the definition from a file and the commands from its input. Status 0: the session went on to its end. 2: the bytes are
+-- How `step` ends. It reads the definition from a file, and the commands from its input. Status 0: the session went on to its end. 2: the bytes are
 -- refused, a local tree is missing, or the number of workers is not 1 to 64, and nothing is written but the line that says which; or there were too many
 -- bytes of commands, which a line says. 3: a device or memory failed; nothing is written, or the replies up to the failure.
 abbrev pub Steps : ℕ → List Local → Option (List ℕ) → Io → ℕ → Type 0

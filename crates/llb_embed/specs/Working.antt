@@ -23,7 +23,7 @@ use Rattle.llb_embed.specs.declared.held.Held.{Held}
 abbrev pub written : List ℕ → Stream
 written bytes = record { before = Some []; after = Some bytes }
 
--- the streams of a command: its input has these bytes before the command, and `rest` after it; it writes the output and the messages of the new value
+-- the streams of a command: the input has these bytes before the command, and `rest` after it; the command writes the output and the messages of the new value
 abbrev pub streams : List ℕ → Option (List ℕ) → Held → Io
 streams bytes rest new = record {
   input = record { before = Some bytes; after = rest };

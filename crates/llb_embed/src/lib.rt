@@ -2,8 +2,8 @@
 //! command. It is built on `llb_commands`, and is linked as a static library; what its caller has to promise is in bindings/llbm.h.
 //!
 //! Types: `Llb`, a handle: a struct of zeroes until a call puts a value into it.
-//! Promise: each export does what the program's command does, on the bytes handed in and what the handle holds (`ran`, `opened`, `replied` and the like); as
-//! much of the output and of the messages as fits is copied, and the whole length is returned (`copied`, `all`).
+//! Promise: each exported call does what the program's command does, on the bytes handed in and what the handle holds (clauses `ran`, `opened`, `replied` and
+//! the like); as much of the output and of the messages as fits is copied, and the whole length is returned (`copied`, `all`).
 //!
 //! A caller:
 //!

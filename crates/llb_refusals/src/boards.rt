@@ -328,7 +328,7 @@ fn name_of(is_same: bool) -> &'static str {
 }
 
 impl OnBoard {
-    // Returns whether the board is as it should be after the event of the call, in words.
+    // Returns in words whether the board equals the board on which the event of the call was done.
     fn behind(&self) -> &'static str {
         name_of(self.board.same(&self.goal))
     }

@@ -39,7 +39,7 @@ fn do_event(alloc: Global, stepper: &mut Stepper, event: Event) -> Result<Vec<u8
     }
 }
 
-// Does the chosen event and returns its line; returns the line `end` if there is no chosen event.
+// Does the chosen event (`Stepper::next`) and returns its line; returns the line `end` if there is no chosen event.
 fn do_next(alloc: Global, stepper: &mut Stepper) -> Result<Vec<u8>, StepperFault>
     ensures { IsPerformed ask.Next stepper.old stepper.new result }
 {

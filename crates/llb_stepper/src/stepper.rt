@@ -105,7 +105,8 @@ impl Stepper {
         Ok(())
     }
 
-    /// Returns the chosen event, without doing it: `None` if the board is complete. Does not allocate.
+    /// Returns the chosen event, without doing it: the next event of the running worker with the lowest number or, if no worker runs, worker 0's claim of the
+    /// least Ready vertex; `None` if the board is complete (every vertex is done, failed or blocked). Does not allocate.
     pub fn next(&self) -> Option<Event>
         ensures { result ≡ chosen self.now.board.build self.now.board.state }
     {

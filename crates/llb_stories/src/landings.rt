@@ -226,8 +226,8 @@ fn is_opening(board: &Board) -> bool {
     board.status(0) == Some(Status::Ready) && board.events().is_empty()
 }
 
-// A run of a board for two workers, from its opening to its first settle, with each call that is refused on the way; a copy from before
-// the claim does not change. The other outcome is of a board whose first vertex makes another file.
+// A run of a board for two workers, from its opening to its first settle, with each call that is refused on the way. A copy that was made
+// before the claim does not change. The outcome `other` is of a board whose first vertex makes another file.
 #[test]
 fn a_vertex_is_claimed_worked_on_and_settled_with_each_refusal_on_the_way(rt: HostRuntime) {
     let alloc = rt.alloc();
