@@ -87,7 +87,8 @@ impl<T: Drop> From<AllocFailed<T>> for WordsFault<'_> {
 }
 
 impl WordsFault<'_> {
-    // Returns the status with which the program ends, once the fault's line is written: 2 for the words, 3 for want of memory.
+    // Returns the status with which the program ends, once the fault's line is written: 2 for refused words, 3 for refused
+    // memory.
     fn status(&self) -> u8
         ensures { result ≡ words_status self.now }
     {

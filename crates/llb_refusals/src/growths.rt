@@ -6,9 +6,9 @@ use llb_samples::tree_text;
 use std::alloc::Global;
 use std::process::Abort;
 
-/// A call in words; what the call is made on; its result in words if memory is refused; and its result if no memory is refused. For a call that does not
-/// allocate the third text is empty. If the third text has several faults with ` and ` between them, each of them has to be the result of some refusal; with `
-/// or ` between them, any of them may be a result. The last text may be the name of a tree instead of the tree's text.
+/// A call in words; what the call is made on; its result in words if memory is refused; and its result if no memory is refused. For a call that does
+/// not allocate the third text is empty. If the third text has several faults with ` and ` between them, each of them has to be the result of some
+/// refusal; with `or` between them, any of them may be a result. The last text may be the name of a tree instead of the tree's text.
 pub(crate) type Row = (&'static str, &'static str, &'static str, &'static str);
 
 /// A call with what it needs, and its latest result.

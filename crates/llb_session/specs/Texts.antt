@@ -63,7 +63,7 @@ abbrev pub tree_lines : Option TreeMap → List ℕ
 tree_lines None = codes "none\n"
 tree_lines (Some t) = tree_text t
 
--- the words for the role of a tree that a worker works on
+-- the words for the role that a tree has in a worker's work on its vertex
 abbrev pub role_text : Role → List ℕ
 role_text Local = codes "local"
 role_text Input = codes "input"

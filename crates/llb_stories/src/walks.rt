@@ -118,7 +118,7 @@ const OF_TWO_WORKERS: [Event; 10] = [
     Event::Settle(0),
 ];
 
-// Returns whether five events are done, of the seven up to the claim of the merge: one file is done, and the other one is finished and not settled.
+// Returns whether five of the seven events up to the claim of the merge are done: one file is done, and the other one is finished and not settled.
 fn is_two_before(board: &Board) -> bool {
     board.events().len() == 5
         && board.status(0) == Some(Status::Done)
