@@ -25,11 +25,11 @@ event_text (Step w) = codes "step " ++ decimal w
 event_text (Settle w) = codes "settle " ++ decimal w
 event_text (Cancel w) = codes "cancel " ++ decimal w
 
--- a settle of a vertex that is done, as it is printed
+-- the reply to a settle of a vertex that is done, as it is printed
 abbrev pub done_text : ℕ → List ℕ
 done_text v = decimal v ++ codes " done"
 
--- a settle of a vertex that failed, as it is printed
+-- the reply to a settle of a vertex that failed, as it is printed
 abbrev pub failed_text : ℕ → List ℕ
 failed_text v = decimal v ++ codes " failed"
 
@@ -37,7 +37,7 @@ failed_text v = decimal v ++ codes " failed"
 abbrev pub pair_text : ℕ → ℕ → List ℕ
 pair_text a b = decimal a ++ (codes " " ++ decimal b)
 
--- the text for a micro-step that failed: for an action its fault, and for a command the word `ran`, its number and its status
+-- the text for a micro-step that failed: for an action `fault`, the action's number and the fault's; for a command `ran`, the command's number and its status
 abbrev pub fault_text : VertexFault → List ℕ
 fault_text (vertex.Action a n) = codes "fault " ++ pair_text a n
 fault_text (vertex.Exit c s) = codes "ran " ++ pair_text c s

@@ -1,4 +1,5 @@
-//! Runs with more workers than there is work for, so that most workers sleep. Each run is repeated many times, and ends each time with all its events.
+//! Runs with more workers than there is work for, so that most workers sleep. Runs that no gate stops are repeated many times, and end each time with
+//! all their events.
 
 use super::calls::{are_same, is_event_done, replayed};
 use super::checks::row_holds;
