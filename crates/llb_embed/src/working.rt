@@ -78,8 +78,8 @@ pub(crate) fn open(alloc: Global, held: &mut Held, definition: &[u8], workers: u
     }
 }
 
-/// Replies to a line of the open session, if there is one, and returns the status; if there can be no reply, writes the
-/// reason to the messages.
+/// Replies to a line of the open session, and returns the status, which is 4 if no session is open. If memory is refused, or
+/// the session has had 2^64 - 1 lines, writes the reason to the messages.
 pub(crate) fn reply(alloc: Global, held: &mut Held, line: &[u8]) -> u8
     ensures { Replied line.now held.old held.new result }
 {

@@ -1,5 +1,5 @@
-//! Runs with more workers than there is work for, so that most workers sleep. Runs that no gate stops are repeated many times, and end each time with
-//! all their events.
+//! Runs with more workers than there is work for, so that most workers sleep. Runs that no gate stops are done four times, and end each time with all
+//! their events.
 
 use super::calls::{are_same, is_event_done, replayed};
 use super::checks::row_holds;

@@ -59,8 +59,8 @@ const WALKED: &[(&str, &str)] = &[
     ),
 ];
 
-// Returns whether a run completes, whether taking it back leaves a board equal to a copy from before, and whether board and copy then go on to the same end,
-// with these results.
+// Returns whether a run completes, whether taking it back leaves a board equal to a copy that was made before, and whether the board and the copy then go on to
+// the same end, with the results in `ended`.
 fn is_walked(rt: &impl Abort, alloc: Global, definition: &str, ended: &str) -> [bool; 4] {
     let mut board = board_of(rt, alloc, definition, "", 2);
     let mut fresh = copy_of(&board).expect(rt, "memory");
