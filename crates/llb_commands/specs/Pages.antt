@@ -44,7 +44,7 @@ page_for DisplayHelp command = help_page command
 page_for DisplayVersion command = VERSION_PAGE.now
 page_for _ command = []
 
--- what follows the line of a fault: if `clap` refuses the words, the page for one of the kinds that its refusal can have; else nothing
+-- what follows the line of a fault: if `clap` refuses the words, the page for one of the kinds of refusal that `clap` may return for them; else nothing
 abbrev pub HasPage : Kinds → List Text → WordsFault → Text → Type 0
 HasPage kinds words (Words None) page = (k : ErrorKind) × IsAmong k kinds × (page ≡ page_for k (named_first words))
 HasPage kinds words _ page = page ≡ []

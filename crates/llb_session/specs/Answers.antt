@@ -116,8 +116,8 @@ pub record PrintsNumber (s : Stepping) (n : ℕ) (text : List ℕ) (t : Stepping
   pub printed : (text ≡ fault_line (BadCommand n)) ⊎ (text ≡ fault_line Memory)
   pub same : t ≡ s
 
--- The reply to line n. A request that is granted prints its text, and one that is refused prints the line of its refusal. Any other line prints fault 173 with
--- n, or fault 174.
+-- The reply to line n. A request that is granted prints its text, and one that is refused prints the line that reports its refusal. Any other line prints
+-- fault 173 with n, or fault 174.
 abbrev pub AnswersAs : Option Request → Stepping → ℕ → List ℕ → Stepping → Type 0
 AnswersAs None s n text t = PrintsNumber s n text t
 AnswersAs (Some r) s n text t = Grants r s text t ⊎ PrintsRefusal r s text t
@@ -127,8 +127,8 @@ abbrev pub MayFail : Option Request → Type 0
 MayFail None = ⊤
 MayFail (Some r) = Wants r Memory
 
--- The reply to line n, given that memory for the line of a refusal was granted. A request that is granted prints its text, and one that is refused prints
--- the line of its refusal. A line that is no request prints fault 173 with n, and changes nothing.
+-- The reply to line n, given that memory for the line that reports a refusal was granted. A request that is granted prints its text, and one that is
+-- refused prints the line that reports its refusal. A line that is no request prints fault 173 with n, and changes nothing.
 abbrev pub RespondsAs : Option Request → Stepping → ℕ → List ℕ → Stepping → Type 0
 RespondsAs None s n text t = (text ≡ fault_line (BadCommand n)) × (t ≡ s)
 RespondsAs (Some r) s n text t = Grants r s text t ⊎ PrintsRefusal r s text t
@@ -138,7 +138,7 @@ abbrev pub Quits : List ℕ → Type 0
 Quits line = request_in line ≡ Some ask.Quit
 
 -- The result of line n of a session: its reply (`RespondsAs`), or none if the line ends the session; t is the stepper afterwards. Or memory was refused for the
--- line of a refusal; then nothing is changed, and line n is neither `clear` nor `quit`.
+-- line that reports a refusal; then nothing is changed, and line n is neither `clear` nor `quit`.
 abbrev pub Responds : Stepping → ℕ → List ℕ → Stepping → Result (Option (Vec ℕ Global)) AllocError → Type 0
 Responds s n line t (Ok (Some text)) = (¬ Quits line) × RespondsAs (request_in line) s n text.items t
 Responds s n line t (Ok None) = Quits line × (t ≡ s)

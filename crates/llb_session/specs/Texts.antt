@@ -122,7 +122,7 @@ unfoldable pub key_lines : List Row → ℕ → List ℕ
 key_lines rows zero = []
 key_lines rows (suc k) = key_lines rows k ++ key_line_of rows k (slice_get (keys_of rows) k)
 
--- the line of a refusal
+-- the line that reports a refusal
 abbrev pub fault_line : StepperFault → List ℕ
 fault_line e = codes "fault " ++ (stepper_text e ++ codes "\n")
 
