@@ -15,7 +15,7 @@ pub(crate) const LIMIT: usize = 1 << 20;
 
 pub(crate) const READS: u64 = 1 << 20;
 
-// Returns the expected lines of a transcript, without the spaces before and after each.
+// Returns the expected lines of a transcript, without the spaces before and after each line.
 pub(crate) fn wanted(rt: &impl Abort, alloc: Global, story: &str) -> String {
     let mut text = String::new(alloc);
     for line in story.lines() {
