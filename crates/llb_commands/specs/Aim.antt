@@ -1,5 +1,5 @@
--- The aim of the whole project as one record, `Aim`, with a field for each phrase. The record is about a text, a definition with its entries, the graph that
--- the definition is loaded as, a board and a stepper.
+-- The aim of the whole project (README has it word for word) as one record, `Aim`, with one field or more for each phrase of the aim. The record is about a
+-- text, a definition with its entries, the graph that the definition is loaded as, a board and a stepper.
 use Rattle.std.specs.Prelude.{◌≡◌, ◌≤◌, ◌<◌, ℕ, List, length, Some, Ok}
 use Rattle.llb_ops.specs.Definition.{definition_of}
 use Rattle.llb_asm.specs.Lines.{kept}
@@ -24,8 +24,8 @@ pub record IsAccepted (definition : List ℕ) (graph : Numbered) (board : BoardV
   pub board_over : board.build.graph ≡ graph
   pub stepper_over : stepper.board.build.graph ≡ graph
 
--- The property holds for every board over the graph whose state the table reaches from the board's opening state by the board's events: on all local trees,
--- with any number of workers, and after every interleaving of events.
+-- The property holds for every board over the graph for which the table leads, by the board's events, from the board's opening state to its state: on all
+-- local trees, with any number of workers, and after every interleaving of events.
 abbrev pub AfterAll : Numbered → (BoardValue → Type 0) → Type 0
 AfterAll graph Holds = (b : BoardValue) (replies : List Reply) → b.build.graph ≡ graph
     → run b.build (opening b.build b.opening) b.events ≡ Some (b.state, replies) → Holds b
@@ -51,8 +51,8 @@ pub record Aim (text definition : List ℕ) (entries : List (List ℕ)) (graph :
   pub plain : AfterAll graph SettledArePlain
   -- assembled text and loaded bytes are read as one graph
   pub one_graph : LoadsAsOne text definition entries graph
-  -- The stepper is on the same graph. Its state is the table's on the stepper's record. Each board that `back` can reach is the board after the record without
-  -- the record's last events. The lines of the record, and the lines that a session's `go` prints, are the events and replies of the record's run.
+  -- The stepper is on the same graph. The table leads, by the stepper's record, to the stepper's state. Taking k events back with `back` leads to the
+  -- board after the record without its last k events. The lines of the record, and those that a session's `go` prints, are the run's events and replies.
   pub stepper_state : Replays stepper.board
   pub stepper_past : PastIsTheRecords stepper
   pub stepper_lines : RecordIsTheRun stepper

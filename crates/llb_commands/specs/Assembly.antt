@@ -1,4 +1,4 @@
--- What assembling writes for a text of entries, and disassembling for a definition.
+-- What assembling writes for a text of entries, and what disassembling writes for a definition.
 use Rattle.std.specs.Prelude.{◌≡◌, ◌⊎◌, ◌<◌, ℕ, List, length, Ok, Err, Bool, true, false, IfSome}
 use Rattle.llb_ops.specs.declared.fault.OpFault.{OpFault}
 use Rattle.llb_ops.specs.Definition.{definition_of, definition_bytes}
@@ -60,8 +60,8 @@ IsOut Comes output input = (text : List ℕ) × Comes input text × IsWritten ou
 abbrev pub IsPartOut : (List ℕ → List ℕ → Type 0) → Stream → List ℕ → Type 0
 IsPartOut Comes output input = (text : List ℕ) × Comes input text × IsPartWritten output text
 
--- How a command ends that makes a text from its input and writes the text. Status 0: the whole text is written, and nothing else. 2: the input is refused, and
--- nothing is written but the line that says why. 3: a device or memory failed; nothing is written, or a prefix of the text.
+-- How a command ends that makes a text from its input (`Comes`) and writes it. Status 0: the whole text is written, and nothing else. 2: the input is refused
+-- (`IsRefused`), and only the line that says why is written. 3: a device or memory failed; nothing is written, or a prefix of the text.
 abbrev pub Ends : (List ℕ → List ℕ → Type 0) → (ProgramFault → List ℕ → Type 0) → Io → ℕ → Type 0
 Ends Comes IsRefused io status =
     ((status ≡ 0) × IsKept io.errors × IfSome io.input.before (IsOut Comes io.output))

@@ -16,7 +16,7 @@ pub record TookIn (reads limit interrupted : ℕ) (left left' : Option (List ℕ
   pub took : Took limit left left'
   pub each : reads ≤ length took.bytes + interrupted
 
--- All the rest of the input was read, within the limit. Or there was more than the limit, a read failed, or the bound on reads was reached before the end.
+-- All the rest of the input was read, within the limit. Or the rest is longer than the limit, a read failed, the bound on reads was met, or memory was refused.
 abbrev pub ReadsAll : ℕ → ℕ → Option (List ℕ) → Option (List ℕ) → Result (Vec ℕ Global) ReadFault → Type 0
 ReadsAll limit reads left left' (Ok bytes) = (length bytes.items ≤ limit) × IfSome left (λ xs. bytes.items ≡ xs) × IsAtEnd left'
 ReadsAll limit reads left left' (Err TooLong) = IfSome left (λ xs. limit < length xs)

@@ -98,7 +98,7 @@ is_unsplit word = not (is_some (split_word word))
 abbrev pub IsUnsplit : List Text → Text → Type 0
 IsUnsplit words word = find is_unsplit words ≡ Some word
 
--- the name of the command in the matches of `clap`; `run` if no command is named
+-- the name of the command in the matches of `clap` (what `clap` found in the words); `run` if no command is named
 abbrev pub named : Option (Text × List Row) → Text
 named None = codes "run"
 named (Some p) = p.0
@@ -151,12 +151,12 @@ Refuses kinds words (Words None) = kinds ≢ []
 Refuses kinds words (Words (Some w)) = (kinds ≡ []) × IsUnsplit words w.now
 Refuses kinds words Memory = Unit {0}
 
--- what reading the words returns: what they ask for, if `clap` does not refuse them; or one of the refusals above
+-- the result of reading the words: a line, and then `clap` does not refuse the words; or a refusal, as `Refuses` says
 abbrev pub IsByWords : Kinds → List Text → Result Line WordsFault → Type 0
 IsByWords kinds words (Ok line) = kinds ≡ []
 IsByWords kinds words (Err e) = Refuses kinds words e
 
--- the refusal is of a word for a local source, or for want of memory
+-- the refusal is for a word for a local source that has no `=`, or for want of memory
 abbrev pub RefusesWord : List Text → WordsFault → Type 0
 RefusesWord words (Words None) = ⊥
 RefusesWord words (Words (Some w)) = IsUnsplit words w.now

@@ -21,13 +21,13 @@ use Rattle.llb_commands.specs.declared.words.WordsFault.TheVariants.{Words}
 abbrev pub Shelf : Type 0
 Shelf = List ℕ → Option (List ℕ)
 
--- a session over the definition in a file; if no file is named, or the file can't be opened or read, nothing is written but the line that
--- says so
+-- how `step` ends: with a file as `Steps` says; if no file is named, nothing is written to the output, and the line `fault 183` is
+-- written to standard error, with status 2 (3 if the line could not be written)
 abbrev pub StepsAt : Shelf → Option (Bor (List ℕ)) → ℕ → List Local → Io → ℕ → Type 0
 StepsAt files None workers locals io status = IsKept io.output × TellsWords io.errors.before io.errors.after (Words None) status
 StepsAt files (Some file) workers locals io status = Steps workers locals (files file.now) io status
 
--- how the named command ends, with the workers and the file that the words name
+-- how a command ends, with the workers and the file that the words name
 abbrev pub PerformsAs : Shelf → Command → Line → List Local → Io → ℕ → Type 0
 PerformsAs files Run line locals io = Runs line.workers locals io
 PerformsAs files Show line locals io = Draws io

@@ -63,7 +63,7 @@ status_of _ = 3
 abbrev pub TellsLine : Option (List ℕ) → Option (List ℕ) → List ℕ → ℕ → ℕ → Type 0
 TellsLine err err' text of_fault status = ((status ≡ of_fault) × Appends err err' (fault_line text)) ⊎ (status ≡ 3)
 
--- the line of a fault of the program is written to standard error, and the status is the fault's
+-- the line of a fault of the program is written to standard error, and the status is the fault's; or the line could not be written, and the status is 3
 abbrev pub Tells : Option (List ℕ) → Option (List ℕ) → ProgramFault → ℕ → Type 0
 Tells err err' e = TellsLine err err' (program_text e) (status_of e)
 

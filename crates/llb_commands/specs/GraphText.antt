@@ -50,10 +50,10 @@ abbrev pub is_memory : OutputFault → Bool
 is_memory Memory = true
 is_memory Write = false
 
--- a call returns the result that its definition has for it, or it fails for want of memory
+-- a call's result is the expected one, a value or a fault; or the call fails for want of memory
 abbrev pub Gives : {X Y : Type 0} → (X → Y) → Result X OutputFault → Result Y OutputFault → Type 0
 Gives = answer.Gives is_memory
 
--- a sink has taken a text, or it has failed
+-- a call has written the whole text to a sink; or it has failed, because the sink failed or memory was refused, and a prefix is written
 abbrev pub Writes : Option (List ℕ) → Option (List ℕ) → Bool → List ℕ → Result (Unit {0}) OutputFault → Type 0
 Writes = output.Writes is_memory

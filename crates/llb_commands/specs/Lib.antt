@@ -1,7 +1,7 @@
 -- Read first Aim (all that is promised for a graph, a board and a stepper), then Io (what the streams of a call hold) and Answer (what a run prints for the
--- bytes that it reads) with GraphText and Output, Assembly (asm and dis), Stepping (a session), CommandLine (what the words say), Pages (what follows the line
--- of words that ask for help), Sources (files of local sources), Bounded (a bounded reading), Faults (what a fault prints, with its status) and Commands (how
--- each command ends, and the program). Running and AssemblyParts have the steps of a run and of assembling.
+-- bytes that it reads) with GraphText and Output, Assembly (asm and dis), Stepping (a session), CommandLine (what the words ask for), Pages (the page for
+-- words that ask for help), Sources (files of local sources), Bounded (reading within bounds), Faults (what a fault prints, with its status) and Commands (how
+-- each command and the program end). Running and AssemblyParts have the steps of a run and of assembling.
 pub mod Io
 pub mod Bounded
 pub mod Faults

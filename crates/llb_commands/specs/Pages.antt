@@ -15,7 +15,7 @@ use Rattle.llb_commands.specs.declared.words.Refusal.{Refusal}
 use Rattle.llb_commands.specs.declared.words.WordsFault.{WordsFault}
 use Rattle.llb_commands.specs.declared.words.WordsFault.TheVariants.{Words}
 
--- the command with a name
+-- the command with this name; none if no command has the name
 abbrev pub command_named : Text → Option Command
 command_named name =
     if bytes_eq name (codes "run") then Some Run
@@ -24,7 +24,7 @@ command_named name =
     else if bytes_eq name (codes "asm") then Some Assemble
     else if bytes_eq name (codes "dis") then Some Disassemble else None
 
--- the command that the first word names
+-- the command that the first word names, if it names one
 abbrev pub named_first : List Text → Option Command
 named_first [] = None
 named_first (w ∷ ws) = command_named w
@@ -44,7 +44,7 @@ page_for DisplayHelp command = help_page command
 page_for DisplayVersion command = VERSION_PAGE.now
 page_for _ command = []
 
--- what follows the line of a fault: if `clap` refuses the words, the page for one of the kinds that its refusal can have; else nothing
+-- what follows the line of a fault: if `clap` refuses the words, the page for one of the kinds of refusal that `clap` may return for them; else nothing
 abbrev pub HasPage : Kinds → List Text → WordsFault → Text → Type 0
 HasPage kinds words (Words None) page = (k : ErrorKind) × IsAmong k kinds × (page ≡ page_for k (named_first words))
 HasPage kinds words _ page = page ≡ []

@@ -38,7 +38,7 @@ told (Err e) = Err (Text e)
 abbrev pub Reads : Option (List ℕ) → Result TreeMap SourceFault → Type 0
 Reads known r = IfSome known (λ bytes. ReadsTree bytes r)
 
--- the bytes are read as a tree, which is added under the name; or the bytes are not read as a tree, and nothing is added
+-- the bytes are read as a tree, which is added under the name; or there is a fault, and nothing is added
 abbrev pub Adds : List ℕ → Option (List ℕ) → List given.Local → List given.Local → Result (Unit {0}) SourceFault → Type 0
 Adds name known old new (Ok u) = (t : TreeMap) × Reads known (Ok t) × (new ≡ with_local old name t)
 Adds name known old new (Err e) = Reads known (Err e) × (new ≡ old)

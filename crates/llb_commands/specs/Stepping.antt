@@ -32,7 +32,7 @@ conversation locals graph workers end commands output = record {
   replies = output;
 }
 
--- a session over the graph of these bytes, which ended with this result; the replies to its commands are written
+-- a session over the graph of these bytes has ended with this result, and the replies to its commands are written
 pub record IsSession (workers : ℕ) (locals : List Local) (commands output : Stream) (result : Result (Unit {0}) SessionFault) (bytes : List ℕ) : Type 0 where
   pub graph : Numbered
   pub loaded : IsGraphIn bytes graph
@@ -47,20 +47,20 @@ session_fault session.Write = fault.Output output.Write
 session_fault session.Memory = fault.Memory
 session_fault session.TooLong = fault.TooLong
 
--- a session went on to its end; or no session began, and nothing is written; or a session ended with a fault
+-- a session has gone on to its end; or no session began, and nothing is written; or a session has ended with a fault
 abbrev pub StepsIn : ℕ → List Local → Option (List ℕ) → Stream → Stream → Result (Unit {0}) ProgramFault → Type 0
 StepsIn workers locals file commands output (Ok u) = IfSome file (IsSession workers locals commands output (Ok u))
 StepsIn workers locals file commands output (Err e) =
     (IsKept output × TellsRefusal (IsNotRun workers locals) file e)
     ⊎ ((f : SessionFault) × (e ≡ session_fault f) × IfSome file (IsSession workers locals commands output (Err f)))
 
--- a session that ended with some fault
+-- a session over the graph of these bytes has ended with some fault
 abbrev pub IsBroken : ℕ → List Local → Stream → Stream → List ℕ → Type 0
 IsBroken workers locals commands output bytes = (f : SessionFault) × IsSession workers locals commands output (Err f) bytes
 
--- How the command ends, by the definition in a file, with the commands as its input. Status 0: the session went on to its end. 2: the bytes are refused, a
--- local tree is missing, or the number of workers is not 1 to 64, and nothing is written but the line that says which; or there were too many bytes of
--- commands, which a line says. 3: a device or memory failed; nothing is written, or the replies up to the failure.
+-- How `step` ends. It reads the definition from a file, and the commands from its input. Status 0: the session went on to its end. 2: the bytes are
+-- refused, a local tree is missing, or the number of workers is not 1 to 64, and nothing is written but the line that says which; or there were too many
+-- bytes of commands, which a line says. 3: a device or memory failed; nothing is written, or the replies up to the failure.
 abbrev pub Steps : ℕ → List Local → Option (List ℕ) → Io → ℕ → Type 0
 Steps workers locals file io status =
     ((status ≡ 0) × IsKept io.errors × IfSome file (IsSession workers locals io.input io.output (Ok tt)))

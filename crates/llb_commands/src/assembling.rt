@@ -86,10 +86,10 @@ fn assembled<R: Read, W: Write>(
     }
 }
 
-/// Reads a text from `input` and writes the definition of the entries that it is read as to `out`; a refusal goes to `err`, as a line.
-/// Returns the exit status: 0 if the whole definition is written; 2 if the text is refused (`fault 161 N RULE`, `fault 162 N`, and
-/// `fault 185` past 67,108,864 bytes), and nothing is written to `out`; 3 if a read (181), a write (182) or memory (14, 163, 184)
-/// failed, and nothing, or a prefix of the definition, is written.
+/// Reads a text of entries from `input`, and writes the definition of these entries to `out`; a refusal goes to `err`, as a line. Returns
+/// the exit status: 0 if the whole definition is written; 2 if the text is refused (`fault 161 N RULE`, `fault 162 N`, and `fault 185` past
+/// 67,108,864 bytes), and nothing is written to `out`; 3 if a read (181), a write (182) or memory (14, 163, 184) failed, and nothing, or a
+/// prefix of the definition, is written.
 pub fn asm_over<R: Read, W: Write, E: Write>(
     alloc: Global,
     input: &mut R,

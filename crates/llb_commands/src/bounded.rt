@@ -1,4 +1,4 @@
-//! Reading to the end, within bounds on the bytes and on the reads.
+//! Reads an input to its end, within bounds on the bytes and on the reads.
 
 ghost use Rattle.std.specs.Prelude.{◌≢◌, IfErr};
 ghost use Rattle.llb_commands.specs.Bounded.{ReadsAll};

@@ -1,5 +1,5 @@
-//! Why the program ends without its result, and the status that it then ends with. A fault prints what comes after the
-//! word `fault`, and does not allocate for it.
+//! Why the program ends without its result, and the status with which it then ends. Printing a fault writes the text
+//! after the word `fault` in its line, and does not allocate.
 
 ghost use Rattle.std.specs.Prelude.{◌≡◌, Some};
 ghost use Rattle.llb_commands.specs.Faults.{output_text, program_text, status_of, Tells};
@@ -60,14 +60,14 @@ pub enum ProgramFault {
     Workers,
     /// 123: memory was refused while the board was opened.
     Opening,
-    /// 151: memory was refused in the run; 153: a thread could not be started. 152 and 154 mean a gate that stops and another
-    /// board than the given one: no run of the program ends with these.
+    /// 151: memory was refused in the run; 153: a thread could not be started. 152 (the gate stopped a worker) and 154 (the
+    /// board is not the given one) never end a run of the program.
     Run(RunFault),
     /// 34 and 35: the result's text was not written, or not all of it.
     Print(PrintFault),
     /// 182 and 184: a text of the program's own was not written, or not all of it.
     Output(OutputFault),
-    /// 1 to 4 and 11 to 13: a definition that is to be written as a text does not read.
+    /// 1 to 4 and 11 to 13: the bytes that are to be disassembled can't be read as a definition.
     Unread(OpFault),
     /// 14: memory was refused while entries were read or written.
     Entries,

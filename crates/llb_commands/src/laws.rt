@@ -30,9 +30,9 @@ pub fn assembled_runs_alike(text: &[u8], entries: &Entries, bytes: &Bytes)
 }
 
 /// Proves the aim of the machine. Take a definition that is loaded as a graph, and a board and a stepper over this graph, on any local trees and with any
-/// number of workers. After every interleaving of events the board's state and replies are the written table's on the board's record. No two executions hold
-/// one locked cache at once. Every settled vertex with no cache mount at or before it has the graph's plain outcome. A text that is read as the definition's
-/// entries is assembled to bytes that load as this graph. The stepper's state and lines on this graph are the table's.
+/// number of workers. After every interleaving of events the board's state and replies are those to which the table leads by the board's record. No two
+/// executions hold one locked cache at once. Every settled vertex with no cache mount at or before it has the graph's plain outcome. A text that is read as the
+/// definition's entries is assembled to bytes that load as this graph. The stepper's state and lines on this graph follow from the table in the same way.
 pub fn aim(
     text: &[u8],
     definition: &Bytes,

@@ -1,6 +1,6 @@
-//! The program's commands (`run`, `show`, `step`, `asm`, `dis`) over readers and writers whose bytes contracts know; the words that ask for a
-//! command, and the exit status of each command. The crate is built on `llb_asm`, `llb_session` and `llb_work`; the process's own words, files
-//! and streams are in `llbm`.
+//! The program's commands (`run`, `show`, `step`, `asm`, `dis`) over any readers and writers, with contracts about the bytes that are read and
+//! written; the words that ask for a command, and the exit status of each command. The crate is built on `llb_asm`, `llb_session` and
+//! `llb_work`; the process's own words, files and streams are in `llbm`.
 //!
 //! Types: `Line` and `Command` (what words ask for), `Sources` (files by name), `Streams`, `ProgramFault`, `SourceFault`, `WordsFault`.
 //! Promise: `laws::aim` is the aim of the whole machine (docs/CLAIMS.md). `program` is the program without its process: what it writes to

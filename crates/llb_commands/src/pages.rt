@@ -80,7 +80,7 @@ Options:
   -h, --help  Print help
 ";
 
-/// Returns the command with this name.
+/// Returns the command with this name; `None` if no command has the name.
 pub(crate) fn named(name: &str) -> Option<Command>
     ensures { result ≡ command_named name.now }
 {
@@ -99,7 +99,7 @@ pub(crate) fn named(name: &str) -> Option<Command>
     }
 }
 
-/// Returns the command that the first word names.
+/// Returns the command that the first word names, if it names one.
 pub(crate) fn named_first<S: AsStr>(words: &[S]) -> Option<Command>
     ensures { result ≡ named_first (map S.text words.now) }
 {

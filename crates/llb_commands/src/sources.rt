@@ -22,11 +22,11 @@ pub enum SourceFault {
     Read,
     /// 185: the file of a local source has more than 67,108,864 bytes.
     TooLong,
-    /// 31 to 34: the file of a local source is read as no tree.
+    /// 31 to 34: the file of a local source can't be read as a tree.
     Text(TextFault),
     /// 184: memory was refused while the file of a local source was read.
     Reading,
-    /// 92: memory was refused while the tree of a local source was kept.
+    /// 92: memory was refused while the tree of a local source was added.
     Adding,
 }
 

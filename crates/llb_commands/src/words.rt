@@ -46,7 +46,7 @@ pub struct Line<'a> {
 /// Why the words of a command line are refused. A fault prints what follows the word `fault` in its line.
 #[derive(Clone, Copy, Debug)]
 pub enum WordsFault<'a> {
-    /// 183: the words are refused; a word that follows was to be a local source and has no `=`.
+    /// 183: the words are refused; a word that follows should be a local source but has no `=`.
     Words(Option<&'a str>),
     /// 184: memory was refused while the words were read.
     Memory,
@@ -87,7 +87,8 @@ impl<T: Drop> From<AllocFailed<T>> for WordsFault<'_> {
 }
 
 impl WordsFault<'_> {
-    // Returns the status with which the program ends, once the fault's line is written: 2 for the words, 3 for want of memory.
+    // Returns the status with which the program ends, once the fault's line is written: 2 for refused words, 3 for refused
+    // memory.
     fn status(&self) -> u8
         ensures { result ≡ words_status self.now }
     {

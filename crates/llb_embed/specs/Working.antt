@@ -23,7 +23,7 @@ use Rattle.llb_embed.specs.declared.held.Held.{Held}
 abbrev pub written : List ℕ → Stream
 written bytes = record { before = Some []; after = Some bytes }
 
--- the streams of a command: its input has these bytes before the command, and `rest` after it; it writes the output and the messages of the new value
+-- the streams of a command: the input has these bytes before the command, and `rest` after it; the command writes the output and the messages of the new value
 abbrev pub streams : List ℕ → Option (List ℕ) → Held → Io
 streams bytes rest new = record {
   input = record { before = Some bytes; after = rest };
@@ -91,8 +91,8 @@ abbrev pub GoesOn : List ℕ → Stepping → ℕ → Held → Type 0
 GoesOn line s n new = (t : Stepping) × (new.session ≡ Some t) × (new.lines ≡ n) × (¬ Quits line) × RespondsAs (request_in line) s n new.output.items t
 
 -- A line is sent to session s. Status 0: the output is the line's reply. 1: the line ends the session, and no session is open then. Any other status: nothing
--- is changed, and the messages have a line that says why: memory was refused for the line of a refusal, or the session has already got 2^64 - 1 lines (if the
--- messages' line could not be written, the status is 3).
+-- is changed, and the messages have a line that says why: no memory for the line that reports a refusal, or the session has already got 2^64 - 1 lines (if
+-- the messages' line could not be written, the status is 3).
 abbrev pub RepliesOn : List ℕ → Stepping → Held → Held → ℕ → Type 0
 RepliesOn line s old new status =
     ((status ≡ 0) × (new.messages.items ≡ []) × GoesOn line s (old.lines + 1) new)

@@ -15,7 +15,7 @@ pub struct Held {
     pub messages: Vec<u8>,
 }
 
-// Written by hand, so that a proof can cite it by its name.
+// This `Drop` is written by hand, so that a proof can cite it by its name.
 impl Drop for Held {
     fn drop(self) {
         let Held {

@@ -1,4 +1,4 @@
-//! A value behind a pointer that C keeps: no value, or the value of a box that was turned into its pointer.
+//! `Kept`: a pointer that C keeps, to no value or to the value of a `Box` that was turned into this pointer.
 
 ghost use Rattle.std.specs.Prelude.{◌≡◌};
 ghost use Rattle.std.specs.declared.option.Option.{Option};

@@ -2,8 +2,8 @@
 //! command. It is built on `llb_commands`, and is linked as a static library; what its caller has to promise is in bindings/llbm.h.
 //!
 //! Types: `Llb`, a handle: a struct of zeroes until a call puts a value into it.
-//! Promise: each export does what the program's command does, on the bytes handed in and what the handle holds (`ran`, `opened`, `replied` and the like); as
-//! much of the output and of the messages as fits is copied, and the whole length is returned (`copied`, `all`).
+//! Promise: each exported call does what the program's command does, on the bytes handed in and what the handle holds (clauses `ran`, `opened`, `replied` and
+//! the like); as much of the output and of the messages as fits is copied, and the whole length is returned (`copied`, `all`).
 //!
 //! A caller:
 //!
@@ -66,9 +66,9 @@ pub extern "C" fn llb_open(alloc: Global, it: &mut Llb, definition: &[u8], worke
 }
 
 /// Sends a line, without its line end, to the session; the output is the reply. Returns 0 if the session goes on; 1 if the line ends the session, and then no
-/// session is open; 4 if no session was open; 3 if memory for the line of a refusal is refused (184); 2 past 2^64 - 1 lines (185). With 2 or 3 the session is
-/// unchanged, and the messages have a line (with 3 they have none if memory for the line is refused). If what the line asks for is refused (171 to 174), that
-/// refusal is the reply.
+/// session is open; 4 if no session was open; 3 if there is no memory for the line that reports a refusal (184); 2 past 2^64 - 1 lines (185). With 2 or 3 the
+/// session is unchanged, and the messages have a line (with 3 they have none if memory for the line is refused). If what the line asks for is refused (171 to
+/// 174), that refusal is the reply.
 #[unsafe(no_mangle)]
 pub extern "C" fn llb_line(alloc: Global, it: &mut Llb, line: &[u8]) -> u8
     requires { IsSound it.old }

@@ -43,7 +43,7 @@ fn clear(held: &mut Held)
     held.messages.clear();
 }
 
-/// Adds a local tree; if no tree can be added, writes the reason to the messages.
+/// Adds a local tree, and returns the status; if no tree can be added, writes the reason to the messages.
 pub(crate) fn local(alloc: Global, held: &mut Held, name: &[u8], text: &[u8]) -> u8
     ensures { Added name.now text.now held.old held.new result }
 {
@@ -58,8 +58,8 @@ pub(crate) fn local(alloc: Global, held: &mut Held, name: &[u8], text: &[u8]) ->
     }
 }
 
-/// Opens a session, in place of the open session if there is one; if no session can be opened, writes the reason to the
-/// messages.
+/// Opens a session, in place of the open session if there is one, and returns the status; if no session can be opened,
+/// writes the reason to the messages.
 pub(crate) fn open(alloc: Global, held: &mut Held, definition: &[u8], workers: u32) -> u8
     ensures { Opened definition.now workers held.old held.new result }
 {
@@ -78,7 +78,8 @@ pub(crate) fn open(alloc: Global, held: &mut Held, definition: &[u8], workers: u
     }
 }
 
-/// Replies to a line of the open session, if there is one; if there can be no reply, writes the reason to the messages.
+/// Replies to a line of the open session, and returns the status, which is 4 if no session is open. If memory is refused, or
+/// the session has had 2^64 - 1 lines, writes the reason to the messages.
 pub(crate) fn reply(alloc: Global, held: &mut Held, line: &[u8]) -> u8
     ensures { Replied line.now held.old held.new result }
 {

@@ -313,12 +313,13 @@ fn board_called(board: &mut Board, call: &str) -> Answer {
     }
 }
 
-// Returns in words that worker `w` works at vertex `v`, and then `name`, which says whether the board is as it should be.
+// Returns in words that worker `w` works at vertex `v`, and then `name`: `the board` if the board is as it should be,
+// else `another`.
 fn printed_work(rt: &impl Abort, alloc: Global, w: u32, v: u32, name: &str) -> String {
     format!(in alloc; "{w} at {v}, {name}").expect(rt, "memory")
 }
 
-// Returns in words what a micro-step did, and then `name`, which says whether the board is as it should be.
+// Returns in words what a micro-step did, and then `name`: `the board` if the board is as it should be, else `another`.
 fn printed_stepped(rt: &impl Abort, alloc: Global, stepped: Stepped, name: &str) -> String {
     format!(in alloc; "{stepped:?}, {name}").expect(rt, "memory")
 }
@@ -328,7 +329,7 @@ fn name_of(is_same: bool) -> &'static str {
 }
 
 impl OnBoard {
-    // Returns whether the board is as it should be after the event of the call, in words.
+    // Returns in words whether the board equals the board on which the event of the call was done.
     fn behind(&self) -> &'static str {
         name_of(self.board.same(&self.goal))
     }

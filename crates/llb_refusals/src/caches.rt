@@ -1,4 +1,5 @@
-//! Leases of caches. A need is the ID and the mode of its key, with the tree that a new instance begins with; there is a comma between two needs.
+//! Leases of caches. A need is written as the ID and the mode of its key, and the tree with which a new instance begins; there is a comma between
+//! two needs.
 
 use super::growths::{Row, Trial, are_refused};
 use super::printed::{printed_fault, printed_text, text_of};
@@ -15,7 +16,7 @@ enum Answer {
     Ready(Result<Lent, Memory>),
 }
 
-// Two equal values of caches, needs for two calls that take them, and instances of their keys.
+// Two equal values of caches; needs for two calls that take needs; and, for each need, an instance of its key.
 #[derive(Drop)]
 struct OnCaches {
     call: &'static str,

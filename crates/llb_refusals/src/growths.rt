@@ -1,14 +1,14 @@
 //! Refuses each growth (each request for memory) of a call in turn. This is done by `tools/llbm_tools/refuse.c`, a library between the test and its allocator.
-//! The test says what to refuse by requests of sizes that no allocator grants.
+//! The test names the growth to the library by a request for memory of a size that no allocator grants.
 
 use super::printed::is_same;
 use llb_samples::tree_text;
 use std::alloc::Global;
 use std::process::Abort;
 
-/// A call in words; what it is called on; its result in words if memory is refused; and its result if no memory is refused. For a call that does not allocate
-/// the third text is empty. If the third text has several faults with ` and ` between them, each of them has to come; with ` or ` between them, any of them may
-/// come. The last text may be the name of a tree instead of the tree's text.
+/// A call in words; what the call is made on; its result in words if memory is refused; and its result if no memory is refused. For a call that does
+/// not allocate the third text is empty. If the third text has several faults with ` and ` between them, each of them has to be the result of some
+/// refusal; with `or` between them, any of them may be a result. The last text may be the name of a tree instead of the tree's text.
 pub(crate) type Row = (&'static str, &'static str, &'static str, &'static str);
 
 /// A call with what it needs, and its latest result.
@@ -65,8 +65,8 @@ pub(crate) fn is_lack(printed: &str, lacks: &str) -> bool {
     false
 }
 
-// Returns the result in words if the growth with this number was refused, else `None`. Checks that the refusal changes nothing, and that the same call then
-// succeeds.
+// Makes a call while the growth with this number is refused. Returns the result in words, or `None` if the call has no such growth. Checks that the refusal
+// changes nothing, and that the same call then succeeds.
 fn told_at<T: Trial>(rt: &impl Abort, alloc: Global, row: &Row, k: usize) -> Option<String> {
     let (call, on, lacks, wanted) = *row;
     let mut trial = T::ready(rt, alloc, row);
@@ -99,7 +99,7 @@ fn is_among(lack: &str, came: &[String]) -> bool {
     false
 }
 
-// Returns whether each expected fault came.
+// Returns whether each expected fault is among the results.
 fn all_came(lacks: &str, came: &[String]) -> bool {
     for lack in lacks.split(" and ") {
         if !is_among(lack, came) {

@@ -1,4 +1,4 @@
-//! Entries and definitions, read and written. What was read can't be changed by these calls.
+//! Reads and writes entries and definitions. These calls never change the entries and the op that they are made on.
 
 use super::growths::{Row, Trial, are_refused};
 use super::printed::{printed_bytes, printed_fault, printed_text};

@@ -1,4 +1,4 @@
-//! Values in words.
+//! Turns values into words, and compares texts.
 
 use llb_samples::{push_path, text_of_tree};
 use llb_tree::{Path, Tree};

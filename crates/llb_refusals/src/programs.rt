@@ -167,7 +167,7 @@ impl Trial for OnInput {
         self.ran.printed(rt, alloc, self.call != "asm_over")
     }
 
-    // Returns whether what is written is the beginning of what should be written; `asm` has written nothing then, and a session may go on after a refusal.
+    // Returns whether what is written is the beginning of what should be written. If memory is refused, `asm` writes nothing, and a session may go on.
     fn is_as_before(&mut self, _rt: &impl Abort, _alloc: Global) -> bool {
         match (self.call, str::from_utf8(self.ran.out.as_slice())) {
             ("asm_over", _) => self.ran.out.is_empty(),

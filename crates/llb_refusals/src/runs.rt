@@ -46,7 +46,7 @@ fn printed_end(rt: &impl Abort, alloc: Global, end: &RunEnd) -> String {
     }
 }
 
-// The line of a test, the board that it is opened on, and the end of that board's run.
+// A board as it is written in a row, the board itself, and the end of the board's run.
 #[derive(Drop)]
 struct OnRun {
     on: &'static str,
@@ -147,8 +147,8 @@ pub(crate) fn printed_alone(rt: &impl Abort, alloc: Global, board: Board) -> Str
     printed_end(rt, alloc, &alone(board))
 }
 
-// Returns whether growth `k` of a run in threads was refused. If it was, the run ends because of that, or does without the memory; its record is right, and
-// one driver finishes it.
+// Returns whether growth `k` of a run in threads was refused. If the growth was refused, the run ends with a fault, or does without the memory. In both cases
+// the run's record is right, and `run_alone` completes the run's board.
 fn is_growth<R: Abort + Threads + Wait + Sync>(rt: &R, alloc: Global, row: &Row, k: usize) -> bool {
     let (_, on, lacks, wanted) = *row;
     let board = board_on(rt, alloc, &board_in(rt, on));
@@ -240,8 +240,8 @@ fn run_by(board: &Board, k: usize) -> Option<u32> {
     }
 }
 
-// Returns whether thread `k` of a run could not be started. If it could not, the run ends because of that; the vertex of the thread's worker is done, the
-// record is right, and one driver finishes the run.
+// Returns whether thread `k` of a run was kept from starting. If it was, the run ends with a fault; the vertex that the thread's worker ran before is done, the
+// run's record is right, and `run_alone` completes the run's board.
 fn is_thread<R: Abort + Threads + Wait + Sync>(rt: &R, alloc: Global, row: &Row, k: usize) -> bool {
     let (_, on, fault, wanted) = *row;
     let written = board_in(rt, on);

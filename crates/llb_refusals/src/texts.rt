@@ -26,7 +26,7 @@ enum Answer {
     Entries(Result<Entries, AsmFault>),
 }
 
-// A text to be read, or a tree or entries to be written, each with an equal copy, and memory for what is written.
+// A text to be read; a tree and entries to be written, each with an equal copy; and the bytes that are written.
 #[derive(Drop)]
 struct OnText {
     call: &'static str,

@@ -1,4 +1,4 @@
-//! Refused memory while records are written.
+//! Writes records while memory is refused.
 
 use super::growths::{Row, Trial, are_refused};
 use super::printed::{printed_bytes, printed_fault, printed_text};

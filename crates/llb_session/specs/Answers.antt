@@ -26,12 +26,12 @@ use Rattle.llb_session.specs.Texts.{status_lines, record_line, record_lines, tre
 abbrev pub GrantsEvent : Event → Stepping → List ℕ → Stepping → Type 0
 GrantsEvent e s text t = (done_of s e ≡ Ok t) × (text ≡ record_line t (length t.board.events))
 
--- the chosen event is done, if there is one; else `end` is printed
+-- the chosen event (`chosen` of llb_model) is done, if there is one; else `end` is printed
 abbrev pub GrantsNext : Option Event → Stepping → List ℕ → Stepping → Type 0
 GrantsNext None s text t = (t ≡ s) × (text ≡ codes "end\n")
 GrantsNext (Some e) s text t = GrantsEvent e s text t
 
--- the last line of a `go`: `stop` after a breakpoint, `end` if the board is complete
+-- the last line of a `go`: `stop` after a breakpoint, `end` if no chosen event is left
 abbrev pub stop_line : Bool → List ℕ
 stop_line at_break = if at_break then codes "stop\n" else codes "end\n"
 
@@ -77,7 +77,7 @@ Refuses (ask.Cache k i) s fault = ⊥
 Refuses ask.Quit s fault = ⊥
 
 -- The request may fail with this fault if memory is refused. `clear` and `quit` never fail for want of memory. An event, `next` and `go` may fail with the
--- board's `Memory` (171 141) or the stepper's (174); every other request may fail with the stepper's alone.
+-- board's `Memory` (171 141) or the stepper's (174); every other request may fail with 174 alone.
 abbrev pub Wants : Request → StepperFault → Type 0
 Wants ask.Clear fault = ⊥
 Wants ask.Quit fault = ⊥
@@ -116,8 +116,8 @@ pub record PrintsNumber (s : Stepping) (n : ℕ) (text : List ℕ) (t : Stepping
   pub printed : (text ≡ fault_line (BadCommand n)) ⊎ (text ≡ fault_line Memory)
   pub same : t ≡ s
 
--- The reply to line n. A request that is granted prints its text, and one that is refused prints the line of its refusal. Any other line prints fault 173 with
--- n, or fault 174.
+-- The reply to line n. A request that is granted prints its text, and one that is refused prints the line that reports its refusal. Any other line prints
+-- fault 173 with n, or fault 174.
 abbrev pub AnswersAs : Option Request → Stepping → ℕ → List ℕ → Stepping → Type 0
 AnswersAs None s n text t = PrintsNumber s n text t
 AnswersAs (Some r) s n text t = Grants r s text t ⊎ PrintsRefusal r s text t
@@ -127,8 +127,8 @@ abbrev pub MayFail : Option Request → Type 0
 MayFail None = ⊤
 MayFail (Some r) = Wants r Memory
 
--- The whole reply to line n. A request that is granted prints its text, and one that is refused prints the line of its refusal. A line that is no request
--- prints fault 173 with n, and changes nothing.
+-- The reply to line n, given that memory for the line that reports a refusal was granted. A request that is granted prints its text, and one that is
+-- refused prints the line that reports its refusal. A line that is no request prints fault 173 with n, and changes nothing.
 abbrev pub RespondsAs : Option Request → Stepping → ℕ → List ℕ → Stepping → Type 0
 RespondsAs None s n text t = (text ≡ fault_line (BadCommand n)) × (t ≡ s)
 RespondsAs (Some r) s n text t = Grants r s text t ⊎ PrintsRefusal r s text t
@@ -137,8 +137,8 @@ RespondsAs (Some r) s n text t = Grants r s text t ⊎ PrintsRefusal r s text t
 abbrev pub Quits : List ℕ → Type 0
 Quits line = request_in line ≡ Some ask.Quit
 
--- The result of line n of a session: its whole reply, or no reply if the line ends the session; t is the stepper afterwards. Or memory was refused for the line
--- of a refusal; then nothing is changed, and line n is neither `clear` nor `quit`.
+-- The result of line n of a session: its reply (`RespondsAs`), or none if the line ends the session; t is the stepper afterwards. Or memory was refused for the
+-- line that reports a refusal; then nothing is changed, and line n is neither `clear` nor `quit`.
 abbrev pub Responds : Stepping → ℕ → List ℕ → Stepping → Result (Option (Vec ℕ Global)) AllocError → Type 0
 Responds s n line t (Ok (Some text)) = (¬ Quits line) × RespondsAs (request_in line) s n text.items t
 Responds s n line t (Ok None) = Quits line × (t ≡ s)

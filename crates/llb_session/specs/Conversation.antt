@@ -48,8 +48,8 @@ pub record Standing : Type 0 where
 abbrev pub opening : Stepping → Standing
 opening s = record { session = s; number = 1; line = [] }
 
--- State p becomes state q by some bytes: the lines that the bytes complete have got their replies, and the bytes after the last line end belong to the line
--- that is being read.
+-- State p becomes state q by some bytes: the text is the replies to the lines that the bytes complete, and the bytes after the last line end belong to the
+-- line that is being read.
 pub record Talked (p : Standing) (bytes text : List ℕ) (q : Standing) : Type 0 where
   pub lines : List (List ℕ)
   pub spelled : Spelled lines q.line (p.line ++ bytes)
@@ -98,7 +98,7 @@ pub record Concluded (s : Stepping) (input : List ℕ) (t : Stepping) (out : Str
 
 -- ---- how a conversation ends
 
--- a conversation: the most bytes and the most reads that it may take, the stepper before and after it, and its two streams
+-- a conversation: the most bytes that it may use, the most reads that it may make, the stepper before and after it, and its two streams
 pub record Conversation : Type 0 where
   pub limit : ℕ
   pub reads : ℕ

@@ -63,7 +63,7 @@ abbrev pub tree_lines : Option TreeMap → List ℕ
 tree_lines None = codes "none\n"
 tree_lines (Some t) = tree_text t
 
--- the words for the role of a tree that a worker works on
+-- the words for the role that a tree has in a worker's work on its vertex
 abbrev pub role_text : Role → List ℕ
 role_text Local = codes "local"
 role_text Input = codes "input"
@@ -122,7 +122,7 @@ unfoldable pub key_lines : List Row → ℕ → List ℕ
 key_lines rows zero = []
 key_lines rows (suc k) = key_lines rows k ++ key_line_of rows k (slice_get (keys_of rows) k)
 
--- the line of a refusal
+-- the line that reports a refusal
 abbrev pub fault_line : StepperFault → List ℕ
 fault_line e = codes "fault " ++ (stepper_text e ++ codes "\n")
 

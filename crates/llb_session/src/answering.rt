@@ -39,7 +39,7 @@ fn do_event(alloc: Global, stepper: &mut Stepper, event: Event) -> Result<Vec<u8
     }
 }
 
-// Does the chosen event and returns its line; returns the line `end` if there is no chosen event.
+// Does the chosen event (`Stepper::next`) and returns its line; returns the line `end` if there is no chosen event.
 fn do_next(alloc: Global, stepper: &mut Stepper) -> Result<Vec<u8>, StepperFault>
     ensures { IsPerformed ask.Next stepper.old stepper.new result }
 {
@@ -167,8 +167,8 @@ fn perform(alloc: Global, stepper: &mut Stepper, request: Request) -> Result<Vec
     }
 }
 
-// Does what a line asks for, and returns what it prints; for a line that is no request, returns `fault 173` and the line's number. If memory for the line of a
-// refusal is refused, the call fails and changes nothing; this never happens for `clear` and `quit`.
+// Does what a line asks for, and returns what it prints; for a line that is no request, returns `fault 173` and the line's number. If there is no memory for
+// the line that reports a refusal, the call fails and changes nothing; this never happens for `clear` and `quit`.
 fn respond_to(
     alloc: Global,
     stepper: &mut Stepper,
@@ -191,8 +191,8 @@ fn respond_to(
 
 /// Replies to line `number` of a session, counted from 1, on the stepper, and returns the whole reply. The reply is empty if the line is granted and prints
 /// nothing; it is `fault 173` and the number if the line is no request; it is `fault` and 171, 172 or 174 if the request is refused, and then nothing is
-/// changed. Returns `None` if the line ends the session. Fails if memory for the line of a refusal is refused, and then nothing is changed either; neither
-/// `clear` nor a line that ends the session fails.
+/// changed. Returns `None` if the line ends the session. Fails if there is no memory for the line that reports a refusal, and then nothing is changed either;
+/// neither `clear` nor a line that ends the session fails.
 pub fn respond(
     alloc: Global,
     stepper: &mut Stepper,
@@ -219,8 +219,8 @@ fn write_reply<W: Write>(bytes: &[u8], out: &mut W) -> Result<bool, Failed>
     Ok(true)
 }
 
-/// Replies to a line as `respond` does, and writes the reply to `out`; if memory is refused for the line of a refusal, the reply is `fault 174`. Returns false
-/// if the line ends the session; nothing is written then. Fails with `Failed` if the writer failed, and a prefix of the reply is written.
+/// Replies to a line as `respond` does, and writes the reply to `out`; if there is no memory for the line that reports a refusal, the reply is `fault 174`.
+/// Returns false if the line ends the session; nothing is written then. Fails with `Failed` if the writer failed, and a prefix of the reply is written.
 pub fn answer<W: Write>(
     alloc: Global,
     stepper: &mut Stepper,

@@ -1,4 +1,4 @@
-//! Why a conversation ends early. A fault prints what comes after the word `fault`, and does not allocate for it.
+//! Why a conversation ends early. Printing a fault writes the text after the word `fault`, and does not allocate.
 
 use std::io::ErrorKind;
 use thiserror::Error;

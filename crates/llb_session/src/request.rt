@@ -17,7 +17,7 @@ pub enum Request {
     Clear,
     /// Does an event.
     Event(Event),
-    /// Does the chosen event.
+    /// Does the chosen event, which is the one that `Stepper::next` returns.
     Next,
     /// Does the chosen events, up to one that meets a breakpoint.
     Go,

@@ -224,7 +224,7 @@ pub(crate) fn caches_text(alloc: Global, board: &Board) -> Result<String, Steppe
     Ok(text)
 }
 
-/// Returns the line of a refusal.
+/// Returns the line that reports a refusal.
 pub(crate) fn fault_line(alloc: Global, fault: &StepperFault) -> Result<String, AllocError>
     ensures { IfOk result (λ s. string_bytes s ≡ fault_line fault.now) }
 {

@@ -25,8 +25,8 @@ pub record Follows (before b : BoardValue) (r : short.Reply) : Type 0 where
   pub given : answered before event ≡ Some (b, reply)
   pub same : r ≡ told reply
 
--- For each event that was done, the last one first: it can be taken back on the board after it, and it leads from the board before it to the board after it,
--- with the kept reply.
+-- For each event that was done, the last one first: the event can be taken back on the board after it, and on the board before it the event leads to the
+-- board after it, with the kept reply.
 abbrev pub AreWalked : BoardValue → List Walked → Type 0
 AreWalked b [] = Unit {0}
 AreWalked b (w ∷ ws) = CanUndo w.undo b × Follows (undone w.undo b) b w.reply × AreWalked (undone w.undo b) ws

@@ -1,4 +1,4 @@
--- The lines of a record: an event by its number from 1, and its reply.
+-- The lines of a record: a line has the number of an event, counted from 1, the event, and the reply to it.
 use Rattle.std.specs.Prelude.{◌≡◌, ◌≤◌, ◌<◌, ◌+◌, ℕ, ◌-◌, ◌&&◌, nat_le, List, [], ◌++◌, length, codes, Option, Some, None, option_map, slice_get, if◌then◌else◌}
 use Rattle.std.specs.Fmt.{decimal}
 use Rattle.llb_ops.specs.Kinds.{kind_text}
@@ -25,11 +25,11 @@ event_text (Step w) = codes "step " ++ decimal w
 event_text (Settle w) = codes "settle " ++ decimal w
 event_text (Cancel w) = codes "cancel " ++ decimal w
 
--- a settle of a vertex that is done, as it is printed
+-- the reply to a settle of a vertex that is done, as it is printed
 abbrev pub done_text : ℕ → List ℕ
 done_text v = decimal v ++ codes " done"
 
--- a settle of a vertex that failed, as it is printed
+-- the reply to a settle of a vertex that failed, as it is printed
 abbrev pub failed_text : ℕ → List ℕ
 failed_text v = decimal v ++ codes " failed"
 
@@ -37,7 +37,7 @@ failed_text v = decimal v ++ codes " failed"
 abbrev pub pair_text : ℕ → ℕ → List ℕ
 pair_text a b = decimal a ++ (codes " " ++ decimal b)
 
--- the text for a micro-step that failed: for an action its fault, and for a command the word `ran`, its number and its status
+-- the text for a micro-step that failed: for an action `fault`, the action's number and the fault's; for a command `ran`, the command's number and its status
 abbrev pub fault_text : VertexFault → List ℕ
 fault_text (vertex.Action a n) = codes "fault " ++ pair_text a n
 fault_text (vertex.Exit c s) = codes "ran " ++ pair_text c s
@@ -85,7 +85,7 @@ replied None e = None
 replied (Some b) None = None
 replied (Some b) (Some e) = option_map (λ (p : BoardValue × Reply). (e, p.1)) (answered b e)
 
--- event i of the board's record, counted from 1, with its reply; none if there is no event i, or the board already had it when the stepper was made
+-- event i of the board's record, counted from 1, with its reply; none if there is no event i, or if the board had event i when the stepper was made
 abbrev pub record_at : Stepping → ℕ → Option (Event × Reply)
 record_at s i =
     if nat_le 1 i && nat_le i (length s.board.events) then replied (slice_get s.past (length s.board.events - i)) (slice_get s.board.events (i - 1)) else None

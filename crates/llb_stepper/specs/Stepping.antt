@@ -1,4 +1,4 @@
--- A stepper as contracts see it, and what its calls do: one event, one event back, and events up to a stop.
+-- A stepper as contracts see it, and what its calls do: one event is done, one event is taken back, and events are done up to a stop.
 use Rattle.std.specs.Prelude.{◌≡◌, ℕ, zero, suc, ◌+◌, ◌-◌, slice_get, ◌<◌, ◌==◌, nat_lt, if◌then◌else◌, Bool, true, false, List, []}
 use Rattle.std.specs.Prelude.{◌∷◌, length, take, drop, Option, Some, None, option_map}
 use Rattle.std.specs.List.{list_any}
@@ -13,7 +13,7 @@ use Rattle.llb_stepper.specs.declared.stop.Break.{Break}
 use Rattle.llb_stepper.specs.declared.stop.Break.TheVariants as stop
 use Rattle.llb_stepper.specs.declared.stop.Stop.{Stop}
 
--- a stepper: its board, the board before each event that it did, the latest first, and its breakpoints
+-- a stepper: its board; the board before each event that the stepper did, the latest first; and its breakpoints
 pub record Stepping : Type 0 where
   pub board : BoardValue
   pub past : List BoardValue
@@ -121,7 +121,7 @@ PastIsTheRecords s = (k : ℕ) (c : BoardValue) → slice_get s.past k ≡ Some 
 abbrev pub timeline : Stepping → List BoardValue
 timeline s = s.board ∷ s.past
 
--- If the flag is true, the last of the n events meets a breakpoint; if it is false, the n events are the whole list and none of them meets one.
+-- If the flag is true, event n of the list, counted from 1, meets a breakpoint; if it is false, the list has n events, and none of them meets a breakpoint.
 abbrev pub EndsAt : Bool → List Break → BoardValue → List Event → ℕ → Type 0
 EndsAt true breaks b es n = (k : ℕ) × ((n ≡ k + 1) × (meets_at breaks b es k ≡ true))
 EndsAt false breaks b es n = (n ≡ length es) × ((k : ℕ) → k < n → meets_at breaks b es k ≡ false)

@@ -1,4 +1,4 @@
-//! Why a call on a stepper is refused. A fault prints its number and its arguments.
+//! Why a call on a stepper is refused. Printing a fault writes its number and its arguments.
 
 ghost use Rattle.std.specs.Prelude.{Some};
 ghost use Rattle.llb_stepper.specs.Faults.{stepper_text};

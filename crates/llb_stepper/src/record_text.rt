@@ -1,4 +1,4 @@
-//! The lines of a record as text: an event by its number, and the reply to it.
+//! The lines of a record as text: the number of an event, the event, and the reply to it.
 
 ghost use Rattle.std.specs.Prelude.{◌≡◌, IfOk, option_map, string_bytes};
 ghost use Rattle.llb_stepper.specs.Records.{event_text, claimed_text, pair_text, fault_text, vertex_of, step_text, settle_text};

@@ -95,8 +95,8 @@ impl Stepper {
         self.breaks.clear();
     }
 
-    /// Does one event. Fails with 171 and the board's refusal, or with 174. If memory is refused, the fault is 171 141 if the board needed it, and 174 if the
-    /// stepper itself did.
+    /// Does one event. Fails with 171 and the board's refusal, or with 174. If memory is refused, the fault is 171 141 if the board needed the memory, and 174
+    /// if the stepper itself needed it.
     pub fn do_event(&mut self, event: Event) -> Result<(), StepperFault>
         ensures gives { GivesEvent (λ _. self.new) result (done_of self.old event) }
         ensures err { OnErr result (self.new ≡ self.old) }
@@ -105,7 +105,8 @@ impl Stepper {
         Ok(())
     }
 
-    /// Returns the chosen event, without doing it: `None` if the board is complete. Does not allocate.
+    /// Returns the chosen event, without doing it: the next event of the running worker with the lowest number or, if no worker runs, worker 0's claim of the
+    /// least Ready vertex; `None` if the board is complete (every vertex is done, failed or blocked). Does not allocate.
     pub fn next(&self) -> Option<Event>
         ensures { result ≡ chosen self.now.board.build self.now.board.state }
     {

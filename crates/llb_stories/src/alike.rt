@@ -19,8 +19,8 @@ const IN_A_ROW_OPENED: Side = (IN_A_ROW, 2, "");
 
 const ON_A_CACHE: Side = ("locked: write /c/a x && false; RESULT_0", 2, "claim 0 0");
 
-// A board, the events that are done on it after it is copied, and another board; whether the copy equals the other board, and whether
-// the copy still equals the board that was copied.
+// A board, the events that are done on the board after it is copied, and another board; whether the copy equals the other board, and
+// whether the copy still equals the board that was copied.
 type Copied = (Side, &'static str, Side, [bool; 2]);
 
 const COPIES: &[Copied] = &[

@@ -131,7 +131,7 @@ impl Read for Waits<'_> {
     }
 }
 
-// A writer that counts the replies that are written.
+// A writer that counts its flushes, one for each reply.
 #[derive(Drop)]
 struct Counts<'a> {
     text: Vec<u8>,

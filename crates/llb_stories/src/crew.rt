@@ -10,8 +10,8 @@ use llb_work::{RunEnd, RunFault, run_workers};
 use std::sync::atomic::{AtomicU64, Ordering};
 use std::thread;
 
-// A gate that holds a worker at vertex 0 or 1 until there is a worker at each of the two, and stops it after 100,000 turns. It notes for each vertex the worker
-// that it let pass.
+// A gate that holds a worker at vertex 0 or 1 until two workers have arrived; it stops a worker that has yielded to other threads 100,000 times. For each
+// vertex the gate notes the worker that it let pass.
 #[derive(Drop)]
 struct Meet {
     arrived: AtomicU64,

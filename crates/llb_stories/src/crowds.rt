@@ -1,4 +1,5 @@
-//! Runs with more workers than there is work for, so that most workers sleep. Each run is repeated many times, and ends each time with all its events.
+//! Runs with more workers than there is work for, so that most workers sleep. Runs that no gate stops are done four times, and end each time with all
+//! their events.
 
 use super::calls::{are_same, is_event_done, replayed};
 use super::checks::row_holds;
@@ -15,7 +16,7 @@ use std::sync::atomic::{AtomicU64, Ordering};
 use std::thread;
 use std::thread::Threads;
 
-// A gate that lets every worker pass; at every third vertex it first waits for 20 turns of other threads.
+// A gate that lets every worker pass; at every third vertex it first yields to other threads 20 times.
 struct Slow;
 
 impl Gate for Slow {
@@ -243,7 +244,7 @@ fn is_completed(board: Board, wanted: &Board, v: u32) -> bool {
     end.fault.is_none() && end.board.is_complete() && have_one_tree(&end.board, wanted, v)
 }
 
-// Ten of the 30 vertices pass the gate.
+// The gate lets workers pass at ten of the 30 vertices.
 #[test]
 fn workers_that_are_stopped_in_the_middle_leave_what_one_driver_completes(rt: HostRuntime) {
     let shapes = [

@@ -17,7 +17,8 @@ use std::sync::atomic::{AtomicU64, Ordering};
 use std::thread;
 use std::thread::Threads;
 
-// A gate that holds workers at the vertices below `count` until `count` of them have arrived. It stops a worker that has waited for 1,000,000 turns.
+// A gate that holds workers at the vertices below `count` until `count` of them have arrived. It stops a worker that has yielded to other threads
+// 1,000,000 times.
 #[derive(Drop)]
 struct Gather {
     count: u64,

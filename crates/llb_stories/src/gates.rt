@@ -1,4 +1,4 @@
-//! Gates that let everybody pass.
+//! Gates that let every worker pass.
 
 use llb_board::{Gate, Stopped};
 use std::sync::atomic::{AtomicU64, Ordering};

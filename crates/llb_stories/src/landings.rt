@@ -99,14 +99,14 @@ fn a_gate_stops_whom_it_does_not_let_work(rt: HostRuntime) {
     );
 }
 
-// An outcome, and whether it lands: the definition over which worker 0 works at vertex 0; the definition of the board to which the outcome is brought;
-// the events done on that board; the worker that brings it; and the number of the fault, or 0 if it lands.
+// An outcome, and whether it lands: the definition over which worker 0 works at vertex 0; the definition of the board on which the outcome is to
+// land; the events done on that board; the worker that is to land it; and the number of the fault, or 0 if it lands.
 type Landing = (&'static str, &'static str, &'static str, u32, u32);
 
 const CLAIMED: &str = "claim 0 0";
 
 const LANDINGS: &[Landing] = &[
-    // The worker that brings an outcome has to run a vertex.
+    // The worker that is to land an outcome has to run a vertex.
     (TWO_FILES, TWO_FILES, CLAIMED, 0, 0),
     (TWO_FILES, TWO_FILES, CLAIMED, 1, 136),
     (TWO_FILES, TWO_FILES, CLAIMED, 5, 131),
@@ -226,8 +226,8 @@ fn is_opening(board: &Board) -> bool {
     board.status(0) == Some(Status::Ready) && board.events().is_empty()
 }
 
-// A run of a board for two workers, from its opening to its first settle, with each call that is refused on the way; a copy from before
-// the claim does not change. The other outcome is of a board whose first vertex makes another file.
+// A run of a board for two workers, from its opening to its first settle, with each call that is refused on the way. A copy that was made
+// before the claim does not change. The outcome `other` is of a board whose first vertex makes another file.
 #[test]
 fn a_vertex_is_claimed_worked_on_and_settled_with_each_refusal_on_the_way(rt: HostRuntime) {
     let alloc = rt.alloc();

@@ -1,5 +1,5 @@
-//! What the opening of a board takes and returns, and what one board leaves for the next. Which local tree is missing is printed
-//! by the program, and tested there (`run` in `llbm`).
+//! What the opening of a board takes and returns, and which caches one board leaves for the next. Which local tree is missing is
+//! printed by the program, and tested there (`run` in `llbm`).
 
 use super::calls::{are_done, opened};
 use super::checks::{is_answered, is_so, row_holds};

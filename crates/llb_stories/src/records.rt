@@ -37,7 +37,7 @@ fn worker_of(event: Event) -> u32 {
     }
 }
 
-// Returns the reply to the last of these events, by the position of that event among its worker's events since that worker's claim.
+// Returns the reply to the last of these events, by the position of that event among the events of its worker since the worker's last claim.
 fn answer_to(events: &[Event]) -> &'static str {
     let mut place = 0usize;
     let worker = events.last().map(|event| worker_of(*event));
@@ -126,8 +126,8 @@ const WHOLE: Stop = Stop {
     at_break: false,
 };
 
-// Returns whether the record of a board is replayed to an equal board, with these lines, and whether running its vertices in the order of their claims leaves
-// the same trees.
+// Returns whether a replay of a board's record leads to an equal board, and has the lines that `line_of` returns; and whether running the board's vertices in
+// the order of their claims leaves the same trees.
 fn is_record(rt: &impl Abort, alloc: Global, ended: &Board, workers: u32) -> [bool; 5] {
     let events = ended.events().as_slice();
     let mut stepper = Stepper::new(alloc, board_by(rt, alloc, workers));

@@ -1,6 +1,6 @@
 //! Stories as transcripts, most of them of sessions on boards. A line that begins with `@ ` opens a board (`written`). A line that begins with `> `
-//! is a command; the lines after it are what the command prints. A line that begins with `# ` describes the story. Spaces before and after a line are
-//! not read. Stories of calls (`checks`), of plain outcomes (`plain`) and of shared vertices (`sharing`) have the same form.
+//! is a command; the lines after it are what the command prints. A line that begins with `# ` describes the story. Spaces before and after a line
+//! are ignored. Stories of calls (`checks`), of plain outcomes (`plain`) and of shared vertices (`sharing`) have the same form.
 
 use super::checks::is_answered;
 use super::plain::are_outcomes;
@@ -15,7 +15,7 @@ pub(crate) const LIMIT: usize = 1 << 20;
 
 pub(crate) const READS: u64 = 1 << 20;
 
-// Returns the expected lines of a transcript, without the spaces before and after each.
+// Returns the expected lines of a transcript, without the spaces before and after each line.
 pub(crate) fn wanted(rt: &impl Abort, alloc: Global, story: &str) -> String {
     let mut text = String::new(alloc);
     for line in story.lines() {

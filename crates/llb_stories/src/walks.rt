@@ -59,8 +59,8 @@ const WALKED: &[(&str, &str)] = &[
     ),
 ];
 
-// Returns whether a run completes, whether taking it back leaves a board equal to a copy from before, and whether board and copy then go on to the same end,
-// with these results.
+// Returns whether a run completes, whether taking it back leaves a board equal to a copy that was made before, and whether the board and the copy then go on to
+// the same end, with the results in `ended`.
 fn is_walked(rt: &impl Abort, alloc: Global, definition: &str, ended: &str) -> [bool; 4] {
     let mut board = board_of(rt, alloc, definition, "", 2);
     let mut fresh = copy_of(&board).expect(rt, "memory");
@@ -118,7 +118,7 @@ const OF_TWO_WORKERS: [Event; 10] = [
     Event::Settle(0),
 ];
 
-// Returns whether five events are done, of the seven up to the claim of the merge: one file is done, and the other one is finished and not settled.
+// Returns whether five of the seven events up to the claim of the merge are done: one file is done, and the other one is finished and not settled.
 fn is_two_before(board: &Board) -> bool {
     board.events().len() == 5
         && board.status(0) == Some(Status::Done)

@@ -10,7 +10,7 @@ use std::io::{BufWriter, ErrorKind, LineWriter, Stderr};
 use std::process::ExitCode;
 use std::{env, io};
 
-// The words after the program's name, which have to be UTF-8.
+// Returns the words after the program's name. Fails with 183 if a word is not UTF-8, or with 184 if memory is refused.
 fn words_given(rt: &HostRuntime) -> Result<Vec<String>, WordsFault<'static>> {
     let words = match env::args(rt) {
         Ok(words) => words,

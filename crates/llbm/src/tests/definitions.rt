@@ -1,4 +1,4 @@
-//! Entries of definitions with their names, each in the assembler's text: `%0` is the first entry of the definition that it is in. After
+//! Entries of definitions with their names, each in the assembler's text, in which `%0` is the first entry of the same definition. After
 //! `==` come the name of an entry and a description.
 
 pub(crate) const ENTRIES: &str = r#"

@@ -19,7 +19,8 @@ pub(crate) enum Device {
     Err,
 }
 
-// A call; and its status, its output and what it writes to standard error if no device fails.
+// The device that fails; a call; and the call's status, its output and what it writes to standard error if no device
+// fails.
 type Case = (Device, &'static str, u8, &'static str, &'static str);
 
 // Returns how many reads, writes or flushes of the device the call needs.

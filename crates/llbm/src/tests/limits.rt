@@ -35,7 +35,7 @@ fn assembled(alloc: Global, text: &str) -> Ran {
     Ran { status, out, err }
 }
 
-// The definition has two entries, a file and the terminal that names it, and 129 bytes; the record of the first entry is the first 52 of them.
+// The definition has two entries, a file and the terminal that names it, and 129 bytes; the record of the first entry is the first 52 bytes.
 #[test]
 fn a_definition_that_is_cut_is_refused(rt: HostRuntime) {
     let definition = definition_of(&rt, rt.alloc(), "MAKES_A; RESULT_0");

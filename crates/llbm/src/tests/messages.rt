@@ -1,4 +1,4 @@
-//! Messages field by field: the text that is written for entries given as bytes.
+//! Messages field by field: entries given as bytes, and the text that `dis` writes for them.
 
 use super::transcripts::is_transcript;
 

@@ -107,8 +107,8 @@ fn caches_are_taken_one_key_once_and_judged_in_order(rt: HostRuntime) {
     is_transcript(&rt, rt.alloc(), MOUNTS);
 }
 
-// Execs that mount the locked cache `a` at `/c` and at `/d`, each with an input with which a new instance begins, or with
-// no input.
+// Execs that mount the locked cache `a` at `/c` and at `/d`. Each of the two mounts has an input, with whose tree a new
+// instance begins, or no input.
 const SEEDS: &str = r#"
     # Two outputs, or one and none, are two caches.
     > show < TRUE | -1 / | -1 /a OUTPUT_1 | }; merge { | }; FOUR_INPUTS | TRUE | -1 / | -1 /c LOCKED | 0 /d LOCKED | }; RESULT

@@ -168,7 +168,7 @@ pub(crate) fn tried<R: Abort + Threads + Wait + Sync>(
     ran(rt, alloc, &call_in(call), rooms)
 }
 
-// Appends what was written; if it does not end with a line end, appends a line that says so.
+// Appends the bytes that were written; if they do not end with a line end, appends a line that says so.
 fn say_bytes(rt: &impl Abort, text: &mut String, bytes: &[u8]) {
     let written = str::from_utf8(bytes).unwrap_or("no text\n");
     text.push_str(written).expect(rt, "memory");
@@ -234,7 +234,8 @@ fn transcript<R: Abort + Threads + Wait + Sync>(rt: &R, alloc: Global, story: &s
     text
 }
 
-/// Ends the test at the first line of a transcript that differs. The lines of a transcript are indented by four spaces.
+/// Makes the calls of a transcript, and ends the test at the first line of a result that is not the line in the transcript. The lines of a transcript are
+/// indented by four spaces.
 pub(crate) fn is_transcript<R: Abort + Threads + Wait + Sync>(rt: &R, alloc: Global, story: &str) {
     let text = transcript(rt, alloc, story);
     let mut lines = text.lines();
