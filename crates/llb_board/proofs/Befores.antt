@@ -5,7 +5,7 @@ use Rattle.llb_cache.specs.declared.growth.Growth.{Growth}
 use Rattle.llb_cache.specs.Caches.{CachesValue, Row, AreApart}
 use Rattle.llb_cache.specs.Growth.{LentValue}
 use Rattle.llb_tree.specs.Tree.{TreeMap}
-use Rattle.llb_execution.specs.Marks.{Mark, mark_of}
+use Rattle.llb_execution.specs.Saves.{Saved, saved_of}
 use Rattle.llb_model.specs.Caches.{trees_at}
 use Rattle.llb_model.specs.Bridge.{store_of, growth_for}
 use Rattle.llb_model.proofs.BridgeLeases.{leased_holds_as}
@@ -38,7 +38,7 @@ marks_claim vs ds c w v gs crew apart is = record {
 module _ (vs : VerticesValue) (ds : List Seat) (rows : List Row) (w : ℕ) (l : Option ℕ) (x : own.Execution) (fits : Fits vs.build (seen_of ds rows))
     (there : slice_get ds w ≡ Some (seat.Runs l x)) where
   -- before a step, the mark of the worker's view and the trees of its instances are all that the step can displace
-  pub marks_step : (m : Mark) (ts : List TreeMap) → m ≡ mark_of x.view → ts ≡ trees_at (store_of rows) x.places.items
+  pub marks_step : (m : Saved) (ts : List TreeMap) → m ≡ saved_of x.view → ts ≡ trees_at (store_of rows) x.places.items
       → MarksStep vs (seen_of ds rows) w (record { back = Unstep w m ts })
   marks_step m ts is trees =
       let made = made_enough vs.build ds w l x fits there in

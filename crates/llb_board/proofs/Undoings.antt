@@ -8,9 +8,9 @@ use Rattle.llb_cache.specs.declared.growth.Growth.{Growth}
 use Rattle.llb_cache.specs.Caches.{CachesValue, Leases, AreThere, trees_of}
 use Rattle.llb_cache.specs.Growth.{LentValue, CanLend, unmade}
 use Rattle.llb_tree.specs.Tree.{TreeMap}
-use Rattle.llb_execution.specs.Marks.{Mark, put_back}
+use Rattle.llb_execution.specs.Saves.{Saved, put_back}
 use Rattle.llb_execution.specs.Parts.{mounts_in}
-use Rattle.llb_execution.proofs.Marks.{shown_back}
+use Rattle.llb_execution.proofs.Saves.{shown_back}
 use Rattle.llb_model.specs.Caches.{Instance}
 use Rattle.llb_model.specs.Bridge.{AreLeased, put_each}
 use Rattle.llb_model.specs.State.{WorkerStatus, Idle, Runs, Execution, places_at}
@@ -49,28 +49,28 @@ seat_at (seat.Runs l y ∷ ds) zero x at = (l, y, refl, runs_inside at)
 seat_at (d ∷ ds) (suc w) x at = seat_at ds w x at
 
 -- a worker whose micro-step is taken back keeps its lease, and has the same supplies
-pub record IsUnstepped (ds new : List Seat) (out : Leases) (w : ℕ) (mark : Mark) (ts : List TreeMap) : Type 0 where
+pub record IsUnstepped (ds new : List Seat) (out : Leases) (w : ℕ) (saved : Saved) (ts : List TreeMap) : Type 0 where
   pub low : w < length ds
-  pub workers : map at_of new ≡ workers_before (Unstep w mark ts) (map at_of ds)
+  pub workers : map at_of new ≡ workers_before (Unstep w saved ts) (map at_of ds)
   pub made : map ready_made new ≡ map ready_made ds
   pub leased : AreLeased out (map at_of new) (map leased_by new)
 
-pub unstepped : (ds new : List Seat) (out : Leases) (w : ℕ) (mark : Mark) (ts : List TreeMap) → IsStepped (map at_of ds) w mark ts
-    → AreLeased out (map at_of ds) (map leased_by ds) → new ≡ slice_set ds w (seat_before mark (slice_get ds w)) → IsUnstepped ds new out w mark ts
-unstepped ds new out w mark ts behind leased is =
+pub unstepped : (ds new : List Seat) (out : Leases) (w : ℕ) (saved : Saved) (ts : List TreeMap) → IsStepped (map at_of ds) w saved ts
+    → AreLeased out (map at_of ds) (map leased_by ds) → new ≡ slice_set ds w (seat_before saved (slice_get ds w)) → IsUnstepped ds new out w saved ts
+unstepped ds new out w saved ts behind leased is =
     let r = seat_at ds w behind.x behind.runs in
     let l = r.0 in
     let x = r.1 in
     let at = r.2 in
-    let y : own.Execution = record x { done = x.done - 1; fault = None; view = put_back mark x.view } in
-    let seats : new ≡ slice_set ds w (seat.Runs l y) = is ∙ ap (λ e. slice_set ds w (seat_before mark e)) at in
-    let mounts : mounts_in (put_back mark x.view) ≡ mounts_in x.view
-    = subst (λ (z : Execution). mounts_in (put_back mark z.own) ≡ mounts_in z.own) (sym r.3) behind.mounts in
-    let supplies : supplies_of y ≡ supplies_of x = λ i. record (supplies_of x) { mounts = mounts i; shown = shown_back mark x.view i } in
+    let y : own.Execution = record x { done = x.done - 1; fault = None; view = put_back saved x.view } in
+    let seats : new ≡ slice_set ds w (seat.Runs l y) = is ∙ ap (λ e. slice_set ds w (seat_before saved e)) at in
+    let mounts : mounts_in (put_back saved x.view) ≡ mounts_in x.view
+    = subst (λ (z : Execution). mounts_in (put_back saved z.own) ≡ mounts_in z.own) (sym r.3) behind.mounts in
+    let supplies : supplies_of y ≡ supplies_of x = λ i. record (supplies_of x) { mounts = mounts i; shown = shown_back saved x.view i } in
     record {
       low = slice_get_within ds w (seat.Runs l x) at;
       workers = ap (map at_of) seats ∙ map_set at_of ds w (seat.Runs l y)
-          ∙ ap (λ o. slice_set (map at_of ds) w (step_before mark o)) (sym (get_map at_of ds w (seat.Runs l x) at));
+          ∙ ap (λ o. slice_set (map at_of ds) w (step_before saved o)) (sym (get_map at_of ds w (seat.Runs l x) at));
       made = ap (map ready_made) seats ∙ map_set ready_made ds w (seat.Runs l y) ∙ ap (slice_set (map ready_made ds) w) supplies
           ∙ set_same (map ready_made ds) w (supplies_of x) (get_map ready_made ds w (seat.Runs l x) at);
       leased = subst (λ (es : List Seat). AreLeased out (map at_of es) (map leased_by es)) (sym seats)
@@ -128,19 +128,19 @@ module _ (ds : List Seat) (c : CachesValue) (crew : Crew ds c.out) where
 
   -- ---- of a micro-step
 
-  module _ (w : ℕ) (mark : Mark) (ts : List TreeMap) (can : Can ds c (Unstep w mark ts)) (l : Option ℕ)
+  module _ (w : ℕ) (saved : Saved) (ts : List TreeMap) (can : Can ds c (Unstep w saved ts)) (l : Option ℕ)
       (there : slice_get (map leased_by ds) w ≡ Some l) where
     -- there is a tree for each instance of the worker's lease
     pub as_many : length ts ≡ length (leased_places c.out l)
     as_many = can.behind.count ∙ sym (ap length (places w l there ∙ ap places_at can.behind.runs))
 
-    pub unsteps : (new : List Seat) (d : CachesValue) → new ≡ slice_set ds w (seat_before mark (slice_get ds w))
-        → d.rows ≡ put_each c.rows (leased_places c.out l) ts → d.out ≡ c.out → PutsBack ds c (Unstep w mark ts) new d
+    pub unsteps : (new : List Seat) (d : CachesValue) → new ≡ slice_set ds w (seat_before saved (slice_get ds w))
+        → d.rows ≡ put_each c.rows (leased_places c.out l) ts → d.out ≡ c.out → PutsBack ds c (Unstep w saved ts) new d
     unsteps new d seats rows out =
-        let is = unstepped ds new c.out w mark ts can.behind crew.leased seats in
+        let is = unstepped ds new c.out w saved ts can.behind crew.leased seats in
         let count : length (map at_of new) ≡ length (map at_of ds)
-        = ap (λ (es : List Seat). length (map at_of es)) seats ∙ length_map at_of (slice_set ds w (seat_before mark (slice_get ds w)))
-        ∙ length_set ds w (seat_before mark (slice_get ds w)) ∙ sym (length_map at_of ds) in
+        = ap (λ (es : List Seat). length (map at_of es)) seats ∙ length_map at_of (slice_set ds w (seat_before saved (slice_get ds w)))
+        ∙ length_set ds w (seat_before saved (slice_get ds w)) ∙ sym (length_map at_of ds) in
         let some = crew.some in
         let few = crew.few in
         record {

@@ -5,7 +5,7 @@ use Rattle.std.proofs.lemmas.Option.{slice_get_within}
 use Rattle.llb_cache.specs.Caches.{Row}
 use Rattle.llb_cache.specs.declared.key.Key.{Key}
 use Rattle.llb_tree.specs.Tree.{TreeMap}
-use Rattle.llb_execution.specs.Marks.{Mark, put_back}
+use Rattle.llb_execution.specs.Saves.{Saved, put_back}
 use Rattle.llb_execution.specs.Parts.{mounts_in}
 use Rattle.llb_execution.proofs.Stepping.{seen_so}
 use Rattle.llb_loader.specs.Graph.{IsGraph}
@@ -50,15 +50,15 @@ use Rattle.llb_model.proofs.General.{runs_inside}
 -- ---- the workers as the event left them
 
 -- a view that is put back has as many mounts, since the micro-step that is taken back kept them
-unstepped_mounts : (b : BoardValue) (w : ℕ) (mark : Mark) (ts : List TreeMap) (x : Execution) → CanUndo (record { back = Unstep w mark ts }) b
+unstepped_mounts : (b : BoardValue) (w : ℕ) (saved : Saved) (ts : List TreeMap) (x : Execution) → CanUndo (record { back = Unstep w saved ts }) b
     → slice_get b.state.workers w ≡ Some (Runs x)
-    → mounts_in (put_back mark x.own) ≡ mounts_in x.own
-unstepped_mounts b w mark ts x can runs =
-    let s = (undone (record { back = Unstep w mark ts }) b).state in
+    → mounts_in (put_back saved x.own) ≡ mounts_in x.own
+unstepped_mounts b w saved ts x can runs =
+    let s = (undone (record { back = Unstep w saved ts }) b).state in
     let c = step_is b.build s w _ can.last.gives in
-    let y = with_view_back mark x in
+    let y = with_view_back saved x in
     let before : slice_get s.workers w ≡ Some (Runs y)
-    = get_set_same b.state.workers w (step_before mark (slice_get b.state.workers w)) (Runs x) runs ∙ ap (λ a. Some (step_before mark a)) runs in
+    = get_set_same b.state.workers w (step_before saved (slice_get b.state.workers w)) (Runs x) runs ∙ ap (λ a. Some (step_before saved a)) runs in
     let is : c.x ≡ y = runs_inside (sym c.there ∙ before) in
     let left = step_on c.x.done (Some c.step) (work_of s c.x) in
     let after : slice_get b.state.workers w ≡ Some (Runs (with_step c.x left))
@@ -76,10 +76,10 @@ behind : (b : BoardValue) (k : Back) → IsGraph b.build.graph → Replays b →
 behind b (Unclaim w v gs) graph here can =
     let r = (consistent b here).running v w can.stands.runs in
     slice_get_within b.state.workers w (Runs r.0) r.1
-behind b (Unstep w mark ts) graph here can = record {
+behind b (Unstep w saved ts) graph here can = record {
   x = can.stands.x;
   runs = can.stands.runs;
-  mounts = unstepped_mounts b w mark ts can.stands.x can can.stands.runs;
+  mounts = unstepped_mounts b w saved ts can.stands.x can can.stands.runs;
   count = can.stands.count;
   few =
       let v = slice_get b.build.graph.vertices can.stands.x.vertex in
@@ -115,18 +115,18 @@ change_inside e = (ap (λ (p : ℕ × Status). p.0) (inside e), ap (λ (p : ℕ 
 
 pub changed : (k : Back) (statuses : List Status) (v : ℕ) (s : Status) → Some (v, s) ≡ change_in k → statuses_before k statuses ≡ slice_set statuses v s
 changed (Unclaim w u gs) statuses v s is = let h = change_inside (sym is) in λ i. slice_set statuses (h.0 i) (h.1 i)
-changed (Unstep w mark ts) statuses v s is = absurd cc
+changed (Unstep w saved ts) statuses v s is = absurd cc
 changed (Resume e w left lent) statuses v s is = let h = change_inside (sym is) in λ i. slice_set statuses (h.0 i) (h.1 i)
 
 pub unchanged : (k : Back) (statuses : List Status) → None ≡ change_in k → statuses_before k statuses ≡ statuses
 unchanged (Unclaim w u gs) statuses is = absurd cc
-unchanged (Unstep w mark ts) statuses is = refl
+unchanged (Unstep w saved ts) statuses is = refl
 unchanged (Resume e w left lent) statuses is = absurd cc
 
 -- that status has no trees
 pub change_whole : (k : Back) (o : Option Vertex) (v : ℕ) (s : Status) → Some (v, s) ≡ change_in k → IsWhole o s
 change_whole (Unclaim w u gs) o v s is = subst (IsWhole o) (change_inside (sym is)).1 (waits_whole o)
-change_whole (Unstep w mark ts) o v s is = absurd cc
+change_whole (Unstep w saved ts) o v s is = absurd cc
 change_whole (Resume e w left lent) o v s is = subst (IsWhole o) (change_inside (sym is)).1 (runs_whole o w)
 
 -- and it is that of a vertex
@@ -135,7 +135,7 @@ pub change_low : (b : BoardValue) (k : Back) (v : ℕ) (s : Status) → CanUndo 
 change_low b (Unclaim w u gs) v s can is =
     let same = (change_inside (sym is)).0 in
     subst (λ n. n < length b.state.statuses) same (slice_get_within b.state.statuses u (Running w) can.stands.runs)
-change_low b (Unstep w mark ts) v s can is = absurd cc
+change_low b (Unstep w saved ts) v s can is = absurd cc
 change_low b (Resume e w left lent) v s can is =
     let same = (change_inside (sym is)).0 in
     let m = undone (record { back = Resume e w left lent }) b in
@@ -149,7 +149,7 @@ change_low b (Resume e w left lent) v s can is =
 
 pub as_many : (k : Back) (workers : List WorkerStatus) → length (workers_before k workers) ≡ length workers
 as_many (Unclaim w v gs) workers = length_set workers w Idle
-as_many (Unstep w mark ts) workers = length_set workers w (step_before mark (slice_get workers w))
+as_many (Unstep w saved ts) workers = length_set workers w (step_before saved (slice_get workers w))
 as_many (Resume e w left lent) workers = length_set workers w (Runs left.execution)
 
 -- what an undo leaves of the statuses and of the workers
@@ -180,13 +180,13 @@ fits_before : (b : BoardValue) (k : Back) (supplies : List Supplies) → CanUndo
     → supplies_before k supplies ≡ map (needed b.build) (workers_before k b.state.workers)
 fits_before b (Unclaim w v gs) supplies can fits =
     ap (λ l. slice_set l w (supplies_for None)) fits ∙ sym (map_set (needed b.build) b.state.workers w Idle)
-fits_before b (Unstep w mark ts) supplies can fits =
+fits_before b (Unstep w saved ts) supplies can fits =
     let ws = b.state.workers in
     let x = can.stands.x in
     fits
     ∙ sym (set_same (map (needed b.build) ws) w (needed b.build (Runs x)) (get_map (needed b.build) ws w (Runs x) can.stands.runs))
-    ∙ sym (map_set (needed b.build) ws w (Runs (with_view_back mark x)))
-    ∙ ap (λ a. map (needed b.build) (slice_set ws w (step_before mark a))) (sym can.stands.runs)
+    ∙ sym (map_set (needed b.build) ws w (Runs (with_view_back saved x)))
+    ∙ ap (λ a. map (needed b.build) (slice_set ws w (step_before saved a))) (sym can.stands.runs)
 fits_before b (Resume e w left lent) supplies can fits =
     (λ i. slice_set (fits i) w (can.stands.supplies i)) ∙ sym (map_set (needed b.build) b.state.workers w (Runs left.execution))
 
@@ -237,7 +237,7 @@ space_changed b space (Unclaim w u gs) v n s here ends can is counts =
     (sym (last_is b.events _ (Claim w u) can.last.events))
     (subst (λ m. SpaceBefore b.build ends.replies (Claim w u) space (space_back (Some (Claim w u)) m (n + 2) space)) same
     (space_unclaimed b.build _ w u (n + 2) x.0 _ ends.replies space x.1 many ends.gives ends.counted))
-space_changed b space (Unstep w mark ts) v n s here ends can is counts = absurd cc
+space_changed b space (Unstep w saved ts) v n s here ends can is counts = absurd cc
 space_changed b space (Resume end.Settle w left lent) v n s here ends can is counts =
     subst (λ e. SpaceBefore b.build ends.replies (Settle w) space (space_back e v (n + 2) space))
     (sym (last_is b.events _ (Settle w) can.last.events))
@@ -263,7 +263,7 @@ pub space_unchanged : (b : BoardValue) (space : Space) (k : Back) (v n : ℕ) �
     → None ≡ change_in k
     → SpaceBefore b.build ends.replies (event_before k) space (space_back (last_of b.events) v n space)
 space_unchanged b space (Unclaim w u gs) v n ends can is = absurd cc
-space_unchanged b space (Unstep w mark ts) v n ends can is =
+space_unchanged b space (Unstep w saved ts) v n ends can is =
     subst (λ e. SpaceBefore b.build ends.replies (Step w) space (space_back e v n space)) (sym (last_is b.events _ (Step w) can.last.events))
     (space_stayed b.build _ (Step w) _ ends.replies space (λ u e. cc) refl ends.gives ends.counted)
 space_unchanged b space (Resume e w left lent) v n ends can is = absurd cc

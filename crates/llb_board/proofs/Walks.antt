@@ -7,9 +7,9 @@ use Rattle.llb_cache.specs.declared.key.Key.{Key}
 use Rattle.llb_cache.specs.Growth.{growth_at, unmade}
 use Rattle.llb_loader.specs.Graph.{IsGraph}
 use Rattle.llb_tree.specs.Tree.{empty_tree}
-use Rattle.llb_execution.specs.Marks.{mark_of}
+use Rattle.llb_execution.specs.Saves.{saved_of}
 use Rattle.llb_execution.specs.Parts.{mounts_in}
-use Rattle.llb_execution.proofs.Marks.{puts_back}
+use Rattle.llb_execution.proofs.Saves.{puts_back}
 use Rattle.llb_events.specs.declared.fault.VertexFault.{VertexFault}
 use Rattle.llb_model.specs.Caches.{Instance, Hold, Distinct, content, put_all, trees_at}
 use Rattle.llb_model.specs.Program.{Build, MicroStep, needs_of, step_on}
@@ -138,7 +138,7 @@ clean_by (Some f) past o m e = absurd cc
 clean : (steps : List MicroStep) (x : Execution) (m : MicroStep) → next_step steps x ≡ Some m → x.fault ≡ None
 clean steps x m e = clean_by x.fault (nat_le (length steps) x.done) (slice_get steps x.done) m e
 
-view_back : (s : State) (x : Execution) (m : MicroStep) → x.fault ≡ None → with_view_back (mark_of x.own) (with_step x (step_on x.done (Some m) (work_of s
+view_back : (s : State) (x : Execution) (m : MicroStep) → x.fault ≡ None → with_view_back (saved_of x.own) (with_step x (step_on x.done (Some m) (work_of s
     x))) ≡ x
 view_back s x m none =
     let n : x.done + 1 - 1 ≡ x.done = omega arith in
@@ -226,13 +226,13 @@ module _ (vs : VerticesValue) (first : List Row) (ws : WorkersValue) (es : List 
       let c = steps_by b.build s w a x marks.runs (step_is b.build s w a grants) in
       let left = step_on x.done (Some c.step) (work_of s x) in
       let z = with_step x left in
-      let mark = mark_of x.own in
+      let saved = saved_of x.own in
       let was = trees_at (store_of b.rows) x.places in
-      let k = Unstep w mark was in
+      let k = Unstep w saved was in
       let runs : slice_get a.0.workers w ≡ Some (Runs z) = ap (λ (t : Answer). slice_get t.0.workers w) c.gives
       ∙ get_set_same s.workers w (Runs z) (Runs x) marks.runs in
-      let again : step_before mark (slice_get a.0.workers w) ≡ Runs x
-      = ap (step_before mark) runs ∙ ap (λ y. Runs y) (view_back s x c.step (clean (program_in b.build x).steps x c.step c.next)) in
+      let again : step_before saved (slice_get a.0.workers w) ≡ Runs x
+      = ap (step_before saved) runs ∙ ap (λ y. Runs y) (view_back s x c.step (clean (program_in b.build x).steps x c.step c.next)) in
       let there = held_are_there b.build (graph_distinct b.build graph) s (reached b here) w x marks.runs in
       let apart : AreKeysApart x.places = keys_apart x.places (subst (λ (ks : List Key). Distinct ks) (sym marks.keys)
       (distinct_needs b.build (graph_distinct b.build graph) x.vertex (slice_get b.build.graph.vertices x.vertex) refl)) in

@@ -4,7 +4,7 @@ use Rattle.llb_cache.specs.declared.growth.Growth.{Growth}
 use Rattle.llb_cache.specs.Caches.{Row, trees_of}
 use Rattle.llb_cache.specs.Growth.{LentValue, growth_at, unmade}
 use Rattle.llb_tree.specs.Tree.{TreeMap}
-use Rattle.llb_execution.specs.Marks.{Mark, mark_of, put_back}
+use Rattle.llb_execution.specs.Saves.{Saved, saved_of, put_back}
 use Rattle.llb_execution.specs.Parts.{mounts_in}
 use Rattle.llb_model.specs.Caches.{Instance, Has, Distinct, IsExclusive, trees_at}
 use Rattle.llb_model.specs.Bridge.{store_of, put_each}
@@ -67,7 +67,7 @@ not_running end.Cancel = walk.Cancel no_cancel.NotRunning
 -- the trees of its instances. For a settle or a cancel: which of the two, the worker, what it ran, and a prepared lease of its instances, if it held any.
 pub data Back : Type 0 where
   Unclaim : ℕ → ℕ → List Growth → Back
-  Unstep : ℕ → Mark → List TreeMap → Back
+  Unstep : ℕ → Saved → List TreeMap → Back
   Resume : End → ℕ → Left → Option LentValue → Back
 
 -- what an event displaced; this is enough to take the event back
@@ -77,43 +77,43 @@ pub record Displaced : Type 0 where
 -- what an event displaced, in the types that contracts see
 abbrev pub back_in : undo.Back → Back
 back_in (back.Unclaim w v growths) = Unclaim w v growths.items
-back_in (back.Unstep w mark trees) = Unstep w mark trees.items
+back_in (back.Unstep w saved trees) = Unstep w saved trees.items
 back_in (back.Resume e w x lent) = Resume e w (left_in x) lent
 
 -- ---- the event taken back
 
--- an execution after its last micro-step is taken back: one micro-step fewer is done, there is no fault, and the workspace is as it was (from `mark`)
-abbrev pub with_view_back : Mark → Execution → Execution
-with_view_back mark x = record x { done = x.done - 1; fault = None; own = put_back mark x.own }
+-- an execution after its last micro-step is taken back: one micro-step fewer is done, there is no fault, and the workspace is as it was (from `saved`)
+abbrev pub with_view_back : Saved → Execution → Execution
+with_view_back saved x = record x { done = x.done - 1; fault = None; own = put_back saved x.own }
 
 -- the status of a worker before its last micro-step, given the worker's status now; idle if the worker runs nothing
-abbrev pub step_before : Mark → Option WorkerStatus → WorkerStatus
-step_before mark (Some (Runs x)) = Runs (with_view_back mark x)
-step_before mark (Some Idle) = Idle
-step_before mark None = Idle
+abbrev pub step_before : Saved → Option WorkerStatus → WorkerStatus
+step_before saved (Some (Runs x)) = Runs (with_view_back saved x)
+step_before saved (Some Idle) = Idle
+step_before saved None = Idle
 
 -- the statuses of the workers before the event, given their statuses after it
 abbrev pub workers_before : Back → List WorkerStatus → List WorkerStatus
 workers_before (Unclaim w v growths) workers = slice_set workers w Idle
-workers_before (Unstep w mark trees) workers = slice_set workers w (step_before mark (slice_get workers w))
+workers_before (Unstep w saved trees) workers = slice_set workers w (step_before saved (slice_get workers w))
 workers_before (Resume e w left lent) workers = slice_set workers w (Runs left.execution)
 
 -- the supplies of each worker (what it has from its claim on) as they were before the event
 abbrev pub supplies_before : Back → List Supplies → List Supplies
 supplies_before (Unclaim w v growths) supplies = slice_set supplies w (supplies_for None)
-supplies_before (Unstep w mark trees) supplies = supplies
+supplies_before (Unstep w saved trees) supplies = supplies
 supplies_before (Resume e w left lent) supplies = slice_set supplies w left.supplies
 
 -- the rows of the caches before the event, given the workers' statuses and the rows after it: only instances that the event's worker holds differ
 abbrev pub rows_before : Back → List WorkerStatus → List Row → List Row
 rows_before (Unclaim w v growths) workers rows = unmade rows (places_at (slice_get workers w)) growths
-rows_before (Unstep w mark trees) workers rows = put_each rows (places_at (slice_get workers w)) trees
+rows_before (Unstep w saved trees) workers rows = put_each rows (places_at (slice_get workers w)) trees
 rows_before (Resume e w left lent) workers rows = rows
 
 -- the vertex whose status changes when the event is taken back, and its status then; none for a step
 abbrev pub change_in : Back → Option (ℕ × Status)
 change_in (Unclaim w v growths) = Some (v, Waiting)
-change_in (Unstep w mark trees) = None
+change_in (Unstep w saved trees) = None
 change_in (Resume e w left lent) = Some (left.execution.vertex, Running w)
 
 -- a change of a vertex's status, as the pair of the vertex and its new status
@@ -122,11 +122,11 @@ change_of c = (c.vertex, status_of c.stage)
 
 -- ---- when an event can be taken back
 
--- worker w runs a vertex; putting `mark` back keeps the number of mounts of its workspace; and there is a tree for each instance that w holds
-pub record IsStepped (workers : List WorkerStatus) (w : ℕ) (mark : Mark) (trees : List TreeMap) : Type 0 where
+-- worker w runs a vertex; putting `saved` back keeps the number of mounts of its workspace; and there is a tree for each instance that w holds
+pub record IsStepped (workers : List WorkerStatus) (w : ℕ) (saved : Saved) (trees : List TreeMap) : Type 0 where
   pub x : Execution
   pub runs : slice_get workers w ≡ Some (Runs x)
-  pub mounts : mounts_in (put_back mark x.own) ≡ mounts_in x.own
+  pub mounts : mounts_in (put_back saved x.own) ≡ mounts_in x.own
   pub count : length trees ≡ length x.places
   pub few : length trees < 2 ^ 32
 
@@ -139,7 +139,7 @@ pub record IsLeft (workers : List WorkerStatus) (w : ℕ) (left : Left) (lent : 
 -- what must hold of the event's worker to take the event back: for a claim, the worker exists; for a step, `IsStepped`; for a settle or a cancel, `IsLeft`
 abbrev pub IsBehind : Back → List WorkerStatus → Type 0
 IsBehind (Unclaim w v growths) workers = w < length workers
-IsBehind (Unstep w mark trees) workers = IsStepped workers w mark trees
+IsBehind (Unstep w saved trees) workers = IsStepped workers w saved trees
 IsBehind (Resume e w left lent) workers = IsLeft workers w left lent
 
 -- each instance that a worker holds exists in the rows
@@ -172,7 +172,7 @@ pub record MarksClaim (vs : VerticesValue) (ws : WorkersValue) (w v : ℕ) (u : 
 pub record MarksStep (vs : VerticesValue) (ws : WorkersValue) (w : ℕ) (u : Displaced) : Type 0 where
   pub x : Execution
   pub runs : slice_get ws.workers w ≡ Some (Runs x)
-  pub back : u.back ≡ Unstep w (mark_of x.own) (trees_at (store_of ws.rows) x.places)
+  pub back : u.back ≡ Unstep w (saved_of x.own) (trees_at (store_of ws.rows) x.places)
   pub mounts : mounts_in x.own ≡ length (mounts_at (slice_get vs.build.graph.vertices x.vertex))
   pub keys : map (λ (p : Instance). p.key) x.places ≡ map key_of (needs_at (slice_get vs.build.graph.vertices x.vertex))
 

@@ -3,7 +3,7 @@ use Rattle.std.specs.Prelude.{◌≡◌, ℕ, ◌+◌, List, [], ◌∷◌, ◌+
 use Rattle.llb_wire.specs.Answer as answer
 use Rattle.llb_cache.specs.Growth.{LentValue}
 use Rattle.llb_tree.specs.Tree.{TreeMap}
-use Rattle.llb_execution.specs.Marks.{Mark, put_back}
+use Rattle.llb_execution.specs.Saves.{Saved, put_back}
 use Rattle.llb_execution.specs.Parts.{mounts_in}
 use Rattle.llb_model.specs.Caches.{Instance}
 use Rattle.llb_model.specs.Bridge.{store_of}
@@ -56,7 +56,7 @@ GivesWalk = answer.Gives walk_memory
 -- the statuses of the vertices before the event
 abbrev pub statuses_before : Back → List Status → List Status
 statuses_before (Unclaim w v growths) statuses = slice_set statuses v Waiting
-statuses_before (Unstep w mark trees) statuses = statuses
+statuses_before (Unstep w saved trees) statuses = statuses
 statuses_before (Resume e w left lent) statuses = slice_set statuses left.execution.vertex (Running w)
 
 -- board b before its last event; `u` holds what has to be put back
@@ -76,7 +76,7 @@ undone u b = record b {
 -- the event that is taken back
 abbrev pub event_before : Back → own_event.Event
 event_before (Unclaim w v growths) = event.Claim w v
-event_before (Unstep w mark trees) = event.Step w
+event_before (Unstep w saved trees) = event.Step w
 event_before (Resume e w left lent) = end_of e w
 
 -- the event that is taken back is the last one of the record; the table grants it on the board before the event, with board b as the result
@@ -90,11 +90,11 @@ pub record IsLast (u : Displaced) (b : BoardValue) : Type 0 where
 pub record IsBegun (b : BoardValue) (w v : ℕ) : Type 0 where
   pub runs : slice_get b.state.statuses v ≡ Some (Running w)
 
--- after a step: worker w runs a vertex, and the mark and the trees that are put back fit what w runs
-pub record IsStepped (b : BoardValue) (w : ℕ) (mark : Mark) (trees : List TreeMap) : Type 0 where
+-- after a step: worker w runs a vertex, and the saved copy and the trees that are put back fit what w runs
+pub record IsStepped (b : BoardValue) (w : ℕ) (saved : Saved) (trees : List TreeMap) : Type 0 where
   pub x : Execution
   pub runs : slice_get b.state.workers w ≡ Some (Runs x)
-  pub mounts : mounts_in (put_back mark x.own) ≡ length (mounts_at (slice_get b.build.graph.vertices x.vertex))
+  pub mounts : mounts_in (put_back saved x.own) ≡ length (mounts_at (slice_get b.build.graph.vertices x.vertex))
   pub count : length trees ≡ length x.places
   pub keys : map (λ (p : Instance). p.key) x.places ≡ map key_of (needs_at (slice_get b.build.graph.vertices x.vertex))
 
@@ -108,7 +108,7 @@ pub record IsLeft (b : BoardValue) (w : ℕ) (left : Left) (lent : Option LentVa
 -- the worker and the vertex of the event are in the condition in which the event left them
 abbrev pub StandsBehind : Back → BoardValue → Type 0
 StandsBehind (Unclaim w v growths) b = IsBegun b w v
-StandsBehind (Unstep w mark trees) b = IsStepped b w mark trees
+StandsBehind (Unstep w saved trees) b = IsStepped b w saved trees
 StandsBehind (Resume e w left lent) b = IsLeft b w left lent
 
 -- the table replays the record of the board before the event; the event is the last one of board b; and `StandsBehind` holds of b

@@ -1,6 +1,6 @@
 -- What is kept of a worker before an event, and its seat (what it runs) after a micro-step is taken back.
 use Rattle.std.specs.Prelude.{◌-◌, Option, Some, None}
-use Rattle.llb_execution.specs.Marks.{Mark, put_back}
+use Rattle.llb_execution.specs.Saves.{Saved, put_back}
 use Rattle.llb_model.specs.State.{Execution}
 use Rattle.llb_board.specs.Supplies.{Supplies, supplies_of}
 use Rattle.llb_board.specs.Views.{execution_of}
@@ -17,8 +17,8 @@ pub record Left : Type 0 where
 abbrev pub left_in : own.Execution → Left
 left_in x = record { execution = execution_of x; supplies = supplies_of x }
 
--- the seat before the last micro-step: one micro-step fewer is done, there is no fault, and the workspace is as it was (from `mark`)
-abbrev pub seat_before : Mark → Option Seat → Seat
-seat_before mark (Some (seat.Runs l x)) = seat.Runs l (record x { done = x.done - 1; fault = None; view = put_back mark x.view })
-seat_before mark (Some seat.Idle) = seat.Idle
-seat_before mark None = seat.Idle
+-- the seat before the last micro-step: one micro-step fewer is done, there is no fault, and the workspace is as it was (from `saved`)
+abbrev pub seat_before : Saved → Option Seat → Seat
+seat_before saved (Some (seat.Runs l x)) = seat.Runs l (record x { done = x.done - 1; fault = None; view = put_back saved x.view })
+seat_before saved (Some seat.Idle) = seat.Idle
+seat_before saved None = seat.Idle

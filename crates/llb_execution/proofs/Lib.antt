@@ -5,7 +5,7 @@ pub mod Commands
 pub mod Exchanges
 pub mod Stepping
 pub mod Places
-pub mod Marks
+pub mod Saves
 pub mod Doing
 pub mod Matching
 pub mod Looking

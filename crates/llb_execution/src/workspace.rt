@@ -12,8 +12,8 @@ ghost use Rattle.llb_loader.specs.Graph.{IsVertexOf};
 ghost use Rattle.llb_model.specs.Caches.{Distinct};
 ghost use Rattle.llb_model.specs.Program.{program_of, workspace_on, local_tree, mount_of, needs_of, trees_in, base_in, with_tree, with_result, tried};
 ghost use Rattle.llb_model.specs.Program.{tree_fault_number, fault_number, is_and, all_and, is_run, exit_of, last_of, lay_on, run_on, step_on, outputs_of};
-ghost use Rattle.llb_execution.specs.Marks.{put_back, Results, Laid};
-ghost use Rattle.llb_execution.specs.Marks as marks;
+ghost use Rattle.llb_execution.specs.Saves.{put_back, Results, Laid};
+ghost use Rattle.llb_execution.specs.Saves as saves;
 ghost use Rattle.llb_execution.specs.Parts.{step_in, own_of, work_with, left_with, is_skipped, mounts_in, shown_in};
 
 use crate::filling::run_filled;
@@ -256,7 +256,7 @@ impl Workspace {
 
     // Replaces the mounts of an exec, and its last status.
     pub(crate) fn put_mounts(&mut self, mounts: Mounts, last: u32)
-        ensures { self.new ≡ put_back (marks.Mounts mounts last) self.old }
+        ensures { self.new ≡ put_back (saves.Mounts mounts last) self.old }
     {
         match &mut self.own {
             WorkState::Mounted(shown, _, status) => {

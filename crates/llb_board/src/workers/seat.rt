@@ -10,7 +10,7 @@ ghost use Rattle.llb_board.specs.Views.{IsRunning, execution_of, at_of, leased_b
 
 use llb_cache::{Instance, Lease};
 use llb_events::VertexFault;
-use llb_execution::{Mark, Steps, Workspace};
+use llb_execution::{Saved, Steps, Workspace};
 use llb_tree::Tree;
 use llb_wire::{Same, all_same};
 use std::alloc::{AllocError, Global};
@@ -91,9 +91,9 @@ pub(crate) fn vacate(seats: &mut Vec<Seat>, w: u32) -> (Option<Lease>, Execution
 
 /// Takes back the last micro-step of a worker: the execution's count, fault and view are again as they were before the micro-step. Returns the worker's lease,
 /// if any.
-pub(crate) fn step_back(seats: &mut Vec<Seat>, w: u32, mark: Mark) -> Option<Lease>
+pub(crate) fn step_back(seats: &mut Vec<Seat>, w: u32, saved: Saved) -> Option<Lease>
     requires { w < length seats.old.items }
-    ensures before { seats.new.items ≡ slice_set seats.old.items w (seat_before mark (slice_get seats.old.items w)) }
+    ensures before { seats.new.items ≡ slice_set seats.old.items w (seat_before saved (slice_get seats.old.items w)) }
     ensures leased { slice_get (map leased_by seats.old.items) w ≡ Some result }
 {
     let lease = lease_of(&seats[w as usize]);
@@ -102,7 +102,7 @@ pub(crate) fn step_back(seats: &mut Vec<Seat>, w: u32, mark: Mark) -> Option<Lea
         Seat::Runs(_, execution) => {
             execution.done = execution.done.saturating_sub(1);
             execution.fault = None;
-            execution.view.put_back(mark);
+            execution.view.put_back(saved);
         }
     }
     lease

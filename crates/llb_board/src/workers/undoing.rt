@@ -20,7 +20,7 @@ use crate::workers::needs::growths_of;
 use crate::workers::seat::{Execution, Seat, make_idle, seat_at, step_back};
 use llb_cache::{Caches, Growth, Lent};
 use llb_events::{CancelFault, Event, SettleFault, StepFault};
-use llb_execution::Mark;
+use llb_execution::Saved;
 use llb_tree::Tree;
 use std::alloc::Global;
 use std::marker::Model;
@@ -43,7 +43,7 @@ pub(crate) enum Back {
     /// For a claim: the worker, the vertex, and what the claim's lease added to the caches.
     Unclaim(u32, u32, Vec<Growth>),
     /// For a step: the worker, what the micro-step could change of its view, and the trees of its cache instances.
-    Unstep(u32, Mark, Vec<Tree>),
+    Unstep(u32, Saved, Vec<Tree>),
     /// For a settle or a cancel: which of the two it was, the worker, what it ran, and a prepared lease of its cache instances, if it had any.
     Resume(End, u32, Execution, Option<Lent>),
 }
@@ -132,10 +132,10 @@ impl Workers {
             None => Err(WalkFault::Step(StepFault::NoWorker)),
             Some(Seat::Idle) => Err(WalkFault::Step(StepFault::NotRunning)),
             Some(Seat::Runs(_, execution)) => {
-                let mark = execution.view.mark()?;
+                let saved = execution.view.save()?;
                 let trees = contents(alloc, &self.caches, &execution.places)?;
                 Ok(Undo {
-                    back: Back::Unstep(w, mark, trees),
+                    back: Back::Unstep(w, saved, trees),
                 })
             }
         }
@@ -196,8 +196,8 @@ fn displace(seats: &mut Vec<Seat>, caches: &mut Caches, back: Back) -> Option<Ch
             let stage = Stage::Waiting;
             Some(Change { vertex, stage })
         }
-        Back::Unstep(w, mark, trees) => {
-            let lease = step_back(seats, w, mark);
+        Back::Unstep(w, saved, trees) => {
+            let lease = step_back(seats, w, saved);
             write_back(caches, lease, trees);
             None
         }

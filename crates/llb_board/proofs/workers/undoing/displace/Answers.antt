@@ -77,7 +77,7 @@ step_back-lease-requires c =
 
 pub write_back-requires-clause-count : goal.write_back-requires-clause-count
 write_back-requires-clause-count c =
-    as_many c.args.seats.now.items c.args.caches.now c.requires.crew c.in-Unstep.w c.in-Unstep.mark c.in-Unstep.trees.items
+    as_many c.args.seats.now.items c.args.caches.now c.requires.crew c.in-Unstep.w c.in-Unstep.saved c.in-Unstep.trees.items
     (can_by c.args.seats.now.items c.args.caches.now c.args.back _ c.in-Unstep.is c.requires.can)
     c.step_back-lease.result c.step_back-lease.ensures.leased
 
@@ -85,10 +85,10 @@ pub write_back-requires-clause-few : goal.write_back-requires-clause-few
 write_back-requires-clause-few c = (can_by c.args.seats.now.items c.args.caches.now c.args.back _ c.in-Unstep.is c.requires.can).behind.few
 
 unstepped : (c : After-write_back)
-    → PutsBack c.args.seats.now.items c.args.caches.now (Unstep c.in-Unstep.w c.in-Unstep.mark c.in-Unstep.trees.items)
+    → PutsBack c.args.seats.now.items c.args.caches.now (Unstep c.in-Unstep.w c.in-Unstep.saved c.in-Unstep.trees.items)
     c.step_back-lease.new.seats.items c.write_back.new.caches
 unstepped c =
-    unsteps c.args.seats.now.items c.args.caches.now c.requires.crew c.in-Unstep.w c.in-Unstep.mark c.in-Unstep.trees.items
+    unsteps c.args.seats.now.items c.args.caches.now c.requires.crew c.in-Unstep.w c.in-Unstep.saved c.in-Unstep.trees.items
     (can_by c.args.seats.now.items c.args.caches.now c.args.back _ c.in-Unstep.is c.requires.can)
     c.step_back-lease.result c.step_back-lease.ensures.leased c.step_back-lease.new.seats.items c.write_back.new.caches c.step_back-lease.ensures.before
     c.write_back.ensures.rows c.write_back.ensures.out

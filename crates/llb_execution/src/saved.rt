@@ -1,7 +1,7 @@
-//! Marks: copies of what a micro-step can change in a workspace, made before the micro-step and put back to undo the micro-step.
+//! Copies of what a micro-step can change in a workspace, made before the micro-step and put back to undo the micro-step.
 
 ghost use Rattle.std.specs.Prelude.{◌≡◌, IfOk};
-ghost use Rattle.llb_execution.specs.Marks.{mark_in, mark_of, put_back, PutsBack};
+ghost use Rattle.llb_execution.specs.Saves.{saved_in, saved_of, put_back, PutsBack};
 ghost use Rattle.llb_execution.specs.Parts.{own_of};
 
 use crate::refusal::NoMemory;
@@ -14,7 +14,7 @@ use std::marker::Model;
 /// A copy of what a micro-step can change in a workspace: for a source nothing, for a file op how many results there are, for a merge what
 /// is laid so far, for an exec its mounts and its last status.
 #[derive(Drop)]
-pub struct Mark {
+pub struct Saved {
     was: StateBefore,
 }
 
@@ -27,34 +27,34 @@ pub(crate) enum StateBefore {
     Mounts(Mounts, u32),
 }
 
-impl Model for Mark {
+impl Model for Saved {
     ghost use Rattle.std.specs.Coded.{codes};
     ghost use Rattle.llb_tree.specs.Coded.{coded_tree};
-    ghost use Rattle.llb_execution.specs.Marks.{Mark as MarkValue, mark_in};
+    ghost use Rattle.llb_execution.specs.Saves.{Saved as SavedValue, saved_in};
 
-    ghost Value = { MarkValue };
+    ghost Value = { SavedValue };
 
     ghost coded = { Prim.hlevel (codes, coded_tree) };
 
-    ghost view = { λ m. mark_in m.was };
+    ghost view = { λ m. saved_in m.was };
 }
 
 impl Workspace {
     /// Copies what the next micro-step can change, and nothing else of the workspace: not the inputs of a file op or of a merge.
     /// The copy shares its trees. Fails with 5 `Memory` alone.
-    pub fn mark(&self) -> Result<Mark, Memory>
-        ensures is { IfOk result (λ m. m ≡ mark_of self.now) }
+    pub fn save(&self) -> Result<Saved, Memory>
+        ensures is { IfOk result (λ m. m ≡ saved_of self.now) }
         ensures back { IfOk result (λ m. PutsBack self.now m) }
     {
         let held = was_in(&self.own)?;
-        Ok(Mark { was: held })
+        Ok(Saved { was: held })
     }
 
-    /// Restores in the workspace what the mark has kept. Does not allocate.
-    pub fn put_back(&mut self, mark: Mark)
-        ensures { self.new ≡ put_back mark self.old }
+    /// Restores what was saved of the workspace. Does not allocate.
+    pub fn put_back(&mut self, saved: Saved)
+        ensures { self.new ≡ put_back saved self.old }
     {
-        match mark.was {
+        match saved.was {
             StateBefore::Nothing => {}
             StateBefore::Results(count) => self.keep_results(count),
             StateBefore::Laid(tree) => self.put_laid(tree),
@@ -65,7 +65,7 @@ impl Workspace {
 
 // Copies what a micro-step can change in a workspace's data.
 fn was_in(own: &WorkState) -> Result<StateBefore, NoMemory>
-    ensures { IfOk result (λ w. mark_in w ≡ mark_of (own_of own.now)) }
+    ensures { IfOk result (λ w. saved_in w ≡ saved_of (own_of own.now)) }
 {
     match own {
         WorkState::Local(_) => Ok(StateBefore::Nothing),

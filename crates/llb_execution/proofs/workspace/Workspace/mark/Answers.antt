@@ -1,8 +1,0 @@
-use Rattle.std.proofs.Common.{ap, sym, subst, ◌∙◌}
-use Rattle.llb_execution.specs.Marks.{mark_of, PutsBack}
-use Rattle.llb_execution.proofs.Marks.{puts_back}
-use Rattle.llb_execution.proofs.workspace.Workspace.mark.Goals as goal
-
-pub returns-clause-back : goal.returns-clause-back
-returns-clause-back c =
-    subst (PutsBack c.args.self.now) (sym (c.in_ok-held.ensures ∙ ap mark_of c.self.view_is)) (puts_back c.args.self.now)
