@@ -14,10 +14,10 @@ returns-in_ok-trees-in-Some-Runs-clause-marks c =
     let vs = c.args.vertices.now in
     let l = c.in-Some-Runs.field-0-0 in
     let x = c.in-Some-Runs.execution in
-    let saved = c.in_ok-save-in-Some-Runs.saved in
+    let saved = c.in_ok-saved-in-Some-Runs.saved in
     let trees = c.in_ok-trees-in-Some-Runs.trees.items in
     let there : slice_get b.seats.items c.args.w ≡ Some (seat.Runs l x) = search rules in
     subst (λ (s : WorkersValue). MarksStep vs s c.args.w (record { back = Unstep c.args.w saved trees })) c.self.view_is
     (marks_step vs b.seats.items b.caches.rows c.args.w l x (subst (Fits vs.build) (sym c.self.view_is) c.requires) there saved trees
-    c.in_ok-save-in-Some-Runs.ensures.is
+    c.in_ok-saved-in-Some-Runs.ensures.is
     (c.in_ok-trees-in-Some-Runs.ensures.trees ∙ ap (λ (ps : List Instance). trees_at (store_of b.caches.rows) ps) c.deref-in-Some-Runs.ensures.value))
