@@ -1,4 +1,4 @@
--- The results of the steps of laying one tree over another, for nodes and for their children.
+-- What the steps of laying one tree over another make of nodes and of their children.
 use Rattle.std.specs.Prelude.{◌≡◌, ◌<◌, ◌^◌, ℕ, zero, suc, true, false, List, [], ◌∷◌, map, Option, Some, None, is_some, Vec}
 use Rattle.std.specs.declared.alloc.Global.{Global}
 use Rattle.std.specs.FinMap as finite
@@ -39,7 +39,7 @@ AreLaid w old [] (k ∷ made) = ⊥
 AreLaid w old (u ∷ upper) [] = ⊥
 AreLaid w old (u ∷ upper) (k ∷ made) = IsLaid w old u k × AreLaid w old upper made
 
--- for each upper piece there is one new piece, with the children of the upper one laid as `AreLaid` says
+-- for each upper piece there is one new piece; its children are the children of the upper piece after laying, as `AreLaid` says
 abbrev pub PiecesLaid : SettingsValue → List Child → List Piece → List Piece → Type 0
 PiecesLaid w old [] [] = Unit {0}
 PiecesLaid w old [] (p ∷ made) = ⊥
@@ -51,7 +51,7 @@ pub record TakesWhole (w : SettingsValue) : Type 0 where
   pub own : (m : MetaValue) → laid_meta w m ≡ m
   pub upper : w.keeps ≡ false
 
--- the new children are the upper children, unchanged, since laying takes each upper entry as it is
+-- the settings leave each upper entry as it is (`TakesWhole`), and the new children are the upper children, unchanged
 pub record StandWhole (w : SettingsValue) (upper new : List Child) : Type 0 where
   pub settings : TakesWhole w
   pub same : map pair_of new ≡ map pair_of upper
@@ -65,17 +65,17 @@ pub record HasLater (n : List ℕ) (kids more : List Child) : Type 0 where
   pub here : is_some (child n kids) ≡ true
   pub later : Covers kids more
 
--- the children that were made, or the given ones if none were made
+-- the children that a call returned; if the call returned none, the children `ks` that the call was given
 abbrev pub those : Option (Vec Child Global) → List Child → List Child
 those None ks = ks
 those (Some made) ks = made.items
 
--- the pieces that were made, or the given ones if none were made
+-- the pieces that a call returned; if the call returned none, the pieces `ps` that the call was given
 abbrev pub those_pieces : Option (Vec Piece Global) → List Piece → List Piece
 those_pieces None ps = ps
 those_pieces (Some made) ps = made.items
 
--- the children after the tree of the child at position i is replaced by t
+-- the children with tree t in place of the tree of the child at position i
 abbrev pub written : ℕ → TreeMap → Pairs → Pairs
 written i t [] = []
 written zero t (k ∷ ks) = (k.0, t) ∷ ks

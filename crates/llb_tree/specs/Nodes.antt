@@ -43,7 +43,7 @@ abbrev pub flat : List Child → List Pair
 flat [] = []
 flat (k ∷ ks) = below k ++ flat ks
 
--- the children in a piece
+-- the children in a piece; a piece has consecutive children of a directory
 abbrev pub rows_in : Piece → List Child
 rows_in p = (arc_value p.rows).items
 
@@ -91,7 +91,7 @@ abbrev pub look_in : Option TreeMap → Look
 look_in None q = None
 look_in (Some t) q = finite.get t q
 
--- a position in a list of children, as `Ok` or `Err`, after one more child is put before all of them: one more than before
+-- the result of `place`, if one more child is put before the list of children: the position, as `Ok` or `Err`, is one more
 abbrev pub later : Result ℕ ℕ → Result ℕ ℕ
 later (Ok i) = Ok (i + 1)
 later (Err i) = Err (i + 1)
@@ -112,7 +112,7 @@ abbrev pub dir_look : base.MetaValue → Look → Look
 dir_look m old [] = Some (base.Dir m)
 dir_look m old (n ∷ q) = old (n ∷ q)
 
--- what there is at each path if the root is a file: nothing below it
+-- the entry at each path of a tree whose root is a file: that file at the root, and nothing below the root
 abbrev pub file_look : base.MetaValue → List ℕ → Look
 file_look m b [] = Some (base.File m b)
 file_look m b (n ∷ q) = None

@@ -166,8 +166,8 @@ fn laid_all(
     Ok(made)
 }
 
-// Lays the upper children of one piece over the lower children that have the same names; returns `None` if no upper child changes. Looks for each name first at
-// its own index in the lower piece `at`.
+// Lays the upper children of one piece over the lower children that have the same names; returns `None` if no upper child changes. Looks for each name first in
+// the lower piece `at`, at the index that the name has in `upper`.
 #[cycle(lay)]
 fn laid_rows(
     kids: &[Piece],
@@ -192,7 +192,7 @@ fn laid_rows(
     Ok(made)
 }
 
-// Lays an upper child over the lower one of the same name; returns `None` if the upper one is unchanged.
+// Lays an upper child over the lower child of the same name; returns `None` if the result is the upper child, unchanged.
 #[cycle(lay)]
 fn laid_over(
     lower: Option<&Child>,
