@@ -22,6 +22,6 @@ no_mount = record { dest = []; selector = []; readonly = false; tree = empty_tre
 abbrev pub mount_at : List Shown → ℕ → Shown
 mount_at mounts number = slice_index_or mounts number no_mount
 
--- the mounts after the tree of the mount with this number is replaced
+-- the mounts, with `tree` in place of the tree of the mount with this number
 abbrev pub with_tree_of : List Shown → ℕ → TreeMap → List Shown
 with_tree_of mounts number tree = slice_set mounts number (record (mount_at mounts number) { tree = tree })

@@ -22,7 +22,7 @@ const FEW: usize = 8;
 /// Mounts with distinct dests, one of which is the root. Contracts see the list of the mounts.
 pub struct View {
     mounts: Vec<Shown>,
-    // The order of the dests, which copies of the view share; `None` if there are few mounts, or if memory was refused for the order.
+    // The order of the dests, which copies of the view share; `None` if there are at most `FEW` mounts, or if memory was refused for the order.
     order: Option<Arc<Vec<Row>>>,
 }
 
@@ -98,7 +98,7 @@ fn route_among(mounts: &[Shown], path: &Path) -> (u32, u32)
     (number as u32, dropped as u32)
 }
 
-// Makes the order of the dests; `None` if there are few mounts, or memory is refused.
+// Makes the order of the dests; `None` if there are at most `FEW` mounts, or if memory is refused.
 fn order_of(mounts: &Vec<Shown>) -> Option<Arc<Vec<Row>>>
     requires { IsView mounts.now.items }
     ensures { IfSome result (λ o. IsOrder (dests mounts.now.items) (arc_value o).items) }

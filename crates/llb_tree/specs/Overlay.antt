@@ -1,5 +1,5 @@
--- One tree laid over another, path by path. The result has all entries of the upper tree, with the mode and the owner that the settings set; but a
--- directory that both trees have may stay as in the lower tree. A lower entry stays if the upper tree has nothing at that path and no file above the path.
+-- One tree laid over another, path by path. The result has all entries of the upper tree, with the mode and the owner that the settings set;
+-- but a directory of both trees may keep the lower tree's. A lower entry stays if the upper tree has nothing at its path and no file above it.
 use Rattle.std.specs.Prelude.{ℕ, Bool, true, false, List, map, Option, Some, None, unwrap_or, nat_lt, if◌then◌else◌}
 use Rattle.std.specs.List.{list_any}
 use Rattle.llb_tree.specs.Meta.{MetaValue}
@@ -15,7 +15,7 @@ is_file (Some (File m b)) = true
 abbrev pub below_file : Look → List (List ℕ) → Bool
 below_file look p = list_any is_file (map look (parents p))
 
--- how one tree is laid over another: the mode and owners to be set, if any, and whether a directory that both trees have stays as in the lower tree
+-- how one tree is laid over another: the mode and owners to be set, if any, and whether a directory of both trees keeps the lower tree's mode and owner
 pub record SettingsValue : Type 0 where
   pub mode : Option ℕ
   pub uid : Option ℕ

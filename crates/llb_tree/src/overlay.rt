@@ -279,8 +279,8 @@ fn laid_child(
 
 impl Tree {
     /// Lays the tree `upper` over this one, and returns the result. At a path the result has what `upper` has there, with the mode and the owner that
-    /// `settings` sets. If `upper` has nothing there, the result has what this tree has there, unless a file of `upper` is above the path. A directory that
-    /// both trees have is as in `upper`, or as in this tree if `settings` says so. Fails with 27 `Memory` alone. The call visits only what both trees have;
+    /// `settings` sets. If `upper` has nothing there, the result has what this tree has there, unless a file of `upper` is above the path. If `settings`
+    /// says so, a directory that both trees have keeps this tree's mode and owner. Fails with 27 `Memory` alone. The call visits only what both trees have;
     /// what only one tree has is shared, not copied. But if `settings` sets a mode or an owner, all entries of `upper` get new nodes, which share contents.
     pub fn overlaid(self, settings: &OverlaySettings, upper: &Tree) -> Result<Tree, TreeFault>
         ensures paths { IfOk result (λ t. (q : List (List ℕ)) → finite.get t q ≡ over_at settings.now (finite.get self) (finite.get upper.now) q) }

@@ -27,7 +27,7 @@ impl Piece {
         Ok(Piece { rows })
     }
 
-    // Copies the piece, which shares its children.
+    // Copies the piece; the copy shares the children with the piece.
     pub(crate) fn copy(&self) -> Result<Piece, AllocError>
         ensures { IfOk result (λ p. rows_in p ≡ rows_in self.now) }
     {
@@ -198,7 +198,7 @@ pub(crate) fn drop_empty(pieces: &mut Vec<Piece>, at: usize)
     }
 }
 
-// Appends a piece of these children, unless there are none.
+// Appends a piece of these children; does nothing if there are no children.
 fn end_piece(pieces: &mut Vec<Piece>, alloc: Global, rows: Vec<Child>) -> Result<(), AllocError>
     ensures same { OnOk result (kids_in pieces.new.items ≡ kids_in pieces.old.items ++ rows.items) }
     ensures full { AllFull (map row_pairs pieces.old.items) → AllFull (map row_pairs pieces.new.items) }

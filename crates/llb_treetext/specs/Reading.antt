@@ -44,7 +44,7 @@ IsFault rows rest (NoParent n) = (n ≡ length rows + 1)
     × ((row : List (List ℕ) × Entry) × Begins rest row × (comes_next rows row.0 ≡ true) × (walk (λ q. finite.find path_cmp q rows) row.0 ≢ Ok tt))
 IsFault rows rest Memory = ⊥
 
--- the text begins with no lines or with the lines of a tree, and the line after these has this fault; in an empty text, line 1, which is missing, has the fault
+-- `rows` is empty or the entries of a tree, the text begins with the lines of `rows`, and the next line has this fault; an empty text has it in line 1
 pub record Stops (bytes : List ℕ) (e : TextFault) : Type 0 where
   pub rows : List (List (List ℕ) × Entry)
   pub rest : List ℕ

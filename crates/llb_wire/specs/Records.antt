@@ -30,7 +30,7 @@ record_at bytes at f = record {
   text = drop at (take f.«end» bytes);
 }
 
--- a record as a `Field`, which has the positions of the payload, if the record begins at `at`
+-- a record that begins at `at`, as a `Field`, which has the positions of the payload
 abbrev pub placed : ℕ → Record → Field
 placed at r = record { number = r.number; wire = r.wire; value = r.value; start = at + (length r.text - length r.payload); «end» = at + length r.text }
 

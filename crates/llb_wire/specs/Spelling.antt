@@ -39,7 +39,7 @@ abbrev pub IsOpen : List ℕ → Type 0
 IsOpen [] = Unit {0}
 IsOpen (b ∷ bs) = (128 ≤ b) × IsOpen bs
 
--- the bytes end before the varint at position `at` does
+-- the bytes end inside the varint that begins at position `at`
 pub record CutVarint (bytes : List ℕ) (at : ℕ) : Type 0 where
   pub more : IsOpen (drop at bytes)
   pub few : length (drop at bytes) ≤ 9
@@ -142,7 +142,7 @@ pub record HasNoWire (bytes : List ℕ) (at : ℕ) : Type 0 where
   pub number : IsFieldNumber (tag / 8)
   pub none : (w : Wire) → tag % 8 ≢ code_of w
 
--- this fault is the reason why no record can be read at this position; each reason counts only if everything before it in the record is valid
+-- this fault is the reason why no record can be read at this position; in each case the parts of the record before the fault are valid
 abbrev pub RecordCause : List ℕ → ℕ → WireFault → Type 0
 RecordCause bytes at Truncated = CutVarint bytes at ⊎ BehindTag CutPayload bytes at
 RecordCause bytes at LongVarint = TenthAboveOne bytes at ⊎ BehindTag LongPayload bytes at
@@ -151,7 +151,7 @@ RecordCause bytes at BadWireType = HasNoWire bytes at
 
 -- ---- the shortest spellings
 
--- the shortest spelling of a number, which has to be one that at most `more` + 1 bytes can spell
+-- the shortest spelling of a number; `more` + 1 bytes have to be enough to spell the number
 unfoldable pub shortest : ℕ → ℕ → List ℕ
 shortest zero n = n ∷ []
 shortest (suc more) n = if nat_lt n 128 then n ∷ [] else (128 + n % 128) ∷ shortest more (n / 128)
@@ -204,7 +204,7 @@ pub record Extends (old new : List ℕ) : Type 0 where
   pub more : List ℕ
   pub bytes : new ≡ old ++ more
 
--- a written record as a `Field`, which has the positions of the payload, if the record begins at position 0
+-- a written record that begins at position 0, as a `Field`, which has the positions of the payload
 abbrev pub written_field : ℕ → Wire → ℕ → List ℕ → Field
 written_field number wire value payload = record {
   number = number;
