@@ -10,15 +10,15 @@ use Rattle.llb_tree.specs.Overlay.{SettingsValue, is_mode, laid_meta, over, over
 use Rattle.llb_tree.specs.declared.node.Child.{Child}
 use Rattle.llb_tree.specs.declared.node.Piece.{Piece}
 
--- the tree after each entry gets the mode, the user and the group that `w` sets; what `w` does not set stays as it is
+-- the tree t, in which each entry gets the mode, the user and the group that `w` sets, and keeps what `w` does not set
 abbrev pub dress : SettingsValue → TreeMap → TreeMap
 dress w t = finite.from_entries (map (λ (e : List (List ℕ) × Entry). (e.0, over w None e.1)) (finite.entries t))
 
--- a child after each entry of its tree gets what `w` sets; the child's name stays
+-- a child, with each entry of the child's tree changed as `dress` says; the child's name stays
 abbrev pub dress_pair : SettingsValue → List ℕ × TreeMap → List ℕ × TreeMap
 dress_pair w k = (k.0, dress w k.1)
 
--- the children `new` are the children `old` after the children `upper` are laid over them
+-- laying the children `upper` over the children `old` makes the children `new`
 pub record Lays (w : SettingsValue) (upper old new : List Child) : Type 0 where
   pub sorted : AreSorted new
   pub children : (m : List ℕ) (q : List (List ℕ)) → look_in (child m new) q ≡ over_at w (look_in (child m old)) (look_in (child m upper)) q
@@ -81,7 +81,7 @@ written i t [] = []
 written zero t (k ∷ ks) = (k.0, t) ∷ ks
 written (suc i) t (k ∷ ks) = k ∷ written i t ks
 
--- the children `old` after other children are put among them one by one, each in place of the child with the same name, if there is one
+-- the result of putting other children among the children `old`, one by one, each in place of the child with the same name, if there is one
 abbrev pub puts : Pairs → Pairs → Pairs
 puts [] old = old
 puts (k ∷ ks) old = puts ks (finite.put name_cmp k.0 k.1 old)

@@ -1,5 +1,5 @@
--- One tree laid over another, path by path. The result has all entries of the upper tree, with the mode and the owner that the settings set;
--- but a directory of both trees may keep the lower tree's. A lower entry stays if the upper tree has nothing at its path and no file above it.
+-- One tree laid over another, path by path. The result has all entries of the upper tree, with the mode and owner that the settings set; a directory
+-- of both trees may keep the lower tree's mode and owner. A lower entry stays if the upper tree has nothing at its path and no file above it.
 use Rattle.std.specs.Prelude.{ℕ, Bool, true, false, List, map, Option, Some, None, unwrap_or, nat_lt, if◌then◌else◌}
 use Rattle.std.specs.List.{list_any}
 use Rattle.llb_tree.specs.Meta.{MetaValue}

@@ -48,7 +48,7 @@ name_of part = if is_name part then Ok part else Err BadName
 abbrev pub below : List (List ℕ) → List ℕ → Result (List (List ℕ)) TreeFault
 below path name = if nat_lt (length path) 128 then Ok (path ++ name ∷ []) else Err BadName
 
--- the path after one part of a text: an empty part and `.` change nothing, `..` removes the last name, any other part is added as a name or refused
+-- the path, changed by one part of a text: an empty part and `.` change nothing, `..` removes the last name, any other part is added as a name or refused
 abbrev pub enter : List (List ℕ) → List ℕ → Result (List (List ℕ)) TreeFault
 enter path part =
     if length part == 0 || is_dot part then Ok path

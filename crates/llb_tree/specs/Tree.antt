@@ -42,7 +42,7 @@ abbrev pub parents : List (List ℕ) → List (List (List ℕ))
 parents [] = []
 parents (n ∷ p) = [] ∷ map (λ q. n ∷ q) (parents p)
 
--- succeeds if all entries are directories; else fails at the first other one: with `NotFound` if that entry is missing, with `NotDir` if it is a file
+-- succeeds if all entries are directories; else fails with `NotFound` if the first entry that is no directory is missing, with `NotDir` if it is a file
 abbrev pub all_dirs : List (Option Entry) → Result (Unit {0}) TreeFault
 all_dirs [] = Ok tt
 all_dirs (None ∷ es) = Err NotFound
@@ -153,7 +153,7 @@ abbrev pub HasBytes : Entry → Type 0
 HasBytes (Dir m) = Unit {0}
 HasBytes (File m content) = AreBytes content
 
--- which entries a tree may have at path p: p is a path by `IsPath`, the mode and the owners are in range, and the content of a file consists of bytes
+-- a tree may have entry e at path p: p is a path by `IsPath`, the mode and the owners are in range, and the content of a file consists of bytes
 pub record IsAllowedAt (p : List (List ℕ)) (e : Entry) : Type 0 where
   pub path : IsPath p
   pub meta : IsMeta (meta_in e)

@@ -11,7 +11,7 @@ use Rattle.llb_tree.specs.declared.node.Child.{Child}
 use Rattle.llb_tree.specs.declared.node.Node.{Node}
 use Rattle.llb_tree.specs.declared.children.Children.{Children}
 
--- the entries after the first one, without those below the path of the first one
+-- the entries after the first entry, without the entries below the path of the first entry
 abbrev pub past : List (List (List ℕ) × Entry) → List (List (List ℕ) × Entry)
 past [] = []
 past (e ∷ es) = where_key path_cmp (λ q. not (is_within e.0 q)) es

@@ -208,7 +208,8 @@ impl Node {
         Ok(())
     }
 
-    // Copies the node; the copy shares what is below the node. Fails only if the shared content or list of children has too many owners.
+    // Copies the node; the copy shares what is below the node. Fails only if the count of owners of the content, or of the list of children,
+    // is at its limit.
     pub(crate) fn copy(&self) -> Result<Node, AllocError>
         ensures { IfOk result (λ n. n ≡ self.now) }
     {

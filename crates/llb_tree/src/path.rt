@@ -75,7 +75,8 @@ impl Path {
         Ok(path)
     }
 
-    // Applies the parts of a text to the path, one after another. If it fails, the parts before the fault have been applied.
+    // Applies the parts of a text to the path, one after another. If the call fails, the parts before the faulty one have been
+    // applied.
     fn follow(&mut self, alloc: Global, text: &str) -> Result<(), TreeFault>
         ensures { Gives (λ _. self.new) result (follow self.old (parts_of text.now)) }
     {
