@@ -42,7 +42,7 @@ abbrev pub begins_after : List ℕ → Pairs → Bool
 begins_after n [] = false
 begins_after n (e ∷ es) = is_gt (name_cmp e.0 n)
 
--- `j` is the position of the piece that name `n` belongs to: the last piece that does not begin after `n`, or the first piece
+-- `j` is the position of the piece that name `n` belongs to: the last piece that does not begin after `n`, or the first piece if all begin after `n`
 pub record IsPieceOf (n : List ℕ) (ps : List Pairs) (j : ℕ) : Type 0 where
   pub in_range : j < length ps
   pub before : 0 < j → begins_after n (get_or ps j []) ≡ false

@@ -26,7 +26,7 @@ pub(crate) fn copies(alloc: Global, kids: &[Child]) -> Result<Vec<Child>, AllocE
     Ok(copied)
 }
 
-// If a list of children is shared, replaces the list by a copy that has one owner. The trees that the children represent are unchanged.
+// Replaces a list of children that is shared by a copy that has one owner. The trees that the children represent are unchanged.
 pub(crate) fn own(alloc: Global, kids: &mut Arc<Vec<Child>>) -> Result<(), AllocError>
     ensures { map pair_of (arc_value kids.new).items ≡ map pair_of (arc_value kids.old).items }
 {
@@ -69,7 +69,7 @@ fn set_in(
     }
 }
 
-// Does in a piece what `set_in` does in a list of children. If the children of the piece are shared, they are copied first.
+// Does what `set_in` does in a list of children, in a piece. If the children of the piece are shared, they are copied first.
 #[cycle(set)]
 fn set_rows(
     rows: &mut Arc<Vec<Child>>,
@@ -90,7 +90,7 @@ fn set_rows(
     }
 }
 
-// Does in the piece that the name belongs to what `set_in` does in a list of children.
+// Does what `set_in` does in a list of children, in the piece that the name belongs to.
 #[cycle(set)]
 fn set_piece(
     pieces: &mut Vec<Piece>,
@@ -111,7 +111,7 @@ fn set_piece(
     Ok(())
 }
 
-// Does in a list of pieces that may be shared what `set_piece` does. A shared list is copied first.
+// Does what `set_piece` does, in a list of pieces that may be shared; a shared list is copied first.
 #[cycle(set)]
 fn set_below(
     kids: &mut Arc<Vec<Piece>>,

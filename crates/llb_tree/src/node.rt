@@ -33,7 +33,7 @@ pub struct Node {
     pub(crate) kind: Kind,
 }
 
-// A file with its content, or a directory with the pieces of its children. Both have a mode and an owner.
+// A file with its content, or a directory with the pieces that its children are in. Both have a mode and an owner.
 #[cycle(node)]
 #[derive(Drop)]
 pub(crate) enum Kind {

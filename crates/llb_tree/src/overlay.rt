@@ -251,8 +251,8 @@ fn laid_children(
     Ok(ready)
 }
 
-// Lays an upper child over a copy of the lower child of the same name; if there is none, returns the upper child with the mode and the owner that
-// the settings set.
+// Lays an upper child over a copy of the lower child of the same name; if there is no such lower child, returns the upper child with the mode and
+// the owner that the settings set.
 #[cycle(lay)]
 fn laid_child(
     kids: &[Piece],
@@ -292,8 +292,8 @@ impl Tree {
     }
 
     /// Lays the tree `upper` over this one, as `overlaid` does, and replaces this tree by the result. Fails with 27 `Memory` alone;
-    /// then this tree is unchanged. The children of the root are replaced in place. Below them, what both trees have is laid
-    /// on copies of nodes, and what only one tree has is shared.
+    /// then this tree is unchanged. The call replaces the root's list of children. Below the root, what both trees have is laid on
+    /// copies of nodes, and what only one tree has is shared.
     pub fn overlay(&mut self, settings: &OverlaySettings, upper: &Tree) -> Result<(), TreeFault>
         ensures paths { OnOk result ((q : List (List ℕ)) → finite.get self.new q ≡ over_at settings.now (finite.get self.old) (finite.get upper.now) q) }
         ensures memory { IfErr result (λ e. is_memory e ≡ true) }

@@ -125,7 +125,7 @@ impl Path {
         self.names.as_slice()
     }
 
-    /// Returns whether this is the root.
+    /// Returns whether this path is the root.
     pub fn is_root(&self) -> bool
         ensures { IsTrue result ↔ (self.now ≡ []) }
     {

@@ -46,7 +46,8 @@ impl Piece {
     }
 }
 
-// Returns the index of the piece that a name belongs to: the last piece that does not begin after the name, or the first piece.
+// Returns the index of the piece that a name belongs to: the last piece that does not begin after the name, or the first piece
+// if all begin after it.
 pub(crate) fn piece_of(pieces: &[Piece], name: &Name) -> usize
     requires { 0 < length pieces.now }
     ensures { IsPieceOf name.now (map row_pairs pieces.now) result }

@@ -97,7 +97,7 @@ pair_of r = (r.path, entry_of r.meta r.content)
 abbrev pub dir_in : MetaValue → List ℕ → Option (List (List ℕ) × Entry)
 dir_in m path = on (result_ok (path_of path)) (λ p. Some (p, Dir m))
 
--- a file at the path that the text is read as; its content is the bytes that the digits spell; nothing if path or content is not spelled so
+-- a file at the path that the text is read as, with the bytes that the digits spell; nothing if the text is no path, or if `bytes_in` returns nothing
 abbrev pub file_in : MetaValue → List ℕ → List ℕ → Option (List (List ℕ) × Entry)
 file_in m digits path = on (bytes_in digits) (λ content. on (result_ok (path_of path)) (λ p. Some (p, File m content)))
 

@@ -24,7 +24,7 @@ pub record IsText (bytes : List ℕ) (t : TreeMap) : Type 0 where
 abbrev pub AreBefore : List (List (List ℕ) × Entry) → Type 0
 AreBefore rows = (rows ≡ []) ⊎ ((t : TreeMap) × IsTree t × (rows ≡ finite.entries t))
 
--- whether a path may come next after some entries: if there are none, only the root; else only a path after the path of the last entry
+-- whether a path may be on the line after the lines of some entries: the root if there are no entries; else a path that comes after the last entry's path
 abbrev pub comes_next : List (List (List ℕ) × Entry) → List (List ℕ) → Bool
 comes_next [] [] = true
 comes_next [] (n ∷ p) = false

@@ -74,7 +74,7 @@ fn whole(growing: Growing<'_>) -> Option<Tree>
     }
 }
 
-// Returns the whole tree; `None` if memory was refused before this call or in it.
+// Returns the whole tree; `None` if memory was refused before this call, or is refused in this call.
 pub(crate) fn whole_if_any(growing: Option<Growing<'_>>) -> Option<Tree>
     ensures { (t : TreeMap) → IsGrownIfAny growing.entry t → IsIfAny result t }
 {

@@ -127,14 +127,14 @@ pub record BehindTag (wrong : Wire → List ℕ → ℕ → Type 0) (bytes : Lis
   pub tag : TagAt bytes at number wire tag_end
   pub payload : wrong wire bytes tag_end
 
--- the tag's field number is not allowed
+-- there is a tag at this position, but its field number is not 1 to 536870911
 pub record NamesNoField (bytes : List ℕ) (at : ℕ) : Type 0 where
   pub tag : ℕ
   pub tag_end : ℕ
   pub spelled : VarintAt bytes at tag tag_end
   pub number : ¬ IsFieldNumber (tag / 8)
 
--- the tag's field number is allowed, but its code is not the code of one of the four wire types
+-- there is a tag with a valid field number at this position, but the tag's last three bits are not the code of one of the four wire types
 pub record HasNoWire (bytes : List ℕ) (at : ℕ) : Type 0 where
   pub tag : ℕ
   pub tag_end : ℕ
