@@ -26,7 +26,7 @@ pub(crate) fn copies(alloc: Global, kids: &[Child]) -> Result<Vec<Child>, AllocE
     Ok(copied)
 }
 
-// Replaces a list of children that is shared by a copy that has one owner. The trees that the children represent are unchanged.
+// Replaces a shared list of children by a copy that has one owner. The trees that the children represent are unchanged.
 pub(crate) fn own(alloc: Global, kids: &mut Arc<Vec<Child>>) -> Result<(), AllocError>
     ensures { map pair_of (arc_value kids.new).items ≡ map pair_of (arc_value kids.old).items }
 {
