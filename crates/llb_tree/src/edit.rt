@@ -69,7 +69,7 @@ fn set_in(
     }
 }
 
-// Does what `set_in` does in a list of children, in a piece. If the children of the piece are shared, they are copied first.
+// Does what `set_in` does, in a piece. If the children of the piece are shared, they are copied first.
 #[cycle(set)]
 fn set_rows(
     rows: &mut Arc<Vec<Child>>,
@@ -90,7 +90,7 @@ fn set_rows(
     }
 }
 
-// Does what `set_in` does in a list of children, in the piece that the name belongs to.
+// Does what `set_in` does, in the piece that the name belongs to.
 #[cycle(set)]
 fn set_piece(
     pieces: &mut Vec<Piece>,

@@ -190,7 +190,8 @@ impl Node {
         }
     }
 
-    // Checks that each proper prefix of these names is a directory. Fails with 21 `NotFound` or 22 `NotDir` at the first prefix that is not.
+    // Checks that each proper prefix of these names is a directory. Fails with 21 `NotFound` or 22 `NotDir` at the first prefix that is no
+    // directory.
     pub(crate) fn walked(&self, names: &[Name]) -> Result<(), TreeFault>
         ensures walks { result ≡ walk (finite.get self.now) names.now }
         ensures known { IfErr result (λ e. is_memory e ≡ false) }

@@ -1,5 +1,5 @@
-//! Removes the paths that tests of their names select, one test for each name from the root down. The call goes down only into
-//! directories whose own names pass, so it visits no path with more names than there are tests.
+//! Removes the paths of a tree that pass given tests, and all paths below such paths. There is one test for each name of a path, from the root down. The call
+//! goes down only into directories whose own names pass, so it visits no path with more names than there are tests.
 
 ghost use Rattle.std.specs.Prelude.{◌≡◌, ◌∷◌, Bool, List, ℕ, IfOk, option_map};
 ghost use Rattle.llb_tree.specs.Tree.{Gives, MemoryLast};

@@ -58,7 +58,7 @@ abbrev pub Answers : List ℕ → Result TreeMap TextFault → Type 0
 Answers bytes (Ok t) = IsText bytes t
 Answers bytes (Err e) = is_memory e ≡ false → Stops bytes e
 
--- `Memory` is reported last: a reading fails with it only if the text is the text of a tree
+-- a reading fails with `Memory` only if the text is the text of a tree, so `Memory` is reported last
 abbrev pub MemoryIsLast : List ℕ → Result TreeMap TextFault → Type 0
 MemoryIsLast bytes (Ok t) = Unit {0}
 MemoryIsLast bytes (Err e) = is_memory e ≡ true → (t : TreeMap) × IsText bytes t

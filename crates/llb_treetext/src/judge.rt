@@ -89,7 +89,8 @@ fn holds(place: &Place<'_>, dir: &[u8]) -> bool
     }
 }
 
-// Reads the first line, which has to be the line of the root. Fails with 31 `BadLine`, or else with 32 `Order` if the path is not the root. Does not allocate.
+// Reads the first line, the line of the root. Fails with 31 `BadLine` if the bytes begin with no entry's line, with 32 `Order` if the line's path is not the
+// root. Does not allocate.
 pub(crate) fn first_line(bytes: &[u8]) -> Result<Line<'_>, TextFault>
     ensures { Starts bytes.now result }
 {

@@ -49,8 +49,8 @@ IsPayload I64 bytes value payload = (payload ≡ bytes) × IsFixed w64 bytes val
 IsPayload Len bytes value payload = (count : List ℕ) × (bytes ≡ count ++ payload) × IsVarint count value × (length payload ≡ value)
 IsPayload I32 bytes value payload = (payload ≡ bytes) × IsFixed w32 bytes value
 
--- The bytes of a record: its tag, which is a varint of eight times the field's number plus the code of the wire type, and then its payload,
--- which for a LEN has its length before it.
+-- The bytes of a record: first the tag, a varint of eight times the field's number plus the
+-- code of the wire type; then, for a LEN, the length of the payload; and then the payload.
 pub record IsRecord (r : Record) : Type 0 where
   pub tag : List ℕ
   pub behind : List ℕ

@@ -105,7 +105,7 @@ CutPayload I64 bytes at = length bytes < at + 8
 CutPayload Len bytes at = CutVarint bytes at ⊎ ((n : ℕ) × (last : ℕ) × VarintAt bytes at n last × (length bytes < last + n))
 CutPayload I32 bytes at = length bytes < at + 4
 
--- the varint after the tag, which is the value or the length of a LEN, has a tenth byte above 1
+-- after the tag there is a varint (the value, or the length of a LEN), and its tenth byte is above 1
 abbrev pub LongPayload : Wire → List ℕ → ℕ → Type 0
 LongPayload Varint bytes at = TenthAboveOne bytes at
 LongPayload I64 bytes at = ⊥
@@ -170,7 +170,7 @@ pub record IsShortest (spelling : List ℕ) (n : ℕ) : Type 0 where
   pub bytes : AreBytes spelling
   pub least : (other : List ℕ) → AreBytes other → IsVarint other n → length spelling ≤ length other
 
--- the bytes after the tag of a record: its payload, which for a LEN has its length before it
+-- the bytes after the tag of a record: for a LEN the length of the payload and the payload, for any other wire type the bytes of the value
 abbrev pub payload_text : Wire → ℕ → List ℕ → List ℕ
 payload_text Varint value payload = varint_text value
 payload_text I64 value payload = to_le_bytes w64 value
