@@ -65,12 +65,12 @@ pub record HasLater (n : List ℕ) (kids more : List Child) : Type 0 where
   pub here : is_some (child n kids) ≡ true
   pub later : Covers kids more
 
--- the children that a call returned; if the call returned none, the children `ks` that the call was given
+-- the new list of children, if one was made; else the old list `ks`
 abbrev pub those : Option (Vec Child Global) → List Child → List Child
 those None ks = ks
 those (Some made) ks = made.items
 
--- the pieces that a call returned; if the call returned none, the pieces `ps` that the call was given
+-- the new list of pieces, if one was made; else the old list `ps`
 abbrev pub those_pieces : Option (Vec Piece Global) → List Piece → List Piece
 those_pieces None ps = ps
 those_pieces (Some made) ps = made.items

@@ -51,7 +51,7 @@ abbrev pub trail_cmp : List ℕ → List ℕ → Ordering
 trail_cmp p q = slice_cmp nat_cmp (map rank p) (map rank q)
 
 -- The text of the last entry's path is a text A followed by the given bytes; this is whether A is the path of a directory. Without bytes, A is the
--- path of the last entry, and `dir` says whether that entry is a directory; otherwise A is the path of a directory if the bytes begin with a slash.
+-- path of the last entry, and `dir` says whether that entry is a directory; otherwise A is a directory's path exactly if the bytes begin with a slash.
 abbrev pub opens : List ℕ → Bool → Bool
 opens [] dir = dir
 opens (b ∷ later) dir = b == 47
