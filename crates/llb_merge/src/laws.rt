@@ -10,8 +10,8 @@ ghost use Rattle.llb_merge.specs.Laying.{lay, lay_at};
 
 use llb_tree::Tree;
 
-/// Proves that at each path the result of laying one tree over another has what the upper tree has there; if that is nothing, what the lower tree has, unless a
-/// file of the upper tree is above the path. Also proves that the result is a tree.
+/// Proves what the result of laying one tree over another has at each path: what the upper tree has there; or, if the upper tree has nothing there, what the
+/// lower tree has, unless a file of the upper tree is above the path. Also proves that the result is a tree.
 pub fn at_each_path(lower: &Tree, upper: &Tree)
     ensures paths { (q : List (List ℕ)) → finite.get (lay lower.now upper.now) q ≡ lay_at (finite.get lower.now) (finite.get upper.now) q }
     ensures tree { IsTree (lay lower.now upper.now) }

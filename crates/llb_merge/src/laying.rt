@@ -1,5 +1,5 @@
-//! Lays one tree over another: at a path the result has what the upper tree has there; if that is nothing, what the lower tree has, unless a file of the upper
-//! tree is above the path.
+//! Lays one tree over another. At a path the result has what the upper tree has there. If the upper tree has nothing there, the result has what the lower tree
+//! has, unless a file of the upper tree is above the path.
 
 ghost use Rattle.std.specs.Prelude.{◌≡◌, IfOk, OnOk, OnErr, Some, None, false};
 ghost use Rattle.llb_tree.specs.Overlay.{settings_of};
@@ -16,8 +16,8 @@ fn plain() -> OverlaySettings
     OverlaySettings::new(None, None, None, false).unwrap()
 }
 
-/// Lays the upper tree over the lower one, and returns the result. At a path the result has what the upper tree has there; if that is nothing, what the lower
-/// tree has, unless a file of the upper tree is above the path. Fails with 55 `Memory` alone.
+/// Lays the upper tree over the lower one, and returns the result. At a path the result has what the upper tree has there. If the upper tree has nothing
+/// there, the result has what the lower tree has, unless a file of the upper tree is above the path. Fails with 55 `Memory` alone.
 pub fn lay(_: Global, lower: &Tree, upper: &Tree) -> Result<Tree, Memory>
     ensures { IfOk result (λ t. t ≡ lay lower.now upper.now) }
 {

@@ -1,7 +1,7 @@
-//! Lays one tree over another: the result has at each path what the upper tree has there; if that is nothing, what the lower tree has, unless a file of the
-//! upper tree is above the path. The crate is built on `llb_tree`, and does not use ops.
+//! Lays one tree over another. At a path the result has what the upper tree has there. If the upper tree has nothing there, the result has what the lower
+//! tree has, unless a file of the upper tree is above the path. The crate is built on `llb_tree`, and does not use ops.
 //!
-//! Types: `Memory` (fault 55), the one refusal.
+//! Types: `Memory` (fault 55), the only fault.
 //! Promise: `lay` returns the tree that the definition `lay` describes as a map. `lay_over` (`ok`, `err`) replaces the lower tree by this result, and
 //! `lay_onto` takes ownership of the lower tree. Laws say what is at each path, and what the result is if a tree is laid over itself or over the empty tree.
 //!

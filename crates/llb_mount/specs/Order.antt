@@ -1,4 +1,4 @@
--- The order of dests, by which a view with many mounts finds the mount of a path. A dest's row has the position of the longest other dest that is its prefix.
+-- The order of dests: a row for each mount, with the mount's number and the position of the longest other dest that is a prefix of the mount's dest.
 use Rattle.std.specs.Prelude.{◌≡◌, ℕ, ◌<◌, ◌≤◌, Bool, true, false, List, [], length, slice_index_or}
 use Rattle.std.specs.Ordering.{is_lt}
 use Rattle.llb_tree.specs.Path.{path_cmp, is_within}
@@ -51,7 +51,7 @@ pub record IsAbove (ds : List (List (List ℕ))) (rows : List Row) (j k : ℕ) :
   pub kept : k ≤ above_of rows j
   pub within : is_within (dest_of ds rows k) (dest_of ds rows (above_of rows j)) ≡ true
 
--- for each j below `count`, and each k before j whose dest is a prefix of the dest at j: `IsAbove` holds, so going up from j does not pass over k
+-- for each j below `count` and each k before j, if the dest at k is a prefix of the dest at j, `IsAbove` holds, so going up from j does not pass over k
 abbrev pub Climbs : List (List (List ℕ)) → List Row → ℕ → Type 0
 Climbs ds rows count = (j k : ℕ) → k < j → j < count → is_within (dest_of ds rows k) (dest_of ds rows j) ≡ true → IsAbove ds rows j k
 

@@ -20,7 +20,7 @@ number_of ds path = position_or_len (λ d. pointwise (pointwise nat_eq) d path) 
 abbrev pub route : List Shown → List (List ℕ) → ℕ × ℕ
 route mounts path = let n = greatest_length (dests mounts) path in (number_of (dests mounts) (take n path), n)
 
--- `to` is the number of a mount and how many names its dest has: this dest is a prefix of the path, and no longer dest is a prefix of the path
+-- `to` is a mount's number and how many names the mount's dest has; of the dests that are prefixes of the path, this dest is the longest
 pub record IsRoute (mounts : List Shown) (path : List (List ℕ)) (to : ℕ × ℕ) : Type 0 where
   pub there : to.0 < length mounts
   pub prefix : is_within (mount_at mounts to.0).dest path ≡ true

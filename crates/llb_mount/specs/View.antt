@@ -1,5 +1,5 @@
--- A view as the list of its mounts: which lists are views, the mount with a number, and the only change of a view, by
--- which a mount gets another tree.
+-- A view as the list of its mounts: which lists are views, how a mount is found
+-- by its number, and the only change of a view: a mount gets another tree.
 use Rattle.std.specs.Prelude.{◌≢◌, ℕ, ◌<◌, ◌^◌, false, List, [], map, length, slice_index_or, slice_set, Contains, AllPairs}
 use Rattle.llb_tree.specs.Tree.{TreeMap, empty_tree}
 use Rattle.llb_mount.specs.declared.shown.Shown.{Shown}
@@ -22,6 +22,6 @@ no_mount = record { dest = []; selector = []; readonly = false; tree = empty_tre
 abbrev pub mount_at : List Shown → ℕ → Shown
 mount_at mounts number = slice_index_or mounts number no_mount
 
--- the mounts after the tree of the mount with this number is replaced
+-- the mounts, with `tree` in place of the tree of the mount with this number
 abbrev pub with_tree_of : List Shown → ℕ → TreeMap → List Shown
 with_tree_of mounts number tree = slice_set mounts number (record (mount_at mounts number) { tree = tree })

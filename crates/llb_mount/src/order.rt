@@ -85,7 +85,7 @@ fn link(mounts: &[Shown], rows: &mut [Row])
     }
 }
 
-/// Returns the mounts of a view in the order of their dests. Fails with 62 `Memory` alone.
+/// Returns the mounts of a view in the order of their dests, with their links. Fails with 62 `Memory` alone.
 pub(crate) fn ordered(alloc: Global, mounts: &[Shown]) -> Result<Vec<Row>, Memory>
     requires { IsView mounts.now }
     ensures { IfOk result (λ rows. IsOrder (dests mounts.now) rows.items) }

@@ -22,7 +22,7 @@ const FEW: usize = 8;
 /// Mounts with distinct dests, one of which is the root. Contracts see the list of the mounts.
 pub struct View {
     mounts: Vec<Shown>,
-    // The order of the dests, which copies of the view share; `None` if there are few mounts, or if memory was refused for the order.
+    // The order of the dests, which copies of the view share; `None` if there are at most `FEW` mounts, or if memory was refused for the order.
     order: Option<Arc<Vec<Row>>>,
 }
 
@@ -98,7 +98,7 @@ fn route_among(mounts: &[Shown], path: &Path) -> (u32, u32)
     (number as u32, dropped as u32)
 }
 
-// Makes the order of the dests; `None` if there are few mounts, or memory is refused.
+// Makes the order of the dests; `None` if there are at most `FEW` mounts, or if memory is refused.
 fn order_of(mounts: &Vec<Shown>) -> Option<Arc<Vec<Row>>>
     requires { IsView mounts.now.items }
     ensures { IfSome result (λ o. IsOrder (dests mounts.now.items) (arc_value o).items) }
@@ -130,7 +130,7 @@ impl View {
 
     /// Makes a view of mounts that `can_make` accepts, and takes ownership of them. The mounts are numbered from 0 in their
     /// order. For more than eight mounts the call also makes an order of their dests; if memory is refused for the order, the
-    /// view does without it. So the call never fails with 62 `Memory`.
+    /// view does without it. So the call never fails, not even with 62 `Memory`.
     pub fn make(mounts: Many<Shown>) -> Result<View, Memory>
         requires { IsView mounts }
         ensures view { IfOk result (λ v. v ≡ mounts) }
@@ -149,9 +149,9 @@ impl View {
         self.mounts.as_slice()
     }
 
-    /// Returns the number of the mount with the longest dest that is a prefix of the path, by names, and how many names that dest has; the caller drops as
-    /// many names from the path. Does not allocate. With an order of the dests the call takes time in the logarithm of the number of mounts, plus the number of
-    /// dests that are prefixes of one dest; without an order, as for at most eight mounts, the call compares the path with each mount's dest.
+    /// Returns the number of the mount with the longest dest that is a prefix of the path, by names, and how many names that dest has; the caller drops these
+    /// names from the front of the path. Does not allocate. With an order of the dests the call takes time in the logarithm of the number of mounts, plus the
+    /// number of dests that are prefixes of one dest; without an order, as for at most eight mounts, the call compares the path with each mount's dest.
     pub fn route(&self, path: &Path) -> (u32, u32)
         ensures route { result ≡ route self.now path.now }
         ensures longest { IsRoute self.now path.now result }

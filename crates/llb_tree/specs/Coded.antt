@@ -4,7 +4,7 @@ use Rattle.std.specs.FinMap as finite
 use Rattle.std.specs.Coded.{Coded, code_by, coded×, coded_ℕ, coded_list, coded_option}
 use Rattle.llb_tree.specs.Tree.{Entry, Dir, File, TreeMap}
 
--- an entry as its mode and owner, and the content if it is a file
+-- an entry as plain values: its mode, its user and its group, and its content if the entry is a file
 abbrev pub packed : Entry → (ℕ × (ℕ × ℕ)) × Option (List ℕ)
 packed (Dir m) = ((m.mode, (m.uid, m.gid)), None)
 packed (File m bytes) = ((m.mode, (m.uid, m.gid)), Some bytes)

@@ -1,4 +1,4 @@
--- Bounds of the height of a tree: a child's paths are shorter than the longest path of its directory.
+-- Bounds of the height of a tree: the tree of a child has a smaller height than the tree of the directory that the child is in.
 use Rattle.std.specs.Prelude.{ℕ, ◌≡◌, ◌+◌, ◌-◌, ◌≤◌, max, List, [], ◌∷◌, ◌++◌, true, false, cond, Option, Some, None, refl, is_some, length}
 use Rattle.std.proofs.Common.{sym, ◌∙◌, ap, arith}
 use Rattle.std.specs.Ordering.{eq_by_cmp, is_eq}
@@ -54,7 +54,7 @@ or_right : (a b : Option Entry) → is_some b ≡ true → is_some (option_or a 
 or_right None b h = h
 or_right (Some x) b h = refl
 
--- if each path in the tree of each child has fewer than n names, the depth of each child is at most n + 1
+-- if each path in the tree of each child has fewer than n names, the depth that the prover computes for each child (`deep-Child`) is at most n + 1
 kids_le : (n : ℕ) (ks : List Child) → ((m : List ℕ) (q : List (List ℕ)) → is_some (look_kids ks m q) ≡ true → length q + 1 ≤ n) → most deep-Child ks ≤ n + 1
 kids_le n [] h = omega arith
 kids_le n (k ∷ ks) h =
@@ -68,7 +68,7 @@ most_append : (xs ys : List Child) (n : ℕ) → most deep-Child (xs ++ ys) ≤ 
 most_append [] ys n h = (omega arith, h)
 most_append (x ∷ xs) ys n h = let rest = most_append xs ys n (omega arith) in let a : most deep-Child xs ≤ n = rest.0 in (omega arith, rest.1)
 
--- if the depths of all children in some pieces are at most n, so are the depths of the pieces
+-- if the depths of all children in some pieces are at most n, so are the depths of the pieces (`deep-Piece`)
 pub pieces_le : (n : ℕ) (ps : List Piece) → most deep-Child (kids_in ps) ≤ n → most deep-Piece ps ≤ n
 pieces_le n [] h = omega arith
 pieces_le n (p ∷ ps) h =

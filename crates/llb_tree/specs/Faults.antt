@@ -19,6 +19,6 @@ is_memory BadName = false
 abbrev pub Gives : {X Y : Type 0} → (X → Y) → Result X TreeFault → Result Y TreeFault → Type 0
 Gives = answer.Gives is_memory
 
--- `Memory` is reported last: a call fails with it only if its rule returns a value
+-- a call fails with `Memory` only if the call's rule returns a value, so `Memory` is reported last
 abbrev pub MemoryLast : {X Y : Type 0} → Result X TreeFault → Result Y TreeFault → Type 0
 MemoryLast = answer.MemoryLast is_memory

@@ -1,4 +1,4 @@
--- The results of the steps of laying one tree over another, for nodes and for their children.
+-- What the steps of laying one tree over another make of nodes and of their children.
 use Rattle.std.specs.Prelude.{◌≡◌, ◌<◌, ◌^◌, ℕ, zero, suc, true, false, List, [], ◌∷◌, map, Option, Some, None, is_some, Vec}
 use Rattle.std.specs.declared.alloc.Global.{Global}
 use Rattle.std.specs.FinMap as finite
@@ -10,15 +10,15 @@ use Rattle.llb_tree.specs.Overlay.{SettingsValue, is_mode, laid_meta, over, over
 use Rattle.llb_tree.specs.declared.node.Child.{Child}
 use Rattle.llb_tree.specs.declared.node.Piece.{Piece}
 
--- the tree after each entry gets the mode, the user and the group that `w` sets; what `w` does not set stays as it is
+-- the tree t, in which each entry gets the mode, the user and the group that `w` sets, and keeps what `w` does not set
 abbrev pub dress : SettingsValue → TreeMap → TreeMap
 dress w t = finite.from_entries (map (λ (e : List (List ℕ) × Entry). (e.0, over w None e.1)) (finite.entries t))
 
--- a child after each entry of its tree gets what `w` sets; the child's name stays
+-- a child, with each entry of the child's tree changed as `dress` says; the child's name stays
 abbrev pub dress_pair : SettingsValue → List ℕ × TreeMap → List ℕ × TreeMap
 dress_pair w k = (k.0, dress w k.1)
 
--- the children `new` are the children `old` after the children `upper` are laid over them
+-- laying the children `upper` over the children `old` makes the children `new`
 pub record Lays (w : SettingsValue) (upper old new : List Child) : Type 0 where
   pub sorted : AreSorted new
   pub children : (m : List ℕ) (q : List (List ℕ)) → look_in (child m new) q ≡ over_at w (look_in (child m old)) (look_in (child m upper)) q
@@ -39,7 +39,7 @@ AreLaid w old [] (k ∷ made) = ⊥
 AreLaid w old (u ∷ upper) [] = ⊥
 AreLaid w old (u ∷ upper) (k ∷ made) = IsLaid w old u k × AreLaid w old upper made
 
--- for each upper piece there is one new piece, with the children of the upper one laid as `AreLaid` says
+-- for each upper piece there is one new piece; its children are the children of the upper piece after laying, as `AreLaid` says
 abbrev pub PiecesLaid : SettingsValue → List Child → List Piece → List Piece → Type 0
 PiecesLaid w old [] [] = Unit {0}
 PiecesLaid w old [] (p ∷ made) = ⊥
@@ -51,7 +51,7 @@ pub record TakesWhole (w : SettingsValue) : Type 0 where
   pub own : (m : MetaValue) → laid_meta w m ≡ m
   pub upper : w.keeps ≡ false
 
--- the new children are the upper children, unchanged, since laying takes each upper entry as it is
+-- the settings leave each upper entry as it is (`TakesWhole`), and the new children are the upper children, unchanged
 pub record StandWhole (w : SettingsValue) (upper new : List Child) : Type 0 where
   pub settings : TakesWhole w
   pub same : map pair_of new ≡ map pair_of upper
@@ -65,23 +65,23 @@ pub record HasLater (n : List ℕ) (kids more : List Child) : Type 0 where
   pub here : is_some (child n kids) ≡ true
   pub later : Covers kids more
 
--- the children that were made, or the given ones if none were made
+-- the new list of children, if one was made; else the old list `ks`
 abbrev pub those : Option (Vec Child Global) → List Child → List Child
 those None ks = ks
 those (Some made) ks = made.items
 
--- the pieces that were made, or the given ones if none were made
+-- the new list of pieces, if one was made; else the old list `ps`
 abbrev pub those_pieces : Option (Vec Piece Global) → List Piece → List Piece
 those_pieces None ps = ps
 those_pieces (Some made) ps = made.items
 
--- the children after the tree of the child at position i is replaced by t
+-- the children with tree t in place of the tree of the child at position i
 abbrev pub written : ℕ → TreeMap → Pairs → Pairs
 written i t [] = []
 written zero t (k ∷ ks) = (k.0, t) ∷ ks
 written (suc i) t (k ∷ ks) = k ∷ written i t ks
 
--- the children `old` after other children are put among them one by one, each in place of the child with the same name, if there is one
+-- the result of putting other children among the children `old`, one by one, each in place of the child with the same name, if there is one
 abbrev pub puts : Pairs → Pairs → Pairs
 puts [] old = old
 puts (k ∷ ks) old = puts ks (finite.put name_cmp k.0 k.1 old)

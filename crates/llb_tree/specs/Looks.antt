@@ -1,4 +1,4 @@
--- What the map of a node has at a path, computed from the node's children.
+-- The entry that the map of a node has at a path, computed from the node's children.
 use Rattle.std.specs.Prelude.{ℕ, ◌≡◌, List, [], ◌∷◌, ◌++◌, map, true, false, cond, Option, Some, None, refl}
 use Rattle.std.proofs.Common.{sym, ◌∙◌, ap}
 use Rattle.std.specs.Option.{option_or}
@@ -13,7 +13,7 @@ use Rattle.llb_tree.specs.Nodes.{name_of, below, flat, kids_of, own_entry, entri
 use Rattle.llb_tree.specs.declared.node.Kind.{Kind}
 use Rattle.llb_tree.specs.declared.node.Child.{Child}
 
--- what the children have at path `p` below the child named `n`
+-- the entry at path `p` below the child named `n`, if there is one
 abbrev pub look_kids : List Child → List ℕ → List (List ℕ) → Option Entry
 look_kids [] n p = None
 look_kids (k ∷ ks) n p = option_or (cond (is_eq (name_cmp n (name_of k))) (finite.get k.node p) None) (look_kids ks n p)

@@ -10,6 +10,6 @@ is_octal_digit b = nat_le 48 b && nat_le b 55
 abbrev pub octal : List ℕ → ℕ
 octal digits = fold (λ n b. 8 * n + (b - 48)) 0 digits
 
--- the mode that a word of one to four octal digits spells, at most 4095; any other word spells none
+-- the mode that a word of one to four octal digits spells, at most 4095; any other word spells no mode
 abbrev pub mode_of : List ℕ → Option ℕ
 mode_of word = if nat_le 1 (length word) && nat_le (length word) 4 && list_all is_octal_digit word then Some (octal word) else None

@@ -43,7 +43,7 @@ abbrev pub flat : List Child → List Pair
 flat [] = []
 flat (k ∷ ks) = below k ++ flat ks
 
--- the children in a piece
+-- the children in a piece; a piece has consecutive children of a directory
 abbrev pub rows_in : Piece → List Child
 rows_in p = (arc_value p.rows).items
 
@@ -91,28 +91,28 @@ abbrev pub look_in : Option TreeMap → Look
 look_in None q = None
 look_in (Some t) q = finite.get t q
 
--- a position in a list of children, as `Ok` or `Err`, after one more child is put before all of them: one more than before
+-- the result of `place`, if one more child is put before the list of children: the position, as `Ok` or `Err`, is one more
 abbrev pub later : Result ℕ ℕ → Result ℕ ℕ
 later (Ok i) = Ok (i + 1)
 later (Err i) = Err (i + 1)
 
--- the position of the child with this name; if there is none, as `Err`, the position at which a child with this name would be inserted
+-- the position of the child with this name, as `Ok`; if there is no such child, the position at which it would be inserted, as `Err`
 abbrev pub place : List ℕ → List Child → Result ℕ ℕ
 place p [] = Err 0
 place p (r ∷ rows) = by_order (name_cmp p (name_of r)) (Err 0) (Ok 0) (later (place p rows))
 
--- what there is at each path after everything at or below path `p` is removed, and tree `t`, if there is one, is put there
+-- the entry at each path after tree `t` replaces everything at or below path `p`; if there is no tree `t`, everything there is removed
 abbrev pub set_look : List (List ℕ) → Option TreeMap → Look → Look
 set_look [] t old q = look_in t q
 set_look (n ∷ p) t old [] = old []
 set_look (n ∷ p) t old (m ∷ q) = cond (is_eq (name_cmp m n)) (set_look p t (λ r. old (n ∷ r)) q) (old (m ∷ q))
 
--- what there is at each path after a directory with this mode and owner replaces the root, and everything below the root stays
+-- the entry at each path after the root is replaced by a directory with this mode and owner; what is below the root stays
 abbrev pub dir_look : base.MetaValue → Look → Look
 dir_look m old [] = Some (base.Dir m)
 dir_look m old (n ∷ q) = old (n ∷ q)
 
--- what there is at each path if the root is a file: nothing below it
+-- the entry at each path of a tree whose root is a file: that file at the root, and nothing below the root
 abbrev pub file_look : base.MetaValue → List ℕ → Look
 file_look m b [] = Some (base.File m b)
 file_look m b (n ∷ q) = None
@@ -133,7 +133,7 @@ pub record IsWhole (root : TreeMap) (depth : ℕ) : Type 0 where
   pub deep : base.height root ≤ depth + 1
   pub short : depth ≤ 128
 
--- the remaining children of a directory: the rest of one piece, and the pieces after it
+-- the children in a value of the code's type `Children`: the rest of one piece, and the pieces after that piece
 abbrev pub left_in : Children → List Child
 left_in c = c.rows.now ++ kids_in c.pieces.now
 

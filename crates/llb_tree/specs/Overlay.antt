@@ -1,5 +1,5 @@
--- One tree laid over another, path by path. The result has all entries of the upper tree, with the mode and the owner that are to be set; a directory that
--- is in both trees may instead stay as in the lower one. The result has a lower tree's entry if the upper tree has nothing at that path and no file above it.
+-- One tree laid over another, path by path. The result has all entries of the upper tree, with the mode and owner that the settings set; a directory
+-- of both trees may keep the lower tree's mode and owner. A lower entry stays if the upper tree has nothing at its path and no file above it.
 use Rattle.std.specs.Prelude.{ℕ, Bool, true, false, List, map, Option, Some, None, unwrap_or, nat_lt, if◌then◌else◌}
 use Rattle.std.specs.List.{list_any}
 use Rattle.llb_tree.specs.Meta.{MetaValue}
@@ -11,11 +11,11 @@ is_file None = false
 is_file (Some (Dir m)) = false
 is_file (Some (File m b)) = true
 
--- whether a proper prefix of the path is a file
+-- whether there is a file at a proper prefix of the path
 abbrev pub below_file : Look → List (List ℕ) → Bool
 below_file look p = list_any is_file (map look (parents p))
 
--- how one tree is laid over another: the mode and owners to be set, if any, and whether a directory that both trees have stays as in the lower tree
+-- how one tree is laid over another: the mode and owners to be set, if any, and whether a directory of both trees keeps the lower tree's mode and owner
 pub record SettingsValue : Type 0 where
   pub mode : Option ℕ
   pub uid : Option ℕ

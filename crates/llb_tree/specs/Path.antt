@@ -48,7 +48,7 @@ name_of part = if is_name part then Ok part else Err BadName
 abbrev pub below : List (List ℕ) → List ℕ → Result (List (List ℕ)) TreeFault
 below path name = if nat_lt (length path) 128 then Ok (path ++ name ∷ []) else Err BadName
 
--- the path after one part of a text: an empty part and `.` change nothing, `..` removes the last name, any other part is added as a name or refused
+-- the path, changed by one part of a text: an empty part and `.` change nothing, `..` removes the last name, any other part is added as a name or refused
 abbrev pub enter : List (List ℕ) → List ℕ → Result (List (List ℕ)) TreeFault
 enter path part =
     if length part == 0 || is_dot part then Ok path
@@ -71,7 +71,7 @@ path_of text = follow [] (parts_of text)
 abbrev pub path_from : List (List ℕ) → List ℕ → Result (List (List ℕ)) TreeFault
 path_from start text = if starts_with nat_eq text (47 ∷ []) then path_of text else follow start (parts_of text)
 
--- how many names the path of a result has; or the fault of that result
+-- the number of names of the path in a result; if the result is a fault, that fault
 abbrev pub depth : Result (List (List ℕ)) TreeFault → Result ℕ TreeFault
 depth (Ok path) = Ok (length path)
 depth (Err e) = Err e
@@ -80,7 +80,7 @@ depth (Err e) = Err e
 abbrev pub joined : List (List ℕ) → List ℕ
 joined = join_with_byte 47
 
--- the names of a path, joined by `/`, are a text that reads as that path; so is the same text with a `/` before it
+-- the names of a path, joined by `/`, are a text that reads as that path; the same text with a `/` before it reads as that path too
 pub record ReadsBack (path : List (List ℕ)) : Type 0 where
   pub relative : path_of (joined path) ≡ Ok path
   pub absolute : path_of (47 ∷ joined path) ≡ Ok path

@@ -10,16 +10,16 @@ use Rattle.llb_tree.specs.Tree.{TreeMap}
 use Rattle.llb_tree.specs.Nodes.{Pairs, pair_of, look_in, set_look, rows_in}
 use Rattle.llb_tree.specs.declared.node.Piece.{Piece}
 
--- the pairs of a piece
+-- the children of a piece, as pairs of a name and a tree
 abbrev pub row_pairs : Piece → Pairs
 row_pairs p = map pair_of (rows_in p)
 
--- the pairs of all pieces, one piece after another
+-- the pairs of the children of all pieces, one piece after another
 abbrev pub joined : List Pairs → Pairs
 joined [] = []
 joined (p ∷ ps) = p ++ joined ps
 
--- the pairs of all pieces, given these as values of the code's type `Piece`
+-- the pairs of the children of all pieces, given the pieces as values of the code's type `Piece`
 abbrev pub pairs_of : List Piece → Pairs
 pairs_of ps = joined (map row_pairs ps)
 
@@ -42,13 +42,13 @@ abbrev pub begins_after : List ℕ → Pairs → Bool
 begins_after n [] = false
 begins_after n (e ∷ es) = is_gt (name_cmp e.0 n)
 
--- `j` is the position of the piece that name `n` belongs to: the last piece that does not begin after `n`, or the first piece
+-- `j` is the position of the piece that name `n` belongs to: the last piece that does not begin after `n`, or the first piece if all begin after `n`
 pub record IsPieceOf (n : List ℕ) (ps : List Pairs) (j : ℕ) : Type 0 where
   pub in_range : j < length ps
   pub before : 0 < j → begins_after n (get_or ps j []) ≡ false
   pub after : suc j < length ps → begins_after n (get_or ps (suc j) []) ≡ true
 
--- the pieces without the piece at position j, if the first argument, which is that piece, is empty; else all pieces
+-- the pieces without the piece at position j, if that piece is empty (it is also the first argument); else all pieces
 abbrev pub tidied_by : Pairs → ℕ → List Pairs → List Pairs
 tidied_by [] j ps = remove ps j
 tidied_by (e ∷ es) j ps = ps
@@ -61,7 +61,7 @@ tidied j ps = tidied_by (get_or ps j []) j ps
 abbrev pub without : List ℕ → Pairs → Pairs
 without n = where_key name_cmp (λ m. not (eq_by_cmp name_cmp n m))
 
--- the children after the child with this name gets the given tree, or is added with this tree; if no tree is given, the children without the child of this name
+-- the children `es`, in which the child with this name has the given tree and is added if it was missing; if no tree is given, that child is left out
 abbrev pub change : List ℕ → Option TreeMap → Pairs → Pairs
 change n (Some t) es = finite.put name_cmp n t es
 change n None es = without n es

@@ -42,14 +42,14 @@ abbrev pub parents : List (List ℕ) → List (List (List ℕ))
 parents [] = []
 parents (n ∷ p) = [] ∷ map (λ q. n ∷ q) (parents p)
 
--- succeeds if all entries are directories; else fails at the first entry that is not, with `NotFound` if it is missing, with `NotDir` if it is a file
+-- succeeds if all entries are directories; else fails with `NotFound` if the first entry that is no directory is missing, with `NotDir` if it is a file
 abbrev pub all_dirs : List (Option Entry) → Result (Unit {0}) TreeFault
 all_dirs [] = Ok tt
 all_dirs (None ∷ es) = Err NotFound
 all_dirs (Some (File m b) ∷ es) = Err NotDir
 all_dirs (Some (Dir m) ∷ es) = all_dirs es
 
--- succeeds if the parents of a path are directories; else fails with the fault for the first one, from the root down, that is missing or is a file
+-- succeeds if the parents of a path are directories; else fails at the first parent, from the root down, that is missing or a file, as `all_dirs` says
 abbrev pub walk : Look → List (List ℕ) → Result (Unit {0}) TreeFault
 walk look p = all_dirs (map look (parents p))
 
@@ -70,7 +70,7 @@ abbrev pub not_root : List (List ℕ) → Result (Unit {0}) TreeFault
 not_root [] = Err Root
 not_root (n ∷ p) = Ok tt
 
--- the tree after a file is put at a path, or the fault
+-- the tree after a file is put at a path, or the first fault
 abbrev pub put_file : TreeMap → List (List ℕ) → MetaValue → List ℕ → Result TreeMap TreeFault
 put_file t p m bytes = not_root p >>= λ _. walk (finite.get t) p >>= λ _. file_fits (finite.get t p) >>= λ _. Ok (finite.insert t p (File m bytes))
 
@@ -87,7 +87,7 @@ found None = Err NotFound
 abbrev pub without : TreeMap → List (List ℕ) → TreeMap
 without t p = finite.retain_keys t (λ q. not (is_within p q))
 
--- the tree after what is at or below a path is removed, or the fault
+-- the tree after what is at or below a path is removed, or the first fault
 abbrev pub remove : TreeMap → List (List ℕ) → Result TreeMap TreeFault
 remove t p = not_root p >>= λ _. found (finite.get t p) >>= λ _. Ok (without t p)
 
@@ -132,13 +132,13 @@ graft t p other = walk (finite.get t) p >>= λ _. places_fit p (finite.keys othe
 abbrev pub empty_tree : TreeMap
 empty_tree = finite.insert finite.empty [] (Dir new_dir_meta)
 
--- whether the entry at a path is a directory
+-- whether there is an entry and the entry is a directory
 abbrev pub is_dir : Option Entry → Bool
 is_dir None = false
 is_dir (Some (Dir m)) = true
 is_dir (Some (File m content)) = false
 
--- the content of the entry at a path, if that is a file
+-- the content of the entry, if the entry is a file; nothing for a directory, or if there is no entry
 abbrev pub content_of : Option Entry → Option (List ℕ)
 content_of None = None
 content_of (Some (Dir m)) = None
@@ -153,7 +153,7 @@ abbrev pub HasBytes : Entry → Type 0
 HasBytes (Dir m) = Unit {0}
 HasBytes (File m content) = AreBytes content
 
--- which entries a tree may have at path p: p is a path by `IsPath`, the mode and the owners are in range, and the content of a file consists of bytes
+-- a tree may have entry e at path p: p is a path by `IsPath`, the mode and the owners are in range, and the content of a file consists of bytes
 pub record IsAllowedAt (p : List (List ℕ)) (e : Entry) : Type 0 where
   pub path : IsPath p
   pub meta : IsMeta (meta_in e)

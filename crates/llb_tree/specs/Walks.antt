@@ -1,4 +1,4 @@
--- The entries that remain of a walk through a tree in path order.
+-- The entries that a walk through a tree, in path order, has not passed.
 use Rattle.std.specs.Prelude.{ℕ, ◌≤◌, not, List, [], ◌∷◌, ◌++◌, length, map, T, Option, Some, None}
 use denote.Ref.{Bor}
 use Rattle.std.specs.List.{All}
@@ -11,7 +11,7 @@ use Rattle.llb_tree.specs.declared.node.Child.{Child}
 use Rattle.llb_tree.specs.declared.node.Node.{Node}
 use Rattle.llb_tree.specs.declared.children.Children.{Children}
 
--- the entries after the first one, without those below the path of the first one
+-- the entries after the first entry, without the entries below the path of the first entry
 abbrev pub past : List (List (List ℕ) × Entry) → List (List (List ℕ) × Entry)
 past [] = []
 past (e ∷ es) = where_key path_cmp (λ q. not (is_within e.0 q)) es
@@ -42,7 +42,7 @@ left (Some node) p ls = map (moved 0 p) (finite.entries node.now) ++ behind p (l
 abbrev pub AreShort : List (List (List ℕ) × Entry) → Type 0
 AreShort = All (λ e. length e.0 ≤ 128)
 
--- if the walk has not ended, then `AreBehind` holds of the children that it has not visited yet, and each path that it has not passed has at most 128 names
+-- unless the walk has ended, `AreBehind` holds of the children that the walk has not visited, and each path not yet passed has at most 128 names
 abbrev pub GoesOn : Option (Bor Node) → List (List ℕ) → List Children → Type 0
 GoesOn None p ls = Unit {0}
 GoesOn (Some node) p ls = AreBehind p (levels_of ls) × AreShort (left (Some node) p ls)

@@ -7,7 +7,7 @@ ghost use Rattle.llb_tree.specs.Nodes.{kids_in, left_in, SplitsFirst};
 
 use crate::node::{Child, Piece};
 
-/// Children in the order of their names: all children of a directory, or all that come after one of them.
+/// Children in the order of their names: all children of a directory, or all that come after one child.
 #[derive(Clone, Copy)]
 pub struct Children<'a> {
     rows: &'a [Child],

@@ -18,7 +18,7 @@ use std::alloc::AllocError;
 use std::marker::Model;
 use std::sync::Arc;
 
-/// The content of a file, which several files may share. Contracts see the list of its bytes.
+/// A content of a file; several files may share it. Contracts see the list of its bytes.
 pub struct Content {
     bytes: Arc<Bytes>,
 }
@@ -57,7 +57,8 @@ impl Content {
 }
 
 impl Node {
-    // Returns the content of a file, which is shared, not copied; `None` for a directory. Fails only if the content has too many owners.
+    // Returns the content of a file, which is shared, not copied; `None` for a directory. Fails only if the content's count of owners is
+    // at its limit.
     fn content(&self) -> Result<Option<Content>, AllocError>
         ensures { IfOk result (λ c. c ≡ content_of (finite.get self.now [])) }
     {
@@ -82,7 +83,7 @@ impl Node {
 
 impl Tree {
     /// Returns the content of the file at a path, which is shared, not copied; `None` if no file is there. Fails with
-    /// 27 `Memory` alone, and only if the content has too many owners.
+    /// 27 `Memory` alone, and only if the content's count of owners is at its limit.
     pub fn content(&self, path: &Path) -> Result<Option<Content>, TreeFault>
         ensures { Gives (λ c. c) result (Ok (content_of (finite.get self.now path.now))) }
     {

@@ -55,8 +55,8 @@ fn are_alike(upper: &[Piece], lower: &[Piece]) -> bool
     true
 }
 
-// Returns whether each name of the lower children is a name of an upper child. If one of the two directories was made from the other, both most often have the
-// same names; so the call first tests whether the names are the same.
+// Returns whether each name of the lower children is a name of an upper child. Often one of the two directories was made from the other and both have the same
+// names, so the call tests this first.
 pub(crate) fn covers(upper: &[Piece], lower: &[Piece]) -> bool
     ensures { IsTrue result → Covers (kids_in upper.now) (kids_in lower.now) }
 {

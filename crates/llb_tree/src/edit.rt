@@ -26,7 +26,7 @@ pub(crate) fn copies(alloc: Global, kids: &[Child]) -> Result<Vec<Child>, AllocE
     Ok(copied)
 }
 
-// If a list of children is shared, replaces the list by a copy that has one owner. The trees that the children represent are unchanged.
+// Replaces a shared list of children by a copy that has one owner. The trees that the children represent are unchanged.
 pub(crate) fn own(alloc: Global, kids: &mut Arc<Vec<Child>>) -> Result<(), AllocError>
     ensures { map pair_of (arc_value kids.new).items ≡ map pair_of (arc_value kids.old).items }
 {
@@ -38,7 +38,7 @@ pub(crate) fn own(alloc: Global, kids: &mut Arc<Vec<Child>>) -> Result<(), Alloc
     Ok(())
 }
 
-// Replaces what is at the names `rest` below the child `name` (the child itself if `rest` is empty) by a node; if no node is given, removes what is there.
+// Replaces the node at the path `rest` below the child `name` (the child's own node if `rest` is empty) by `branch`; removes it if `branch` is `None`.
 #[cycle(set)]
 fn set_in(
     list: &mut Vec<Child>,
@@ -69,7 +69,7 @@ fn set_in(
     }
 }
 
-// Does in a piece what `set_in` does in a list of children. If the children of the piece are shared, they are copied first.
+// Does what `set_in` does, in a piece. If the children of the piece are shared, they are copied first.
 #[cycle(set)]
 fn set_rows(
     rows: &mut Arc<Vec<Child>>,
@@ -90,7 +90,7 @@ fn set_rows(
     }
 }
 
-// Does in the piece that the name belongs to what `set_in` does in a list of children.
+// Does what `set_in` does, in the piece that the name belongs to.
 #[cycle(set)]
 fn set_piece(
     pieces: &mut Vec<Piece>,
@@ -111,7 +111,7 @@ fn set_piece(
     Ok(())
 }
 
-// Does in a list of pieces that may be shared what `set_piece` does. A shared list is copied first.
+// Does what `set_piece` does, in a list of pieces that may be shared; a shared list is copied first.
 #[cycle(set)]
 fn set_below(
     kids: &mut Arc<Vec<Piece>>,
@@ -133,7 +133,7 @@ fn set_below(
     }
 }
 
-// Replaces the child at an index by a node, or removes it if there is no node.
+// Replaces the child at an index by a node, or removes the child if no node is given.
 fn set_child(list: &mut Vec<Child>, i: usize, branch: Option<Node>)
     requires within { i < length list.old.items }
     requires sorted { AreSorted list.old.items }
@@ -147,7 +147,7 @@ fn set_child(list: &mut Vec<Child>, i: usize, branch: Option<Node>)
     }
 }
 
-// Inserts a child with this name and this node at the index where the name belongs; does nothing if there is no node.
+// Inserts a child with this name and this node at the index where the name belongs; does nothing if no node is given.
 fn insert_child(
     list: &mut Vec<Child>,
     alloc: Global,
@@ -175,8 +175,8 @@ fn insert_child(
 }
 
 impl Node {
-    // Replaces what is at the names below this node by another node; if no node is given, removes what is there. Fails if a directory on the way is missing,
-    // if this node itself would be removed, or if memory is refused; then this node is unchanged.
+    // Replaces the node at the path `names` below this node by `branch`; removes it if `branch` is `None`. Fails if a directory on the way is missing, if
+    // this node itself would be removed, or if memory is refused; then this node is unchanged.
     #[cycle(set)]
     pub(crate) fn set(
         &mut self,

@@ -1,5 +1,5 @@
-//! Checks whether the entries of a tree can be put at and below a path, so that no path gets more than 128 names. A tree keeps a bound of its depth, which
-//! usually decides this; otherwise the nodes are visited.
+//! Checks whether a tree can be put at a path without any entry's path having more than 128 names. A tree keeps an upper bound of the number of names in
+//! its paths. If this bound does not show that the tree fits, the nodes are visited.
 
 ghost use Rattle.std.specs.Prelude.{◌≡◌, ◌↔◌, ◌≤◌, IsTrue, IfErr, false};
 ghost use Rattle.std.specs.FinMap as finite;
@@ -12,7 +12,7 @@ use crate::path::Path;
 use crate::tree::Tree;
 
 impl Tree {
-    /// Checks that the entries can be put at and below a path. Fails with 26 `BadName` if a path would have more than 128 names. Does not allocate.
+    /// Checks that this tree can be put at a path. Fails with 26 `BadName` if an entry's path would have more than 128 names. Does not allocate.
     pub fn fits(&self, path: &Path) -> Result<(), TreeFault>
         ensures fit { result ≡ places_fit path.now (finite.keys self.now) }
         ensures known { IfErr result (λ e. is_memory e ≡ false) }

@@ -4,7 +4,7 @@
 //!
 //! Types: `Tree`, `Path`, `Name`, `Meta` (mode and owner), `Entry`, `Node` and `Children` (the nodes in memory), `Walk` (entries in
 //! path order), `TreeFault`.
-//! Promise: `Tree::put_file` (`gives`, `last`, `err`) makes one change of the map, or fails with its first fault and changes nothing; the
+//! Promise: `Tree::put_file` (`gives`, `last`, `err`) makes one change of the map, or fails with the first fault and changes nothing; the
 //! other edits do the same. `Tree::overlaid` (`paths`) lays one tree over another; `Tree::get` (`found`, `tree`) returns the entry at a path.
 //!
 //! A caller:

@@ -33,7 +33,7 @@ pub struct Node {
     pub(crate) kind: Kind,
 }
 
-// A file with its content, or a directory with the pieces of its children. Both have a mode and an owner.
+// A file with its content, or a directory with the pieces that its children are in. Both have a mode and an owner.
 #[cycle(node)]
 #[derive(Drop)]
 pub(crate) enum Kind {
@@ -190,7 +190,8 @@ impl Node {
         }
     }
 
-    // Checks that each proper prefix of these names is a directory. Fails with 21 `NotFound` or 22 `NotDir` at the first prefix that is not.
+    // Checks that each proper prefix of these names is a directory. Fails with 21 `NotFound` or 22 `NotDir` at the first prefix that is no
+    // directory.
     pub(crate) fn walked(&self, names: &[Name]) -> Result<(), TreeFault>
         ensures walks { result ≡ walk (finite.get self.now) names.now }
         ensures known { IfErr result (λ e. is_memory e ≡ false) }
@@ -208,7 +209,8 @@ impl Node {
         Ok(())
     }
 
-    // Copies the node; the copy shares what is below the node. Fails only if the shared content or list of children has too many owners.
+    // Copies the node; the copy shares what is below the node. Fails only if the count of owners of the content, or of the list of children,
+    // is at its limit.
     pub(crate) fn copy(&self) -> Result<Node, AllocError>
         ensures { IfOk result (λ n. n ≡ self.now) }
     {

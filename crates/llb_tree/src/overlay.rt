@@ -166,8 +166,8 @@ fn laid_all(
     Ok(made)
 }
 
-// Lays the upper children of one piece over the lower children that have the same names; returns `None` if no upper child changes. Looks for each name first at
-// its own index in the lower piece `at`.
+// Lays the upper children of one piece over the lower children that have the same names; returns `None` if no upper child changes. Looks for each name first in
+// the lower piece `at`, at the index that the name has in `upper`.
 #[cycle(lay)]
 fn laid_rows(
     kids: &[Piece],
@@ -192,7 +192,7 @@ fn laid_rows(
     Ok(made)
 }
 
-// Lays an upper child over the lower one of the same name; returns `None` if the upper one is unchanged.
+// Lays an upper child over the lower child of the same name; returns `None` if the result is the upper child, unchanged.
 #[cycle(lay)]
 fn laid_over(
     lower: Option<&Child>,
@@ -251,8 +251,8 @@ fn laid_children(
     Ok(ready)
 }
 
-// Lays an upper child over a copy of the lower child of the same name; if there is none, returns the upper child with the mode and the owner that
-// the settings set.
+// Lays an upper child over a copy of the lower child of the same name; if there is no such lower child, returns the upper child with the mode and
+// the owner that the settings set.
 #[cycle(lay)]
 fn laid_child(
     kids: &[Piece],
@@ -279,8 +279,8 @@ fn laid_child(
 
 impl Tree {
     /// Lays the tree `upper` over this one, and returns the result. At a path the result has what `upper` has there, with the mode and the owner that
-    /// `settings` sets. If `upper` has nothing there, the result has what this tree has there, unless a file of `upper` is above the path. A directory that
-    /// both trees have is as in `upper`, or as in this tree if `settings` says so. Fails with 27 `Memory` alone. The call visits only what both trees have;
+    /// `settings` sets. If `upper` has nothing there, the result has what this tree has there, unless a file of `upper` is above the path. If `settings`
+    /// says so, a directory that both trees have keeps this tree's mode and owner. Fails with 27 `Memory` alone. The call visits only what both trees have;
     /// what only one tree has is shared, not copied. But if `settings` sets a mode or an owner, all entries of `upper` get new nodes, which share contents.
     pub fn overlaid(self, settings: &OverlaySettings, upper: &Tree) -> Result<Tree, TreeFault>
         ensures paths { IfOk result (λ t. (q : List (List ℕ)) → finite.get t q ≡ over_at settings.now (finite.get self) (finite.get upper.now) q) }
@@ -292,8 +292,8 @@ impl Tree {
     }
 
     /// Lays the tree `upper` over this one, as `overlaid` does, and replaces this tree by the result. Fails with 27 `Memory` alone;
-    /// then this tree is unchanged. The children of the root are replaced in place. Below them, what both trees have is laid
-    /// on copies of nodes, and what only one tree has is shared.
+    /// then this tree is unchanged. The call replaces the root's list of children. Below the root, what both trees have is laid on
+    /// copies of nodes, and what only one tree has is shared.
     pub fn overlay(&mut self, settings: &OverlaySettings, upper: &Tree) -> Result<(), TreeFault>
         ensures paths { OnOk result ((q : List (List ℕ)) → finite.get self.new q ≡ over_at settings.now (finite.get self.old) (finite.get upper.now) q) }
         ensures memory { IfErr result (λ e. is_memory e ≡ true) }

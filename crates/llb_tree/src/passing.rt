@@ -1,5 +1,5 @@
-//! Finds the paths of a tree whose names pass given tests, one test for each name from the root down. The search goes
-//! down only into directories whose own names pass.
+//! Finds the paths of a tree that pass given tests: such a path has one name for each test, and from the root down
+//! each name passes its test. The search goes down only into directories whose own names pass.
 
 ghost use Rattle.std.specs.Prelude.{◌≡◌, ◌∷◌, ◌++◌, ◌+◌, ◌≤◌, length, map, Ok, IfErr, OnOk};
 ghost use Rattle.std.specs.List.{filter};
@@ -16,7 +16,7 @@ use crate::path::Path;
 use crate::tested::NameTest;
 use crate::tree::Tree;
 
-// Appends to `found` the paths at and below a node that pass the tests; `path` is the path of the node itself.
+// Appends to `found` those paths at and below a node that pass the tests; `path` is the path of the node itself.
 #[cycle(find)]
 fn find<T: NameTest>(
     node: &Node,
@@ -47,7 +47,7 @@ fn find<T: NameTest>(
     Ok(())
 }
 
-// Appends to `found` the paths at and below a child that pass the tests; `path` is the path of the directory that the child is in.
+// Appends to `found` those paths at and below a child that pass the tests; `path` is the path of the directory that the child is in.
 #[cycle(find)]
 fn find_in<T: NameTest>(
     kid: &Child,

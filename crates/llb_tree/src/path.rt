@@ -75,7 +75,8 @@ impl Path {
         Ok(path)
     }
 
-    // Applies the parts of a text to the path, one after another. If it fails, the parts before the fault have been applied.
+    // Applies the parts of a text to the path, one after another. If the call fails, the parts before the faulty one have been
+    // applied.
     fn follow(&mut self, alloc: Global, text: &str) -> Result<(), TreeFault>
         ensures { Gives (λ _. self.new) result (follow self.old (parts_of text.now)) }
     {
@@ -124,7 +125,7 @@ impl Path {
         self.names.as_slice()
     }
 
-    /// Returns whether this is the root.
+    /// Returns whether this path is the root.
     pub fn is_root(&self) -> bool
         ensures { IsTrue result ↔ (self.now ≡ []) }
     {

@@ -27,7 +27,7 @@ impl Piece {
         Ok(Piece { rows })
     }
 
-    // Copies the piece, which shares its children.
+    // Copies the piece; the copy shares the children with the piece.
     pub(crate) fn copy(&self) -> Result<Piece, AllocError>
         ensures { IfOk result (λ p. rows_in p ≡ rows_in self.now) }
     {
@@ -46,7 +46,8 @@ impl Piece {
     }
 }
 
-// Returns the index of the piece that a name belongs to: the last piece that does not begin after the name, or the first piece.
+// Returns the index of the piece that a name belongs to: the last piece that does not begin after the name, or the first piece
+// if all begin after it.
 pub(crate) fn piece_of(pieces: &[Piece], name: &Name) -> usize
     requires { 0 < length pieces.now }
     ensures { IsPieceOf name.now (map row_pairs pieces.now) result }
@@ -122,7 +123,7 @@ pub(crate) fn second_owners(alloc: Global, pieces: &[Piece]) -> Result<Vec<Piece
     Ok(copied)
 }
 
-// If a list of pieces is shared, replaces the list by a copy that has one owner; the pieces themselves may still be shared.
+// Replaces a shared list of pieces by a copy that has one owner; the pieces themselves may still be shared.
 pub(crate) fn own_list(alloc: Global, pieces: &mut Arc<Vec<Piece>>) -> Result<(), AllocError>
     ensures { map row_pairs (arc_value pieces.new).items ≡ map row_pairs (arc_value pieces.old).items }
 {
@@ -198,7 +199,7 @@ pub(crate) fn drop_empty(pieces: &mut Vec<Piece>, at: usize)
     }
 }
 
-// Appends a piece of these children, unless there are none.
+// Appends a piece of these children; does nothing if there are no children.
 fn end_piece(pieces: &mut Vec<Piece>, alloc: Global, rows: Vec<Child>) -> Result<(), AllocError>
     ensures same { OnOk result (kids_in pieces.new.items ≡ kids_in pieces.old.items ++ rows.items) }
     ensures full { AllFull (map row_pairs pieces.old.items) → AllFull (map row_pairs pieces.new.items) }

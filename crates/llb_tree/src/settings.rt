@@ -10,7 +10,7 @@ use crate::meta::Meta;
 use std::marker::Model;
 
 /// What an overlay sets at each upper entry: a mode, a user and a group, each optional (an entry keeps its own if none is
-/// set); and whether a directory that both trees have stays as the lower tree has it.
+/// set); and whether a directory that both trees have keeps the lower tree's mode and owner.
 #[derive(Clone, Copy)]
 pub struct OverlaySettings {
     mode: Option<u16>,
@@ -34,7 +34,7 @@ impl Model for OverlaySettings {
 
 impl OverlaySettings {
     /// Makes the settings from a mode, a user and a group, each optional, and from `keeps`, which says whether a directory that both trees have
-    /// stays as in the lower tree; returns `None` exactly if the mode is above 4095.
+    /// keeps the lower tree's mode and owner; returns `None` exactly if the mode is above 4095.
     pub fn new(
         mode: Option<u16>,
         uid: Option<u32>,
@@ -66,21 +66,21 @@ impl OverlaySettings {
         Meta::new(mode, uid, gid).unwrap_or(own)
     }
 
-    // Returns whether no mode, no user and no group is set, so that each upper entry keeps its own.
+    // Returns whether no mode, no user and no group is set, so that each upper entry keeps its mode and owner.
     pub(crate) fn gives_nothing(&self) -> bool
         ensures { IsTrue result → (own : MetaValue) → laid_meta self.now own ≡ own }
     {
         self.mode.is_none() && self.uid.is_none() && self.gid.is_none()
     }
 
-    // Returns whether the result has every entry of the upper tree unchanged, also a directory that both trees have.
+    // Returns whether an overlay with these settings leaves every entry of the upper tree unchanged, also a directory that both trees have.
     pub(crate) fn takes_whole(&self) -> bool
         ensures { IsTrue result → TakesWhole self.now }
     {
         !self.keeps && self.gives_nothing()
     }
 
-    // Returns the mode and the owner that a directory gets in the result if both trees have it.
+    // Returns the mode and the owner, in the result, of a directory that both trees have.
     pub(crate) fn met(&self, lower: Meta, upper: Meta) -> Meta
         ensures { Dir result ≡ over self.now (Some (Dir lower)) (Dir upper) }
     {

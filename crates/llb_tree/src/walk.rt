@@ -48,7 +48,7 @@ impl<'a> Model for Walk<'a> {
     ghost invariant = { λ w. GoesOn w.present w.path w.levels.items };
 }
 
-// Goes down to a child, and keeps the children after it for later.
+// Goes down to a child, and appends the children after that child to `levels`, to be visited later.
 fn enter<'a>(
     path: &mut Path,
     levels: &mut Vec<Children<'a>>,

@@ -20,7 +20,7 @@ is_memory (text.NoParent n) = false
 abbrev pub Gives : {X Y : Type 0} → (X → Y) → Result X TextFault → Result Y TextFault → Type 0
 Gives = answer.Gives is_memory
 
--- `Memory` is reported last: a call fails with it only if its rule returns a value
+-- a call fails with `Memory` only if the call's rule returns a value, so `Memory` is reported last
 abbrev pub MemoryLast : {X Y : Type 0} → Result X TextFault → Result Y TextFault → Type 0
 MemoryLast = answer.MemoryLast is_memory
 

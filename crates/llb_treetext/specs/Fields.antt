@@ -20,7 +20,7 @@ abbrev pub on : {A B : Type 0} → Option A → (A → Option B) → Option B
 on None f = None
 on (Some x) f = f x
 
--- the bytes of a text before its first byte c, and the bytes after this one; nothing if the text has no c
+-- the bytes of a text before the first byte that is c, and the bytes after that byte; nothing if no byte of the text is c
 abbrev pub cut_at : ℕ → List ℕ → Option (List ℕ × List ℕ)
 cut_at c text = if nat_lt (position_or_len (λ b. nat_eq b c) text) (length text) then
     Some (before_first (λ b. nat_eq b c) text, after_first (λ b. nat_eq b c) text) else None
@@ -38,7 +38,7 @@ number_from n (b ∷ text) = if nat_lt (n * 10 + (b - 48)) (2 ^ 32) then number_
 abbrev pub decimal_in : List ℕ → Option ℕ
 decimal_in text = on (number_from 0 text) (λ n. if pointwise nat_eq text (decimal n) then Some n else None)
 
--- the mode, the user and the group at the start of a text, each with a space after it, and the text after them; nothing if the text does not begin so
+-- the mode, the user and the group at the start of a text, a space after each, and the rest of the text; nothing if these three are not at the start
 abbrev pub meta_in : List ℕ → Option (MetaValue × List ℕ)
 meta_in text = on (cut_at 32 text) (λ m. on (cut_at 32 m.1) (λ u. on (cut_at 32 u.1) (λ g.
     on (mode_in m.0) (λ mode. on (decimal_in u.0) (λ uid. on (decimal_in g.0) (λ gid. on (meta_of mode uid gid) (λ meta. Some (meta, g.1))))))))
@@ -80,7 +80,7 @@ abbrev pub parts_from : List (List ℕ) × Entry → Fields
 parts_from (p, Dir m) = (m, None, path_text p)
 parts_from (p, File m content) = (m, Some (hex_text content), path_text p)
 
--- the names of a path's text, with a slash before each; empty for the root
+-- the text of a path, but empty for the root: the names of the path, with a slash before each
 abbrev pub trail : List ℕ → List ℕ
 trail path = if length path == 1 then [] else path
 
@@ -97,7 +97,7 @@ pair_of r = (r.path, entry_of r.meta r.content)
 abbrev pub dir_in : MetaValue → List ℕ → Option (List (List ℕ) × Entry)
 dir_in m path = on (result_ok (path_of path)) (λ p. Some (p, Dir m))
 
--- a file with the bytes that the digits spell, at the path that the text is read as; nothing if there are no such bytes or there is no such path
+-- a file at the path that the text is read as, with the bytes that the digits spell; nothing if the text is no path, or if `bytes_in` returns nothing
 abbrev pub file_in : MetaValue → List ℕ → List ℕ → Option (List (List ℕ) × Entry)
 file_in m digits path = on (bytes_in digits) (λ content. on (result_ok (path_of path)) (λ p. Some (p, File m content)))
 

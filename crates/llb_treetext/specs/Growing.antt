@@ -14,7 +14,7 @@ pub record HasBelow (t above : TreeMap) (at : List (List ℕ)) (dir : TreeMap) :
   pub inside : (q : List (List ℕ)) → finite.get t (at ++ q) ≡ finite.get dir q
   pub outside : (q : List (List ℕ)) → is_within at q ≡ false → finite.get t q ≡ finite.get above q
 
--- t is the tree `kept`; but if a directory is open (kept apart), `kept` is its tree: t has `kept` at and below the path `at`, and elsewhere what `above` has
+-- t is `kept` if no directory is open (kept apart); else t has the open directory's tree, `kept`, at and below path `at`, and elsewhere has what `above` has
 abbrev pub IsKept : TreeMap → Option Open → TreeMap → Type 0
 IsKept kept None t = kept ≡ t
 IsKept kept (Some o) t = HasBelow t o.above o.at kept × (o.text.now ≡ names_text o.at)

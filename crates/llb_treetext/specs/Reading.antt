@@ -24,7 +24,7 @@ pub record IsText (bytes : List ℕ) (t : TreeMap) : Type 0 where
 abbrev pub AreBefore : List (List (List ℕ) × Entry) → Type 0
 AreBefore rows = (rows ≡ []) ⊎ ((t : TreeMap) × IsTree t × (rows ≡ finite.entries t))
 
--- whether a path may come next after some entries: if there are none, only the root; else only a path after the path of the last entry
+-- whether a path may be on the line after the lines of some entries: the root if there are no entries; else a path that comes after the last entry's path
 abbrev pub comes_next : List (List (List ℕ) × Entry) → List (List ℕ) → Bool
 comes_next [] [] = true
 comes_next [] (n ∷ p) = false
@@ -44,7 +44,7 @@ IsFault rows rest (NoParent n) = (n ≡ length rows + 1)
     × ((row : List (List ℕ) × Entry) × Begins rest row × (comes_next rows row.0 ≡ true) × (walk (λ q. finite.find path_cmp q rows) row.0 ≢ Ok tt))
 IsFault rows rest Memory = ⊥
 
--- the text begins with no lines or with the lines of a tree, and the line after these has this fault; in an empty text, line 1, which is missing, has the fault
+-- `rows` is empty or the entries of a tree, the text begins with the lines of `rows`, and the next line has this fault; an empty text has it in line 1
 pub record Stops (bytes : List ℕ) (e : TextFault) : Type 0 where
   pub rows : List (List (List ℕ) × Entry)
   pub rest : List ℕ
@@ -58,7 +58,7 @@ abbrev pub Answers : List ℕ → Result TreeMap TextFault → Type 0
 Answers bytes (Ok t) = IsText bytes t
 Answers bytes (Err e) = is_memory e ≡ false → Stops bytes e
 
--- `Memory` is reported last: a reading fails with it only if the text is the text of a tree
+-- a reading fails with `Memory` only if the text is the text of a tree, so `Memory` is reported last
 abbrev pub MemoryIsLast : List ℕ → Result TreeMap TextFault → Type 0
 MemoryIsLast bytes (Ok t) = Unit {0}
 MemoryIsLast bytes (Err e) = is_memory e ≡ true → (t : TreeMap) × IsText bytes t

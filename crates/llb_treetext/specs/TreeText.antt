@@ -36,6 +36,6 @@ line_of e = row_text e ++ codes "\n"
 abbrev pub lines_of : List (List (List ℕ) × Entry) → List ℕ
 lines_of entries = flat_map line_of entries
 
--- the text of a tree: the lines of all its paths, in path order
+-- the text of a tree: the lines of all its entries, in path order
 abbrev pub tree_text : TreeMap → List ℕ
 tree_text t = lines_of (finite.entries t)

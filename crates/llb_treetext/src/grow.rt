@@ -1,6 +1,6 @@
 //! The tree of a text while the text is read. The lines of a directory's files often follow the directory's line, so a
 //! new directory is kept apart as a tree of its own: a file is put into it by the file's name alone. The directory is put
-//! back at its path before the next entry that is not such a file, or at the end.
+//! back at its path at the end, or before the next entry that is not a file directly below the directory.
 
 ghost use Rattle.std.specs.Prelude.{◌≡◌, ◌++◌, ◌∷◌, ℕ, List, [], Ok, None, true, false, IfSome, IfOk};
 ghost use Rattle.std.specs.FinMap as finite;
@@ -74,7 +74,7 @@ fn whole(growing: Growing<'_>) -> Option<Tree>
     }
 }
 
-// Returns the whole tree; `None` if memory was refused before this call or in it.
+// Returns the whole tree; `None` if memory was refused before this call, or is refused in this call.
 pub(crate) fn whole_if_any(growing: Option<Growing<'_>>) -> Option<Tree>
     ensures { (t : TreeMap) → IsGrownIfAny growing.entry t → IsIfAny result t }
 {

@@ -13,7 +13,7 @@ ghost use Rattle.llb_treetext.specs.Placing.{rank, trail_cmp, opens, IsLast, Sta
 use crate::fault::TextFault;
 use crate::parts::{Parts, next_parts};
 
-// The names of a path, with a slash before each, and whether its entry is a directory.
+// The names of a path, with a slash before each, and whether the entry at the path is a directory.
 #[derive(Clone, Copy)]
 pub(crate) struct Place<'a> {
     pub names: &'a [u8],
@@ -45,7 +45,7 @@ fn rank(byte: u8) -> u8
     if byte == b'/' { 0 } else { byte }
 }
 
-// Returns whether a path comes before another.
+// Returns whether a path comes before another; both are given as their names, with a slash before each name.
 fn is_before(first: &[u8], second: &[u8]) -> bool
     ensures { result ≡ is_lt (trail_cmp first.now second.now) }
 {
@@ -89,7 +89,8 @@ fn holds(place: &Place<'_>, dir: &[u8]) -> bool
     }
 }
 
-// Reads the first line, which has to be the line of the root. Fails with 31 `BadLine`, or else with 32 `Order` if the path is not the root. Does not allocate.
+// Reads the first line, the line of the root. Fails with 31 `BadLine` if the bytes begin with no entry's line, with 32 `Order` if the line's path is not the
+// root. Does not allocate.
 pub(crate) fn first_line(bytes: &[u8]) -> Result<Line<'_>, TextFault>
     ensures { Starts bytes.now result }
 {

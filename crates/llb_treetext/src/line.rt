@@ -78,7 +78,7 @@ pub fn push_path(line: &mut String, path: &Path) -> Result<(), AllocError>
     push_names(line, path.names())
 }
 
-// Appends the line of an entry to a text, without the line end.
+// Appends the line of an entry to a text, without the line feed.
 fn push_row(
     alloc: Global,
     line: &mut String,

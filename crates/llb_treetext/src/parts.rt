@@ -20,7 +20,7 @@ pub(crate) struct Parts<'a> {
 }
 
 impl<'a> Parts<'a> {
-    // Returns the names of the path, a slash before each; nothing for the root.
+    // Returns the names of the path, a slash before each; an empty text for the root.
     pub(crate) fn trail(&self) -> &'a [u8]
         ensures { result.now ≡ trail self.now.path.now }
     {
@@ -32,14 +32,14 @@ impl<'a> Parts<'a> {
     }
 }
 
-// Splits a text at its first space.
+// Splits a text at its first space; `None` if it has no space.
 fn cut(text: &str) -> Option<(&str, &str)>
     ensures { option_map (λ x. (x.0.now, x.1.now)) result ≡ cut_at 32 text.now }
 {
     text.split_once(' ')
 }
 
-// Reads a mode of four octal digits.
+// Reads a mode of four octal digits; `None` for any other text.
 fn mode_of(text: &str) -> Option<Mode>
     ensures { result ≡ mode_in text.now }
 {
@@ -95,7 +95,7 @@ fn decimal_of(text: &str) -> Option<u32>
     }
 }
 
-// Reads the mode, the user and the group at the start of a text, and returns them with the text after them.
+// Reads the mode, the user and the group at the start of a text, and returns them with the rest of the text; `None` if these three are not at the start.
 fn front(text: &str) -> Option<(Meta, &str)>
     ensures { option_map (λ x. (x.0, x.1.now)) result ≡ meta_in text.now }
 {
@@ -134,7 +134,7 @@ fn is_path(text: &str) -> bool
     }
 }
 
-// Reads the fields of a line that is UTF-8; `None` if it is not the line of an entry.
+// Reads the fields of a line that is UTF-8; `None` if the line is not the line of an entry.
 fn parts_in(text: &str) -> Option<Parts<'_>>
     ensures { option_map parts_seen result ≡ parts_in text.now }
 {
@@ -152,7 +152,7 @@ fn parts_in(text: &str) -> Option<Parts<'_>>
     file_parts(meta, digits, path)
 }
 
-// Returns the fields of a directory; `None` if the text is no path.
+// Returns the fields of a directory; `None` if the path is not spelled as `print_tree` writes it.
 fn dir_parts(meta: Meta, path: &str) -> Option<Parts<'_>>
     ensures { option_map parts_seen result ≡ dir_parts meta path.now }
 {
@@ -166,7 +166,7 @@ fn dir_parts(meta: Meta, path: &str) -> Option<Parts<'_>>
     })
 }
 
-// Returns the fields of a file; `None` if the digits spell no bytes, or the text is no path or is the root.
+// Returns the fields of a file; `None` if the content or the path is not spelled as `print_tree` writes it, or if the path is the root.
 fn file_parts<'a>(meta: Meta, digits: &'a str, path: &'a str) -> Option<Parts<'a>>
     ensures { option_map parts_seen result ≡ file_parts meta digits.now path.now }
 {
@@ -186,7 +186,7 @@ fn file_parts<'a>(meta: Meta, digits: &'a str, path: &'a str) -> Option<Parts<'a
     })
 }
 
-// Reads the fields of a line, without its end; `None` if it is not the line of an entry.
+// Reads the fields of a line without its line feed; `None` if the line is not the line of an entry.
 fn parts_of(line: &[u8]) -> Option<Parts<'_>>
     ensures { Spells line.now result }
 {
@@ -196,7 +196,7 @@ fn parts_of(line: &[u8]) -> Option<Parts<'_>>
     }
 }
 
-// Returns the index of the first line end.
+// Returns the index of the first line feed; `None` if there is none.
 fn line_end(bytes: &[u8]) -> Option<usize>
     ensures { result ≡ position (λ b. nat_eq b 10) bytes.now }
 {

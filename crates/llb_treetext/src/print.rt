@@ -32,9 +32,9 @@ fn print_line<W: Sink>(
 }
 
 /// Writes the text of a tree to a sink: a line for each entry in path order, `d MODE UID GID PATH` for a directory and
-/// `f MODE UID GID CONTENT PATH` for a file. MODE is four octal digits, CONTENT lower-case hexadecimal, `-` if it is
-/// empty. Fails with 34 `Memory` if memory is refused, and with 35 `Write` only if the writer failed; after either fault, a
-/// prefix of the text is written.
+/// `f MODE UID GID CONTENT PATH` for a file. MODE is four octal digits; CONTENT is lower-case hexadecimal, or `-` for an
+/// empty file. Fails with 34 `Memory` if memory is refused, and with 35 `Write` only if the writer failed; after either
+/// fault, a prefix of the text is written.
 pub fn print_tree<W: Sink>(alloc: Global, tree: &Tree, out: &mut W) -> Result<(), PrintFault>
     ensures prints { Prints (W.taken out.old) (W.taken out.new) (W.failed out.new) (tree_text tree.now) result }
     ensures same { W.lender out.new ≡ W.lender out.old }

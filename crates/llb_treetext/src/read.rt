@@ -10,8 +10,8 @@ use llb_tree::Tree;
 use std::alloc::Global;
 
 /// Reads a tree from its text, which has to be spelled as `print_tree` writes it; else fails with the first fault of the first faulty line: 31 `BadLine`, 32
-/// `Order` or 33 `NoParent`. An empty text, and a last line without its end, have fault 31. Fails with 34 `Memory` only if the text is the text of a tree: once
-/// memory is refused, the lines that follow are still checked, without allocating.
+/// `Order` or 33 `NoParent`. An empty text, and a last line without a line feed, have fault 31. Fails with 34 `Memory` only if the text is the text of a tree:
+/// once memory is refused, the lines that follow are still checked, without allocating.
 pub fn read_tree(alloc: Global, bytes: &[u8]) -> Result<Tree, TextFault>
     ensures answers { Answers bytes.now result }
     ensures last { MemoryIsLast bytes.now result }

@@ -44,7 +44,8 @@ fn dir_row(alloc: Global, meta: Meta, path: &str) -> Result<Option<Row>, Memory>
     }
 }
 
-// Makes the entry of a file; `None` if the digits spell no bytes or the text is no path.
+// Makes the entry of a file; `None` if the digits are neither `-` nor pairs of hexadecimal digits,
+// or if the text is no path.
 fn file_row(alloc: Global, meta: Meta, digits: &str, path: &str) -> Result<Option<Row>, Memory>
     ensures { IfOk result (λ o. option_map pair_of o ≡ file_in meta digits.now path.now) }
 {

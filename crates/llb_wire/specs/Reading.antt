@@ -64,7 +64,7 @@ field_at bytes at = do
 unfoldable pub next_field : List ℕ → ℕ → Result (Option Field) WireFault
 next_field bytes at = if at == length bytes then Ok None else (field_at bytes at >>= λ f. Ok (Some f))
 
--- what holds of a field whose tag was read at a position: its payload begins after that position, and ends within the bytes
+-- the payload of field f, whose tag was read at position `at`, begins after that position and ends within the bytes
 pub record IsWithin (bytes : List ℕ) (at : ℕ) (f : Field) : Type 0 where
   pub begins : at < f.start
   pub ordered : f.start ≤ f.«end»

@@ -30,7 +30,7 @@ record_at bytes at f = record {
   text = drop at (take f.«end» bytes);
 }
 
--- a record as a `Field`, which has the positions of the payload, if the record begins at `at`
+-- a record that begins at `at`, as a `Field`, which has the positions of the payload
 abbrev pub placed : ℕ → Record → Field
 placed at r = record { number = r.number; wire = r.wire; value = r.value; start = at + (length r.text - length r.payload); «end» = at + length r.text }
 
@@ -49,8 +49,8 @@ IsPayload I64 bytes value payload = (payload ≡ bytes) × IsFixed w64 bytes val
 IsPayload Len bytes value payload = (count : List ℕ) × (bytes ≡ count ++ payload) × IsVarint count value × (length payload ≡ value)
 IsPayload I32 bytes value payload = (payload ≡ bytes) × IsFixed w32 bytes value
 
--- The bytes of a record: its tag, which is a varint of eight times the field's number plus the code of the wire type, and then its payload,
--- which for a LEN has its length before it.
+-- The bytes of a record: first the tag, a varint of eight times the field's number plus the
+-- code of the wire type; then, for a LEN, the length of the payload; and then the payload.
 pub record IsRecord (r : Record) : Type 0 where
   pub tag : List ℕ
   pub behind : List ℕ
@@ -59,7 +59,7 @@ pub record IsRecord (r : Record) : Type 0 where
   pub tagged : IsVarint tag (8 * r.number + code_of r.wire)
   pub payload : IsPayload r.wire behind r.value r.payload
 
--- the bytes of these records, one record after another, are exactly the given bytes; and the bytes of each record are right for it (`IsRecord`)
+-- the bytes of these records, one record after another, are exactly the given bytes; and `IsRecord` holds of each record
 pub record SpellRecords (bytes : List ℕ) (rs : List Record) : Type 0 where
   pub whole : bytes ≡ flat_map (λ r. r.text) rs
   pub each : AllByRecursion IsRecord rs

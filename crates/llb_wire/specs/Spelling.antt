@@ -39,7 +39,7 @@ abbrev pub IsOpen : List ℕ → Type 0
 IsOpen [] = Unit {0}
 IsOpen (b ∷ bs) = (128 ≤ b) × IsOpen bs
 
--- the bytes end before the varint at position `at` does
+-- the bytes end inside the varint that begins at position `at`
 pub record CutVarint (bytes : List ℕ) (at : ℕ) : Type 0 where
   pub more : IsOpen (drop at bytes)
   pub few : length (drop at bytes) ≤ 9
@@ -105,7 +105,7 @@ CutPayload I64 bytes at = length bytes < at + 8
 CutPayload Len bytes at = CutVarint bytes at ⊎ ((n : ℕ) × (last : ℕ) × VarintAt bytes at n last × (length bytes < last + n))
 CutPayload I32 bytes at = length bytes < at + 4
 
--- the varint after the tag, which is the value or the length of a LEN, has a tenth byte above 1
+-- after the tag there is a varint (the value, or the length of a LEN), and its tenth byte is above 1
 abbrev pub LongPayload : Wire → List ℕ → ℕ → Type 0
 LongPayload Varint bytes at = TenthAboveOne bytes at
 LongPayload I64 bytes at = ⊥
@@ -127,14 +127,14 @@ pub record BehindTag (wrong : Wire → List ℕ → ℕ → Type 0) (bytes : Lis
   pub tag : TagAt bytes at number wire tag_end
   pub payload : wrong wire bytes tag_end
 
--- the tag's field number is not allowed
+-- there is a tag at this position, but its field number is not 1 to 536870911
 pub record NamesNoField (bytes : List ℕ) (at : ℕ) : Type 0 where
   pub tag : ℕ
   pub tag_end : ℕ
   pub spelled : VarintAt bytes at tag tag_end
   pub number : ¬ IsFieldNumber (tag / 8)
 
--- the tag's field number is allowed, but its code is not the code of one of the four wire types
+-- there is a tag with a valid field number at this position, but the tag's last three bits are not the code of one of the four wire types
 pub record HasNoWire (bytes : List ℕ) (at : ℕ) : Type 0 where
   pub tag : ℕ
   pub tag_end : ℕ
@@ -142,7 +142,7 @@ pub record HasNoWire (bytes : List ℕ) (at : ℕ) : Type 0 where
   pub number : IsFieldNumber (tag / 8)
   pub none : (w : Wire) → tag % 8 ≢ code_of w
 
--- this fault is the reason why no record can be read at this position; each reason counts only if everything before it in the record is valid
+-- this fault is the reason why no record can be read at this position; in each case the parts of the record before the fault are valid
 abbrev pub RecordCause : List ℕ → ℕ → WireFault → Type 0
 RecordCause bytes at Truncated = CutVarint bytes at ⊎ BehindTag CutPayload bytes at
 RecordCause bytes at LongVarint = TenthAboveOne bytes at ⊎ BehindTag LongPayload bytes at
@@ -151,7 +151,7 @@ RecordCause bytes at BadWireType = HasNoWire bytes at
 
 -- ---- the shortest spellings
 
--- the shortest spelling of a number, which has to be one that at most `more` + 1 bytes can spell
+-- the shortest spelling of a number; `more` + 1 bytes have to be enough to spell the number
 unfoldable pub shortest : ℕ → ℕ → List ℕ
 shortest zero n = n ∷ []
 shortest (suc more) n = if nat_lt n 128 then n ∷ [] else (128 + n % 128) ∷ shortest more (n / 128)
@@ -170,7 +170,7 @@ pub record IsShortest (spelling : List ℕ) (n : ℕ) : Type 0 where
   pub bytes : AreBytes spelling
   pub least : (other : List ℕ) → AreBytes other → IsVarint other n → length spelling ≤ length other
 
--- the bytes after the tag of a record: its payload, which for a LEN has its length before it
+-- the bytes after the tag of a record: for a LEN the length of the payload and the payload, for any other wire type the bytes of the value
 abbrev pub payload_text : Wire → ℕ → List ℕ → List ℕ
 payload_text Varint value payload = varint_text value
 payload_text I64 value payload = to_le_bytes w64 value
@@ -204,7 +204,7 @@ pub record Extends (old new : List ℕ) : Type 0 where
   pub more : List ℕ
   pub bytes : new ≡ old ++ more
 
--- a written record as a `Field`, which has the positions of the payload, if the record begins at position 0
+-- a written record that begins at position 0, as a `Field`, which has the positions of the payload
 abbrev pub written_field : ℕ → Wire → ℕ → List ℕ → Field
 written_field number wire value payload = record {
   number = number;

@@ -3,9 +3,9 @@
 //!
 //! Types: `Field` (a record that was read, with the positions of its payload), `Bytes`, `Text`, `Many`, `Boxed`, `Sink` with `Over` (a sink over any
 //! writer), `Same`, `Memory` (fault 5).
-//! Promise: `next_record` (`found`, `only`, `ends`, `faults`) returns exactly the record that the bytes spell at a position, by a grammar that
-//! does not mention the reader, or the first fault of its tag, field number, wire type and payload. `write_record` (`shortest`, `again`, `err`)
-//! appends the shortest spelling of a record, which is read as the same record whatever bytes follow.
+//! Promise: `next_record` (`found`, `only`, `ends`, `faults`) returns exactly the record that the bytes spell at a position, or the first fault
+//! in the order tag, field number, wire type, payload. The grammar of records does not mention how bytes are read. `write_record` (`shortest`,
+//! `again`, `err`) appends the shortest spelling of a record, which is read as the same record whatever bytes follow.
 //!
 //! A caller:
 //!

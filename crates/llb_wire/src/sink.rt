@@ -28,7 +28,8 @@ pub trait Sink {
         ensures same { lender self.new ≡ lender self.old };
 }
 
-/// A sink over a writer. The sink fails once the writer fails, or accepts none of one or more bytes; a sink that has failed does not call the writer again.
+/// A sink over a writer. The sink fails once the writer fails, or once the writer accepts 0 bytes of a slice that is not empty; then the sink does not call
+/// the writer again.
 #[derive(Drop)]
 pub struct Over<'a, W> {
     pub out: &'a mut W,
