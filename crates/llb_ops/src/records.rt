@@ -159,7 +159,7 @@ pub fn parts<'a>(
     Ok(records)
 }
 
-// Returns the last record of a field, which is the one that counts.
+// Returns the last record of a field, the only one that counts; `None` if the field has no record.
 fn last<'a>(records: &[Record<'a>], number: u32) -> Option<Record<'a>>
     ensures { option_map view result ≡ last_of (all_of number (views records.now)) }
 {
@@ -392,7 +392,7 @@ pub fn are_unnamed(message: MessageName, bytes: &[u8]) -> bool
     }
 }
 
-/// Returns the records of fields that the message doesn't name, as they are. Fails with 5 `Memory` alone.
+/// Returns the bytes of the records of fields that the message doesn't name, in order and unchanged. Fails with 5 `Memory` alone.
 pub fn unnamed(alloc: Global, message: MessageName, records: &[Record<'_>]) -> Result<Bytes, Memory>
     ensures { IfOk result (λ b. b ≡ unnamed_of (shape_of message) (views records.now)) }
 {
