@@ -11,11 +11,11 @@ use Rattle.llb_tree.specs.declared.fault.TreeFault.{TreeFault}
 use Rattle.llb_tree.specs.declared.fault.TreeFault.TheVariants.{NotDir}
 use Rattle.llb_fileop.specs.Owners.{made}
 
--- the tree after a `mkfile` action: a new file, which replaces a file that is there
+-- the tree after a `mkfile` action, or the fault: a new file is at the action's path; it replaces a file that was there
 abbrev pub mkfile : file.MkFile → TreeMap → Result TreeMap TreeFault
 mkfile m t = path_of m.path >>= λ p. put_file t p (made m.mode m.owner) m.body
 
--- the tree with a directory at a path: a new directory if nothing is there; a directory that is there stays as it is; a file there is the fault `NotDir`
+-- the tree after a directory is made at a path if nothing is there; a directory that is there stays as it is; a file there is the fault `NotDir`
 abbrev pub kept_or_made : MetaValue → List (List ℕ) → Option Entry → TreeMap → Result TreeMap TreeFault
 kept_or_made m p None t = put_dir t p m
 kept_or_made m p (Some (Dir n)) t = Ok t

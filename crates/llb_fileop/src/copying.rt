@@ -19,7 +19,8 @@ use llb_ops::CopyFile;
 use llb_tree::{Meta, Path, Tree, TreeFault};
 use std::alloc::Global;
 
-// The destination of a copy: the path that its text is read as, and whether the text ends in `/`; if it does, sources are copied into that directory.
+// The destination of a copy: the path that the destination's text is read as, and whether the text ends in `/`; if the text does, sources are copied into the
+// directory at the path.
 #[derive(Drop)]
 struct Dest {
     path: Path,
