@@ -43,7 +43,7 @@ some_match true ps = Ok ps
 some_match false [] = Err NotFound
 some_match false (p ∷ ps) = Ok (p ∷ ps)
 
--- the paths that are copied, in path order: the one path, or all paths that match the pattern; `NotFound` if nothing is there, or if none match and one must
+-- the paths that are copied, in path order: the one path, at which something must be, or all paths that match, at least one unless `allow_empty` is true
 abbrev pub sources : Bool → TreeMap → Chosen → Result (List (List (List ℕ))) TreeFault
 sources allow_empty second (OnePath p) = found (finite.get second p) >>= λ _. Ok (p ∷ [])
 sources allow_empty second (EachMatch pattern) = some_match allow_empty (matching pattern second)

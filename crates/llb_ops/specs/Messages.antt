@@ -53,7 +53,7 @@ input_of = message_of input_shape input_in
 abbrev pub user_opt_shape : Shape
 user_opt_shape = shape_of message.UserOpt
 
--- the numbers of the members of the oneof of a `UserOpt`; the member that is set is the user
+-- the field numbers of the members of the oneof of a `UserOpt`; the member that is set is the user
 abbrev pub users : List ℕ
 users = members_of message.UserOpt
 
@@ -182,7 +182,7 @@ rm_of = message_of rm_shape rm_in
 abbrev pub action_shape : Shape
 action_shape = shape_of message.FileAction
 
--- the numbers of the members of the oneof of a `FileAction`; the member that is set says what the action does
+-- the field numbers of the members of the oneof of a `FileAction`; the member that is set says what the action does
 abbrev pub action_kinds : List ℕ
 action_kinds = members_of message.FileAction
 
@@ -386,7 +386,7 @@ source_op_of = message_of source_op_shape source_op_in
 abbrev pub op_shape : Shape
 op_shape = shape_of message.Op
 
--- the numbers of the members of the oneof of an `Op`; the member that is set is the op's kind
+-- the field numbers of the members of the oneof of an `Op`; the member that is set is the op's kind
 abbrev pub kinds : List ℕ
 kinds = members_of message.Op
 

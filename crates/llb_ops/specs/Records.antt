@@ -83,16 +83,16 @@ Starts shape bytes (Err e) = records_from shape 0 bytes ≡ Err e
 
 -- ---- checked after the last record is read: whether the payloads of all string fields are UTF-8
 
--- whether a payload is UTF-8, if its field is a text; true for any other field
+-- whether a payload is UTF-8, if the form of its field is `Text`; true for any other field
 abbrev pub text_ok : Option Form → List ℕ → Bool
 text_ok (Some Text) payload = is_utf8 payload
 text_ok o payload = true
 
--- whether the payload of a record is UTF-8, if the record's field is a text; true for any other field
+-- whether the payload of a record is UTF-8, if the form of the record's field is `Text`; true for any other field
 abbrev pub text_fits : Shape → Record → Bool
 text_fits shape r = text_ok (form_of shape r.number) r.payload
 
--- whether the payloads of all records of text fields are UTF-8
+-- whether the payloads of all records of string fields are UTF-8
 abbrev pub texts_fit : Shape → List Record → Bool
 texts_fit shape rs = list_all (text_fits shape) rs
 
@@ -106,7 +106,7 @@ parts shape bytes = records_from shape 0 bytes >>= λ rs. if texts_fit shape rs 
 abbrev pub wires_fit : Shape → List Record → Bool
 wires_fit shape rs = list_all (λ r. wire_fits (form_of shape r.number) r.wire) rs
 
--- these records, if each record of a named field has the field's wire type and all texts are UTF-8; else the fault
+-- these records, if each record of a named field has the field's wire type and all strings are UTF-8; else the fault
 abbrev pub fitting : Shape → List Record → Result (List Record) OpFault
 fitting shape rs = if wires_fit shape rs then (if texts_fit shape rs then Ok rs else Err NotUtf8) else Err WrongWireType
 
@@ -148,7 +148,7 @@ int64 n = cast_signed w64 (n % 2 ^ 64)
 abbrev pub flag : ℕ → Bool
 flag n = not (n == 0)
 
--- the items of a repeated text or bytes field, in order
+-- the items of a repeated string or bytes field, in order
 abbrev pub payloads : List Record → List (List ℕ)
 payloads rs = map (λ r. r.payload) rs
 

@@ -53,7 +53,7 @@ bytes_field n bytes = if length bytes == 0 then [] else set_bytes n bytes
 abbrev pub signed_field : ℕ → ℤ → List ℕ
 signed_field n z = number_field n (cast_unsigned w64 z)
 
--- a Bool as a number: 1 for true
+-- a Bool as a number: 1 for true, 0 for false
 abbrev pub bit : Bool → ℕ
 bit true = 1
 bit false = 0
@@ -71,7 +71,7 @@ message_field write n (Some m) = set_bytes n (write m)
 unfoldable pub messages_field : {A : Type 0} → (A → List ℕ) → ℕ → List A → List ℕ
 messages_field write n ms = flat_map (λ m. set_bytes n (write m)) ms
 
--- a record for each item of a repeated text or bytes field, even for an empty item
+-- a record for each item of a repeated string or bytes field, even for an empty item
 unfoldable pub each_field : ℕ → List (List ℕ) → List ℕ
 each_field n items = flat_map (λ bytes. set_bytes n bytes) items
 
@@ -131,7 +131,7 @@ unfoldable pub action_bytes : Action → List ℕ
 action_bytes m = signed_field 1 m.input ++ signed_field 2 m.secondary_input ++ signed_field 3 m.output
     ++ one_of_field action_kind_bytes m.kind ++ m.extra
 
--- the canonical bytes of a `FileOp`: its actions in order as field 2
+-- the canonical bytes of a `FileOp`: a record of field 2 for each action, in order
 unfoldable pub file_op_bytes : FileOp → List ℕ
 file_op_bytes m = messages_field action_bytes 2 m.actions ++ m.extra
 

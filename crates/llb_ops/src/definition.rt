@@ -98,7 +98,7 @@ fn tally(bytes: &[u8]) -> Result<(usize, bool), OpFault>
     Ok((count, short))
 }
 
-// Appends the entry that a record of field 1 has; a record of another field has none.
+// Appends the payload of a record of field 1 as an entry; does nothing for a record of another field.
 fn put_entry(alloc: Global, entries: &mut Vec<Bytes>, part: &Record<'_>) -> Result<(), Memory>
     ensures { OnOk result (entries.new.items ≡ (if part.now.number == 1 then entries.old.items ++ part.now.payload.now ∷ [] else entries.old.items)) }
 {

@@ -21,7 +21,7 @@ use llb_wire::{Bytes, Field, Many, Memory, Text, Wire, next_record};
 use std::alloc::Global;
 use std::str::{from_utf8, from_utf8_unchecked};
 
-/// A record of a message: its field number, its wire type and value, its payload, and all of its bytes.
+/// A record of a message: its field number, its wire type and value, its payload, and all of its bytes (`text`).
 #[derive(Clone, Copy)]
 pub struct Record<'a> {
     pub number: u32,
@@ -141,8 +141,8 @@ fn texts_are_utf8(message: MessageName, records: &[Record<'_>]) -> bool
     true
 }
 
-/// Splits the bytes of a message into its records, and checks that each named field has its wire type and that texts
-/// are UTF-8. Fails as `split` does, and then with 12 `NotUtf8`.
+/// Splits the bytes of a message into its records, and checks that each record of a field that the message names has the
+/// wire type of the field, and that strings are UTF-8. Fails as `split` does, and then with 12 `NotUtf8`.
 #[tactic(auto, unfolding(crate::specs::Records::parts))]
 pub fn parts<'a>(
     alloc: Global,

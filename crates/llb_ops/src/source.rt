@@ -76,7 +76,7 @@ impl Model for Attributes {
 }
 
 impl Attributes {
-    /// Makes the attributes of a map, without a copy.
+    /// Makes the attributes of a source from a map of keys to attributes, without a copy.
     pub fn new(held: IndexMap<Text, Attribute>) -> Attributes
         ensures { result ≡ held.entries }
     {
