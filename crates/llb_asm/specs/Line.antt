@@ -65,7 +65,7 @@ digest_or_string labels None text = or_else (Breaks BadValue) (string_in text)
 abbrev pub string_of : List (List ℕ) → List ℕ → List ℕ → Result (List ℕ) Refusal
 string_of labels name text = digest_or_string labels (if is_text name (codes "digest") then label_in text else None) text
 
--- the record of a String field whose value is label k: the digest text of entry k
+-- the record of a String field whose value is spelled as the label k; the record has the digest text of entry k
 abbrev pub labelled_record : List (List ℕ) → NamedField → ℕ → Result Held Refusal
 labelled_record labels f k = labelled labels k >>= λ s. Ok (bytes_record f s)
 

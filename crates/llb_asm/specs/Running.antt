@@ -39,7 +39,7 @@ open_op_of s = record { here = s.here; bytes = s.bytes; below = reverse s.below 
 abbrev pub at_front : OpenOp
 at_front = record { here = inside named.Op; bytes = []; below = [] }
 
--- whether the entry is within the limits if the message inside these open messages has `size` bytes and all of them are then closed; `room` says so of a size
+-- whether the entry is within the limits if the message inside these open messages has `size` bytes and all are then closed; `room` tests the entry's size
 abbrev pub room_in : (ℕ → Bool) → List Frame → ℕ → Bool
 room_in room [] size = room size
 room_in room (f ∷ below) size = room_in room below (length f.bytes + record_length f.number size)
@@ -57,7 +57,7 @@ with_held s next (Opens number sub) = record { here = inside sub; bytes = []; be
 abbrev pub with_item : OpenOp → Item → OpenOp
 with_item s i = with_held s i.next i.held
 
--- the state after the current message ends: the op is whole, with the bytes of its records; or it is still open, and the next message outward is current
+-- the state after the current message ends: the op is complete, with the bytes of its records; or it is still open, and the next message outward is current
 pub data Ending : Type 0 where
   whole : List ℕ → Ending
   still : OpenOp → Ending

@@ -31,7 +31,7 @@ pub enum Refusal {
 #[derive(Clone, Copy)]
 pub struct Here {
     pub message: MessageName,
-    /// The number of the field of the line before; 0 if no line of a field is before.
+    /// The number of the last field so far in this message; 0 if there is none.
     pub last: u32,
     /// Whether a member of the message's oneof is set.
     pub set: bool,

@@ -54,8 +54,8 @@ sources allow_empty second (EachMatch pattern) = some_match allow_empty (matchin
 abbrev pub last_name : List (List ℕ) → List (List ℕ)
 last_name p = drop (length p - 1) p
 
--- The target of a source. If only the contents of a directory are copied: the destination itself. Else, if the destination's text ends in `/` or a directory
--- is at the destination: the source's last name in the destination. Else the destination itself.
+-- The target of a source. If the source is a directory of which only the contents are copied (`dirCopyContents`), the target is the destination. Else, if the
+-- destination's text ends in `/` or a directory is at the destination, the target is the destination and the source's last name. Else it is the destination.
 abbrev pub target : CopyFile → List (List ℕ) × Bool → TreeMap → List (List ℕ) → TreeMap → List (List ℕ)
 target c dest second s t =
     if c.dir_copy_contents && is_dir (finite.get second s) then dest.0

@@ -25,7 +25,7 @@ at stage = record { stage = stage; quotes = false }
 abbrev pub start : Cursor
 start = at Outside
 
--- the effect of a literal character, which matches itself: it is an item of the part, an item of the current class, or the high end of a range
+-- the effect of a literal character, one that matches itself: it becomes an item of the part, an item of the current class, or the high end of a range
 abbrev pub literal : Stage → ℕ → Cursor × Effect
 literal Outside c = (at Outside, Whole (One (Only c)))
 literal Opened c = (at Single, Add c)
