@@ -37,7 +37,7 @@ chosen_by c =
     if c.allow_wildcard then (on_pattern (pattern_of c.src) >>= λ pattern. Ok (EachMatch pattern))
     else (on_tree (path_of c.src) >>= λ p. Ok (OnePath p))
 
--- these paths; or the fault `NotFound` if there are no paths and the first argument, which says whether there may be none, is false
+-- these paths; but the fault `NotFound` if there are no paths and the flag, which allows that there are none, is false
 abbrev pub some_match : Bool → List (List (List ℕ)) → Result (List (List (List ℕ))) TreeFault
 some_match true ps = Ok ps
 some_match false [] = Err NotFound

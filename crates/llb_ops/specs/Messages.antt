@@ -132,7 +132,7 @@ mk_dir_of = message_of mk_dir_shape mk_dir_in
 abbrev pub copy_file_shape : Shape
 copy_file_shape = shape_of message.FileActionCopy
 
--- a copy from its records, with this owner
+-- a `FileActionCopy` from its records and its owner, which was read before
 unfoldable pub copy_file_with : List Record → Option ChownOpt → CopyFile
 copy_file_with rs owner = record {
   src = payload (all 1 rs);

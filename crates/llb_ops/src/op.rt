@@ -210,7 +210,7 @@ pub fn write_op(alloc: Global, op: &Op) -> Result<Bytes, OpFault>
     Ok(Bytes::new(bytes))
 }
 
-/// Returns the name of an op's kind; `none` if the op has no kind. No graph has an op of the kinds `build` and `diff`, or an op without a kind.
+/// Returns the name of an op's kind; `none` if the op has no kind. No loaded graph has an op of the kind `build` or `diff`, or an op without a kind.
 pub fn kind_name(op: &Op) -> &'static str
     ensures { result.now ≡ kind_text op.now.kind }
 {

@@ -322,7 +322,7 @@ pub fn each_bytes(alloc: Global, records: &[Record<'_>], number: u32) -> Result<
     Ok(Many::new(items))
 }
 
-/// Returns whether no repeated field has more than 1,024 records.
+/// Returns whether each of these repeated fields has at most 1,024 records.
 pub fn within_limits(repeated: &[u32], records: &[Record<'_>]) -> bool
     ensures { result ≡ within_limits_of repeated.now (views records.now) }
 {
