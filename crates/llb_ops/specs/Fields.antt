@@ -124,7 +124,7 @@ AreFew last count (message row inner rest) =
 -- ---- the law of canonical bytes
 
 -- An op's canonical bytes spell fields of the message Op, and none of them occurs more than `field_limit` times. Without the empty keys and values of maps,
--- this still holds, the bytes are not longer than the canonical ones, and the same op is read from them if they are not longer than an entry may be.
+-- no field occurs more often either, the bytes are not longer than the canonical ones, and they are read as the same op if they are within `entry_limit`.
 pub record HasFields (op : Op) : Type 0 where
   pub fields : Fields
   pub are : AreFields named.Op 0 false fields
