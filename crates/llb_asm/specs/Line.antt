@@ -96,7 +96,7 @@ held_by labels row kind.Bool text = or_else (Breaks BadValue) (option_map (numbe
 unfoldable pub held_in : List (List ℕ) → Row → List ℕ → Result Held Refusal
 held_in labels row text = held_by labels row row.1.kind text
 
--- ---- the context of a line: the message, the field of the line before, whether a member of the oneof is set, and how often in a row that field has occurred
+-- ---- the context of a line: the message, its last field so far, how many times in succession that field has occurred, whether a member of the oneof is set
 
 -- the context of the first line of a message
 abbrev pub inside : MessageName → Here

@@ -123,7 +123,7 @@ fn next_byte(text: &[u8]) -> Option<(u8, &[u8])>
     }
 }
 
-/// Reads the rest of a string, up to a quote at the end of the text; `None` if the text is no such rest.
+/// Reads the rest of a string, up to a quote at the end of the text; `None` if the text spells no string.
 fn string_behind(alloc: Global, text: &[u8]) -> Result<Option<Bytes>, Memory>
     ensures { IfOk result (λ o. o ≡ string_from closed text.now) }
 {
