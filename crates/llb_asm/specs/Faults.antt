@@ -1,4 +1,4 @@
--- The text of a fault in a text of entries: the fault's number, and then a line and a rule, if the fault has them.
+-- How a fault of this crate is printed: as its number, and then as the line and the rule, if the fault has them.
 use Rattle.std.specs.Prelude.{ℕ, List, ◌++◌, codes}
 use Rattle.std.specs.Fmt.{decimal}
 use Rattle.llb_asm.specs.declared.fault.Rule.{Rule}

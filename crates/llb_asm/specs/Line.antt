@@ -56,7 +56,7 @@ bytes_record f held = Record (if (length held == 0) && not (may_be_empty f) then
 abbrev pub labelled : List (List ℕ) → ℕ → Result (List ℕ) Refusal
 labelled labels k = or_else UnknownLabel (slice_get labels k)
 
--- the digest text of the entry that a label names, if the text is a label; else the string that the text spells between quotes
+-- the digest text of entry k, if the text is the label with the number k; else the string that the text spells between quotes
 abbrev pub digest_or_string : List (List ℕ) → Option ℕ → List ℕ → Result (List ℕ) Refusal
 digest_or_string labels (Some k) text = labelled labels k
 digest_or_string labels None text = or_else (Breaks BadValue) (string_in text)
@@ -65,7 +65,7 @@ digest_or_string labels None text = or_else (Breaks BadValue) (string_in text)
 abbrev pub string_of : List (List ℕ) → List ℕ → List ℕ → Result (List ℕ) Refusal
 string_of labels name text = digest_or_string labels (if is_text name (codes "digest") then label_in text else None) text
 
--- the record of a String field whose value is label k: the digest text of entry k
+-- the record of a String field whose value is spelled as the label k; the record has the digest text of entry k
 abbrev pub labelled_record : List (List ℕ) → NamedField → ℕ → Result Held Refusal
 labelled_record labels f k = labelled labels k >>= λ s. Ok (bytes_record f s)
 
@@ -96,7 +96,7 @@ held_by labels row kind.Bool text = or_else (Breaks BadValue) (option_map (numbe
 unfoldable pub held_in : List (List ℕ) → Row → List ℕ → Result Held Refusal
 held_in labels row text = held_by labels row row.1.kind text
 
--- ---- the context of a line: the message, its last field, whether a member of its oneof is set, and how often the last field has occurred
+-- ---- the context of a line: the message, its last field so far, how many times in succession that field has occurred, whether a member of the oneof is set
 
 -- the context of the first line of a message
 abbrev pub inside : MessageName → Here
@@ -126,7 +126,7 @@ follows here f = not here.ended && may_follow here.last here.set f
 
 -- ---- the tests of a line, in their order
 
--- the item of a line `extra`, whose bytes have to be records of fields that the message does not name
+-- the item of a line `extra`, whose bytes have to be records of fields that the message does not name; or why the line is refused
 abbrev pub extra_in : Here → List ℕ → Result Item Refusal
 extra_in here text = do
   _ ← guard (Breaks Order) (not here.ended)
@@ -134,7 +134,7 @@ extra_in here text = do
   _ ← guard (Breaks BadValue) (are_unnamed here.message bytes)
   Ok (record { next = at_end here; held = Record bytes })
 
--- the item of a line whose name is the name of a field of the message
+-- the item of a line with this name and value, by the field of the message that has the name; or why the line is refused
 abbrev pub field_in : List (List ℕ) → Here → List ℕ × List ℕ → Result Item Refusal
 field_in labels here p = do
   row ← or_else (Breaks UnknownField) (row_named here.message p.0)

@@ -107,7 +107,7 @@ pub record AreFormed (entries : List (List ℕ)) (xs : List Formed) : Type 0 whe
   pub same : map (λ x. x.0) xs ≡ entries
   pub forms : HaveForms xs
 
--- the lines of entries; a label may name any earlier entry
+-- the lines of entries, given the digest texts of the entries before them; a label may name any earlier entry
 abbrev pub plain_lines : List (List ℕ) → List Formed → List PlainLine
 plain_lines labels [] = []
 plain_lines labels (x ∷ xs) = entry_lines labels x.0 x.1 ++ plain_lines (labels ++ digest_text x.0 ∷ []) xs

@@ -90,14 +90,14 @@ lines_of (single line next bytes rest) = line ∷ lines_of rest
 lines_of (nested line next number sub inner rest) = line ∷ (lines_of inner ++ (closing ∷ lines_of rest))
 lines_of (unclosed line next number sub inner) = line ∷ lines_of inner
 
--- the bytes of the records of items; a message that is not closed counts as closed
+-- the bytes of the records of items; a message that is not closed yet counts as if it were closed after its last item
 abbrev pub records_of : Items → List ℕ
 records_of done = []
 records_of (single line next bytes rest) = bytes ++ records_of rest
 records_of (nested line next number sub inner rest) = set_bytes number (records_of inner) ++ records_of rest
 records_of (unclosed line next number sub inner) = set_bytes number (records_of inner)
 
--- every message is closed
+-- none of these items is a message that is not closed; `AreItems` says the same of the items inside nested messages
 abbrev pub IsWhole : Items → Type 0
 IsWhole done = Unit {0}
 IsWhole (single line next bytes rest) = IsWhole rest
@@ -118,7 +118,7 @@ AreItems labels hand (nested line next number sub inner rest) =
 AreItems labels hand (unclosed line next number sub inner) = (item_at labels hand line ≡ Ok (item next (Opens number sub)))
     × AreItems labels (within hand number sub) inner
 
--- the message that is current after these items: the innermost message that the items leave open; or, if they leave none open, the one that was current before
+-- the current message after these items: the innermost message that the items leave open; if they leave none open, the message before, with the items' bytes
 abbrev pub at_hand : Hand → Items → Hand
 at_hand hand done = hand
 at_hand hand (single line next bytes rest) = at_hand (beyond hand next bytes) rest
@@ -152,7 +152,7 @@ abbrev pub canonical_of : Result Op OpFault → Option (List ℕ)
 canonical_of (Err f) = None
 canonical_of (Ok op) = Some (op_bytes op)
 
--- the canonical bytes, if they are given and an entry of them is within the limits; else a refusal
+-- the given canonical bytes, if there are any and an entry of these bytes is within the limits; else a refusal
 abbrev pub canonical_in : List (List ℕ) → Option (List ℕ) → Result (List ℕ) Refusal
 canonical_in earlier None = Err (Breaks OverLimit)
 canonical_in earlier (Some entry) = if is_within earlier (length entry) then Ok entry else Err (Breaks OverLimit)
@@ -190,7 +190,7 @@ text_of (raw line bytes rest) = line ∷ text_of rest
 text_of (op line items entry rest) = line ∷ (lines_of items ++ (closing ∷ text_of rest))
 text_of (open_op line items) = line ∷ lines_of items
 
--- the bytes of the entries, except for an op that is not closed
+-- the bytes of each entry, in order; the op that is not closed, if there is one, is left out
 abbrev pub entries_of : Entries → List (List ℕ)
 entries_of none = []
 entries_of (raw line bytes rest) = bytes ∷ entries_of rest

@@ -25,7 +25,7 @@ use Rattle.llb_asm.specs.Reading.{Hand, closing, record_length, is_within, item_
 
 -- ---- an op that is open
 
--- the current message with its bytes so far, and the messages around it, the innermost first
+-- an op that is open: the context of the next line in the current (innermost) message, this message's bytes so far, and the messages around it, innermost first
 pub record OpenOp : Type 0 where
   pub here : Here
   pub bytes : List ℕ
@@ -39,7 +39,7 @@ open_op_of s = record { here = s.here; bytes = s.bytes; below = reverse s.below 
 abbrev pub at_front : OpenOp
 at_front = record { here = inside named.Op; bytes = []; below = [] }
 
--- whether the entry is within the limits if the current message has `size` bytes and all messages are then closed
+-- whether the entry is within the limits if the message inside these open messages has `size` bytes and all are then closed; `room` tests the entry's size
 abbrev pub room_in : (ℕ → Bool) → List Frame → ℕ → Bool
 room_in room [] size = room size
 room_in room (f ∷ below) size = room_in room below (length f.bytes + record_length f.number size)
@@ -57,7 +57,7 @@ with_held s next (Opens number sub) = record { here = inside sub; bytes = []; be
 abbrev pub with_item : OpenOp → Item → OpenOp
 with_item s i = with_held s i.next i.held
 
--- the state after the current message ends: the op is whole, with the bytes of its records; or it is still open, and the next message outward is current
+-- the state after the current message ends: the op is complete, with the bytes of its records; or it is still open, and the next message outward is current
 pub data Ending : Type 0 where
   whole : List ℕ → Ending
   still : OpenOp → Ending
@@ -71,32 +71,32 @@ closing_on bytes (f ∷ below) = still (record { here = f.here; bytes = f.bytes 
 abbrev pub closing_of : OpenOp → Ending
 closing_of s = closing_on s.bytes s.below
 
--- the state after a closing line, which the code returns as a `Closed`
+-- the state after a closing line, given as the `Closed` that the code returns
 abbrev pub ended : Closed → Ending
 ended (Whole bytes) = whole bytes
 ended (Still s) = still (open_op_of s)
 
 -- ---- the text
 
--- how far the text was read: the whole entries, and the open op, if an op is open
+-- how far the text was read: the entries that are complete, and the open op, if an op is open
 pub record Progress : Type 0 where
   pub earlier : List (List ℕ)
   pub current : Option OpenOp
 
--- the progress between two entries: the earlier entries are whole, and no op is open
+-- the progress between two entries: the earlier entries are complete, and no op is open
 abbrev pub between : List (List ℕ) → Progress
 between earlier = record { earlier = earlier; current = None }
 
--- the progress inside an op: the earlier entries are whole, and this op is open
+-- the progress inside an op: the earlier entries are complete, and this op is open
 abbrev pub amid : List (List ℕ) → OpenOp → Progress
 amid earlier s = record { earlier = earlier; current = Some s }
 
--- the progress after the line that begins an entry: a raw entry is whole after this line; an op is open after it, and has no items yet
+-- the progress after the line that begins an entry: a raw entry is complete after this line; an op is open after this line, and has no items yet
 abbrev pub with_begun : List (List ℕ) → Begun → Progress
 with_begun earlier (Raw bytes) = between (earlier ++ bytes ∷ [])
 with_begun earlier Structured = amid earlier at_front
 
--- the progress that the code keeps as the whole entries and the open op, if one is open
+-- the progress that the code keeps as two values: the entries that are complete, and the open op, if one is open
 abbrev pub progress_of : List (List ℕ) → Option Open → Progress
 progress_of earlier current = record { earlier = earlier; current = option_map open_op_of current }
 
@@ -105,7 +105,7 @@ abbrev pub progresses : List (List ℕ) → Result (Option Open) Refusal → Res
 progresses earlier (Ok current) = Ok (progress_of earlier current)
 progresses earlier (Err e) = Err e
 
--- the progress after a message with these bytes ends; or the refusal of the op's entry, if this message is the whole op
+-- the progress after a message with these bytes ends; or the refusal of the op's entry, if this message is the op itself
 abbrev pub closed_on : List (List ℕ) → List ℕ → List Frame → Result Progress Refusal
 closed_on earlier bytes [] = entry_in earlier bytes >>= λ entry. Ok (between (earlier ++ entry ∷ []))
 closed_on earlier bytes (f ∷ below) = Ok (amid earlier (record { here = f.here; bytes = f.bytes ++ set_bytes f.number bytes; below = below }))
@@ -130,7 +130,7 @@ abbrev pub finish : ℕ → List (List ℕ) → Option OpenOp → Result (List (
 finish n earlier None = Ok earlier
 finish n earlier (Some s) = Err (n, Breaks Unclosed)
 
--- the final result, given the progress after line n or its refusal: what `go` makes of the progress, or the refusal with the number n
+-- the final result, given the progress after line n or the refusal of line n: what `go` makes of the progress, or the refusal with the number n
 abbrev pub next : ℕ → (Progress → Result (List (List ℕ)) (ℕ × Refusal)) → Result Progress Refusal → Result (List (List ℕ)) (ℕ × Refusal)
 next n go (Ok p) = go p
 next n go (Err e) = Err (n, e)
@@ -154,7 +154,7 @@ abbrev pub reached : List (List ℕ) → Result (Unit {0}) AsmFault → Result (
 reached entries (Ok u) = Ok entries
 reached entries (Err f) = Err f
 
--- the fault of a line that is refused
+-- the fault that the code returns if line n is refused with this refusal
 abbrev pub fault_at : ℕ → Refusal → AsmFault
 fault_at n (Breaks rule) = fault.Line n rule
 fault_at n UnknownLabel = fault.UnknownLabel n

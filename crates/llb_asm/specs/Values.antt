@@ -98,7 +98,7 @@ lower_digit b = where_so (is_lower b) (digit_of b)
 abbrev pub escape_of : ℕ → ℕ → Option ℕ
 escape_of a b = where_so (is_lower a && is_lower b && nat_lt (digit_of a) 8) (16 * digit_of a + digit_of b)
 
--- a byte and a shorter text are given: from this state, a text spells the byte, then what the shorter text spells; or nothing: the text spells no string
+-- given a byte and a shorter text: from this state, the text spells that byte and then what the shorter text spells; given nothing: the text spells no string
 abbrev pub Continues : Escape → List ℕ → Option (ℕ × Bor (List ℕ)) → Type 0
 Continues e text None = string_from e text ≡ None
 Continues e text (Some x) = (string_from e text ≡ after_it x.0 (string_from closed x.1.now)) × (length x.1.now < length text)
@@ -132,7 +132,7 @@ bytes_spelled text = if is_hex text then bytes_in text else None
 
 -- ---- the label of an entry: `%` and its number
 
--- the number of a label: `%` and decimal digits
+-- the number of the label that a text is; nothing if the text is not `%` and decimal digits
 unfoldable pub label_in : List ℕ → Option ℕ
 label_in [] = None
 label_in (b ∷ text) = if b == 37 then magnitude text else None
@@ -153,14 +153,14 @@ pub record ValuesAreReadBack : Type 0 where
 
 -- ---- what is written fits on one line
 
--- the text starts with a byte that is no blank
+-- the text starts with a byte of 0x21 or more, so with no blank
 pub record BeginsSolid (t : List ℕ) : Type 0 where
   pub byte : ℕ
   pub behind : List ℕ
   pub is : t ≡ byte ∷ behind
   pub above : 33 ≤ byte
 
--- the text ends with a byte that is no blank
+-- the text ends with a byte of 0x21 or more, so with no blank
 pub record EndsSolid (t : List ℕ) : Type 0 where
   pub before : List ℕ
   pub byte : ℕ
@@ -174,7 +174,7 @@ pub record IsSolid (t : List ℕ) : Type 0 where
   pub plain : list_all (λ b. nat_le 32 b) t ≡ true
   pub utf8 : is_utf8 t ≡ true
 
--- the text that is written for any value is solid, as `IsSolid` says
+-- `IsSolid` holds of the text that is written for any value
 pub record ValuesAreSolid : Type 0 where
   pub number_solid : (kind : FieldKind) (v : ℕ) → IsNumberOf kind v → IsSolid (number_text kind v)
   pub string_solid : (s : List ℕ) → is_utf8 s ≡ true → IsSolid (string_text s)

@@ -1,4 +1,4 @@
-//! Reads the lines of a text, one after another; keeps the whole entries and the op that is open.
+//! Reads the lines of a text, one after another; keeps the entries that are complete, and the op that is open.
 
 ghost use Rattle.std.specs.Prelude.{◌≡◌, IfOk, []};
 ghost use Rattle.llb_asm.specs.Lines.{kept};
@@ -16,7 +16,7 @@ use llb_wire::Memory;
 use std::alloc::Global;
 
 impl Refusal {
-    /// Returns the fault of the line with this number.
+    /// Returns this refusal as the fault of the line with this number.
     fn at(self, line: u64) -> AsmFault
         ensures { result ≡ fault_at line self }
     {
@@ -28,7 +28,7 @@ impl Refusal {
 }
 
 #[tactic(auto, using(crate::proofs::Room::begun_room))]
-/// Reads the first line of an entry: appends a raw entry to the earlier entries, or returns the op that the line opens.
+/// Reads the first line of an entry: appends a raw entry to the earlier entries, or returns the op that the line opens, or why the line is refused.
 fn begin(
     alloc: Global,
     earlier: &mut Earlier,
@@ -47,7 +47,8 @@ fn begin(
 }
 
 #[tactic(auto, using(crate::proofs::Room::entry_room))]
-// Reads the closing line of the current message. Returns the op if it is still open; otherwise appends the op's entry to the earlier entries.
+// Reads the closing line of the current message. Returns the op if the op is still open; otherwise appends the op's entry to the earlier entries,
+// or returns why the entry is refused.
 fn close(
     alloc: Global,
     earlier: &mut Earlier,
@@ -67,7 +68,7 @@ fn close(
     }
 }
 
-/// Reads a line inside an op, and returns the op that is open after the line, if an op is.
+/// Reads a line inside an op. Returns the op if it is still open after the line; `None` if the line closed it; or why the line is refused.
 fn go_on(
     alloc: Global,
     earlier: &mut Earlier,
@@ -85,7 +86,7 @@ fn go_on(
     }
 }
 
-/// Reads a line, and returns the op that is open after the line, if an op is.
+/// Reads a line. Returns the op that is open after the line; `None` if no op is open; or why the line is refused.
 fn step(
     alloc: Global,
     earlier: &mut Earlier,
@@ -100,7 +101,7 @@ fn step(
     }
 }
 
-/// Reads the lines of a text, and appends their entries to the earlier ones.
+/// Reads the lines of a text, and appends the entries that they spell to the earlier entries. Fails as `assemble` does.
 #[tactic(auto, unfolding(crate::specs::Running::run_from))]
 fn read_lines(alloc: Global, earlier: &mut Earlier, text: &[u8]) -> Result<(), AsmFault>
     ensures { GivesEntries (reached earlier.new result) (run_from 0 (between earlier.old) (kept text.now)) }

@@ -1,4 +1,4 @@
-//! The whole entries so far, with their digest texts and the size of a definition of these entries.
+//! The entries that are complete so far, with their digest texts and the size of a definition of these entries.
 
 ghost use Rattle.std.specs.Prelude.{◌≡◌, ◌+◌, ◌++◌, ◌∷◌, ◌≤◌, [], OnOk, length, true, not, nat_lt};
 ghost use Rattle.llb_wire.specs.Spelling.{shortest, varint_text};
@@ -33,7 +33,7 @@ pub(crate) fn record_length(number: u32, size: usize) -> usize
     shortest_length(8 * u64::from(number) + 2, 9) + (shortest_length(size as u64, 9) + size)
 }
 
-/// The whole entries so far, in order. Contracts see the list of their bytes.
+/// The entries that are complete so far, in order. Contracts see the list of their bytes.
 pub struct Earlier {
     entries: Vec<Bytes>,
     /// The digest text of each entry.

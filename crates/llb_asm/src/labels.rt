@@ -31,7 +31,7 @@ fn learn(first: &mut BTreeMap<String, u64>, texts: &[Text], text: &Text) -> Resu
     Ok(())
 }
 
-/// The labels of the earlier entries. Contracts see their digest texts, in order.
+/// The labels of the earlier entries. Contracts see the digest texts of these entries, in order.
 pub struct Labels {
     texts: Vec<Text>,
     /// For each digest text, the number of the first entry with this digest.

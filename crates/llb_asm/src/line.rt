@@ -31,11 +31,11 @@ pub enum Refusal {
 #[derive(Clone, Copy)]
 pub struct Here {
     pub message: MessageName,
-    /// The number of the last field, 0 if there is none.
+    /// The number of the last field so far in this message; 0 if there is none.
     pub last: u32,
     /// Whether a member of the message's oneof is set.
     pub set: bool,
-    /// How often the last field has occurred in the message.
+    /// How many times in succession the field `last` has occurred.
     pub count: usize,
     /// Whether a line of extra bytes was read.
     pub ended: bool,
@@ -121,7 +121,7 @@ impl Here {
     }
 }
 
-// Returns the index of the first space.
+// Returns the index of the first space in a line; `None` if the line has no space.
 fn space(line: &[u8]) -> Option<usize>
     ensures { result ≡ position (λ b. nat_eq b 32) line.now }
 {
@@ -248,7 +248,7 @@ fn opening_in(field: NamedField, message: MessageName, text: &[u8]) -> Result<He
     Err(Refusal::Breaks(Rule::BadValue))
 }
 
-/// Reads the text of a field's value, and returns what the line of the field adds, or why it is refused.
+/// Reads the text of a field's value, and returns what the line of the field adds, or why the line is refused.
 #[tactic(auto, unfolding(crate::specs::Line::held_in))]
 fn held_in(
     alloc: Global,
@@ -269,7 +269,7 @@ fn held_in(
     }
 }
 
-/// Returns what the line of the extra bytes adds, or why it is refused.
+/// Returns what the line of the extra bytes adds, or why the line is refused.
 fn extra_in(alloc: Global, here: Here, text: &[u8]) -> Result<Result<Item, Refusal>, Memory>
     ensures { IfOk result (λ r. r ≡ extra_in here text.now) }
 {
@@ -285,7 +285,7 @@ fn extra_in(alloc: Global, here: Here, text: &[u8]) -> Result<Result<Item, Refus
     }
 }
 
-/// Returns what the line of the field with this name adds, or why it is refused.
+/// Returns what the line of the field with this name adds, or why the line is refused.
 fn field_in(
     alloc: Global,
     labels: &[Text],
@@ -315,8 +315,8 @@ fn field_in(
     }
 }
 
-// Returns what a line adds to the current message, or why it is refused. The labels are the digest texts of the
-// earlier entries.
+// Returns what a line adds to the current message, or why the line is refused. The labels are the digest texts of
+// the earlier entries.
 #[tactic(auto, unfolding(crate::specs::Line::line_in))]
 pub(crate) fn line_in(
     alloc: Global,

@@ -28,10 +28,10 @@ pub struct Open {
     pub below: Many<Frame>,
 }
 
-/// The state after a closing line: the op is whole, or it is still open.
+/// The state after a closing line: the op is complete, or still open.
 #[derive(Drop)]
 pub enum Closed {
-    /// The op is closed: the bytes of its records.
+    /// The op is complete; these are the bytes of its records.
     Whole(Bytes),
     /// The op is still open: the message around the closed one is now the current one.
     Still(Open),
@@ -134,7 +134,7 @@ impl Open {
         }
     }
 
-    // Closes the current message.
+    // Closes the current message, and returns the op, which is complete or still open.
     pub(crate) fn close(self) -> Result<Closed, Memory>
         ensures { IfOk result (λ c. ended c ≡ closing_of (open_op_of self)) }
     {

@@ -68,7 +68,7 @@ pub(crate) fn number_in(kind: FieldKind, text: &[u8]) -> Option<u64>
     }
 }
 
-/// Returns the value of a lower-case hexadecimal digit.
+/// Returns the value of a lower-case hexadecimal digit; `None` for any other byte.
 fn digit_of(byte: u8) -> Option<u8>
     ensures { result ≡ lower_digit byte }
 {
@@ -112,7 +112,7 @@ fn behind_backslash(text: &[u8]) -> Option<(u8, &[u8])>
     }
 }
 
-/// Reads the byte of a string that the start of a text spells, and returns it with the text after its spelling. A quote spells no byte.
+/// Reads the byte of a string that the start of a text spells, and returns the byte with the text after the byte's spelling. A quote spells no byte.
 fn next_byte(text: &[u8]) -> Option<(u8, &[u8])>
     ensures { Leads text.now result }
 {
@@ -123,7 +123,7 @@ fn next_byte(text: &[u8]) -> Option<(u8, &[u8])>
     }
 }
 
-/// Reads the rest of a string, up to a quote at the end of the text.
+/// Reads the rest of a string, up to a quote at the end of the text; `None` if the text spells no string.
 fn string_behind(alloc: Global, text: &[u8]) -> Result<Option<Bytes>, Memory>
     ensures { IfOk result (λ o. o ≡ string_from closed text.now) }
 {
@@ -139,7 +139,7 @@ fn string_behind(alloc: Global, text: &[u8]) -> Result<Option<Bytes>, Memory>
     Ok(None)
 }
 
-/// Reads a string between quotes: `\"`, `\\`, and `\x` with two lower-case digits up to 7f are one byte each.
+/// Reads a string between quotes; `None` for any other text. `\"`, `\\`, and `\x` with two lower-case digits up to 7f are one byte each.
 pub(crate) fn string_in(alloc: Global, text: &[u8]) -> Result<Option<Bytes>, Memory>
     ensures { IfOk result (λ o. o ≡ string_in text.now) }
 {
@@ -149,7 +149,7 @@ pub(crate) fn string_in(alloc: Global, text: &[u8]) -> Result<Option<Bytes>, Mem
     }
 }
 
-// Reads the bytes that lower-case hexadecimal digits spell; `-` spells no bytes.
+// Reads the bytes that lower-case hexadecimal digits spell; `-` spells no bytes. `None` for any other text.
 #[tactic(auto, unfolding(crate::specs::Values::bytes_spelled))]
 pub(crate) fn bytes_spelled(alloc: Global, text: &[u8]) -> Result<Option<Bytes>, Memory>
     ensures { IfOk result (λ o. o ≡ bytes_spelled text.now) }

@@ -37,13 +37,13 @@ chosen_by c =
     if c.allow_wildcard then (on_pattern (pattern_of c.src) >>= λ pattern. Ok (EachMatch pattern))
     else (on_tree (path_of c.src) >>= λ p. Ok (OnePath p))
 
--- these paths; or the fault `NotFound` if there are none and the first argument is false
+-- these paths; but the fault `NotFound` if there are no paths and the flag, which allows that there are none, is false
 abbrev pub some_match : Bool → List (List (List ℕ)) → Result (List (List (List ℕ))) TreeFault
 some_match true ps = Ok ps
 some_match false [] = Err NotFound
 some_match false (p ∷ ps) = Ok (p ∷ ps)
 
--- the paths that are copied, in path order: the one path, at which something must be, or all paths that match
+-- the paths that are copied, in path order: the one path, at which something must be, or all paths that match, at least one unless `allow_empty` is true
 abbrev pub sources : Bool → TreeMap → Chosen → Result (List (List (List ℕ))) TreeFault
 sources allow_empty second (OnePath p) = found (finite.get second p) >>= λ _. Ok (p ∷ [])
 sources allow_empty second (EachMatch pattern) = some_match allow_empty (matching pattern second)
@@ -54,8 +54,8 @@ sources allow_empty second (EachMatch pattern) = some_match allow_empty (matchin
 abbrev pub last_name : List (List ℕ) → List (List ℕ)
 last_name p = drop (length p - 1) p
 
--- The target of a source. If only the contents of a directory are copied: the destination itself. Else, if the destination's text ends in `/` or a directory
--- is at the destination: the source's last name in the destination. Else the destination itself.
+-- The target of a source. If the source is a directory of which only the contents are copied (`dirCopyContents`), the target is the destination. Else, if the
+-- destination's text ends in `/` or a directory is at the destination, the target is the destination and the source's last name. Else it is the destination.
 abbrev pub target : CopyFile → List (List ℕ) × Bool → TreeMap → List (List ℕ) → TreeMap → List (List ℕ)
 target c dest second s t =
     if c.dir_copy_contents && is_dir (finite.get second s) then dest.0
@@ -75,12 +75,12 @@ meets (Some (Dir m)) (File n bytes) = Err Conflict
 meets (Some (File m old)) (Dir n) = Err Conflict
 meets (Some (File m old)) (File n bytes) = Ok tt
 
--- fails with the fault of the first of these entries that can't be put at its path; else succeeds
+-- succeeds if each of these entries can be put at its path; else fails with the fault of the first entry that can't
 abbrev pub all_land : TreeMap → List (List (List ℕ) × Entry) → Result (Unit {0}) TreeFault
 all_land t [] = Ok tt
 all_land t (e ∷ es) = fits e.0 >>= λ _. meets (finite.get t e.0) e.1 >>= λ _. all_land t es
 
--- the entry at a path after a copied entry is put there; if both are directories, the one that was there stays as it is
+-- the entry at a path after a copied entry is put there; if a directory is copied onto a directory, the directory that was there stays as it is
 abbrev pub landed : (MetaValue → MetaValue) → Option Entry → Entry → Entry
 landed given (Some (Dir m)) (Dir n) = Dir m
 landed given (Some (File m old)) (Dir n) = Dir (given n)

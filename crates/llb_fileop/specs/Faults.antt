@@ -1,4 +1,4 @@
--- How a call's result follows its rule (the definition of what the call returns); the faults of paths, trees and patterns as faults of an action.
+-- How a call's result follows the call's rule (the definition of what the call returns), and how faults of paths, trees and patterns become faults of actions.
 use Rattle.std.specs.Prelude.{Bool, true, false, Result, Ok, Err}
 use Rattle.llb_wire.specs.Answer as answer
 use Rattle.llb_tree.specs.declared.fault.TreeFault.{TreeFault}
@@ -22,7 +22,7 @@ Gives = answer.Gives is_memory
 abbrev pub MemoryLast : {X Y : Type 0} → Result X ActFault → Result Y ActFault → Type 0
 MemoryLast = answer.MemoryLast is_memory
 
--- a fault of a path or a tree, as a fault of an action
+-- the fault of an action whose path or tree has this fault
 abbrev pub of_tree : TreeFault → ActFault
 of_tree tree.Memory = Memory
 of_tree tree.NotFound = File tree.NotFound
@@ -32,17 +32,17 @@ of_tree tree.Conflict = File tree.Conflict
 of_tree tree.Root = File tree.Root
 of_tree tree.BadName = File tree.BadName
 
--- a fault of a pattern, as a fault of an action
+-- the fault of an action whose pattern has this fault
 abbrev pub of_pattern : PatternFault → ActFault
 of_pattern pattern.Memory = Memory
 of_pattern pattern.BadPattern = BadPattern
 
--- the result of a tree's rule, with its fault as a fault of an action
+-- this result of a rule about paths or trees, in which a fault has become the fault of an action
 abbrev pub on_tree : {A : Type 0} → Result A TreeFault → Result A ActFault
 on_tree (Ok x) = Ok x
 on_tree (Err f) = Err (of_tree f)
 
--- the result of a pattern's rule, with its fault as a fault of an action
+-- this result of a rule about patterns, in which a fault has become the fault of an action
 abbrev pub on_pattern : {A : Type 0} → Result A PatternFault → Result A ActFault
 on_pattern (Ok x) = Ok x
 on_pattern (Err f) = Err (of_pattern f)

@@ -11,22 +11,22 @@ use Rattle.llb_tree.specs.declared.fault.TreeFault.{TreeFault}
 use Rattle.llb_tree.specs.declared.fault.TreeFault.TheVariants.{NotDir}
 use Rattle.llb_fileop.specs.Owners.{made}
 
--- the tree after a `mkfile` action: a new file, which replaces a file that is there
+-- the tree after a `mkfile` action, or the fault: a new file is at the action's path; it replaces a file that was there
 abbrev pub mkfile : file.MkFile → TreeMap → Result TreeMap TreeFault
 mkfile m t = path_of m.path >>= λ p. put_file t p (made m.mode m.owner) m.body
 
--- the tree with a directory at a path: a new directory if nothing is there; a directory that is there stays as it is; a file there is the fault `NotDir`
+-- the tree after a directory is made at a path if nothing is there; a directory that is there stays as it is; a file there is the fault `NotDir`
 abbrev pub kept_or_made : MetaValue → List (List ℕ) → Option Entry → TreeMap → Result TreeMap TreeFault
 kept_or_made m p None t = put_dir t p m
 kept_or_made m p (Some (Dir n)) t = Ok t
 kept_or_made m p (Some (File n bytes)) t = Err NotDir
 
--- the tree after directories are made at these paths, one after another
+-- the tree after directories are made at those of these paths at which nothing is, one after another; or the fault `NotDir` at the first file
 abbrev pub make_all : MetaValue → List (List (List ℕ)) → TreeMap → Result TreeMap TreeFault
 make_all m [] t = Ok t
 make_all m (p ∷ ps) t = kept_or_made m p (finite.get t p) t >>= make_all m ps
 
--- the tree after the missing parents of path p are made, if `make_parents` is true; else the unchanged tree
+-- the tree after the missing parents of path p are made, or the fault, if the action's `make_parents` is true; else the unchanged tree
 abbrev pub with_parents : Bool → MetaValue → List (List ℕ) → TreeMap → Result TreeMap TreeFault
 with_parents true m p t = make_all m (parents p) t
 with_parents false m p t = Ok t
@@ -37,6 +37,6 @@ make_dir parents m p (Some (Dir n)) t = Ok t
 make_dir parents m p (Some (File n bytes)) t = with_parents parents m p t >>= λ u. put_dir u p m
 make_dir parents m p None t = with_parents parents m p t >>= λ u. put_dir u p m
 
--- the tree after a `mkdir` action
+-- the tree after a `mkdir` action, or the fault
 abbrev pub mkdir : dir.MkDir → TreeMap → Result TreeMap TreeFault
 mkdir m t = path_of m.path >>= λ p. make_dir m.make_parents (made m.mode m.owner) p (finite.get t p) t

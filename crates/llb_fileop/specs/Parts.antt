@@ -8,7 +8,7 @@ use Rattle.llb_tree.specs.declared.fault.TreeFault.{TreeFault}
 use Rattle.llb_tree.specs.declared.fault.TreeFault.TheVariants.{BadName}
 use Rattle.llb_fileop.specs.Copying.{meets, landed, land, fits}
 
--- the tree after an entry is put at a path
+-- the tree after an entry is put at a path, or the fault
 abbrev pub put : Entry → TreeMap → List (List ℕ) → Result TreeMap TreeFault
 put (Dir m) t p = put_dir t p m
 put (File m bytes) t p = put_file t p m bytes
@@ -17,18 +17,18 @@ put (File m bytes) t p = put_file t p m bytes
 abbrev pub AgreeOn : TreeMap → TreeMap → Type 0
 AgreeOn t source = (q : List (List ℕ)) (e : Entry) → finite.get source q ≡ Some e → meets (finite.get t q) e ≡ Ok tt
 
--- fails with the fault of the first of these entries that can't be put over what a tree has at the entry's path; else succeeds
+-- succeeds if each of these entries can be put over what the tree `here` has at the entry's path; else fails with the fault of the first entry that can't
 abbrev pub all_meet : TreeMap → List (List (List ℕ) × Entry) → Result (Unit {0}) TreeFault
 all_meet here [] = Ok tt
 all_meet here (e ∷ es) = meets (finite.get here e.0) e.1 >>= λ _. all_meet here es
 
--- fails with the fault of the first of these entries that can't be put below a path of `depth` names, over the tree that is already there; else succeeds
+-- succeeds if each of these entries can be put below a path of `depth` names, where the tree `here` is; else fails with the fault of the first that can't
 abbrev pub all_below : TreeMap → ℕ → List (List (List ℕ) × Entry) → Result (Unit {0}) TreeFault
 all_below here depth [] = Ok tt
 all_below here depth (e ∷ es) =
     if nat_lt 128 (depth + length e.0) then Err BadName else (meets (finite.get here e.0) e.1 >>= λ _. all_below here depth es)
 
--- what is at a path after a copied tree is merged into another tree; if both trees have a directory at the path, the other tree's directory stays as it is
+-- what is at a path after a copied entry, if there is one, is put over `there`, which the tree had at the path; if both are directories, `there` stays as it is
 abbrev pub laid : (MetaValue → MetaValue) → Option Entry → Option Entry → Option Entry
 laid given there None = there
 laid given there (Some e) = Some (landed given there e)

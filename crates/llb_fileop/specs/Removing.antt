@@ -50,7 +50,7 @@ abbrev pub rm_pattern : Bool → TreeMap → List (List Item) → Result TreeMap
 rm_pattern allowed t [] = Err Root
 rm_pattern allowed t (part ∷ parts) = removed_all allowed (matching (part ∷ parts) t) t
 
--- the tree after an `rm` action, whose text is a pattern if wildcards are allowed, else a path
+-- the tree after an `rm` action, or the fault; the action's text is read as a pattern if wildcards are allowed, else as a path
 abbrev pub rm : Rm → TreeMap → Result TreeMap ActFault
 rm r t =
     if r.allow_wildcard then (on_pattern (pattern_of r.path) >>= λ pattern. on_tree (rm_pattern r.allow_not_found t pattern))

@@ -19,7 +19,8 @@ use llb_ops::CopyFile;
 use llb_tree::{Meta, Path, Tree, TreeFault};
 use std::alloc::Global;
 
-// The destination of a copy: the path that its text is read as, and whether the text ends in `/`; if it does, sources are copied into that directory.
+// The destination of a copy: the path that the destination's text is read as, and whether the text ends in `/`; if the text does, sources are copied into the
+// directory at the path.
 #[derive(Drop)]
 struct Dest {
     path: Path,
@@ -91,7 +92,7 @@ fn copy_matches(
     Ok(tree)
 }
 
-// Copies one source to its target.
+// Copies one source to its target; first makes the missing parents of the target, if the action allows this.
 fn copy_one(
     alloc: Global,
     action: &CopyFile,
@@ -140,7 +141,7 @@ fn place_in(dest: &Path, source: &Path) -> Result<Path, TreeFault>
     Ok(goal)
 }
 
-// Copies what is at and below a source to the same paths at and below its target.
+// Copies the entry at a source to the target, and each entry below the source to the same path below the target.
 fn land(
     alloc: Global,
     action: &CopyFile,

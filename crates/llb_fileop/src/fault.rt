@@ -1,5 +1,5 @@
 //! Why an action is refused. A fault prints what follows the word `fault` in a refusal: the number of the fault, and after 51 the number of the
-//! tree's fault. `?` makes `Memory` of each kind of refused memory.
+//! tree's fault. The operator `?` turns each error for refused memory into `Memory`.
 
 use llb_glob::PatternFault;
 use llb_tree::TreeFault;

@@ -1,5 +1,5 @@
-//! Puts copied entries into a tree. A file is put at its path. A directory is merged, with what is below it, with the directory that is there: the copied
-//! directory is laid over a copy of that directory, and the result replaces it.
+//! Puts copied entries into a tree. A file is put at its target. A directory and what is below it are merged into the directory at the target: the copied
+//! directory is laid over a copy of the target's directory, and the result replaces the target's directory.
 
 ghost use Rattle.std.specs.Prelude.{◌≡◌, ◌≤◌, [], length, false, Ok, None, Some, IsSome, map, IfErr};
 ghost use Rattle.std.specs.FinMap as finite;
@@ -75,7 +75,7 @@ fn copy_from(
     }
 }
 
-// Puts a copy of an entry at the target. The copy of a file shares the content in memory.
+// Puts a copy of an entry at the target. A file and its copy share the content in memory.
 fn put_copy(
     action: &CopyFile,
     held: Entry,
@@ -97,7 +97,7 @@ fn put_copy(
     }
 }
 
-// Merges a tree into the directory at a path.
+// Merges a tree into the directory at a path. Fails with the fault of the first entry that can't be put there.
 fn merge_at(action: &CopyFile, source: &Tree, goal: &Path, tree: &mut Tree) -> Result<(), TreeFault>
     requires dir { IsDirAt (finite.get tree.old) goal.now }
     requires tree { IsTree tree.old }

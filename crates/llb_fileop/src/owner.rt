@@ -39,7 +39,7 @@ pub fn settings(action: &CopyFile) -> OverlaySettings
     OverlaySettings::new(mode_given(action.mode), uid, gid, true).unwrap()
 }
 
-// Returns the low 12 bits of the mode that is given, or the entry's own mode if the mode that is given is -1.
+// Returns the mode of a copied entry: the low 12 bits of the action's mode, or the entry's own mode if the action's mode is -1.
 fn mode_from(mode: i32, own: u16) -> u16
     requires { own ≤ 4095 }
     ensures value { result ≡ mode_from mode own }
@@ -48,7 +48,7 @@ fn mode_from(mode: i32, own: u16) -> u16
     mode_given(mode).unwrap_or(own)
 }
 
-// Returns the low 12 bits of the mode that is given; `None` if the mode is -1.
+// Returns the low 12 bits of an action's mode; `None` if the mode is -1.
 fn mode_given(mode: i32) -> Option<u16>
     ensures value { (own : ℕ) → unwrap_or result own ≡ mode_from mode own }
     ensures small { is_mode result ≡ true }

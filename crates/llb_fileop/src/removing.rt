@@ -52,7 +52,7 @@ fn rm_pattern(pattern: &Pattern, allowed: bool, base: &Tree) -> Result<Tree, Tre
     }
 }
 
-/// Returns a copy of the tree if `allowed` is true: then it is no fault that nothing was found. Otherwise fails with 21 `NotFound`.
+/// Returns the tree after an action that has found nothing to remove or to copy: a copy of the tree if `allowed` is true; otherwise fails with 21 `NotFound`.
 pub fn absent(allowed: bool, base: &Tree) -> Result<Tree, TreeFault>
     ensures { tree.Gives (λ t. t) result (absent allowed base.now) }
 {

@@ -45,7 +45,7 @@ none_yet = record { excludes = false; spans = [] }
 abbrev pub one_alone : ℕ → Span
 one_alone c = record { low = c; high = c }
 
--- the items after the last one gets this high end
+-- these items, with the high end of the last item set to `high`; no items if there are none
 abbrev pub extended : List Span → ℕ → List Span
 extended [] high = []
 extended (span ∷ []) high = record span { high = high } ∷ []

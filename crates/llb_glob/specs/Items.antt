@@ -15,7 +15,7 @@ use Rattle.llb_glob.specs.declared.cursor.Effect.TheVariants.{Nothing, Whole, Ex
 use Rattle.llb_glob.specs.ClassValue.{ClassValue}
 use Rattle.llb_glob.specs.Class.{none_yet, one_alone, extended}
 
--- ---- the effect of a character
+-- ---- the effect of a character, which includes the cursor after the character
 
 -- the reader's cursor at this stage, with no `\` that quotes the next character
 abbrev pub at : Stage → Cursor
@@ -25,7 +25,7 @@ at stage = record { stage = stage; quotes = false }
 abbrev pub start : Cursor
 start = at Outside
 
--- the effect of a literal character, which matches itself: it is an item of the part, an item of the current class, or the high end of a range
+-- the effect of a literal character, one that matches itself: it becomes an item of the part, an item of the current class, or the high end of a range
 abbrev pub literal : Stage → ℕ → Cursor × Effect
 literal Outside c = (at Outside, Whole (One (Only c)))
 literal Opened c = (at Single, Add c)
@@ -50,7 +50,7 @@ closed Single = Ok (at Outside, Close)
 closed Dash = Err BadPattern
 closed Range = Ok (at Outside, Close)
 
--- the effect of a `-` in a class: a fault, unless the character before it may be the low end of a range
+-- the effect of a `-` in a class: it makes the character before it the low end of a range, or is a fault if that character can't be one
 abbrev pub dashed : Stage → Result (Cursor × Effect) PatternFault
 dashed Outside = Err BadPattern
 dashed Opened = Err BadPattern

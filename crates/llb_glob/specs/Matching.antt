@@ -7,7 +7,7 @@ use Rattle.llb_glob.specs.declared.item.Letter.{Letter}
 use Rattle.llb_glob.specs.declared.item.Letter.TheVariants.{Any, Only, In}
 use Rattle.llb_glob.specs.Class.{ClassTakes, class_takes}
 
--- the characters that a letter (an item for one character) matches
+-- a letter, which is an item for one character, matches the character c
 abbrev pub Takes : Letter → ℕ → Type 0
 Takes Any c = Unit {0}
 Takes (Only only) c = c ≡ only
@@ -28,7 +28,7 @@ Matches [] (name ∷ path) = ⊥
 Matches (part ∷ parts) [] = ⊥
 Matches (part ∷ parts) (name ∷ path) = MatchesName part (chars name) × Matches parts path
 
--- whether a letter matches a character; this test and the tests below decide the relations above, for definitions that list all paths that match
+-- whether a letter matches a character; this and the next tests are true exactly if the relations above hold, and serve to list the paths that match
 abbrev pub takes : Letter → ℕ → Bool
 takes Any c = true
 takes (Only only) c = c == only

@@ -49,7 +49,7 @@ SpellsClass class text = (body : List ℕ) × (text ≡ 91 ∷ (body ++ 93 ∷ [
 abbrev pub IsPlain : ℕ → Type 0
 IsPlain c = (c ≢ 91) × (c ≢ 42) × (c ≢ 63) × (c ≢ 92)
 
--- a text spells an item of a part: a `*`, a `?`, a literal character, a `\` and any character, or a class
+-- a text spells an item of a part: a `*`, a `?`, a character that needs no `\` (`IsPlain`), a `\` and any character, or a class
 abbrev pub SpellsItem : Item → List ℕ → Type 0
 SpellsItem Run text = text ≡ 42 ∷ []
 SpellsItem (One Any) text = text ≡ 63 ∷ []

@@ -8,8 +8,8 @@ ghost use Rattle.llb_glob.specs.Class.{ClassTakes, is_in_span, none_yet, one_alo
 use std::alloc::{AllocError, Global};
 use std::marker::Model;
 
-/// An item of a class: the characters from `low` to `high`, by scalar value. A single character is a span of one; a span
-/// whose low end is above its high end is empty.
+/// An item of a class: the characters from `low` to `high`, by scalar value. For a single character, both ends are that
+/// character. A span whose low end is above its high end is empty.
 #[derive(Clone, Copy)]
 pub struct Span {
     pub low: char,

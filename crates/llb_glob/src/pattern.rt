@@ -39,7 +39,7 @@ impl Pattern {
     /// that remains is cut into items: `*` matches any run of characters, `?` any one character, `[..]` one character that is in an item of the class, `[^..]`
     /// one character that is in no item of the class, `\c` the character `c`; any other character matches itself. An item of a class is a character or a range
     /// `lo-hi`. Fails with 41 `BadPattern` at a part that is no name or is the 129th, also if a later `..` would remove it, and if a part that remains ends in
-    /// a lone `\` or has a class that is empty, not closed or misspelled. Fails with 42 `Memory` if there is no other fault.
+    /// a lone `\` or has a class that is empty, not closed or misspelled. Fails with 42 `Memory` if memory is refused and there is no other fault.
     pub fn read(alloc: Global, text: &str) -> Result<Pattern, PatternFault>
         ensures gives { Gives (λ p. p) result (pattern_of text.now) }
         ensures last { MemoryLast result (pattern_of text.now) }

@@ -22,7 +22,8 @@ pub fn matches_letters(items: &[Item], name: &[char]) -> bool
     places[0]
 }
 
-// Replaces the set: a position is in the new set if this item, followed by the items taken so far, matches the name from this position to its end.
+// Replaces the set of positions `places` as one more item is taken: a position is in the new set if this item, followed by the items taken so far, matches
+// the name from this position to the name's end.
 fn step_back(item: &Item, name: &[char], places: &mut [bool])
     requires { length name.now < length places.old }
     ensures { (rest : List Item) → AreStarts rest name.now places.old → AreStarts (item.now ∷ rest) name.now places.new }
@@ -33,7 +34,7 @@ fn step_back(item: &Item, name: &[char], places: &mut [bool])
     }
 }
 
-// Adds to the set, for a `*`, each position that is before a position of the set.
+// Takes a `*`: adds to the set of positions each position that is before a position of the set.
 fn widen(last: usize, places: &mut [bool])
     requires { last < length places.old }
     ensures { (i : ℕ) → i ≤ last → IsIn places.new i ↔ Reaches places.old last i }
@@ -45,7 +46,7 @@ fn widen(last: usize, places: &mut [bool])
     }
 }
 
-// Replaces the set: a position is in the new set if the letter matches the character there and the next position is in the old set.
+// Takes an item for one character: a position is in the new set if the letter matches the character there and the next position is in the old set.
 fn narrow(letter: &Letter, name: &[char], places: &mut [bool])
     requires { length name.now < length places.old }
     ensures before { (i : ℕ) → i < length name.now

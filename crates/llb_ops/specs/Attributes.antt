@@ -5,7 +5,7 @@ use Rattle.indexmap.specs.IndexMap.{insert_entry}
 use Rattle.llb_ops.specs.declared.source.Attribute.{Attribute}
 use Rattle.llb_ops.specs.declared.source.AttributeEntry.{AttributeEntry}
 
--- a key with its attribute: the value and the extra bytes of the map's entry
+-- a key and its attribute; the attribute is the value and the extra bytes of the map's entry for this key
 abbrev pub Held : Type 0
 Held = List ℕ × Attribute
 
@@ -13,7 +13,7 @@ Held = List ℕ × Attribute
 abbrev pub entry_of : Held → AttributeEntry
 entry_of p = record { key = p.0; value = p.1.value; extra = p.1.extra }
 
--- the attributes after one more entry: the entry's attribute replaces the attribute with the same key, at its position; a new key is appended
+-- the attributes after one more entry: if the key is there already, the entry's attribute takes the place of the old one; a new key is appended at the end
 abbrev pub put : List Held → AttributeEntry → List Held
 put held e = insert_entry (pointwise nat_eq) held e.key (record { value = e.value; extra = e.extra })
 

@@ -32,7 +32,7 @@ definition_of bytes =
     if nat_lt definition_limit (length bytes) then Err OverLimit
     else (records_from definition_shape 0 bytes >>= λ rs. entries_fit (payloads (all 1 rs)))
 
--- the result of reading a definition, without its entries: success, or the fault
+-- this result of reading a definition, with the entries left out: success, or the fault
 abbrev pub admission : Result (List (List ℕ)) OpFault → Result (Unit {0}) OpFault
 admission (Ok entries) = Ok tt
 admission (Err f) = Err f

@@ -5,7 +5,7 @@ use Rattle.llb_wire.specs.Faults.{wire_text}
 use Rattle.llb_ops.specs.declared.fault.OpFault.{OpFault}
 use Rattle.llb_ops.specs.declared.fault.OpFault.TheVariants.{Wire, WrongWireType, NotUtf8, OverLimit, Memory}
 
--- whether a fault is `Memory`, the one fault that no definition of a result returns
+-- whether a fault is `Memory`; a definition of a call's result, such as `op_of`, never has this fault
 abbrev pub is_memory : OpFault → Bool
 is_memory Memory = true
 is_memory (Wire f) = false
@@ -17,7 +17,7 @@ is_memory OverLimit = false
 abbrev pub Gives : {X Y : Type 0} → (X → Y) → Result X OpFault → Result Y OpFault → Type 0
 Gives = answer.Gives is_memory
 
--- the text of a fault: its number; for a fault of the wire, the number of that fault
+-- the text of a fault: its number in decimal; for `Wire`, the number of the fault of `llb_wire` in it
 abbrev pub op_text : OpFault → List ℕ
 op_text (Wire fault) = wire_text fault
 op_text WrongWireType = codes "11"

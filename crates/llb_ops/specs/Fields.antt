@@ -1,5 +1,5 @@
--- The fields of a message in the order of its bytes, and what the fields of canonical bytes are, by the table of messages
--- (`ops.proto` of BuildKit) and the encoding guide of Protocol Buffers ("Message Structure", "Field Presence", "Oneofs", "Maps").
+-- The fields of a message in the order in which its bytes have them, and the conditions that the fields of canonical bytes (those that this crate writes) meet,
+-- by the table of messages (`ops.proto` of BuildKit) and the encoding guide of Protocol Buffers ("Message Structure", "Field Presence", "Oneofs", "Maps").
 use Rattle.std.specs.Prelude.{◌≡◌, ℕ, ◌+◌, ◌≤◌, List, ◌++◌, length, Some, Result, Ok, Err, Bool, true, false, is_none, nat_lt}
 use Rattle.std.specs.Prelude.{◌==◌, ◌&&◌, ◌||◌, not, if◌then◌else◌}
 use Rattle.std.specs.List.{AllByRecursion, list_all}
@@ -19,14 +19,14 @@ use Rattle.llb_ops.specs.Records.{form_of, parts, int32, int64, uint32, flag}
 use Rattle.llb_ops.specs.Messages.{op_of}
 use Rattle.llb_ops.specs.Writing.{bit, set_number, set_bytes, op_bytes}
 
--- a list of fields, each with its row of the table and its value: a number as its varint spells it, bytes, or the fields of a message; the extra bytes are last
+-- a list of fields, and after them the extra bytes; a field is its row of the table and its value: the number in its varint, bytes, or the fields of a message
 pub data Fields : Type 0 where
   extra : List ℕ → Fields
   number : Row → ℕ → Fields → Fields
   bytes : Row → List ℕ → Fields → Fields
   message : Row → Fields → Fields → Fields
 
--- the bytes of fields, each in its shortest spelling
+-- the bytes that spell these fields in their order, each field in its shortest spelling, and then the extra bytes
 abbrev pub bytes_of : Fields → List ℕ
 bytes_of (extra more) = more
 bytes_of (number row v rest) = set_number row.1.number v ++ bytes_of rest
@@ -35,21 +35,21 @@ bytes_of (message row inner rest) = set_bytes row.1.number (bytes_of inner) ++ b
 
 -- ---- canonical fields, by the table
 
--- Whether a field may follow the field `last`: numbers ascend, and only a repeated field occurs again. `set` is true if a member of the oneof has occurred;
--- then no other member may follow.
+-- Whether field f may come after the field with the number `last`: field numbers ascend, and only a repeated field may occur again. `set` says whether a member
+-- of the message's oneof has occurred before f; if so, f may not be a member.
 abbrev pub may_follow : ℕ → Bool → NamedField → Bool
 may_follow last set f = (nat_lt last f.number || (f.repeated && (last == f.number))) && not (f.member && set)
 
--- the row is in the table of message m under its number, and its field may follow the field `last`; `set` is as in `may_follow`
+-- message m has this row under the row's field number, and the row's field may come after the field with the number `last`; `set` is as in `may_follow`
 pub record IsNext (m : MessageName) (last : ℕ) (set : Bool) (row : Row) : Type 0 where
   pub known : by_number row.1.number (rows_of m) ≡ Some row
   pub follows : may_follow last set row.1 ≡ true
 
--- whether a value of this field is written even if it is 0 or empty: in a member of a oneof, in a repeated field, and in an entry of a map
+-- whether a value of this field is written even if the value is 0 or empty: yes for a member of a oneof, a repeated field, and the key or value of a map entry
 abbrev pub may_be_empty : NamedField → Bool
 may_be_empty f = f.member || f.repeated || f.of_entry
 
--- v is the number that canonical bytes spell for some value of a field of this kind; signed values are in two's complement of 64 bits
+-- v is the varint that some value of this kind has in canonical bytes (a negative value in two's complement of 64 bits); false if the kind holds no number
 abbrev pub IsNumberOf : FieldKind → ℕ → Type 0
 IsNumberOf Int64 v = cast_unsigned w64 (int64 v) ≡ v
 IsNumberOf Int32 v = cast_unsigned w64 (int32 v) ≡ v
@@ -60,7 +60,7 @@ IsNumberOf String v = ⊥
 IsNumberOf Bytes v = ⊥
 IsNumberOf (Message m) v = ⊥
 
--- these bytes may be the payload of a field of this kind: a string has UTF-8, and a bytes field any bytes; false for a number or a message
+-- the field is of the kind `String` and these bytes are UTF-8, or it is of the kind `Bytes`, for which any bytes will do; false for the other kinds
 abbrev pub IsBytesOf : FieldKind → List ℕ → Type 0
 IsBytesOf Int64 held = ⊥
 IsBytesOf Int32 held = ⊥
@@ -86,7 +86,7 @@ only_unnamed m (Err f) = false
 unfoldable pub are_unnamed : MessageName → List ℕ → Bool
 are_unnamed m more = only_unnamed m (parts (shape_of m) more)
 
--- canonical bytes of message m may have these fields after the field `last`; `set` is as in `may_follow`
+-- canonical bytes of message m may have these fields after the field with the number `last`; `set` is as in `may_follow`
 abbrev pub AreFields : MessageName → ℕ → Bool → Fields → Type 0
 AreFields m last set (extra more) = AreUnnamed m more
 AreFields m last set (number row v rest) =
@@ -100,7 +100,7 @@ AreFields m last set (message row inner rest) =
 
 -- ---- entries of a map
 
--- the fields without the empty keys and the empty values in entries of maps; canonical bytes do have empty keys and values
+-- these fields without the empty keys and the empty values in entries of maps; canonical bytes keep such keys and values
 abbrev pub without_empty : Fields → Fields
 without_empty (extra more) = extra more
 without_empty (number row v rest) = number row v (without_empty rest)
@@ -109,11 +109,11 @@ without_empty (message row inner rest) = message row (without_empty inner) (with
 
 -- ---- no field occurs too often
 
--- how often field n has now occurred in succession, if n comes after `count` occurrences of the field `last`
+-- how many times field n has occurred in succession, if n comes right after `count` occurrences of the field with the number `last`
 abbrev pub one_more_of : ℕ → ℕ → ℕ → ℕ
 one_more_of last count n = if last == n then count + 1 else 1
 
--- no field occurs more than `field_limit` times, also in nested messages; before these fields, the field `last` has occurred `count` times
+-- no field occurs more than `field_limit` times, also in nested messages; right before these fields, the field numbered `last` has occurred `count` times
 abbrev pub AreFew : ℕ → ℕ → Fields → Type 0
 AreFew last count (extra more) = Unit {0}
 AreFew last count (number row v rest) = (one_more_of last count row.1.number ≤ field_limit) × AreFew row.1.number (one_more_of last count row.1.number) rest
@@ -123,8 +123,8 @@ AreFew last count (message row inner rest) =
 
 -- ---- the law of canonical bytes
 
--- An op's canonical bytes are fields of the message Op, none of which occurs too often. Without the empty keys and values of maps, the bytes are not
--- longer, and no field occurs too often. The same op is read from these shorter bytes, if they are not longer than an entry may be.
+-- An op's canonical bytes spell fields of the message Op, and none of them occurs more than `field_limit` times. Without the empty keys and values of maps,
+-- no field occurs more often either, the bytes are not longer than the canonical ones, and they are read as the same op if they are within `entry_limit`.
 pub record HasFields (op : Op) : Type 0 where
   pub fields : Fields
   pub are : AreFields named.Op 0 false fields
@@ -134,6 +134,6 @@ pub record HasFields (op : Op) : Type 0 where
   pub shorter : length (bytes_of (without_empty fields)) ≤ length (op_bytes op)
   pub read : length (bytes_of (without_empty fields)) ≤ entry_limit → op_of (bytes_of (without_empty fields)) ≡ Ok op
 
--- `HasFields` holds of each op that these bytes are read as
+-- if these bytes are read as an op, `HasFields` holds of that op
 abbrev pub EntryHasFields : List ℕ → Type 0
 EntryHasFields entry = (op : Op) → op_of entry ≡ Ok op → HasFields op

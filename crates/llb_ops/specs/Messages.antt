@@ -1,5 +1,5 @@
 -- How each message is made from its records, by its fields in the table (`ops.proto` of BuildKit). The order of the steps is the
--- order of the faults: first the faults of the records, then those of the message fields by their numbers, then `OverLimit`.
+-- order of the faults: first the faults of the records, then the faults of nested messages by their field numbers, then `OverLimit`.
 use Rattle.std.specs.Prelude.{ℕ, List, [], ◌∷◌, length, Option, Result, Ok, Err, nat_lt, ◌==◌, if◌then◌else◌}
 use Rattle.llb_wire.specs.Answer.{◌>>=◌}
 use Rattle.llb_wire.specs.Records.{Record}
@@ -41,7 +41,7 @@ use Rattle.llb_ops.specs.Records.{within_limits, unnamed}
 abbrev pub input_shape : Shape
 input_shape = shape_of message.Input
 
--- an input of an op, from its records
+-- an `Input` of an op, from the records of the `Input`
 unfoldable pub input_in : List Record → Result Input OpFault
 input_in rs = Ok (record { digest = payload (all 1 rs); index = int64 (number (all 2 rs)); extra = unnamed input_shape rs })
 
@@ -53,7 +53,7 @@ input_of = message_of input_shape input_in
 abbrev pub user_opt_shape : Shape
 user_opt_shape = shape_of message.UserOpt
 
--- the numbers of the members of the oneof of a `UserOpt`; the member that is set is the user
+-- the field numbers of the members of the oneof of a `UserOpt`; the member that is set is the user
 abbrev pub users : List ℕ
 users = members_of message.UserOpt
 
@@ -75,7 +75,7 @@ user_opt_of = message_of user_opt_shape user_opt_in
 abbrev pub chown_opt_shape : Shape
 chown_opt_shape = shape_of message.ChownOpt
 
--- a `ChownOpt` from its records: the user and the group, each absent if no record of its field is there
+-- a `ChownOpt` from its records: a user if field 1 has a record, and a group if field 2 has one
 unfoldable pub chown_opt_in : List Record → Result ChownOpt OpFault
 chown_opt_in rs = do
   user ← one user_opt_of (all 1 rs)
@@ -90,7 +90,7 @@ chown_opt_of = message_of chown_opt_shape chown_opt_in
 abbrev pub mk_file_shape : Shape
 mk_file_shape = shape_of message.FileActionMkFile
 
--- a `FileActionMkFile` from its records; `body` is its field `data`, and the owner is absent if no record of it is there
+-- a `FileActionMkFile` from its records; `body` is the field `data`, and the owner is absent if the field `owner` has no record
 unfoldable pub mk_file_in : List Record → Result MkFile OpFault
 mk_file_in rs = do
   owner ← one chown_opt_of (all 4 rs)
@@ -111,7 +111,7 @@ mk_file_of = message_of mk_file_shape mk_file_in
 abbrev pub mk_dir_shape : Shape
 mk_dir_shape = shape_of message.FileActionMkDir
 
--- a `FileActionMkDir` from its records; the owner is absent if no record of it is there
+-- a `FileActionMkDir` from its records; the owner is absent if the field `owner` has no record
 unfoldable pub mk_dir_in : List Record → Result MkDir OpFault
 mk_dir_in rs = do
   owner ← one chown_opt_of (all 4 rs)
@@ -132,7 +132,7 @@ mk_dir_of = message_of mk_dir_shape mk_dir_in
 abbrev pub copy_file_shape : Shape
 copy_file_shape = shape_of message.FileActionCopy
 
--- a copy from its records, with this owner
+-- a `FileActionCopy` from its records and its owner, which was read before
 unfoldable pub copy_file_with : List Record → Option ChownOpt → CopyFile
 copy_file_with rs owner = record {
   src = payload (all 1 rs);
@@ -151,7 +151,7 @@ copy_file_with rs owner = record {
   extra = unnamed copy_file_shape rs;
 }
 
--- a `FileActionCopy` from its records, if neither the include nor the exclude patterns are too many
+-- a `FileActionCopy` from its records, if there are at most `field_limit` include patterns and at most as many exclude patterns; else `OverLimit`
 unfoldable pub copy_file_in : List Record → Result CopyFile OpFault
 copy_file_in rs = do
   owner ← one chown_opt_of (all 3 rs)
@@ -182,7 +182,7 @@ rm_of = message_of rm_shape rm_in
 abbrev pub action_shape : Shape
 action_shape = shape_of message.FileAction
 
--- the numbers of the members of the oneof of a `FileAction`; the member that is set says what the action does
+-- the field numbers of the members of the oneof of a `FileAction`; the member that is set says what the action does
 abbrev pub action_kinds : List ℕ
 action_kinds = members_of message.FileAction
 
@@ -214,7 +214,7 @@ action_of = message_of action_shape action_in
 abbrev pub file_op_shape : Shape
 file_op_shape = shape_of message.FileOp
 
--- a `FileOp` from its records: its actions in order, if they are not too many
+-- a `FileOp` from its records: its actions in order, if there are at most `field_limit` of them; else `OverLimit`
 unfoldable pub file_op_in : List Record → Result FileOp OpFault
 file_op_in rs = do
   actions ← each action_of (all 2 rs)
@@ -228,7 +228,7 @@ file_op_of = message_of file_op_shape file_op_in
 abbrev pub meta_shape : Shape
 meta_shape = shape_of message.Meta
 
--- a `Meta` from its records, if neither the arguments nor the variables of the environment are too many
+-- a `Meta` from its records, if there are at most `field_limit` arguments and at most as many variables of the environment; else `OverLimit`
 unfoldable pub meta_in : List Record → Result Meta OpFault
 meta_in rs = if within_limits (repeated_of message.Meta) rs then Ok (record {
   args = payloads (all 1 rs);
@@ -277,7 +277,7 @@ cache_opt_of = message_of cache_opt_shape cache_opt_in
 abbrev pub mount_shape : Shape
 mount_shape = shape_of message.Mount
 
--- a `Mount` from its records; its `TmpfsOpt` and its `CacheOpt` are each absent if no record of the field is there
+-- a `Mount` from its records; `tmpfs_opt` is absent if field 19 has no record, and `cache_opt` if field 20 has none
 unfoldable pub mount_in : List Record → Result Mount OpFault
 mount_in rs = do
   tmpfs_opt ← one tmpfs_opt_of (all 19 rs)
@@ -302,7 +302,7 @@ mount_of = message_of mount_shape mount_in
 abbrev pub exec_op_shape : Shape
 exec_op_shape = shape_of message.ExecOp
 
--- an `ExecOp` from its records, if neither its mounts nor its secrets are too many; a secret is bytes that are not looked into
+-- an `ExecOp` from its records, if there are at most `field_limit` mounts and at most as many secrets, else `OverLimit`; secrets are not looked into
 unfoldable pub exec_op_in : List Record → Result ExecOp OpFault
 exec_op_in rs = do
   meta ← one meta_of (all 1 rs)
@@ -324,7 +324,7 @@ exec_op_of = message_of exec_op_shape exec_op_in
 abbrev pub merge_input_shape : Shape
 merge_input_shape = shape_of message.MergeInput
 
--- a `MergeInput` from its records: which input, as a signed number, 0 if absent
+-- a `MergeInput` from its records: the number of an input of the op, which is signed, and 0 if absent
 unfoldable pub merge_input_in : List Record → Result MergeInput OpFault
 merge_input_in rs = Ok (record {
   input = int64 (number (all 1 rs));
@@ -339,7 +339,7 @@ merge_input_of = message_of merge_input_shape merge_input_in
 abbrev pub merge_op_shape : Shape
 merge_op_shape = shape_of message.MergeOp
 
--- a `MergeOp` from its records: its inputs in order, if they are not too many
+-- a `MergeOp` from its records: its inputs in order, if there are at most `field_limit` of them; else `OverLimit`
 unfoldable pub merge_op_in : List Record → Result MergeOp OpFault
 merge_op_in rs = do
   inputs ← each merge_input_of (all 1 rs)
@@ -368,7 +368,7 @@ attribute_entry_of = message_of attribute_entry_shape attribute_entry_in
 abbrev pub source_op_shape : Shape
 source_op_shape = shape_of message.SourceOp
 
--- a `SourceOp` from its records, if the entries of its map are not too many; entries that a later one replaces count too
+-- a `SourceOp` from its records, if its map has at most `field_limit` entries, else `OverLimit`; an entry whose key occurs again later counts too
 unfoldable pub source_op_in : List Record → Result SourceOp OpFault
 source_op_in rs = do
   entries ← each attribute_entry_of (all 2 rs)
@@ -386,7 +386,7 @@ source_op_of = message_of source_op_shape source_op_in
 abbrev pub op_shape : Shape
 op_shape = shape_of message.Op
 
--- the numbers of the members of the oneof of an `Op`; the member that is set is the op's kind
+-- the field numbers of the members of the oneof of an `Op`; the member that is set is the op's kind
 abbrev pub kinds : List ℕ
 kinds = members_of message.Op
 
@@ -400,7 +400,7 @@ kind_of n rs =
     else if n == 6 then (merge_op_of (joined rs) >>= λ m. Ok (Merge m))
     else Ok (Diff (joined rs))
 
--- an op from its records: its inputs in order, if they are not too many, and its kind, if a member of its oneof is set
+-- an op from its records: its inputs in order, and its kind if a member of its oneof is set; `OverLimit` if there are more than `field_limit` inputs
 unfoldable pub op_in : List Record → Result Op OpFault
 op_in rs = do
   inputs ← each input_of (all 1 rs)

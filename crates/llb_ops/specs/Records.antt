@@ -22,11 +22,11 @@ use Rattle.llb_ops.specs.declared.records.Record.{Record as Held}
 use Rattle.llb_ops.specs.declared.records.Front.{Front}
 use Rattle.llb_ops.specs.Limits.{field_limit}
 
--- the fields that a message names: for each field, its number and its form
+-- the fields that a message names: for each field, its number, and its form, which says how the field's payload is read
 abbrev pub Shape : Type 0
 Shape = List (ℕ × Form)
 
--- a record of the code, with its payload and its text as lists of bytes
+-- a record of the code, with its payload and its text (all bytes of the record) as lists of bytes
 abbrev pub view : Held → Record
 view r = record { number = r.number; wire = r.wire; value = r.value; payload = r.payload.now; text = r.text.now }
 
@@ -34,7 +34,7 @@ view r = record { number = r.number; wire = r.wire; value = r.value; payload = r
 abbrev pub views : List Held → List Record
 views rs = map view rs
 
--- ---- the records from left to right: each may have a fault of the wire, or be a record of a named field with a wire type that does not fit
+-- ---- the records, read from left to right; a record is refused if it can't be read, or if the message names its field and the field has another wire type
 
 -- the form of the field with this number, if the message names it
 abbrev pub form_of : Shape → ℕ → Option Form
@@ -52,7 +52,7 @@ wire_fits (Some Bytes) w = false
 wire_fits (Some Text) wire.Len = true
 wire_fits (Some Text) w = false
 
--- the result of reading a record, with a fault of the wire as a fault of an op
+-- this result of reading a record, in which a fault of `llb_wire` has become the fault `Wire` of this crate
 abbrev pub from_wire : {A : Type 0} → Result A WireFault → Result A OpFault
 from_wire (Ok x) = Ok x
 from_wire (Err f) = Err (Wire f)
@@ -75,24 +75,24 @@ pub record IsFront (shape : Shape) (bytes : List ℕ) (f : Front) : Type 0 where
   pub reads : records_from shape 0 bytes ≡ (records_from shape 0 f.after.now >>= λ rs. Ok (view f.record ∷ rs))
   pub shorter : length f.after.now < length bytes
 
--- the result of reading the next record: the first fault, the end of the bytes, or a record and the bytes after it
+-- reading the next record of these bytes has this result: a record and the bytes after it, or nothing if no bytes are left, or the first fault of the bytes
 abbrev pub Starts : Shape → List ℕ → Result (Option Front) OpFault → Type 0
 Starts shape bytes (Ok None) = records_from shape 0 bytes ≡ Ok []
 Starts shape bytes (Ok (Some f)) = IsFront shape bytes f
 Starts shape bytes (Err e) = records_from shape 0 bytes ≡ Err e
 
--- ---- after the last record is read: the texts of all records are UTF-8
+-- ---- checked after the last record is read: whether the payloads of all string fields are UTF-8
 
--- whether a payload is UTF-8, if its field is a text; true for any other field
+-- whether a payload is UTF-8, if the form of its field is `Text`; true for any other field
 abbrev pub text_ok : Option Form → List ℕ → Bool
 text_ok (Some Text) payload = is_utf8 payload
 text_ok o payload = true
 
--- whether the payload of a record is UTF-8, if the record's field is a text; true for any other field
+-- whether the payload of a record is UTF-8, if the form of the record's field is `Text`; true for any other field
 abbrev pub text_fits : Shape → Record → Bool
 text_fits shape r = text_ok (form_of shape r.number) r.payload
 
--- whether the payloads of all records of text fields are UTF-8
+-- whether the payloads of all records of string fields are UTF-8
 abbrev pub texts_fit : Shape → List Record → Bool
 texts_fit shape rs = list_all (text_fits shape) rs
 
@@ -106,7 +106,7 @@ parts shape bytes = records_from shape 0 bytes >>= λ rs. if texts_fit shape rs 
 abbrev pub wires_fit : Shape → List Record → Bool
 wires_fit shape rs = list_all (λ r. wire_fits (form_of shape r.number) r.wire) rs
 
--- these records, if each record of a named field has the field's wire type and all texts are UTF-8; else the fault
+-- these records, if each record of a named field has the field's wire type and all strings are UTF-8; else the fault
 abbrev pub fitting : Shape → List Record → Result (List Record) OpFault
 fitting shape rs = if wires_fit shape rs then (if texts_fit shape rs then Ok rs else Err NotUtf8) else Err WrongWireType
 
@@ -132,23 +132,23 @@ number rs = option_map_or (λ r. r.value) (last_of rs) 0
 abbrev pub payload : List Record → List ℕ
 payload rs = option_map_or (λ r. r.payload) (last_of rs) []
 
--- the value of a uint32 field with this number: the low 32 bits
+-- the value of a uint32 field whose varint is n: the low 32 bits of n
 abbrev pub uint32 : ℕ → ℕ
 uint32 n = n % 2 ^ 32
 
--- the value of an int32 or enum field with this number: the low 32 bits, as two's complement
+-- the value of an int32 or enum field whose varint is n: the low 32 bits of n, as two's complement
 abbrev pub int32 : ℕ → ℤ
 int32 n = cast_signed w32 (n % 2 ^ 32)
 
--- the value of an int64 field with this number: the low 64 bits, as two's complement
+-- the value of an int64 field whose varint is n: the low 64 bits of n, as two's complement
 abbrev pub int64 : ℕ → ℤ
 int64 n = cast_signed w64 (n % 2 ^ 64)
 
--- the value of a bool field with this number: true for any number but 0
+-- the value of a bool field whose varint is n: true unless n is 0
 abbrev pub flag : ℕ → Bool
 flag n = not (n == 0)
 
--- the items of a repeated text or bytes field, in order
+-- the items of a repeated string or bytes field, in order
 abbrev pub payloads : List Record → List (List ℕ)
 payloads rs = map (λ r. r.payload) rs
 
@@ -179,7 +179,7 @@ is_member members r = list_any (λ m. m == r.number) members
 abbrev pub chosen : List ℕ → List Record → Option ℕ
 chosen members rs = option_map (λ r. r.number) (last_of (filter (is_member members) rs))
 
--- the records that are kept after one more record: none if that record passes the test p, else the kept records and that record
+-- a step of `since`, which keeps a list rs: after record r the list is empty if r passes the test p; else the list is rs with r at its end
 abbrev pub kept : (Record → Bool) → List Record → Record → List Record
 kept p rs r = if p r then [] else rs ++ r ∷ []
 
@@ -195,17 +195,17 @@ is_other members n r = is_member members r && not (r.number == n)
 abbrev pub member : List ℕ → ℕ → List Record → List Record
 member members n rs = all n (since (is_other members n) rs)
 
--- the member of a oneof with this number, read from the member's records; none if no number is given; or the first fault
+-- the value of member n of a oneof, read from the records of that member; none if there is no number n; or the first fault
 abbrev pub member_of : {A : Type 0} → List ℕ → (ℕ → List Record → Result A OpFault) → Option ℕ → List Record → Result (Option A) OpFault
 member_of members read None rs = Ok None
 member_of members read (Some n) rs = read n (member members n rs) >>= λ a. Ok (Some a)
 
--- the oneof of a message, read from the records of the member that is set; none if no member is set; or the first fault
+-- the value of a message's oneof, read from the records of the member that is set; none if no member is set; or the first fault
 abbrev pub one_of : {A : Type 0} → List ℕ → (ℕ → List Record → Result A OpFault) → List Record → Result (Option A) OpFault
 one_of members read rs = member_of members read (chosen members rs) rs
 
--- ---- after all fields: no repeated field has too many records
+-- ---- checked after all fields are read: whether each repeated field has at most `field_limit` records
 
--- whether no repeated field has more records than its limit
+-- whether each field whose number is in `repeated` has at most `field_limit` records
 abbrev pub within_limits : List ℕ → List Record → Bool
 within_limits repeated rs = list_all (λ n. nat_le (length (all n rs)) field_limit) repeated

@@ -155,19 +155,19 @@ rows_of message.MergeInput =
     once (codes "input") 1 Int64 ∷
     []
 
--- the row with this number
+-- the first of these rows whose field has the number n; none if there is no such row
 abbrev pub by_number : ℕ → List Row → Option Row
 by_number n rows = find (λ r. r.1.number == n) rows
 
--- the row with this name
+-- the first of these rows that has this name; none if there is no such row
 abbrev pub by_name : List ℕ → List Row → Option Row
 by_name name rows = find (λ r. pointwise nat_eq r.0 name) rows
 
--- the row of a message that has this field number
+-- the row of message m for the field number n; none if m names no field with this number
 unfoldable pub row_numbered : MessageName → ℕ → Option Row
 row_numbered m n = by_number n (rows_of m)
 
--- the row of a message that has this field name
+-- the row of message m for this field name; none if m has no field with this name
 unfoldable pub row_named : MessageName → List ℕ → Option Row
 row_named m name = by_name name (rows_of m)
 

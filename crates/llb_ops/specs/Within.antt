@@ -1,4 +1,4 @@
--- What is within the limits: repeated fields with few values, and definitions with few entries, none of them too long.
+-- What it means that an op, or the entries of a definition, are within the limits on numbers of values and entries, and on lengths.
 use Rattle.std.specs.Prelude.{ℕ, ◌≤◌, List, length, Option, Some, None}
 use Rattle.std.specs.List.{All}
 use Rattle.llb_ops.specs.declared.op.Op.{Op}
@@ -12,11 +12,11 @@ use Rattle.llb_ops.specs.declared.exec.ExecOp.{ExecOp}
 use Rattle.llb_ops.specs.declared.exec.Meta.{Meta}
 use Rattle.llb_ops.specs.Limits.{field_limit, entries_limit, entry_limit}
 
--- a list has few items: at most as many as a repeated field may have records
+-- a list has at most `field_limit` items, as many as a repeated field may have records
 abbrev pub IsFew : {A : Type 0} → List A → Type 0
 IsFew xs = length xs ≤ field_limit
 
--- a `Meta` is within the limits: it has few arguments and variables, and no argument is longer than the limit of an entry
+-- a `Meta` is within the limits: it has at most `field_limit` arguments and at most as many variables, and no argument is longer than an entry may be
 pub record IsMetaWithin (m : Meta) : Type 0 where
   pub args : IsFew m.args
   pub env : IsFew m.env
@@ -27,13 +27,13 @@ abbrev pub IsMetaOptWithin : Option Meta → Type 0
 IsMetaOptWithin None = Unit {0}
 IsMetaOptWithin (Some m) = IsMetaWithin m
 
--- an `ExecOp` is within the limits: it has few mounts and secrets, and its `Meta`, if there is one, is within the limits
+-- an `ExecOp` is within the limits: it has at most `field_limit` mounts and at most as many secrets, and its `Meta`, if there is one, is within the limits
 pub record IsExecWithin (m : ExecOp) : Type 0 where
   pub meta : IsMetaOptWithin m.meta
   pub mounts : IsFew m.mounts
   pub secretenv : IsFew m.secretenv
 
--- a copy has few include and exclude patterns
+-- a copy has at most `field_limit` include patterns, and at most as many exclude patterns
 pub record IsCopyWithin (m : CopyFile) : Type 0 where
   pub include_patterns : IsFew m.include_patterns
   pub exclude_patterns : IsFew m.exclude_patterns
@@ -46,7 +46,7 @@ IsActionWithin (Some (action.MkFile m)) = Unit {0}
 IsActionWithin (Some (action.MkDir m)) = Unit {0}
 IsActionWithin (Some (action.Rm m)) = Unit {0}
 
--- a `FileOp` has few actions, and each is within the limits
+-- a `FileOp` has at most `field_limit` actions, and what each action does is within the limits (`IsActionWithin`)
 pub record IsFileWithin (m : FileOp) : Type 0 where
   pub actions : IsFew m.actions
   pub each : All (λ a. IsActionWithin a.kind) m.actions
@@ -61,12 +61,12 @@ IsKindWithin (Some (Build bytes)) = Unit {0}
 IsKindWithin (Some (Merge m)) = IsFew m.inputs
 IsKindWithin (Some (Diff bytes)) = Unit {0}
 
--- an op has few inputs (`IsFew`), and its messages are within the limits
+-- an op has at most `field_limit` inputs, and its kind is within the limits (`IsKindWithin`)
 pub record IsWithinLimits (op : Op) : Type 0 where
   pub inputs : IsFew op.inputs
   pub kind : IsKindWithin op.kind
 
--- entries are within the limits of a definition: they are not too many, and none of them is too long
+-- there are at most `entries_limit` entries, and none of them has more than `entry_limit` bytes
 pub record AreWithinLimits (entries : List (List ℕ)) : Type 0 where
   pub few : length entries ≤ entries_limit
   pub short : All (λ e. length e ≤ entry_limit) entries

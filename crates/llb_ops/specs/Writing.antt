@@ -1,6 +1,6 @@
--- The canonical bytes of each message: named fields in ascending order of their numbers in their shortest spelling, without those that are 0
--- or empty; then the extra bytes. Messages, the set member of a oneof, each item of a repeated field, and the key and the value of a map's
--- entry are written even if they are 0 or empty.
+-- The canonical bytes of each message: its named fields in ascending order of their numbers, each in its shortest spelling; then its extra
+-- bytes. A field that is 0 or empty is left out, but not if it is a message that is there, the set member of a oneof, an item of a repeated
+-- field, or the key or the value of a map's entry.
 use Rattle.std.specs.Prelude.{ℕ, ℤ, List, [], ◌++◌, length, map, Option, Some, None, Bool, true, false, ◌==◌, if◌then◌else◌}
 use Rattle.std.specs.List.{flat_map}
 use Rattle.std.specs.Int.{w64, cast_unsigned}
@@ -53,7 +53,7 @@ bytes_field n bytes = if length bytes == 0 then [] else set_bytes n bytes
 abbrev pub signed_field : ℕ → ℤ → List ℕ
 signed_field n z = number_field n (cast_unsigned w64 z)
 
--- a Bool as a number: 1 for true
+-- a Bool as a number: 1 for true, 0 for false
 abbrev pub bit : Bool → ℕ
 bit true = 1
 bit false = 0
@@ -71,11 +71,11 @@ message_field write n (Some m) = set_bytes n (write m)
 unfoldable pub messages_field : {A : Type 0} → (A → List ℕ) → ℕ → List A → List ℕ
 messages_field write n ms = flat_map (λ m. set_bytes n (write m)) ms
 
--- a record for each item of a repeated text or bytes field, even for an empty item
+-- a record for each item of a repeated string or bytes field, even for an empty item
 unfoldable pub each_field : ℕ → List (List ℕ) → List ℕ
 each_field n items = flat_map (λ bytes. set_bytes n bytes) items
 
--- the record of the member of a oneof that is set, which `write` writes; nothing if none is set
+-- the bytes that `write` makes of the set member of a oneof; no bytes if no member is set
 abbrev pub one_of_field : {A : Type 0} → (A → List ℕ) → Option A → List ℕ
 one_of_field write None = []
 one_of_field write (Some m) = write m
@@ -84,7 +84,7 @@ one_of_field write (Some m) = write m
 unfoldable pub input_bytes : Input → List ℕ
 input_bytes m = bytes_field 1 m.digest ++ signed_field 2 m.index ++ m.extra
 
--- the canonical record of a user: field 1 has the name, field 2 the number
+-- the canonical record of a user: field 1 with the bytes of `byName`, or field 2 with the user's number
 unfoldable pub user_bytes : User → List ℕ
 user_bytes (ByName name) = set_bytes 1 name
 user_bytes (ById id) = set_number 2 id
@@ -119,7 +119,7 @@ copy_file_bytes m = bytes_field 1 m.src ++ bytes_field 2 m.dest ++ message_field
 unfoldable pub rm_bytes : Rm → List ℕ
 rm_bytes m = bytes_field 1 m.path ++ flag_field 2 m.allow_not_found ++ flag_field 3 m.allow_wildcard ++ m.extra
 
--- the canonical record of what an action does
+-- the canonical record of what an action does: the field of the action's kind, whose payload is the canonical bytes of the kind's message
 unfoldable pub action_kind_bytes : ActionKind → List ℕ
 action_kind_bytes (action.Copy m) = set_bytes 4 (copy_file_bytes m)
 action_kind_bytes (action.MkFile m) = set_bytes 5 (mk_file_bytes m)
@@ -131,7 +131,7 @@ unfoldable pub action_bytes : Action → List ℕ
 action_bytes m = signed_field 1 m.input ++ signed_field 2 m.secondary_input ++ signed_field 3 m.output
     ++ one_of_field action_kind_bytes m.kind ++ m.extra
 
--- the canonical bytes of a `FileOp`: its actions in order as field 2
+-- the canonical bytes of a `FileOp`: a record of field 2 for each action, in order
 unfoldable pub file_op_bytes : FileOp → List ℕ
 file_op_bytes m = messages_field action_bytes 2 m.actions ++ m.extra
 
@@ -175,7 +175,7 @@ attribute_entry_bytes m = set_bytes 1 m.key ++ set_bytes 2 m.value ++ m.extra
 unfoldable pub source_op_bytes : SourceOp → List ℕ
 source_op_bytes m = bytes_field 1 m.identifier ++ messages_field attribute_entry_bytes 2 (map entry_of m.attrs) ++ m.extra
 
--- the canonical record of an op's kind
+-- the canonical record of an op's kind: the field of the kind, with the canonical bytes of its message, or the bytes of a build or a diff
 unfoldable pub kind_bytes : Kind → List ℕ
 kind_bytes (Exec m) = set_bytes 2 (exec_op_bytes m)
 kind_bytes (Source m) = set_bytes 3 (source_op_bytes m)

@@ -80,8 +80,8 @@ fn with_record(count: usize, short: bool, part: &Record<'_>) -> (usize, bool)
     }
 }
 
-// Returns how many entries there are, and whether none is too long. Fails with 1 to 4 `Wire` or 11 `WrongWireType` of
-// the first faulty record.
+// Returns how many entries there are, and whether none is too long. At the first faulty record, fails with 1 to 4
+// `Wire` or 11 `WrongWireType`.
 fn tally(bytes: &[u8]) -> Result<(usize, bool), OpFault>
     requires { length bytes.now ≤ 67_108_864 }
     ensures { result ≡ counted (entries_in bytes.now) }
@@ -98,7 +98,7 @@ fn tally(bytes: &[u8]) -> Result<(usize, bool), OpFault>
     Ok((count, short))
 }
 
-// Appends the entry that a record of field 1 has; a record of another field has none.
+// Appends the payload of a record of field 1 as an entry; does nothing for a record of another field.
 fn put_entry(alloc: Global, entries: &mut Vec<Bytes>, part: &Record<'_>) -> Result<(), Memory>
     ensures { OnOk result (entries.new.items ≡ (if part.now.number == 1 then entries.old.items ++ part.now.payload.now ∷ [] else entries.old.items)) }
 {
@@ -122,7 +122,7 @@ fn gathered(alloc: Global, bytes: &[u8]) -> Result<Vec<Bytes>, OpFault>
     Ok(entries)
 }
 
-// Checks the limits and the records of a definition, and fails with its first fault.
+// Checks the limits and the records of a definition, and fails with the first fault of the definition.
 fn admitted(bytes: &[u8]) -> Result<(), OpFault>
     ensures { result ≡ admission (definition_of bytes.now) }
 {
@@ -142,8 +142,8 @@ fn admitted(bytes: &[u8]) -> Result<(), OpFault>
 /// Reads the entries of a definition.
 ///
 /// Fails with the first of these faults that applies: 13 `OverLimit` if the definition has more than 67,108,864 bytes; at the first faulty record from left to
-/// right, 1 to 4 `Wire`, or 11 `WrongWireType` if the message names its field; 13 `OverLimit` if there are more than 65,536 entries, or if an entry has more
-/// than 16,777,216 bytes. Fails with 14 `Memory` if memory is refused and there is no other fault.
+/// right, 1 to 4 `Wire` if the record can't be read, or 11 `WrongWireType` if its field is one of `Definition`'s and has another wire type; 13 `OverLimit` if
+/// there are more than 65,536 entries, or if an entry has more than 16,777,216 bytes. Fails with 14 `Memory` if memory is refused and there is no other fault.
 pub fn read_definition(alloc: Global, bytes: &[u8]) -> Result<Entries, OpFault>
     ensures gives { Gives (λ e. e) result (definition_of bytes.now) }
     ensures last { MemoryLast is_memory result (definition_of bytes.now) }

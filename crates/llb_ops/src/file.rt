@@ -42,7 +42,7 @@ impl Drop for Actions {
     }
 }
 
-/// `FileAction`: one action, its inputs, and the number of the output that its result becomes; -1 if the result becomes no output.
+/// `FileAction`: one action, its inputs, and the number of the output that the action's result becomes; -1 if the result becomes no output.
 pub struct Action {
     pub input: i64,
     pub secondary_input: i64,
@@ -114,7 +114,7 @@ impl Actions {
         self.shared.is_empty()
     }
 
-    /// Copies the list; the copy shares the actions. Fails with 5 `Memory` alone.
+    /// Copies the list; the copy and the list share the actions. Fails with 5 `Memory` alone.
     pub fn copy(&self) -> Result<Actions, Memory>
         ensures { IfOk result (λ a. a ≡ self.now) }
     {
@@ -124,7 +124,7 @@ impl Actions {
 }
 
 impl FileOp {
-    /// Copies the op; the copy shares the actions. Fails with 14 `Memory` alone.
+    /// Copies the op; the copy and the op share one list of actions. Fails with 14 `Memory` alone.
     pub fn copy(&self) -> Result<FileOp, OpFault>
         ensures { Gives (λ x. x) result (Ok self.now) }
     {

@@ -1,11 +1,11 @@
-//! Messages: an op is read from the records of its entry, and written in its canonical bytes, by one table of fields. The crate is built on
-//! `llb_wire`.
+//! Messages: an op is read from the records of its entry, and written as its canonical bytes (the one spelling that this crate writes), by one
+//! table of fields. The crate is built on `llb_wire`.
 //!
 //! Types: `Op` with `Kind` (a source, a file op, a merge, an exec, or a build or a diff, which `llb_loader` refuses), `Entries` (of a definition),
 //! `FieldRow` (a row of the table), `OpFault`.
-//! Promise: `read_op` (`gives`, `within`) returns exactly the op that the definitions say an entry is read as, or the entry's first fault. `read_definition`
-//! (`gives`, `last`) does the same for the entries of a definition. Laws say that an op that was read is read again from its canonical bytes, and which
-//! fields these bytes have.
+//! Promise: `read_op` (`gives`, `within`) returns the op that the definition `op_of` makes of an entry, or the entry's first fault. `read_definition`
+//! (`gives`, `last`) returns the entries that `definition_of` makes of a definition's bytes, or the first fault. Laws say that the canonical bytes of an op
+//! that was read are read as the same op, and which fields these bytes have.
 //!
 //! A caller:
 //!

@@ -24,7 +24,7 @@ impl Drop for MergeOp {
     }
 }
 
-/// `MergeInput`: names one of the trees, by the number of an input of the op; -1 is the empty tree.
+/// `MergeInput`: names one of the trees to be merged: the tree of the op's input with this number, or the empty tree if the number is -1.
 pub struct MergeInput {
     pub input: i64,
     pub extra: Bytes,

@@ -82,8 +82,8 @@ pub fn read_message<M: Message>(alloc: Global, bytes: &[u8]) -> Result<M, OpFaul
     M::read(alloc, &records)
 }
 
-/// Reads a message from the payloads of its field's records, joined one after the other. If there is only one record, its payload is not copied. Fails with the
-/// first fault, or with 14 `Memory`.
+/// Reads a message from the payloads of the records of field `number`, joined one after the other. If the field has only one record, its payload is not copied.
+/// Fails with the first fault, or with 14 `Memory`.
 pub fn joined_message<M: Message>(
     alloc: Global,
     records: &[Record<'_>],

@@ -188,9 +188,9 @@ impl Message for Op {
 /// Reads an entry as an op.
 ///
 /// Fails with the first fault: 13 `OverLimit` for an entry of more than 16,777,216 bytes; then the faults of the message Op, in this order: 1 to 4 `Wire` or 11
-/// `WrongWireType` of the message's records from left to right (11 only in named fields); 12 `NotUtf8` of a string; the faults of nested messages, by their
-/// field numbers, each message in this same order; 13 `OverLimit` for a field that is repeated more than 1,024 times. Fails with 14 `Memory` if memory is
-/// refused.
+/// `WrongWireType` at the first faulty record from left to right (11 only in fields that the message names); 12 `NotUtf8` for a string; the faults of nested
+/// messages, by their field numbers, each message's in this same order; 13 `OverLimit` for a field that is repeated more than 1,024 times. Fails with 14
+/// `Memory` if memory is refused.
 #[tactic(auto, unfolding(crate::specs::Messages::op_of))]
 pub fn read_op(alloc: Global, bytes: &[u8]) -> Result<Op, OpFault>
     ensures gives { Gives (λ op. op) result (op_of bytes.now) }
@@ -210,7 +210,7 @@ pub fn write_op(alloc: Global, op: &Op) -> Result<Bytes, OpFault>
     Ok(Bytes::new(bytes))
 }
 
-/// Returns the name of an op's kind; `none` if the op has no kind. No graph has an op of the kinds `build` and `diff`, or an op without a kind.
+/// Returns the name of an op's kind; `none` if the op has no kind. No loaded graph has an op of the kind `build` or `diff`, or an op without a kind.
 pub fn kind_name(op: &Op) -> &'static str
     ensures { result.now ≡ kind_text op.now.kind }
 {
@@ -227,8 +227,8 @@ pub fn kind_name(op: &Op) -> &'static str
     }
 }
 
-/// Proves that the records of a message are those that its bytes spell by the grammar of the wire, whichever fields the message names; and that an op is read
-/// from the records that its entry spells, and from nothing else.
+/// Proves that the records that are read of a message are the records that its bytes spell by the grammar of the wire, whichever fields the message names; and
+/// that an op is read from the records that its entry spells, and from nothing else.
 pub fn op_is_read_of_records(bytes: &[u8])
     ensures { IsReadOfRecords bytes.now }
 {

@@ -21,7 +21,7 @@ use llb_wire::{Bytes, Field, Many, Memory, Text, Wire, next_record};
 use std::alloc::Global;
 use std::str::{from_utf8, from_utf8_unchecked};
 
-/// A record of a message: its field number, its wire type and value, its payload, and all of its bytes.
+/// A record of a message: its field number, its wire type and value, its payload, and all of its bytes (`text`).
 #[derive(Clone, Copy)]
 pub struct Record<'a> {
     pub number: u32,
@@ -141,8 +141,8 @@ fn texts_are_utf8(message: MessageName, records: &[Record<'_>]) -> bool
     true
 }
 
-/// Splits the bytes of a message into its records, and checks that each named field has its wire type and that texts
-/// are UTF-8. Fails as `split` does, and then with 12 `NotUtf8`.
+/// Splits the bytes of a message into its records, and checks that each record of a field that the message names has the
+/// wire type of the field, and that strings are UTF-8. Fails as `split` does, and then with 12 `NotUtf8`.
 #[tactic(auto, unfolding(crate::specs::Records::parts))]
 pub fn parts<'a>(
     alloc: Global,
@@ -159,7 +159,7 @@ pub fn parts<'a>(
     Ok(records)
 }
 
-// Returns the last record of a field, which is the one that counts.
+// Returns the last record of a field, the only one that counts; `None` if the field has no record.
 fn last<'a>(records: &[Record<'a>], number: u32) -> Option<Record<'a>>
     ensures { option_map view result ≡ last_of (all_of number (views records.now)) }
 {
@@ -322,7 +322,7 @@ pub fn each_bytes(alloc: Global, records: &[Record<'_>], number: u32) -> Result<
     Ok(Many::new(items))
 }
 
-/// Returns whether no repeated field has more than 1,024 records.
+/// Returns whether each of these repeated fields has at most 1,024 records.
 pub fn within_limits(repeated: &[u32], records: &[Record<'_>]) -> bool
     ensures { result ≡ within_limits_of repeated.now (views records.now) }
 {
@@ -392,7 +392,7 @@ pub fn are_unnamed(message: MessageName, bytes: &[u8]) -> bool
     }
 }
 
-/// Returns the records of fields that the message doesn't name, as they are. Fails with 5 `Memory` alone.
+/// Returns the bytes of the records of fields that the message doesn't name, in order and unchanged. Fails with 5 `Memory` alone.
 pub fn unnamed(alloc: Global, message: MessageName, records: &[Record<'_>]) -> Result<Bytes, Memory>
     ensures { IfOk result (λ b. b ≡ unnamed_of (shape_of message) (views records.now)) }
 {

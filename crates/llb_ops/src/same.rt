@@ -51,7 +51,7 @@ impl Same for SourceOp {
     }
 }
 
-// Returns whether two maps have the same attribute under the same key at an index, or both have nothing there.
+// Returns whether two maps have the same key with the same attribute at index `i`, or both end before that index.
 fn same_entry(
     held: &IndexMap<Text, Attribute>,
     others: &IndexMap<Text, Attribute>,

@@ -32,8 +32,8 @@ impl Drop for SourceOp {
     }
 }
 
-/// The attributes of a source by their keys. If several entries have the same key, the last one counts, at the index of the first one. Contracts see
-/// the list of keys and attributes.
+/// The attributes of a source by their keys. If several entries of the map have the same key, the last one counts, at the index of the first one.
+/// Contracts see the list of keys and attributes.
 pub struct Attributes {
     held: IndexMap<Text, Attribute>,
 }
@@ -45,7 +45,7 @@ impl Drop for Attributes {
     }
 }
 
-/// The value of an attribute, with the extra bytes of its entry.
+/// The value of an attribute, with the extra bytes of the map entry that the value comes from.
 pub struct Attribute {
     pub value: Text,
     pub extra: Bytes,
@@ -76,7 +76,7 @@ impl Model for Attributes {
 }
 
 impl Attributes {
-    /// Makes the attributes of a map, without a copy.
+    /// Makes the attributes of a source from a map of keys to attributes, without a copy.
     pub fn new(held: IndexMap<Text, Attribute>) -> Attributes
         ensures { result ≡ held.entries }
     {

@@ -32,7 +32,7 @@ pub enum MessageName {
     MergeInput,
 }
 
-/// What a field holds. `Bytes` is also the kind of a message that is not read.
+/// What a field holds. `Bytes` is also the kind of a field whose message is not read.
 #[derive(Clone, Copy)]
 pub enum FieldKind {
     Int64,
@@ -62,7 +62,7 @@ impl FieldKind {
     }
 }
 
-/// A field by its number and kind.
+/// A field as the table describes it: its number, its kind, and how often and where it may occur.
 #[derive(Clone, Copy)]
 pub struct NamedField {
     pub number: u32,
