@@ -82,7 +82,7 @@ fn make(rows: &mut Rows, marks: &mut Vec<Marks>, ready: Ready)
     }
 }
 
-// Makes each of the prepared instances that does not exist, and marks all of them. There is room for one more row for each of them.
+// Makes each of the prepared instances that does not exist, and marks all of them. There is room for as many new rows as there are instances.
 pub(crate) fn make_all(rows: &mut Rows, marks: &mut Vec<Marks>, readies: Vec<Ready>)
     requires order { AreOrdered rows.old }
     requires spare { HasRoom rows.old (length readies.items) }
@@ -100,7 +100,7 @@ pub(crate) fn make_all(rows: &mut Rows, marks: &mut Vec<Marks>, readies: Vec<Rea
     }
 }
 
-// Removes the marks of instances.
+// Removes the marks of these instances.
 pub(crate) fn unmark_all(rows: &Rows, marks: &mut Vec<Marks>, places: &[Instance])
     requires order { AreOrdered rows.now }
     requires each { length marks.old.items ≡ length rows.now.entries.items }

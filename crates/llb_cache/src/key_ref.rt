@@ -1,5 +1,5 @@
-//! A key that borrows its texts from another value. Caches can be searched for such a key before a `Key` is made,
-//! which owns its texts.
+//! A key that borrows its texts from another value. Caches can be searched for such a key, so no `Key`, which owns its
+//! texts, has to be made for a search.
 
 ghost use Rattle.std.specs.Prelude.{◌≡◌, ◌==◌, not, length, option_map, true, IfErr, IfOk};
 ghost use Rattle.std.specs.Option.{option_cmp};

@@ -21,8 +21,8 @@ use llb_wire::Many;
 use std::alloc::Global;
 use std::marker::Model;
 
-/// A prepared lease of instances that exist: copies of the instances, room for their marks, and a list with room for leases. So granting it does not allocate.
-/// Contracts see the instances, and for how many leases there is room.
+/// A prepared lease of instances that exist: copies of the instances, room for their marks, and a list with room for leases. All memory is allocated before
+/// the lease is granted. Contracts see the instances, and for how many leases there is room.
 pub struct Lent {
     places: Many<Instance>,
     marks: Vec<Marks>,

@@ -1,5 +1,5 @@
-//! The rows of caches: the keys with the trees of their instances. A look-up is a binary search of the rows in the order of their keys, so for any keys
-//! the time of a look-up grows with the logarithm of the number of rows.
+//! The rows of caches: the keys with the trees of their instances. A look-up is a binary search of the rows in the order of their keys, so the time of a
+//! look-up grows with the logarithm of the number of rows.
 
 ghost use Rattle.std.specs.Prelude.{◌≡◌, ◌<◌, ◌+◌, ℕ, false, [], length, IfSome, OnOk, IsSome, Some};
 ghost use Rattle.std.specs.Prelude.{is_some, option_map, position, slice_get};

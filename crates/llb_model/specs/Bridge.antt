@@ -34,7 +34,7 @@ store_of rows = store_from rows rows
 
 -- ---- rows after an event
 
--- the rows after each of these instances, which all exist, gets the tree at the same position of the list of trees
+-- the rows with new trees in these instances, which all exist: each instance gets the tree at the same position of the list of trees
 abbrev pub put_each : List Row → List Instance → List TreeMap → List Row
 put_each rows [] ts = rows
 put_each rows (p ∷ ps) [] = rows
@@ -45,18 +45,18 @@ abbrev pub showing : List Row → Instance → TreeMap → List Row
 showing rows p t =
     with_trees rows p.key (if nat_lt p.number (length (trees_of rows p.key)) then slice_set (trees_of rows p.key) p.number t else trees_of rows p.key ++ t ∷ [])
 
--- the rows after each of these instances gets the tree that the store has for it
+-- the rows with the store's trees in these instances: each instance gets the tree that the store has for it
 abbrev pub written : Store → List Row → List Instance → List Row
 written s rows [] = rows
 written s rows (p ∷ ps) = written s (showing rows p (tree_of s p)) ps
 
--- the rows after an event of worker w, given the state after the event: the event writes or makes only instances that the worker holds in that state
+-- the rows after an event of worker w, given the state after the event: the event writes and makes no instances but those that w holds in that state
 abbrev pub rows_after : List Row → State → ℕ → List Row
 rows_after rows s w = written s.store rows (places_at (slice_get s.workers w))
 
 -- ---- what a lease needs, and which instances it takes
 
--- the needs of a lease, one for each need of a vertex: the same key, and the tree that a new instance begins with (the tree of an input, or the empty tree)
+-- the needs of a vertex as llb_cache takes them: each has its key, and the tree that a new instance begins with (the tree of an input, or the empty tree)
 abbrev pub asked : List TreeMap → List Need → List cache_need.Need
 asked inputs needs = map (λ (n : Need). record { key = n.key; tree = base_in n.input inputs }) needs
 
@@ -64,7 +64,7 @@ asked inputs needs = map (λ (n : Need). record { key = n.key; tree = base_in n.
 abbrev pub places_taken : Leases → List Need → List Instance
 places_taken out needs = map (λ (n : Need). cache.place_for out n.key) needs
 
--- what a lease of one need adds to the rows
+-- what a lease of one need adds to the rows: a new instance, a new row with its first instance, or nothing
 abbrev pub growth_for : cache.CachesValue → Need → Growth
 growth_for c n = growth_at c.rows (cache.place_for c.out n.key)
 

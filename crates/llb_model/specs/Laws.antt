@@ -47,19 +47,19 @@ NoShared b = (k : ℕ) (v : Vertex) → slice_get b.graph.vertices k ≡ Some v 
 
 -- ---- exclusive instances
 
--- two running workers that hold one instance exclusively are the same worker
+-- in each state of a run, at most one running worker holds a given instance of a private or locked key
 abbrev pub IsHeldOnce : Build → Type 0
 IsHeldOnce b = (s : State) → IsReached b s → (w u : ℕ) (x y : Execution) (p : Instance) → slice_get s.workers w ≡ Some (Runs x)
     → slice_get s.workers u ≡ Some (Runs y)
     → Has x.places p → Has y.places p → IsExclusive p.key.mode → w ≡ u
 
--- two running workers that hold instances of one locked key are the same worker
+-- in each state of a run, at most one running worker holds instances of a given locked key
 abbrev pub IsLockedOnce : Build → Type 0
 IsLockedOnce b = (s : State) → IsReached b s → (w u : ℕ) (x y : Execution) (p q : Instance) → slice_get s.workers w ≡ Some (Runs x)
     → slice_get s.workers u ≡ Some (Runs y)
     → Has x.places p → Has y.places q → p.key ≡ q.key → p.key.mode ≡ Locked → w ≡ u
 
--- another worker's event does not change an instance that a running worker holds exclusively
+-- an event of another worker does not change an instance of a private or locked key that a running worker holds
 abbrev pub OthersKeep : Build → Type 0
 OthersKeep b = (s t : State) (e : Event) (r : Reply) → IsReached b s → table b s e ≡ Some (t, r) → (w : ℕ) (x : Execution) (p : Instance)
     → slice_get s.workers w ≡ Some (Runs x)
@@ -73,7 +73,7 @@ with_content p t s = record s { store = put s.store p t }
 abbrev pub with_content_after : Instance → TreeMap → State × Reply → State × Reply
 with_content_after p t a = (with_content p t a.0, a.1)
 
--- another worker's event does not read an instance that is held exclusively: whatever tree the instance has, the reply and effect elsewhere are the same
+-- another worker's event does not read an instance of a private or locked key that a worker holds: for any tree there, the reply and all else are the same
 abbrev pub OthersIgnore : Build → Type 0
 OthersIgnore b = (s : State) (e : Event) (t : TreeMap) → IsReached b s → (w : ℕ) (x : Execution) (p : Instance) → slice_get s.workers w ≡ Some (Runs x)
     → Has x.places p → IsExclusive p.key.mode → worker_of e ≢ w → table b (with_content p t s) e ≡ option_map (with_content_after p t) (table b s e)
@@ -135,7 +135,7 @@ HeldAreThere b = (s : State) → IsReached b s → (w : ℕ) (x : Execution) →
 abbrev pub at_start : List Shown → List ℕ → List TreeMap → Work
 at_start mounts caches trees = record { own = Mounted mounts caches 0; trees = trees }
 
--- the number of the last command that ran, up to command k: k if command k runs after the status `last`, else `before`, the last one that ran before k
+-- the number of the last command that ran, up to command k: k if command k runs after the status `last`; else `before`, the number of the last one before k
 abbrev pub later_ran : ℕ → Option Joined → ℕ → ℕ → ℕ
 later_ran k None last before = before
 later_ran k (Some c) last before = if is_run c.join last then k else before
@@ -180,7 +180,7 @@ abbrev pub are_ands : List Joined → Bool
 are_ands [] = true
 are_ands (c ∷ cs) = is_run c.join 0 && all_and cs
 
--- the micro-step of a command that runs whatever the last status is; a status other than 0 is the exec's fault at once
+-- the micro-step that runs a command whatever the last status is; if the command's status is not 0, the exec has a fault at once
 abbrev pub in_turn : Setting → Joined → MicroStep
 in_turn setting c = Run setting (record { join = Then; command = c.command }) true
 

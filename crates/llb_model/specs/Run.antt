@@ -42,7 +42,7 @@ abbrev pub or_else : Option Event → Option Event → Option Event
 or_else (Some e) other = Some e
 or_else None other = other
 
--- the chosen event: the next event of the running worker with the lowest number, or, if no worker runs, worker 0's claim of the least Ready vertex
+-- the chosen event: the next event of the running worker with the lowest number or, if none runs, worker 0's claim of the Ready vertex with the lowest number
 abbrev pub chosen : Build → State → Option Event
 chosen b s = or_else (next_of b 0 s.workers) (next_claim b s)
 
