@@ -1,4 +1,4 @@
--- The first row that has a given key; and the rows after the trees of one row are replaced.
+-- The first row that has a given key; and rows with the trees of one row replaced.
 use Rattle.std.specs.Prelude.{◌≡◌, ℕ, zero, suc, true, false, List, [], ◌∷◌}
 use Rattle.std.specs.List.{AllByRecursion}
 use Rattle.std.specs.Map.{keys_of}

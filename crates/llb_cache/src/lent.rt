@@ -1,5 +1,5 @@
-//! A lease that is prepared while memory may be refused (`Lent::new`), and granted later without allocating (`lend_again`). Its instances exist when it is
-//! granted, so no row changes.
+//! A lease that is prepared while memory may be refused (`Lent::new`), and granted later without allocating (`lend_again`). The instances exist already when
+//! the lease is granted, so no row changes.
 
 ghost use Rattle.std.specs.Prelude.{◌≡◌, ◌<◌, ◌≤◌, true, [], length, vec_capacity, IfOk};
 ghost use Rattle.std.specs.List.{All};

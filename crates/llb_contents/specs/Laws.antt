@@ -64,7 +64,7 @@ HaveAlikeSources R g v ls ms = (name : List ℕ) → IsSourceOf g v name → Bot
 abbrev pub HasAlikeOutcomes : (List ℕ → List ℕ → Type 0) → Numbered → List Local → List Local → ℕ → Type 0
 HasAlikeOutcomes R g ls ms v = BothOptions (AreAlikeOutcomes R) (outcome (record { graph = g; locals = ls }) v) (outcome (record { graph = g; locals = ms }) v)
 
--- a vertex has alike plain outcomes with two lists of local trees, if `RelatesWritten` holds of it, and the sources at or before it have alike trees in both
+-- a vertex has alike plain outcomes with two lists of local trees, if `RelatesWritten` holds and the sources at or before it have alike trees in the two lists
 abbrev pub HandsOn : (List ℕ → List ℕ → Type 0) → Numbered → Type 0
 HandsOn R g = (ls ms : List Local) (v : ℕ) → RelatesWritten R g v → HaveAlikeSources R g v ls ms → HasAlikeOutcomes R g ls ms v
 

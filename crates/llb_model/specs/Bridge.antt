@@ -1,7 +1,7 @@
 -- How the two models of caches are related. llb_cache models caches as rows, in the order in which the keys were first leased; a row is a key with the list of
--- its trees. llb_cache also numbers the leases. Callers of llb_cache list the keys in the order of the rows, and return a lease by number. The machine models
--- caches as a store, a map from instances to trees. If two workers lease two new keys, the store is the same whoever is first, but the rows differ, since a new
--- key is put last. This file says which store the rows represent, which rows there are after an event, and which leases the running workers have.
+-- its trees. llb_cache also numbers the leases. Callers of llb_cache list the keys in the order of the rows, and give a lease back by its number. The machine
+-- models caches as a store, a map from instances to trees. If two workers lease two new keys, the store is the same in either order of the leases, but the rows
+-- differ, since a new key is put last. This file says which store rows represent, which rows there are after an event, and which leases the workers have.
 use Rattle.std.specs.Prelude.{◌≡◌, ◌⊎◌, ℕ, ◌+◌, true, List, [], ◌∷◌, ◌++◌, length, map, Option, Some, None, slice_get, slice_set, nat_lt}
 use Rattle.std.specs.Prelude.{if◌then◌else◌}
 use Rattle.std.specs.FinMap as finite
