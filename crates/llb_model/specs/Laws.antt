@@ -59,7 +59,7 @@ IsLockedOnce b = (s : State) → IsReached b s → (w u : ℕ) (x y : Execution)
     → slice_get s.workers u ≡ Some (Runs y)
     → Has x.places p → Has y.places q → p.key ≡ q.key → p.key.mode ≡ Locked → w ≡ u
 
--- an event of another worker does not change an instance of a private or locked key that a running worker holds
+-- an event of one worker does not change an instance of a private or locked key that another running worker holds
 abbrev pub OthersKeep : Build → Type 0
 OthersKeep b = (s t : State) (e : Event) (r : Reply) → IsReached b s → table b s e ≡ Some (t, r) → (w : ℕ) (x : Execution) (p : Instance)
     → slice_get s.workers w ≡ Some (Runs x)
@@ -73,7 +73,7 @@ with_content p t s = record s { store = put s.store p t }
 abbrev pub with_content_after : Instance → TreeMap → State × Reply → State × Reply
 with_content_after p t a = (with_content p t a.0, a.1)
 
--- another worker's event does not read an instance of a private or locked key that a worker holds: for any tree there, the reply and all else are the same
+-- an event of one worker does not read an instance of a private or locked key that another holds: for any tree there, the reply and all else are the same
 abbrev pub OthersIgnore : Build → Type 0
 OthersIgnore b = (s : State) (e : Event) (t : TreeMap) → IsReached b s → (w : ℕ) (x : Execution) (p : Instance) → slice_get s.workers w ≡ Some (Runs x)
     → Has x.places p → IsExclusive p.key.mode → worker_of e ≢ w → table b (with_content p t s) e ≡ option_map (with_content_after p t) (table b s e)
@@ -102,7 +102,7 @@ AreChosen b s es = EachIn (IsChosen b) b s es
 abbrev pub IsAtRest : State → Type 0
 IsAtRest s = (v w : ℕ) → slice_get s.statuses v ≡ Some (Running w) → ⊥
 
--- if a run has only chosen events, and no vertex runs at its end, it ends as if its claims were done one after another; this holds with shared caches too
+-- a run of chosen events alone, at whose end no vertex runs, ends as if its claims were done one after another; this holds with shared caches too
 abbrev pub AloneInClaimOrder : Build → Type 0
 AloneInClaimOrder b = (o : Opening) (es : List Event) (rs : List Reply) (s : State) → run b (opening b o) es ≡ Some (s, rs)
     → AreChosen b (opening b o) es → IsAtRest s
@@ -114,7 +114,7 @@ AloneInClaimOrder b = (o : Opening) (es : List Event) (rs : List Reply) (s : Sta
 abbrev pub IsDense : Store → Type 0
 IsDense store = (k : Key) (n : ℕ) → is_some (content store (place k (n + 1))) ≡ true → is_some (content store (place k n)) ≡ true
 
--- if the numbers have no gaps at the opening, they have none later: a claim that makes an instance gives it the next number of its key
+-- the numbers of instances have no gaps later if they have none at the opening: a new instance gets the next number of its key
 abbrev pub StaysDense : Build → Type 0
 StaysDense b = (o : Opening) (es : List Event) (rs : List Reply) (s : State) → IsDense o.store → run b (opening b o) es ≡ Some (s, rs) → IsDense s.store
 
@@ -202,6 +202,6 @@ abbrev pub PartsMeet : Type 0
 PartsMeet = (ms : List ℕ) (trees : List TreeMap) (mounts : List Shown) → Distinct ms → length trees ≡ length ms
     → filled (blanked mounts ms trees) ms (taken mounts ms trees) ≡ mounts
 
--- as many trees are taken out as were put in
+-- as many trees are taken out of a view as were put into it
 abbrev pub PartsCount : Type 0
 PartsCount = (ms : List ℕ) (trees : List TreeMap) (mounts : List Shown) → length (taken mounts ms trees) ≡ length trees

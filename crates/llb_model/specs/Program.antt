@@ -271,7 +271,7 @@ filled mounts [] trees = mounts
 filled mounts (m ∷ ms) [] = mounts
 filled mounts (m ∷ ms) (t ∷ trees) = filled (with_tree_of mounts m t) ms trees
 
--- the trees that the mounts with these numbers show, one in place of each item of `trees`; items of `trees` without a number at their position stay
+-- the list `trees`, with each item replaced by the tree of the mount whose number is at the same position of the other list; items past its end stay
 abbrev pub taken : List Shown → List ℕ → List TreeMap → List TreeMap
 taken mounts ms [] = []
 taken mounts [] (t ∷ trees) = t ∷ trees
@@ -281,7 +281,7 @@ taken mounts (m ∷ ms) (t ∷ trees) = (mount_at mounts m).tree ∷ taken mount
 abbrev pub blanked : List Shown → List ℕ → List TreeMap → List Shown
 blanked mounts ms trees = filled mounts ms (map (λ t. empty_tree) trees)
 
--- the work after a command with status 0: the mounts as the command left them, except that the trees of the cache mounts are taken out, and kept beside them
+-- the work after a command with status 0: the mounts as the command left them, but with empty trees in the cache mounts, whose trees are in `trees` instead
 abbrev pub parted : List ℕ → List TreeMap → List Shown → Work
 parted caches trees mounts = record { own = Mounted (blanked mounts caches trees) caches 0; trees = taken mounts caches trees }
 

@@ -33,8 +33,8 @@ worker_of (Step w) = w
 worker_of (Settle w) = w
 worker_of (Cancel w) = w
 
--- what a claim hands out: the worker, the vertex and its program, how many micro-steps are done, the work (with the trees that the instances have at the
--- claim), and the numbers of these instances in the order of the vertex's needs
+-- what a claim hands out: the worker, the vertex and its program, how many micro-steps are done, the work (with the trees that the vertex's cache instances
+-- have at the claim), and the numbers of these instances in the order of the vertex's needs
 pub record Job : Type 0 where
   pub worker : ℕ
   pub vertex : ℕ

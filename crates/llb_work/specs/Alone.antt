@@ -40,7 +40,7 @@ pub record EndsInClaimOrder (b : Build) (o : Opening) (es : List Event) (s : Sta
   pub statuses : s.statuses ≡ (order b (at_first b o.store) (claims_in replies)).statuses
   pub store : s.store ≡ (order b (at_first b o.store) (claims_in replies)).store
 
--- `made` has, for each worker number below 64, how many of the appended events are events of that worker
+-- `made` has, for each worker number below 64, how many events of that worker the record of `new` has after the events of `old`
 abbrev pub MadeBy : BoardValue → BoardValue → List ℕ → Type 0
 MadeBy old new made = (w : ℕ) → w < 64 → slice_index made w ≡ events_by w (drop (length old.events) new.events)
 
