@@ -62,7 +62,7 @@ each test v (suc n) = test v && each test (v + 1) n
 abbrev pub is_complete : Build → State → Bool
 is_complete b s = each (λ v. is_settled (slice_get s.statuses v) || is_blocked b s.statuses v) 0 (length b.graph.vertices)
 
--- the vertices that were claimed, in order
+-- the vertices of the claims among these events, in order
 abbrev pub claims_of : List Event → List ℕ
 claims_of [] = []
 claims_of (Claim w v ∷ es) = v ∷ claims_of es

@@ -8,7 +8,7 @@ use Rattle.llb_work.specs.declared.end.RunFault.TheVariants.{Memory, Stopped, Th
 use Rattle.llb_work.specs.declared.noted.Noted.{Noted}
 use Rattle.llb_work.specs.declared.noted.Noted.TheVariants as noted
 
--- whether the fault is 154 `Foreign`: the copy of the opening board under the lock differs from the board that the run was called with
+-- whether the fault is 154 `Foreign`: the copy of the opening board under the lock differs from the board passed to the run
 abbrev pub is_foreign : Option RunFault → Bool
 is_foreign None = false
 is_foreign (Some Memory) = false

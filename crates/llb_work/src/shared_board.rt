@@ -252,7 +252,8 @@ impl<S: Gated> SharedBoard<S> {
         }
     }
 
-    // Returns what a worker is to do after its vertex has ended, or after its landing or settle was refused.
+    // Returns what a worker is to do after its vertex has ended, or after its landing or settle was refused. If the vertex has ended, adds to
+    // `news` the numbers of those users of the vertex that are ready.
     fn left(&mut self, settled: Option<Settled>, news: &mut Vec<u32>) -> Task
         ensures { (w : ℕ) → IsHere S.start w result }
     {
