@@ -56,7 +56,7 @@ rows_after rows s w = written s.store rows (places_at (slice_get s.workers w))
 
 -- ---- what a lease needs, and which instances it takes
 
--- the needs of a vertex as llb_cache takes them: each has its key, and the tree that a new instance begins with (the tree of an input, or the empty tree)
+-- the needs of a vertex as llb_cache takes them: a key, and the tree that a new instance begins with (the tree of an input, or the empty tree)
 abbrev pub asked : List TreeMap → List Need → List cache_need.Need
 asked inputs needs = map (λ (n : Need). record { key = n.key; tree = base_in n.input inputs }) needs
 

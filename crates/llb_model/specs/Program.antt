@@ -271,7 +271,7 @@ filled mounts [] trees = mounts
 filled mounts (m ∷ ms) [] = mounts
 filled mounts (m ∷ ms) (t ∷ trees) = filled (with_tree_of mounts m t) ms trees
 
--- the list `trees`, with each item replaced by the tree of the mount whose number is at the same position of the other list; items past its end stay
+-- the list `trees`, with item i replaced by the tree of the mount that item i of the list of numbers names; items of `trees` beyond the numbers stay
 abbrev pub taken : List Shown → List ℕ → List TreeMap → List TreeMap
 taken mounts ms [] = []
 taken mounts [] (t ∷ trees) = t ∷ trees

@@ -1,5 +1,5 @@
-//! Gives each of at most 64 workers what it needs in its thread, and takes it back: a part of the pass of the queue (the right to use the queue), a share of
-//! the ledger that counts events, and a list for the numbers of vertices.
+//! Hands out to each of at most 64 workers, and takes back: a part of the pass of the queue (the right to use the queue), a share of the ledger that counts
+//! events, and a list for the numbers of vertices.
 
 ghost use Rattle.std.specs.Prelude.{◌≡◌, ◌≤◌, ◌^◌, vec_len};
 ghost use Rattle.llb_ready.specs.Passes.{hand_of, IsReadyPassOf};

@@ -129,8 +129,8 @@ impl<S: Gated> SharedBoard<S> {
         self.board.land(w, outcome)
     }
 
-    // Returns whether a job is known to agree with what its worker runs: no cache mount is at or before the vertex of the job, and
-    // the worker has done no micro-step of that vertex on the board.
+    // Returns whether a job is known to agree with what its worker runs: no cache mount is at or before the vertex of the job, and the
+    // worker runs that vertex on the board and has done no micro-step of it there.
     fn is_known(&self, w: u32, job: &Job) -> bool
         requires { IsClaimed S.start w job.now.vertex job.now }
         ensures { OnTrue result (IsKnown self.now.board w job.now) }
