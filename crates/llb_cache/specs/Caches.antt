@@ -38,7 +38,7 @@ place key number = record { key = key; number = number }
 abbrev pub trees_of : List Row → Key → List TreeMap
 trees_of rows key = unwrap_or (lookup (same_key key) rows) []
 
--- the rows after the trees of a key are replaced by these trees; if no row has the key, a new row is appended
+-- the rows, with the trees of a key replaced by these trees; if no row has the key, a new row is appended
 abbrev pub with_trees : List Row → Key → List TreeMap → List Row
 with_trees [] key trees = (key, trees) ∷ []
 with_trees (r ∷ rows) key trees = if same_key key r.0 then (r.0, trees) ∷ rows else r ∷ with_trees rows key trees
@@ -47,7 +47,7 @@ with_trees (r ∷ rows) key trees = if same_key key r.0 then (r.0, trees) ∷ ro
 abbrev pub tree_at : List Row → Instance → Option TreeMap
 tree_at rows p = slice_get (trees_of rows p.key) p.number
 
--- the rows after the tree of an instance, which exists, is replaced by this tree
+-- the rows, with the tree of an instance replaced by this tree; the instance exists
 abbrev pub put : List Row → Instance → TreeMap → List Row
 put rows p tree = with_trees rows p.key (slice_set (trees_of rows p.key) p.number tree)
 
@@ -88,12 +88,12 @@ place_at out lease i = slice_index_or (places_of out lease) i (place (record { i
 
 -- ---- what a lease takes
 
--- of the numbers n to n + more - 1, the least whose instance of this key no lease has; n + more if there is no such number
+-- the least number i from n to n + more - 1 such that no lease has instance i of this key; n + more if there is no such number
 unfoldable pub first_free : Leases → Key → ℕ → ℕ → ℕ
 first_free out key n zero = n
 first_free out key n (suc more) = if is_held out (place key n) then first_free out key (n + 1) more else n
 
--- the number of the instance that a new lease takes: 0 for a shared or a locked key; for a private key the least that is free, which is at most `leases out`
+-- the number of the instance that a new lease takes: 0 for a shared or locked key; for a private key the least that no lease has, at most the number of leases
 abbrev pub number_for : Leases → Key → Mode → ℕ
 number_for out key Shared = 0
 number_for out key Locked = 0
@@ -111,7 +111,7 @@ Taken = Instance × TreeMap
 abbrev pub taken : Leases → List Need → List Taken
 taken out needs = map (λ n. (place_for out n.key, n.tree)) needs
 
--- the rows after those of the taken instances that do not exist are made, each with its tree
+-- the rows after a lease has taken these instances: each of them that does not exist is made, with its tree
 abbrev pub made_all : List Row → List Taken → List Row
 made_all rows ts = fold (λ rows t. made rows t.0 t.1) rows ts
 
@@ -143,12 +143,12 @@ granted c needs = (
   },
 )
 
--- the result of a lease of these needs: if one of them is refused (`Some`), the lease is refused with its key; otherwise the lease is granted
+-- the result of a lease of these needs, given the first need that cannot be met: the lease is refused with the key of this need, or granted if there is none
 abbrev pub lease_by : CachesValue → List Need → Option Need → Result (ℕ × CachesValue) LeaseFault
 lease_by c needs None = Ok (granted c needs)
 lease_by c needs (Some n) = Err (Held n.key)
 
--- the result of a lease of these needs: it is refused with the first locked key whose instance a lease has; if there is none, it is granted
+-- the result of a lease of these needs: refused with the first locked key whose instance a lease has; granted if there is no such key
 abbrev pub lease_of : CachesValue → List Need → Result (ℕ × CachesValue) LeaseFault
 lease_of c needs = lease_by c needs (find (is_locked_and_held c.out) needs)
 

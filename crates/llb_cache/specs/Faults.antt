@@ -13,6 +13,6 @@ is_memory (Held key) = false
 abbrev pub Gives : {X Y : Type 0} → (X → Y) → Result X LeaseFault → Result Y LeaseFault → Type 0
 Gives = answer.Gives is_memory
 
--- `Memory` is reported last: a call fails with `Memory` only if the rule of the call has no refusal
+-- `Memory` is reported last: a call fails with `Memory` only if the rule of the call refuses nothing
 abbrev pub MemoryLast : {X Y : Type 0} → Result X LeaseFault → Result Y LeaseFault → Type 0
 MemoryLast = answer.MemoryLast is_memory

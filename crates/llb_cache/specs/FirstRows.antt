@@ -1,4 +1,4 @@
--- The first row that has a given key; and the rows after the trees of one row are replaced.
+-- The first row that has a given key; and rows with the trees of one row replaced.
 use Rattle.std.specs.Prelude.{◌≡◌, ℕ, zero, suc, true, false, List, [], ◌∷◌}
 use Rattle.std.specs.List.{AllByRecursion}
 use Rattle.std.specs.Map.{keys_of}
@@ -17,7 +17,7 @@ IsFirst k [] i = ⊥
 IsFirst k (e ∷ es) zero = same_key k e.0 ≡ true
 IsFirst k (e ∷ es) (suc i) = (same_key k e.0 ≡ false) × IsFirst k es i
 
--- the rows after the trees of row i are replaced
+-- the rows, with the trees of row i replaced by the trees w
 abbrev pub set_trees : List Row → ℕ → List TreeMap → List Row
 set_trees [] i w = []
 set_trees (e ∷ es) zero w = (e.0, w) ∷ es

@@ -1,4 +1,4 @@
--- What a new lease prepares, with all the memory that it needs, before the caches change.
+-- What is prepared for a new lease, with all the memory that the lease needs, before the caches change.
 use Rattle.std.specs.Prelude.{◌≡◌, ℕ, ◌<◌, Bool, false, List, [], ◌∷◌, length, slice_index_or, Option, Some, None}
 use Rattle.llb_cache.specs.declared.need.Need.{Need}
 use Rattle.llb_cache.specs.declared.need.Instance.{Instance}

@@ -34,13 +34,13 @@ abbrev pub shorter : List Row → Key → Option (List TreeMap) → List Row
 shorter rows key None = rows
 shorter rows key (Some ts) = with_trees rows key (front ts)
 
--- the rows after what was added for this instance is removed: nothing, the last instance of its key, or the last row
+-- the rows without what was added when this instance was made: nothing, the last instance of its key, or the last row
 abbrev pub unmade_one : List Row → Instance → Growth → List Row
 unmade_one rows p Nothing = rows
 unmade_one rows p NewInstance = shorter rows p.key (lookup (same_key p.key) rows)
 unmade_one rows p NewRow = front rows
 
--- the rows after what was added for each of these instances is removed, for the last instance first
+-- the rows without what was added when these instances were made; what was added for the last instance is removed first
 abbrev pub unmade : List Row → List Instance → List Growth → List Row
 unmade rows [] gs = rows
 unmade rows (p ∷ ps) [] = rows
@@ -50,7 +50,7 @@ unmade rows (p ∷ ps) (g ∷ gs) = unmade_one (unmade rows ps gs) p g
 abbrev pub taken_back : CachesValue → ℕ → List Growth → CachesValue
 taken_back c lease gs = record (given_back c lease) { rows = unmade c.rows (places_of c.out lease) gs }
 
--- the value of a prepared lease: its instances, and the number of leases for which its list has room
+-- the value of a prepared lease: its instances, and for how many leases the list that was prepared with it has room
 pub record LentValue : Type 0 where
   pub places : List Instance
   pub room : ℕ
@@ -59,7 +59,7 @@ pub record LentValue : Type 0 where
 abbrev pub lent_again : CachesValue → List Instance → CachesValue
 lent_again c ps = record c { out = with_lease c.out (free_lease c.out) ps }
 
--- the instances exist and have distinct keys, those of private and locked keys are free, one more lease is allowed, and the list has room for this lease
+-- a prepared lease can be granted: its instances exist and have distinct keys, no lease has those of private and locked keys, and one more lease fits
 pub record CanLend (c : CachesValue) (l : LentValue) : Type 0 where
   pub free : All (λ p. IsExclusive p.key.mode → is_held c.out p ≡ false) l.places
   pub apart : AllPairs (λ p q. p.key ≢ q.key) l.places

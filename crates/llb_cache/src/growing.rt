@@ -40,7 +40,7 @@ pub(crate) fn places_for(alloc: Global, readies: &[Ready]) -> Result<Many<Instan
     Ok(Many::new(places))
 }
 
-// Makes an instance, if it does not exist, and marks it. There is room for one more row.
+// Makes an instance, if it does not exist, and marks it. The lists of rows and of marks have room for one more row.
 fn make(rows: &mut Rows, marks: &mut Vec<Marks>, ready: Ready)
     requires order { AreOrdered rows.old }
     requires spare { HasRoom rows.old 1 }
@@ -82,7 +82,8 @@ fn make(rows: &mut Rows, marks: &mut Vec<Marks>, ready: Ready)
     }
 }
 
-// Makes each of the prepared instances that does not exist, and marks all of them. There is room for one more row for each of them.
+// Makes each of the prepared instances that does not exist, and marks all of them. The lists of rows and of marks have room for as many new
+// rows as there are prepared instances.
 pub(crate) fn make_all(rows: &mut Rows, marks: &mut Vec<Marks>, readies: Vec<Ready>)
     requires order { AreOrdered rows.old }
     requires spare { HasRoom rows.old (length readies.items) }
@@ -100,7 +101,7 @@ pub(crate) fn make_all(rows: &mut Rows, marks: &mut Vec<Marks>, readies: Vec<Rea
     }
 }
 
-// Removes the marks of instances.
+// Removes the marks of these instances.
 pub(crate) fn unmark_all(rows: &Rows, marks: &mut Vec<Marks>, places: &[Instance])
     requires order { AreOrdered rows.now }
     requires each { length marks.old.items ≡ length rows.now.entries.items }
@@ -125,7 +126,7 @@ fn unmark(rows: &Rows, marks: &mut Vec<Marks>, place: &Instance)
     }
 }
 
-// Adds a lease under the least free number, and returns the number. There is room for one more lease.
+// Adds a lease under the least free number, and returns the number. The list of leases has room for one more.
 pub(crate) fn take_lease(out: &mut Vec<Option<Many<Instance>>>, places: Many<Instance>) -> u32
     requires room { vec_len out.old < vec_capacity out.old }
     requires short { length out.old.items ≤ 65536 }

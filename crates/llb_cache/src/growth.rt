@@ -95,7 +95,7 @@ fn unmake(rows: &mut Rows, marks: &mut Vec<Marks>, place: &Instance, growth: Gro
     }
 }
 
-// Removes what was added to the rows for each of these instances, for the last instance first.
+// Removes what was added to the rows for each of these instances, beginning with the last instance.
 fn unmake_all(rows: &mut Rows, marks: &mut Vec<Marks>, places: &[Instance], growths: &[Growth])
     requires order { AreOrdered rows.old }
     requires each { length marks.old.items ≡ length rows.old.entries.items }

@@ -11,11 +11,11 @@ use std::fmt;
 /// How leases share the instances of a cache.
 #[derive(Clone, Copy, Debug)]
 pub enum Mode {
-    /// One instance, which any number of leases hold at once.
+    /// One instance, which any number of leases can have at once.
     Shared,
-    /// An instance for each lease: the instance with the least number that no other lease holds.
+    /// An instance for each lease: the instance with the least number that no other lease has.
     Private,
-    /// One instance, which one lease holds at a time.
+    /// One instance, which one lease can have at a time.
     Locked,
 }
 

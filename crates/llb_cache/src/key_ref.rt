@@ -1,5 +1,5 @@
-//! A key that borrows its texts from another value. Caches can be searched for such a key before a `Key` is made,
-//! which owns its texts.
+//! A key that borrows its texts from another value. Caches can be searched for such a key, so no `Key`, which owns its
+//! texts, has to be made for a search.
 
 ghost use Rattle.std.specs.Prelude.{◌≡◌, ◌==◌, not, length, option_map, true, IfErr, IfOk};
 ghost use Rattle.std.specs.Option.{option_cmp};
@@ -41,8 +41,8 @@ impl<'a> KeyRef<'a> {
         KeyRef { id, seed, mode }
     }
 
-    /// Returns an equal key that owns its texts. Fails with 112 `Memory` alone. If all texts of the key are empty, does not
-    /// allocate.
+    /// Returns an equal key that owns its texts. Fails with 112 `Memory` alone. Does not allocate if all texts of the key are
+    /// empty.
     pub fn to_key(&self, alloc: Global) -> Result<Key, Memory>
         ensures ok { IfOk result (λ k. k ≡ self.now) }
         ensures memory { IfErr result (λ _. has_text self.now ≡ true) }

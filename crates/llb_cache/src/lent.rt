@@ -1,5 +1,5 @@
-//! A lease that is prepared while memory may be refused (`Lent::new`), and granted later without allocating (`lend_again`). Its instances exist when it is
-//! granted, so no row changes.
+//! A lease that is prepared while memory may be refused (`Lent::new`), and granted later without allocating (`lend_again`). The instances exist already when
+//! the lease is granted, so no row changes.
 
 ghost use Rattle.std.specs.Prelude.{◌≡◌, ◌<◌, ◌≤◌, true, [], length, vec_capacity, IfOk};
 ghost use Rattle.std.specs.List.{All};
@@ -21,8 +21,8 @@ use llb_wire::Many;
 use std::alloc::Global;
 use std::marker::Model;
 
-/// A prepared lease of instances that exist: copies of the instances, room for their marks, and a list with room for leases. So granting it does not allocate.
-/// Contracts see the instances, and for how many leases there is room.
+/// A prepared lease of instances that exist: copies of the instances, room for their marks, and a list with room for leases. All memory is allocated before
+/// the lease is granted. Contracts see the instances, and for how many leases there is room.
 pub struct Lent {
     places: Many<Instance>,
     marks: Vec<Marks>,

@@ -1,5 +1,5 @@
-//! The rows of caches: the keys with the trees of their instances. A look-up is a binary search of the rows in the order of their keys, so for any keys
-//! the time of a look-up grows with the logarithm of the number of rows.
+//! The rows of caches: the keys with the trees of their instances. A look-up is a binary search of the rows in the order of their keys, so the time of a
+//! look-up grows with the logarithm of the number of rows.
 
 ghost use Rattle.std.specs.Prelude.{◌≡◌, ◌<◌, ◌+◌, ℕ, false, [], length, IfSome, OnOk, IsSome, Some};
 ghost use Rattle.std.specs.Prelude.{is_some, option_map, position, slice_get};
@@ -157,7 +157,7 @@ pub(crate) fn reserve(rows: &mut Rows, more: usize) -> Result<(), Memory>
     Ok(())
 }
 
-// Adds a row for a key that has none. There is room for one more row.
+// Adds a row for a key that has none. Both lists of `rows` have room for one more item.
 pub(crate) fn add_row(rows: &mut Rows, key: Key, trees: Trees)
     requires order { AreOrdered rows.old }
     requires room { HasRoom rows.old 1 }

@@ -1,4 +1,4 @@
--- Trees, views and results that differ only in the contents of files, where contents at the same place are related by a given relation R.
+-- Trees, views and results that differ only in the contents of files; a given relation R relates the two contents at each path.
 use Rattle.std.specs.Prelude.{◌≡◌, ℕ, List, [], ◌∷◌, ◌++◌, Option, Some, None, Result, Ok, Err}
 use Rattle.std.specs.List.{flat_map}
 use Rattle.std.specs.FinMap as finite
@@ -73,7 +73,7 @@ AreAlikeViews R = BothLists (AreAlikeMounts R)
 abbrev pub AreLikeFiles : (List ℕ → List ℕ → Type 0) → MetaValue × List ℕ → MetaValue × List ℕ → Type 0
 AreLikeFiles R f g = (f.0 ≡ g.0) × R f.1 g.1
 
--- each text that a command writes and does not read from a file is related to itself by R; if digests are written, R relates digests of related contents
+-- R relates to itself each text that a command writes without reading it from a file; if digests are written, R relates digests of related contents
 abbrev pub RelatesTexts : (List ℕ → List ℕ → Type 0) → Setting → Command → Type 0
 RelatesTexts R setting (command.Write path word) = R (line word) (line word)
 RelatesTexts R setting (command.Append path word) = R (line word) (line word)
@@ -117,7 +117,7 @@ pub record AreAlikeLefts (R : List ℕ → List ℕ → Type 0) (x y : Left) : T
   pub work : AreAlikeWorks R x.work y.work
   pub fault : x.fault ≡ y.fault
 
--- each content that a micro-step writes and does not read from a file is related to itself by R; if digests are made, R relates digests of related contents
+-- R relates to itself each content that a micro-step writes without reading it from a file; if digests are made, R relates digests of related contents
 abbrev pub RelatesStep : (List ℕ → List ℕ → Type 0) → MicroStep → Type 0
 RelatesStep R (Act action) = RelatesBody R action.kind
 RelatesStep R (Run setting command ends) = RelatesTexts R setting command.command

@@ -26,7 +26,7 @@ use Rattle.llb_contents.specs.Alike.{BothResults, AreAlikeViews, RelatesTexts, R
 abbrev pub By : (List ℕ → List ℕ → Bool) → List ℕ → List ℕ → Type 0
 By test a b = test a b ≡ true
 
--- laying alike trees over alike trees results in alike trees: `t` and `v` are compared with any trees that are alike to them
+-- for any trees `u` alike to `t` and `w` alike to `v`: `w` laid over `u` is alike to `v` laid over `t`
 abbrev pub LaysAlike : TreeMap → TreeMap → Type 0
 LaysAlike t v = (test : List ℕ → List ℕ → Bool) (u w : TreeMap) → AreAlike (By test) t u → AreAlike (By test) v w → AreAlike (By test) (lay t v) (lay u w)
 
@@ -64,7 +64,7 @@ HaveAlikeSources R g v ls ms = (name : List ℕ) → IsSourceOf g v name → Bot
 abbrev pub HasAlikeOutcomes : (List ℕ → List ℕ → Type 0) → Numbered → List Local → List Local → ℕ → Type 0
 HasAlikeOutcomes R g ls ms v = BothOptions (AreAlikeOutcomes R) (outcome (record { graph = g; locals = ls }) v) (outcome (record { graph = g; locals = ms }) v)
 
--- a vertex has alike plain outcomes with two lists of local trees, if `RelatesWritten` holds of it, and the sources at or before it have alike trees in both
+-- a vertex has alike plain outcomes with two lists of local trees, if `RelatesWritten` holds and the sources at or before it have alike trees in the two lists
 abbrev pub HandsOn : (List ℕ → List ℕ → Type 0) → Numbered → Type 0
 HandsOn R g = (ls ms : List Local) (v : ℕ) → RelatesWritten R g v → HaveAlikeSources R g v ls ms → HasAlikeOutcomes R g ls ms v
 
@@ -74,7 +74,7 @@ HandsRelationsOn g = (test : List ℕ → List ℕ → Bool) → IsKept (By test
 
 -- ---- a law for contents that expand to others
 
--- the second content, `b`, is what the first, `a`, expands to
+-- content `a` expands to content `b`
 abbrev pub ExpandsTo : (List ℕ → Option (List ℕ)) → List ℕ → List ℕ → Type 0
 ExpandsTo expand a b = expand a ≡ Some b
 
@@ -186,7 +186,7 @@ HandsTokensOn g = (table : ℕ → List ℕ) (ls ms : List Local) (v : ℕ) → 
 abbrev pub MakesNoDigest : Numbered → ℕ → Type 0
 MakesNoDigest g v = (k : ℕ) (x : Vertex) → Reached (links g.vertices) v k → slice_get g.vertices k ≡ Some x → list_any step_digests (program_of x).steps ≡ false
 
--- `HandsOn` with another premise in place of `RelatesWritten`, for relations that relate each content to itself: no digest is made at or before the vertex
+-- the same law as `HandsOn`, but with the premise that no digest is made at or before the vertex in place of `RelatesWritten`
 abbrev pub HandsOnUndigested : (List ℕ → List ℕ → Type 0) → Numbered → Type 0
 HandsOnUndigested R g = (ls ms : List Local) (v : ℕ) → MakesNoDigest g v → HaveAlikeSources R g v ls ms → HasAlikeOutcomes R g ls ms v
 

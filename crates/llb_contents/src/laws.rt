@@ -43,11 +43,11 @@ pub fn runs_alike(setting: &Setting, view: &View, command: &Command)
 /// contents of files, and these contents are related, then the plain outcomes of the vertex with the two lists differ only in related contents: both are
 /// blocked, both failed with the same fault, or both are done with as many outputs. Each clause is for one kind of relation, with further premises.
 /// `relations`: any relation that appending keeps, if each content that the ops themselves write is related to itself, and digests of related contents are
-/// related. `expansions`: with the same premises, the relation that the second content is what the first expands to. `tokens`: the same relation for contents
-/// with tokens (the byte 255 and a number of four bytes), if no exec at or before the vertex makes a listing, nothing there writes the byte 255, and the
-/// sources at or before each exec that makes a digest have the same trees in both lists, without the byte 255. `undigested`: any relation that appending keeps
-/// and that relates each content to itself, if no exec at or before the vertex makes a digest. `contents`: if no such exec makes a digest, the relation that
-/// the second content is the first with some pieces replaced, each by its partner in a list of pairs.
+/// related. `expansions`: the relation that the first content expands to the second, with the same premises. `tokens`: the same relation for contents with
+/// tokens (the byte 255 and a number of four bytes), if no exec at or before the vertex makes a listing, nothing there writes the byte 255, and the sources at
+/// or before each exec that makes a digest have the same trees in both lists, without the byte 255. `undigested`: any relation that appending keeps and that
+/// relates each content to itself, if no exec at or before the vertex makes a digest. `contents`: the relation that the second content is the first with some
+/// pieces replaced, each by its partner in a list of pairs, if no exec at or before the vertex makes a digest.
 pub fn contents_are_handed_on(graph: &Graph)
     ensures relations { HandsRelationsOn graph.now }
     ensures expansions { HandsExpansionsOn graph.now }

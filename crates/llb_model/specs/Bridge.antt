@@ -1,7 +1,7 @@
 -- How the two models of caches are related. llb_cache models caches as rows, in the order in which the keys were first leased; a row is a key with the list of
--- its trees. llb_cache also numbers the leases. Callers of llb_cache list the keys in the order of the rows, and return a lease by number. The machine models
--- caches as a store, a map from instances to trees. If two workers lease two new keys, the store is the same whoever is first, but the rows differ, since a new
--- key is put last. This file says which store the rows represent, which rows there are after an event, and which leases the running workers have.
+-- its trees. llb_cache also numbers the leases. Callers of llb_cache list the keys in the order of the rows, and give a lease back by its number. The machine
+-- models caches as a store, a map from instances to trees. If two workers lease two new keys, the store is the same in either order of the leases, but the rows
+-- differ, since a new key is put last. This file says which store rows represent, which rows there are after an event, and which leases the workers have.
 use Rattle.std.specs.Prelude.{◌≡◌, ◌⊎◌, ℕ, ◌+◌, true, List, [], ◌∷◌, ◌++◌, length, map, Option, Some, None, slice_get, slice_set, nat_lt}
 use Rattle.std.specs.Prelude.{if◌then◌else◌}
 use Rattle.std.specs.FinMap as finite
@@ -34,7 +34,7 @@ store_of rows = store_from rows rows
 
 -- ---- rows after an event
 
--- the rows after each of these instances, which all exist, gets the tree at the same position of the list of trees
+-- the rows with new trees in these instances, which all exist: each instance gets the tree at the same position of the list of trees
 abbrev pub put_each : List Row → List Instance → List TreeMap → List Row
 put_each rows [] ts = rows
 put_each rows (p ∷ ps) [] = rows
@@ -45,18 +45,18 @@ abbrev pub showing : List Row → Instance → TreeMap → List Row
 showing rows p t =
     with_trees rows p.key (if nat_lt p.number (length (trees_of rows p.key)) then slice_set (trees_of rows p.key) p.number t else trees_of rows p.key ++ t ∷ [])
 
--- the rows after each of these instances gets the tree that the store has for it
+-- the rows with the store's trees in these instances: each instance gets the tree that the store has for it
 abbrev pub written : Store → List Row → List Instance → List Row
 written s rows [] = rows
 written s rows (p ∷ ps) = written s (showing rows p (tree_of s p)) ps
 
--- the rows after an event of worker w, given the state after the event: the event writes or makes only instances that the worker holds in that state
+-- the rows after an event of worker w, given the state after the event: the event writes and makes no instances but those that w holds in that state
 abbrev pub rows_after : List Row → State → ℕ → List Row
 rows_after rows s w = written s.store rows (places_at (slice_get s.workers w))
 
 -- ---- what a lease needs, and which instances it takes
 
--- the needs of a lease, one for each need of a vertex: the same key, and the tree that a new instance begins with (the tree of an input, or the empty tree)
+-- the needs of a vertex as llb_cache takes them: a key, and the tree that a new instance begins with (the tree of an input, or the empty tree)
 abbrev pub asked : List TreeMap → List Need → List cache_need.Need
 asked inputs needs = map (λ (n : Need). record { key = n.key; tree = base_in n.input inputs }) needs
 
@@ -64,7 +64,7 @@ asked inputs needs = map (λ (n : Need). record { key = n.key; tree = base_in n.
 abbrev pub places_taken : Leases → List Need → List Instance
 places_taken out needs = map (λ (n : Need). cache.place_for out n.key) needs
 
--- what a lease of one need adds to the rows
+-- what a lease of one need adds to the rows: a new instance, a new row with its first instance, or nothing
 abbrev pub growth_for : cache.CachesValue → Need → Growth
 growth_for c n = growth_at c.rows (cache.place_for c.out n.key)
 

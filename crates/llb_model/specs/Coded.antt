@@ -19,12 +19,12 @@ mode_at (suc (suc n)) = Locked
 abbrev pub Packed : Type 0
 Packed = (ℕ × ℕ) × (List ℕ × Option (List ℕ × ℕ))
 
--- a seed as a pair
+-- the seed of a key as a pair: a digest and an index
 abbrev pub packed_seed : Option Seed → Option (List ℕ × ℕ)
 packed_seed None = None
 packed_seed (Some s) = Some (s.digest, s.index)
 
--- the seed that this pair was made from
+-- the seed with this digest and index
 abbrev pub unpacked_seed : Option (List ℕ × ℕ) → Option Seed
 unpacked_seed None = None
 unpacked_seed (Some p) = Some (record { digest = p.0; index = p.1 })
@@ -33,7 +33,7 @@ unpacked_seed (Some p) = Some (record { digest = p.0; index = p.1 })
 abbrev pub packed : Instance → Packed
 packed p = ((p.number, mode_place p.key.mode), (p.key.id, packed_seed p.key.seed))
 
--- the instance that these pairs were made from
+-- the instance whose plain form this is
 abbrev pub unpacked : Packed → Instance
 unpacked p = record { number = p.0.0; key = record { id = p.1.0; seed = unpacked_seed p.1.1; mode = mode_at p.0.1 } }
 

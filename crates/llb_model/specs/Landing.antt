@@ -42,7 +42,7 @@ pub record AreLeft (steps : List MicroStep) (k : ℕ) (left : Left) (n : ℕ) : 
   pub there : AreThere steps k left n
   pub over : is_over steps (k + n) (further steps k left n) ≡ true
 
--- the result so far of a worker's micro-steps, if its instances have these trees
+-- the result so far of a worker's micro-steps, if the instances that the worker holds have these trees
 abbrev pub left_so_far : Execution → List TreeMap → Left
 left_so_far x trees = record { work = record { own = x.own; trees = trees }; fault = x.fault }
 

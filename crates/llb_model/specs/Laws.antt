@@ -47,19 +47,19 @@ NoShared b = (k : ℕ) (v : Vertex) → slice_get b.graph.vertices k ≡ Some v 
 
 -- ---- exclusive instances
 
--- two running workers that hold one instance exclusively are the same worker
+-- in each state of a run, at most one running worker holds a given instance of a private or locked key
 abbrev pub IsHeldOnce : Build → Type 0
 IsHeldOnce b = (s : State) → IsReached b s → (w u : ℕ) (x y : Execution) (p : Instance) → slice_get s.workers w ≡ Some (Runs x)
     → slice_get s.workers u ≡ Some (Runs y)
     → Has x.places p → Has y.places p → IsExclusive p.key.mode → w ≡ u
 
--- two running workers that hold instances of one locked key are the same worker
+-- in each state of a run, at most one running worker holds instances of a given locked key
 abbrev pub IsLockedOnce : Build → Type 0
 IsLockedOnce b = (s : State) → IsReached b s → (w u : ℕ) (x y : Execution) (p q : Instance) → slice_get s.workers w ≡ Some (Runs x)
     → slice_get s.workers u ≡ Some (Runs y)
     → Has x.places p → Has y.places q → p.key ≡ q.key → p.key.mode ≡ Locked → w ≡ u
 
--- another worker's event does not change an instance that a running worker holds exclusively
+-- an event of one worker does not change an instance of a private or locked key that another running worker holds
 abbrev pub OthersKeep : Build → Type 0
 OthersKeep b = (s t : State) (e : Event) (r : Reply) → IsReached b s → table b s e ≡ Some (t, r) → (w : ℕ) (x : Execution) (p : Instance)
     → slice_get s.workers w ≡ Some (Runs x)
@@ -73,7 +73,7 @@ with_content p t s = record s { store = put s.store p t }
 abbrev pub with_content_after : Instance → TreeMap → State × Reply → State × Reply
 with_content_after p t a = (with_content p t a.0, a.1)
 
--- another worker's event does not read an instance that is held exclusively: whatever tree the instance has, the reply and effect elsewhere are the same
+-- an event of one worker does not read an instance of a private or locked key that another holds: for any tree there, the reply and all else are the same
 abbrev pub OthersIgnore : Build → Type 0
 OthersIgnore b = (s : State) (e : Event) (t : TreeMap) → IsReached b s → (w : ℕ) (x : Execution) (p : Instance) → slice_get s.workers w ≡ Some (Runs x)
     → Has x.places p → IsExclusive p.key.mode → worker_of e ≢ w → table b (with_content p t s) e ≡ option_map (with_content_after p t) (table b s e)
@@ -102,7 +102,7 @@ AreChosen b s es = EachIn (IsChosen b) b s es
 abbrev pub IsAtRest : State → Type 0
 IsAtRest s = (v w : ℕ) → slice_get s.statuses v ≡ Some (Running w) → ⊥
 
--- if a run has only chosen events, and no vertex runs at its end, it ends as if its claims were done one after another; this holds with shared caches too
+-- a run of chosen events alone, at whose end no vertex runs, ends as if its claims were done one after another; this holds with shared caches too
 abbrev pub AloneInClaimOrder : Build → Type 0
 AloneInClaimOrder b = (o : Opening) (es : List Event) (rs : List Reply) (s : State) → run b (opening b o) es ≡ Some (s, rs)
     → AreChosen b (opening b o) es → IsAtRest s
@@ -114,7 +114,7 @@ AloneInClaimOrder b = (o : Opening) (es : List Event) (rs : List Reply) (s : Sta
 abbrev pub IsDense : Store → Type 0
 IsDense store = (k : Key) (n : ℕ) → is_some (content store (place k (n + 1))) ≡ true → is_some (content store (place k n)) ≡ true
 
--- if the numbers have no gaps at the opening, they have none later: a claim that makes an instance gives it the next number of its key
+-- the numbers of instances have no gaps later if they have none at the opening: a new instance gets the next number of its key
 abbrev pub StaysDense : Build → Type 0
 StaysDense b = (o : Opening) (es : List Event) (rs : List Reply) (s : State) → IsDense o.store → run b (opening b o) es ≡ Some (s, rs) → IsDense s.store
 
@@ -135,7 +135,7 @@ HeldAreThere b = (s : State) → IsReached b s → (w : ℕ) (x : Execution) →
 abbrev pub at_start : List Shown → List ℕ → List TreeMap → Work
 at_start mounts caches trees = record { own = Mounted mounts caches 0; trees = trees }
 
--- the number of the last command that ran, up to command k: k if command k runs after the status `last`, else `before`, the last one that ran before k
+-- the number of the last command that ran, up to command k: k if command k runs after the status `last`; else `before`, the number of the last one before k
 abbrev pub later_ran : ℕ → Option Joined → ℕ → ℕ → ℕ
 later_ran k None last before = before
 later_ran k (Some c) last before = if is_run c.join last then k else before
@@ -180,7 +180,7 @@ abbrev pub are_ands : List Joined → Bool
 are_ands [] = true
 are_ands (c ∷ cs) = is_run c.join 0 && all_and cs
 
--- the micro-step of a command that runs whatever the last status is; a status other than 0 is the exec's fault at once
+-- the micro-step that runs a command whatever the last status is; if the command's status is not 0, the exec has a fault at once
 abbrev pub in_turn : Setting → Joined → MicroStep
 in_turn setting c = Run setting (record { join = Then; command = c.command }) true
 
@@ -202,6 +202,6 @@ abbrev pub PartsMeet : Type 0
 PartsMeet = (ms : List ℕ) (trees : List TreeMap) (mounts : List Shown) → Distinct ms → length trees ≡ length ms
     → filled (blanked mounts ms trees) ms (taken mounts ms trees) ≡ mounts
 
--- as many trees are taken out as were put in
+-- as many trees are taken out of a view as were put into it
 abbrev pub PartsCount : Type 0
 PartsCount = (ms : List ℕ) (trees : List TreeMap) (mounts : List Shown) → length (taken mounts ms trees) ≡ length trees

@@ -48,7 +48,7 @@ all_there (o ∷ os) = both o (all_there os)
 unfoldable pub inputs_from : (ℕ → Option Ending) → List Edge → Option (List TreeMap)
 inputs_from ending_of edges = all_there (map (λ (e : Edge). output_in (ending_of e.vertex) e.index) edges)
 
--- the outcome of a vertex on the trees of its inputs: Blocked if one is missing, else how its whole program ends, with no instances of caches
+-- the outcome of a vertex, given the trees of its inputs: how its whole program ends, with no instances of caches; Blocked if a tree of an input is missing
 abbrev pub outcome_on : Build → Vertex → Option (List TreeMap) → Outcome
 outcome_on b v None = Blocked
 outcome_on b v (Some trees) = Ended (ending (program_of v) (whole (program_of v).steps (begin b (start_with v trees) [])))

@@ -121,7 +121,7 @@ seed_as s = record { digest = s.digest; index = index_of s.index }
 abbrev pub key_as : CacheKey → Key
 key_as k = record { id = k.id; seed = option_map seed_as k.seed; mode = mode_of k.mode }
 
--- the needs of mount i and of the mounts after it, given the key of the cache that mount i shows, if it shows one, and the needs of the mounts after it
+-- the needs of mount i and of all later mounts, given the key of mount i (none if mount i shows no cache) and the needs of the later mounts
 abbrev pub with_need : ℕ → Mount → Option CacheKey → List Need → List Need
 with_need i m (Some k) needs = record { mount = i; key = key_as k; input = m.input } ∷ needs
 with_need i m None needs = needs
@@ -271,17 +271,17 @@ filled mounts [] trees = mounts
 filled mounts (m ∷ ms) [] = mounts
 filled mounts (m ∷ ms) (t ∷ trees) = filled (with_tree_of mounts m t) ms trees
 
--- the trees that the mounts with these numbers show, one in place of each item of `trees`; if there are fewer numbers than trees, the other items stay
+-- the list `trees`, with item i replaced by the tree of the mount that item i of the list of numbers names; items of `trees` beyond the numbers stay
 abbrev pub taken : List Shown → List ℕ → List TreeMap → List TreeMap
 taken mounts ms [] = []
 taken mounts [] (t ∷ trees) = t ∷ trees
 taken mounts (m ∷ ms) (t ∷ trees) = (mount_at mounts m).tree ∷ taken mounts ms trees
 
--- the mounts after each mount with one of these numbers gets the empty tree; of the numbers, only as many are used as there are `trees`
+-- the mounts with the empty tree in those mounts that have one of these numbers; only as many of the numbers count as there are `trees`
 abbrev pub blanked : List Shown → List ℕ → List TreeMap → List Shown
 blanked mounts ms trees = filled mounts ms (map (λ t. empty_tree) trees)
 
--- the work after a command with status 0: the mounts as the command left them, but with the empty tree in each cache mount, and the trees of the cache mounts
+-- the work after a command with status 0: the mounts as the command left them, but with empty trees in the cache mounts, whose trees are in `trees` instead
 abbrev pub parted : List ℕ → List TreeMap → List Shown → Work
 parted caches trees mounts = record { own = Mounted (blanked mounts caches trees) caches 0; trees = taken mounts caches trees }
 

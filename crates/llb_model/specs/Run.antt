@@ -42,7 +42,7 @@ abbrev pub or_else : Option Event → Option Event → Option Event
 or_else (Some e) other = Some e
 or_else None other = other
 
--- the chosen event: the next event of the running worker with the lowest number, or, if no worker runs, worker 0's claim of the least Ready vertex
+-- the chosen event: the next event of the running worker with the lowest number or, if none runs, worker 0's claim of the Ready vertex with the lowest number
 abbrev pub chosen : Build → State → Option Event
 chosen b s = or_else (next_of b 0 s.workers) (next_claim b s)
 
@@ -62,7 +62,7 @@ each test v (suc n) = test v && each test (v + 1) n
 abbrev pub is_complete : Build → State → Bool
 is_complete b s = each (λ v. is_settled (slice_get s.statuses v) || is_blocked b s.statuses v) 0 (length b.graph.vertices)
 
--- the vertices that were claimed, in order
+-- the vertices of the claims among these events, in order
 abbrev pub claims_of : List Event → List ℕ
 claims_of [] = []
 claims_of (Claim w v ∷ es) = v ∷ claims_of es

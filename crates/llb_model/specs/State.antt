@@ -166,7 +166,7 @@ abbrev pub first_free : List Instance → Key → ℕ → ℕ → ℕ
 first_free ps k n zero = n
 first_free ps k n (suc tries) = if is_in ps (place k n) then first_free ps k (n + 1) tries else n
 
--- which instance of a key a claim takes, by number, while the instances `ps` are held: for a private cache the least one that is not held, else instance 0
+-- the number of the instance of a key that a claim takes while the instances `ps` are held: for a private key the least one that is not held, else 0
 abbrev pub number_for : List Instance → Key → Mode → ℕ
 number_for ps k Shared = 0
 number_for ps k Locked = 0
@@ -180,13 +180,13 @@ place_for ps n = place n.key (number_for ps n.key n.key.mode)
 abbrev pub places_for : List Instance → List Need → List Instance
 places_for ps needs = map (place_for ps) needs
 
--- whether a claim of the key is refused: its mode is Locked, and its one instance is held
+-- whether a claim of a vertex that needs this key is refused: the key's mode is Locked, and instance 0 of the key is held
 abbrev pub is_locked_and_held : List Instance → Key → Mode → Bool
 is_locked_and_held ps k Locked = is_in ps (place k 0)
 is_locked_and_held ps k Private = false
 is_locked_and_held ps k Shared = false
 
--- the key of the first need whose mode is Locked and whose instance is held; none if there is no such need
+-- the first locked key among these needs whose instance is held; none if there is no such key
 abbrev pub held_key : List Instance → List Need → Option Key
 held_key ps [] = None
 held_key ps (n ∷ needs) = if is_locked_and_held ps n.key n.key.mode then Some n.key else held_key ps needs

@@ -19,13 +19,13 @@ given_to w v job = record job { worker = w; vertex = v }
 abbrev pub credited_to : ℕ → ℕ → OutcomeValue → OutcomeValue
 credited_to w v o = record o { job = given_to w v o.job }
 
--- the plain jobs of two vertices with the same digest differ only in the numbers of worker and vertex, if the sources at or before them have the same trees
+-- the jobs without caches (`plain_job`) of vertices with the same digest differ only in worker and vertex, if the sources at or before them have equal trees
 abbrev pub ShareJobs : Numbered → Numbered → Type 0
 ShareJobs g h = (ls ms : List Local) (v u a w : ℕ) → HaveOneDigest g v h u → HaveSameSources g v ls ms
     → plain_job (record { graph = h; locals = ms }) w u ≡ option_map (given_to w u) (plain_job (record { graph = g; locals = ls }) a v)
 
--- `o` is the outcome of the plain job of vertex v over graph g and these local trees. On board b worker w runs a vertex with the same digest and has done
--- no micro-step of it. No cache mount is at or before that vertex, and the sources at or before the two vertices have the same trees.
+-- `o` is the outcome of the job without caches (`plain_job`) of vertex v over graph g and these local trees. On board b, worker w runs a vertex with the same
+-- digest, and has done no micro-step of it. No cache mount is at or before that vertex, and the sources at or before the two vertices have the same trees.
 pub record IsWorkedElsewhere (g : Numbered) (ls : List Local) (v : ℕ) (b : BoardValue) (w : ℕ) (x : Execution) (o : OutcomeValue) : Type 0 where
   pub worker : ℕ
   pub job : plain_job (record { graph = g; locals = ls }) worker v ≡ Some o.job

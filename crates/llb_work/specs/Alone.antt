@@ -40,11 +40,11 @@ pub record EndsInClaimOrder (b : Build) (o : Opening) (es : List Event) (s : Sta
   pub statuses : s.statuses ≡ (order b (at_first b o.store) (claims_in replies)).statuses
   pub store : s.store ≡ (order b (at_first b o.store) (claims_in replies)).store
 
--- `made` has, for each worker number below 64, how many of the appended events are events of that worker
+-- `made` has, for each worker number below 64, how many events of that worker the record of `new` has after the events of `old`
 abbrev pub MadeBy : BoardValue → BoardValue → List ℕ → Type 0
 MadeBy old new made = (w : ℕ) → w < 64 → slice_index made w ≡ events_by w (drop (length old.events) new.events)
 
--- the event is a claim or a step: if it is refused for want of memory, the run may end; a settle and a cancel need no memory
+-- the event is a claim or a step, which may be refused for want of memory; a settle and a cancel need no memory
 abbrev pub TakesMemory : Option Event → Type 0
 TakesMemory (Some (Claim w v)) = ⊤
 TakesMemory (Some (Step w)) = ⊤

@@ -30,7 +30,7 @@ pub record IsAfter (start found : BoardValue) : Type 0 where
   pub front : take (length start.events) found.events ≡ start.events
   pub leads : option_map state_in (run start.build start.state (drop (length start.events) found.events)) ≡ Some found.state
 
--- the sum of the workers' counts is the number of events that were appended
+-- the sum of the workers' counts is the number of events by which the record of the board `new` is longer than that of `old`
 abbrev pub Counts : List ℕ → BoardValue → BoardValue → Type 0
 Counts made old new = sum made + length old.events ≡ length new.events
 
@@ -41,7 +41,7 @@ is_cancel (Step w) = false
 is_cancel (Settle w) = false
 is_cancel (Cancel w) = true
 
--- no cancel was appended to the record
+-- the record of the board `new` has no more cancels than that of `old`
 abbrev pub CancelsNothing : BoardValue → BoardValue → Type 0
 CancelsNothing old new = count_by is_cancel new.events ≡ count_by is_cancel old.events
 

@@ -8,7 +8,7 @@ use Rattle.llb_work.specs.declared.end.RunFault.TheVariants.{Memory, Stopped, Th
 use Rattle.llb_work.specs.declared.noted.Noted.{Noted}
 use Rattle.llb_work.specs.declared.noted.Noted.TheVariants as noted
 
--- whether the fault is 154 `Foreign`: the opening board that the lock kept is not the given one
+-- whether the fault is 154 `Foreign`: the copy of the opening board under the lock differs from the board passed to the run
 abbrev pub is_foreign : Option RunFault → Bool
 is_foreign None = false
 is_foreign (Some Memory) = false
@@ -32,7 +32,7 @@ StopsSomewhere may_stop b = (w : ℕ) × (v : ℕ) × (w < length b.state.worker
 abbrev pub is_of : BoardValue → ℕ → ℕ → Bool
 is_of b w v = nat_lt w (length b.state.workers) && nat_lt v (length b.build.graph.vertices)
 
--- if a stop of a worker at a vertex is noted, the gate may stop that worker there, and the worker and the vertex exist on the given board
+-- whether a note is possible: for a stop, the gate may stop this worker at this vertex, and both exist on the given board; true for any other note or for none
 abbrev pub may_be : (ℕ → ℕ → Bool) → BoardValue → Option Noted → Bool
 may_be may_stop b None = true
 may_be may_stop b (Some noted.Memory) = true
@@ -48,7 +48,7 @@ StopsAsNoted noted fault = (may_stop : ℕ → ℕ → Bool) (given : BoardValue
 abbrev pub AllowsStops : (ℕ → ℕ → Bool) → (ℕ → ℕ → Bool) → Type 0
 AllowsStops by_gate by_note = (w v : ℕ) → IsTrue (by_gate w v) → by_note w v ≡ true
 
--- What the threads leave: `start`, the board that the run began from, as it was kept under the lock; a board that goes on from it, with counts of the appended
+-- What the threads leave: `start`, the copy of the given board that was kept under the lock; the given board after further granted events, with counts of these
 -- events; and the fault that was noted first, if any. If nothing is noted, no cancel was appended.
 pub record AreLeft (may_stop : ℕ → ℕ → Bool) (given : BoardValue) (left : CrewEnd) : Type 0 where
   pub start : left.start ≡ given

@@ -1,4 +1,4 @@
-//! A run by a single driver, on the caller's own thread.
+//! A run on the caller's own thread, which does the events of all workers.
 
 ghost use Rattle.std.specs.Prelude.{◌≡◌, ◌<◌, ◌↔◌, ◌⊎◌, ℕ, Some, None, [], length, slice_get, IfSome, true};
 ghost use Rattle.llb_model.specs.Outcome.{outcome};
@@ -14,10 +14,10 @@ use llb_board::laws::{
     alone_in_claim_order, chosen_until_complete, complete_is_plain, is_consistent,
 };
 
-/// Does one event after another until the board is complete: the next event of the running worker with the lowest number or, if no worker runs, worker 0's
-/// claim of the ready vertex with the least number. Ends with fault 151 `Memory` if memory is refused to a claim or a step. If the board was just opened and is
-/// complete at the end, its vertices and caches are as if the vertices had been run one after another in claim order, shared caches included. If the graph has
-/// no caches, every vertex of a complete board has its plain outcome.
+/// Does one event after another until the board is complete (every vertex is done, failed or blocked): the next event of the running worker with the lowest
+/// number or, if no worker runs, worker 0's claim of the ready vertex with the least number. Ends with fault 151 `Memory` if memory is refused to a claim or a
+/// step. If the board was just opened and is complete at the end, its vertices and caches are as if the vertices had been run one after another in the order
+/// of their claims; this holds for shared caches too. If the graph has no caches, every vertex of a complete board has its plain outcome.
 pub fn run_alone(board: Board) -> RunEnd
     ensures goes { Goes board result.board }
     ensures fault { result.fault ≡ None ⊎ (result.fault ≡ Some RunFault.Memory) }

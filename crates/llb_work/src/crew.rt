@@ -18,7 +18,7 @@ use std::sync::{Mutex, Wait};
 use std::thread;
 use std::thread::Threads;
 
-/// What all workers of a run share: the runtime, the allocator, the board under its lock, the queue, the counts of idle workers, and the gate.
+/// What all workers of a run share: the runtime, the allocator, the board under its lock, the queue, what idle workers look at to wait, and the gate.
 #[derive_where(Clone, Copy)]
 pub(crate) struct Crew<'x, S: Gated, G, R> {
     pub rt: &'x R,
@@ -48,7 +48,7 @@ impl<'x, S: Gated + Send + Sync, G: Gate + Sync, R: Threads + Wait + Sync> Crew<
     }
 }
 
-/// What a run in threads begins with: the board, a copy of it, a ledger of no events, and how many workers there are.
+/// What a run in threads begins with: the board, a copy of it, a ledger that has counted no events yet, and how many workers there are.
 #[derive(Drop)]
 pub(crate) struct CrewStart {
     pub board: Board,
@@ -125,8 +125,8 @@ pub(crate) fn run_crew<S: Gated + Send + Sync, G: Gate + Sync, R: Threads + Wait
     Ok(closed(board.into_inner(), share, made))
 }
 
-// Closes the ledger of a run after its threads have ended and given back all shares of the ledger. Also counts the events of the record that no
-// worker has counted.
+// Closes the ledger of a run, whose threads have ended and have given back all shares of the ledger. Also counts the events of the record that
+// no worker has counted.
 fn closed<S: Gated>(shared: SharedBoard<S>, share: Share<S>, made: [u64; 64]) -> CrewEnd
     requires whole { share.parts ≡ S.parts }
     requires made { share.amount ≡ sum made }

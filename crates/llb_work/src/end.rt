@@ -15,7 +15,7 @@ pub enum RunFault {
     Stopped,
     /// 153: a thread could not be started.
     Thread,
-    /// 154: the opening board that was kept under the lock is not the given one. This never occurs.
+    /// 154: the copy under the lock differs from the board passed to the run. This never occurs.
     Foreign(Board),
 }
 

@@ -1,4 +1,5 @@
-//! Hands out passes of the queue, shares of the ledger of events, and lists to at most 64 workers, and takes them back.
+//! Hands out to each of at most 64 workers, and takes back: a part of the pass of the queue (the right to use the queue), a share of the ledger that counts
+//! events, and a list for the numbers of vertices.
 
 ghost use Rattle.std.specs.Prelude.{◌≡◌, ◌≤◌, ◌^◌, vec_len};
 ghost use Rattle.llb_ready.specs.Passes.{hand_of, IsReadyPassOf};
@@ -38,7 +39,7 @@ pub(crate) struct GivenBack<S: Ledger> {
 }
 
 impl<'x, S: Gated + Send + Sync, G: Gate + Sync, R: Threads + Wait + Sync> Crew<'x, S, G, R> {
-    /// Starts a thread for each worker, with a fraction of the pass, a share of the ledger and a list. Joins all threads, and returns what they give back.
+    /// Starts a thread for each worker, with a part of the pass, a share of the ledger and a list. Joins all threads, and returns what the workers give back.
     pub(crate) fn all_serve<E>(self, scope: &Scope<'x, E>, out: HandOut<S>) -> GivenBack<S>
         requires stop { AllowsStops G.may_stop S.may_stop }
         requires out { IsHandedOut self.queue.now out }

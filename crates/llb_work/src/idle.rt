@@ -1,4 +1,4 @@
-//! Workers that find no number in the queue wait here and are woken here. Nothing here knows about the board or its lock.
+//! Lets workers that find no number in the queue wait, and wakes them. Nothing in this module knows about the board or its lock.
 //!
 //! Before a worker waits it does three things, in this order: it reads the word `wakes`, sees that the run is not over, and finds the queue
 //! empty. It then parks on `wakes`; parking returns at once if `wakes` has changed since the worker read it. So the worker sleeps only if there
@@ -7,14 +7,15 @@
 //!
 //! A worker that puts numbers into the queue wakes one sleeper for each of them, except for the number that it takes itself right after. So while a worker
 //! sleeps, as many workers are about to take a number as there are numbers in the queue, and no number stays there. A worker that sees the run end wakes all
-//! sleepers. A number whose claim was refused for a held key is not in the queue: the worker that ends the vertex with that key puts it into the queue again,
-//! as it puts the numbers of the vertices that have become ready. So after every settled vertex a worker is awake, and goes on or ends the run.
+//! sleepers. If a claim was refused because another vertex holds the key of a locked cache, the number of the refused vertex is not in the queue. The worker
+//! that ends the holding vertex puts such a number back, with the numbers of the vertices that have become ready. So after every settled vertex a worker is
+//! awake, and goes on or ends the run.
 
 use crossbeam_utils::Backoff;
 use std::sync::Wait;
 use std::sync::atomic::{AtomicU64, Ordering};
 
-/// The counts by which idle workers wait.
+/// What idle workers look at to wait: the number of wakes, the number of sleepers, and whether the run is over.
 #[derive(Drop)]
 pub(crate) struct Idle {
     // How many wakes there were; its low 32 bits are compared when a worker parks.
@@ -35,7 +36,7 @@ impl Idle {
         }
     }
 
-    /// Returns the argument for `wait`: the low 32 bits of the number of wakes. A worker has to read it before it looks into the queue.
+    /// Returns the argument for `wait`: the low 32 bits of the number of wakes. A worker has to call this before it looks into the queue.
     pub(crate) fn wakes(&self) -> u32 {
         (self.wakes.load(Ordering::SeqCst) & 0xffff_ffff) as u32
     }
@@ -45,7 +46,7 @@ impl Idle {
         self.over.load(Ordering::SeqCst) != 0
     }
 
-    /// Waits for a short while or, once `backoff` is completed, until there is a wake after `seen` was read. It may also return without such a wake.
+    /// Waits for a short while or, once `backoff` is completed, until there is a wake after `seen` was read. The call may also return without such a wake.
     pub(crate) fn wait<R: Wait>(&self, rt: &R, seen: u32, backoff: &Backoff) {
         if !backoff.is_completed() {
             backoff.snooze();

@@ -1,7 +1,7 @@
 //! The numbers of vertices whose claim was refused because another worker holds a locked key; here they wait for that key. The numbers that wait for one key
 //! are put into the queue again one by one: the first when the vertex that holds the key ends, and each later one when the vertex of the number before it ends,
-//! or when the claim of that vertex is refused for another key. So no vertex is claimed again and again while its key is held. The table is made with all the
-//! room that it needs, and later calls do not allocate. Nothing here knows about the board.
+//! or when the claim of that vertex is refused for another key. So no vertex is claimed again and again while the key is held. The table is made with all the
+//! room that it needs, and later calls do not allocate. Nothing in this module knows about the board.
 
 use llb_cache::Key;
 use std::alloc::{AllocError, Global};
@@ -17,7 +17,7 @@ struct Row {
 }
 
 impl Row {
-    // Returns whether no number waits, and none was put into the queue again.
+    // Returns whether no number waits for the key, and no number that was put into the queue again still has to be claimed.
     fn is_empty(&self) -> bool {
         self.put.is_none() && self.first.is_none()
     }

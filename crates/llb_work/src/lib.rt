@@ -1,5 +1,5 @@
-//! Runs a board to its end: by one driver on the caller's own thread, or by 1 to 64 threads that share one lock and a queue of the numbers of
-//! ready vertices. It is built on `llb_board` and `llb_ready`, and changes the board only by the board's own calls.
+//! Runs a board to its end: on the caller's own thread, or in 1 to 64 threads that share one lock and a queue of the numbers of ready vertices.
+//! The crate is built on `llb_board` and `llb_ready`, and changes a board only by the board's own calls.
 //!
 //! Types: `RunEnd` (the board, the number of events that each worker made, the fault), `RunFault` (151 to 154).
 //! Promise: `run_workers` (`leads`, `complete`, `idle`, `stopped`, `own`): granted events lead from the given board to the returned one, whatever

@@ -18,7 +18,7 @@ pub(crate) enum Noted {
     Thread,
 }
 
-/// The ledger of a run. Its type also has, for clauses, the given board, and which worker the run's gate may stop at which vertex.
+/// The ledger of a run. For use in clauses, its type also has the given board, and which worker the run's gate may stop at which vertex.
 pub(crate) trait Gated: Ledger {
     ghost may_stop: { ℕ → ℕ → Bool };
 

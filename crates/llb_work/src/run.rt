@@ -21,16 +21,16 @@ use std::thread::Threads;
 /// Runs a board in as many threads as it has workers, 1 to 64. The threads share one lock and one queue of vertex numbers. First the number of every ready
 /// vertex is put into the queue, the least first. Each worker ends the vertex that it already runs, if any. Then it takes one number after another, claims the
 /// vertex of that number, passes the gate, and works on the vertex: away from the lock or, if the vertex mounts a shared cache, event by event under the lock.
-/// When a vertex ends, its worker puts into the queue the numbers of the vertex's users that are now ready. A number whose vertex needs a locked cache that
-/// another worker holds is put again when the vertex with that cache ends. A worker that finds the queue empty sleeps until another worker puts more numbers
-/// than it takes itself, or until the run is over.
+/// When a vertex ends, its worker puts into the queue the numbers of the vertex's users that are now ready. If a claim is refused because another worker holds
+/// a locked cache, the number of the vertex is put into the queue again later, when that cache may be free. A worker that finds the queue empty sleeps until
+/// another worker puts more numbers into the queue than that other worker takes, or until the run is over.
 ///
 /// The fault is the first that is met: 151 `Memory` if memory is refused, 152 `Stopped` if the gate stops a worker, 153 `Thread` if a thread can't be started.
 /// If memory is refused for the copies of the board, or for what the workers need before they start (such as the queue and their lists), no thread starts, and
 /// the board is returned as it was given. The worker that meets 151 or 152 notes the fault and cancels what it runs, both in one hold of the lock; every other
 /// worker ends what it runs, and the work of a worker without a thread is done by the caller's thread. So if threads were started, no worker runs anything on
 /// the returned board, and no cache is held. Granted events lead from the given board to the returned one, and the sum of `made` is their number; none of them
-/// is a cancel unless there is a fault. 154 `Foreign` would say that the opening board that was kept under the lock is not the given one; it never occurs.
+/// is a cancel unless there is a fault. 154 `Foreign` never occurs: it would say that the copy of the board under the lock differs from the given board.
 pub fn run_workers<G: Gate + Sync, R: Threads + Wait + Sync>(
     rt: &R,
     alloc: Global,
@@ -102,7 +102,7 @@ fn refused(board: Board) -> RunEnd
     }
 }
 
-// Returns the end of a run whose threads have left this board and this note.
+// Finishes a run after its threads have ended: they have left this board, and may have noted why the run ends early. Returns how the run ended.
 fn ended(board: Board, made: [u64; 64], noted: Option<Noted>) -> RunEnd
     requires { sum made ≤ length board.events }
     ensures goes { GoesOn board result.board }

@@ -26,7 +26,7 @@ use llb_board::{
 use llb_cache::Key;
 use std::sync::ledger::Book;
 
-/// The board under the lock.
+/// The value under the lock: the board, and what the workers keep with it. `start` is the board that the run began from.
 #[derive(Drop)]
 pub(crate) struct SharedBoard<S: Gated> {
     pub board: Board,
@@ -129,8 +129,8 @@ impl<S: Gated> SharedBoard<S> {
         self.board.land(w, outcome)
     }
 
-    // Returns whether a job is known to agree with what its worker runs: no cache mount is at or before the vertex of the job, and
-    // the worker has done no micro-step of that vertex on the board.
+    // Returns whether a job is known to agree with what its worker runs: no cache mount is at or before the vertex of the job, and the
+    // worker runs that vertex on the board and has done no micro-step of it there.
     fn is_known(&self, w: u32, job: &Job) -> bool
         requires { IsClaimed S.start w job.now.vertex job.now }
         ensures { OnTrue result (IsKnown self.now.board w job.now) }
@@ -158,8 +158,8 @@ impl<S: Gated> SharedBoard<S> {
         let _ = self.board.cancel(w);
     }
 
-    // Notes why the run ends and cancels what a worker runs, if it runs anything, both in one hold of the lock. Otherwise another worker
-    // could find a ready vertex whose number is in no queue before a fault is noted. Returns `Task::End`.
+    // Notes why the run ends and cancels what a worker runs, if it runs anything, both in one hold of the lock. If the fault were noted in a
+    // later hold, the cancelled vertex would meanwhile be ready without having its number in the queue. Returns `Task::End`.
     fn give_up(&mut self, w: u32, noted: Noted) -> Task
         requires { may_be S.may_stop S.start (Some noted) ≡ true }
         ensures { IsHere S.start w result }
@@ -252,7 +252,8 @@ impl<S: Gated> SharedBoard<S> {
         }
     }
 
-    // Returns what a worker is to do after its vertex has ended, or after its landing or settle was refused.
+    // Returns what a worker is to do after its vertex has ended, or after its landing or settle was refused. If the vertex has ended, adds to
+    // `news` the numbers of those users of the vertex that are ready.
     fn left(&mut self, settled: Option<Settled>, news: &mut Vec<u32>) -> Task
         ensures { (w : ℕ) → IsHere S.start w result }
     {
@@ -268,7 +269,7 @@ impl<S: Gated> SharedBoard<S> {
         }
     }
 
-    // Adds to `news`, for each key of a worker whose vertex is about to end, one of the numbers that wait for the key.
+    // Adds to `news`, for each cache instance that a worker holds, one of the numbers that wait for the instance's key. The worker's vertex is about to end.
     fn release(&mut self, w: u32, news: &mut Vec<u32>) {
         let SharedBoard { board, waiters, .. } = self;
         for place in board.places(w) {

@@ -1,5 +1,5 @@
-//! What the workers are supplied with before any thread starts: the queue with every ready vertex in it, a list for each worker, room for
-//! their threads and for the numbers that wait for a key, and which vertices have no cache mount at or before them.
+//! What the workers are supplied with before any thread starts: the queue with the number of every ready vertex, a list for each worker, room
+//! for the threads and for the numbers of vertices that wait for a locked key, and which vertices have no cache mount at or before them.
 
 ghost use Rattle.std.specs.Prelude.{◌≡◌, ◌≤◌, vec_len, IfOk, IfSome};
 ghost use Rattle.llb_work.specs.Passes.{IsUncut};
@@ -14,9 +14,9 @@ use std::alloc::{AllocError, Global};
 use std::sync::Wait;
 use std::sync::ledger::Ledger;
 
-/// A queue with room for as many numbers as there are vertices, its whole pass, a list with as much room for each worker, room for the
-/// workers' threads, and a table with room for every number that waits for a key; and for each vertex whether no cache mount is at or before
-/// it.
+/// A queue with room for the number of every vertex, and its whole pass; for each worker a list with as much room as the queue, and room for
+/// a thread; a table with room for every vertex number that waits for a locked key; and for each vertex whether no cache mount is at or
+/// before it.
 #[derive(Drop)]
 pub(crate) struct Supply<S: Ledger> {
     pub queue: ReadyQueue,

@@ -26,7 +26,7 @@ pub(crate) fn make_tally<S: Ledger>(share: Share<S>) -> Tally<S>
     Tally { made: 0, share }
 }
 
-/// Adds the number of events by which a record has grown, from length `before` to length `after`, to the total of the ledger and to a worker's tally.
+/// Adds `after - before`, the number of events that a worker has added to a record, to the total of the ledger and to the worker's tally.
 pub(crate) fn count<S: Ledger>(
     calls: &mut Book<S>,
     mine: &mut Tally<S>,
@@ -44,7 +44,7 @@ pub(crate) fn count<S: Ledger>(
     *made += more;
 }
 
-/// Adds each event of a board's record after the first `before` ones to the count of its worker.
+/// Adds 1 to a worker's count for each event of this worker in a board's record, apart from the first `before` events of the record.
 pub(crate) fn count_record(board: &Board, before: usize, made: &mut [u64; 64])
     requires within { before ≤ length board.now.events }
     requires counted { sum made.old ≤ before }
@@ -57,7 +57,7 @@ pub(crate) fn count_record(board: &Board, before: usize, made: &mut [u64; 64])
     count_events(added, made);
 }
 
-// Adds each event to the count of its worker.
+// Adds 1 to a worker's count for each of these events that is an event of this worker.
 fn count_events(events: &[Event], made: &mut [u64; 64])
     requires workers { All (λ e. worker_of e < 64) events.now }
     requires room { sum made.old + length events.now < 2 ^ 64 }

@@ -16,8 +16,8 @@ use llb_ready::ReadyPass;
 use std::sync::Wait;
 use std::sync::ledger::Ledger;
 
-/// What a worker holds in its thread and gives back: its count of events, its pass, and the vertex numbers that it still has to put into the queue (the last
-/// one is put first).
+/// What a worker holds in its thread and gives back: its count of events, its part of the queue's pass, and the vertex numbers that it still has to put into
+/// the queue (the last one is put first).
 #[derive(Drop)]
 pub(crate) struct WorkerKit<S: Ledger> {
     pub tally: Tally<S>,
@@ -70,8 +70,8 @@ impl<'x, S: Gated, G: Gate, R: Wait> Crew<'x, S, G, R> {
         }
     }
 
-    // Takes a number from the queue as soon as the queue has one; returns `None` if the run is over. After each try, also puts the numbers that
-    // did not fit into the queue before.
+    // Takes a number from the queue as soon as the queue has one; returns `None` if the run is over. After each try, also puts into the queue
+    // those of the worker's numbers for which the queue had no room before.
     fn taken(self, w: u32, kit: &mut WorkerKit<S>) -> Option<u32>
         requires { IsPassFor self.queue.now w kit.old.pass }
         ensures { IsPassFor self.entry.queue.now w kit.new.pass }

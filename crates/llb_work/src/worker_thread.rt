@@ -6,7 +6,7 @@ use std::snapshot::Snapshot;
 use std::sync::ledger::Ledger;
 use std::thread::{Promise, PromisedHandle, Threads};
 
-/// What a worker has promised to give back: its fraction of the queue's pass. Only clauses read it.
+/// What a worker has promised to give back: its part of the queue's pass. Only clauses read this promise.
 #[derive(Drop)]
 pub(crate) struct Owed {
     pub queue: Snapshot<ReadyQueue>,
@@ -30,7 +30,7 @@ impl<S: Ledger> WorkerThread<S> {
     ghost use Rattle.llb_work.specs.Passes.{IsPassFor};
     ghost use Rattle.llb_work.specs.Threads.{ThreadKeeps};
 
-    /// Waits until the worker has ended, and returns what it held.
+    /// Waits until the worker has ended, and returns what the worker held in its thread.
     pub(crate) fn join<R: Threads>(self, rt: &R, queue: &ReadyQueue, w: u32) -> WorkerKit<S>
         requires { ThreadKeeps queue.now w self }
         ensures { IsPassFor queue.now w result.pass }
