@@ -105,10 +105,10 @@ key_by seed None = None
 abbrev pub cache_in : Mount → Option CacheOpt
 cache_in m = cond (has_type cache m) m.cache_opt None
 
--- the key of the cache that a mount shows; none if the mount shows no cache
+-- the key of the cache that a mount shows; none if the mount is no cache mount or has no options
 abbrev pub key_of : List Input → Mount → Option CacheKey
 key_of inputs m = key_by (seed_of inputs m.input) (cache_in m)
 
--- for each mount, the key of the cache that the mount shows; none if the mount shows no cache
+-- for each mount, the key of the cache that the mount shows; none if the mount is no cache mount or has no options
 abbrev pub keys_of : List Input → List Mount → List (Option CacheKey)
 keys_of inputs mounts = map (key_of inputs) mounts

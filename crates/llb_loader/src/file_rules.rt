@@ -68,7 +68,7 @@ fn second_stands(count: usize, place: usize, action: &Action) -> bool
     }
 }
 
-// Returns the output of each action.
+// Returns the output number of each action.
 fn outputs_of(alloc: Global, actions: &[Action]) -> Result<Vec<i64>, AllocError>
     ensures { IfOk result (λ outputs. outputs.items ≡ outputs_of actions.now) }
 {

@@ -60,8 +60,8 @@ impl Vertex {
     }
 }
 
-/// A loaded graph: the result, and the vertices on which it depends. Each vertex has a higher number than the vertices of its inputs. Copies share
-/// the vertices. Contracts see the list of the vertices and the result.
+/// A loaded graph: the result, and the vertices on which the result depends. Each vertex has a higher number than the vertices to which its edges
+/// lead. Copies share the vertices. Contracts see a graph as the list of its vertices, and the result.
 pub struct Graph {
     shared: Arc<Vec<Vertex>>,
     result: Edge,
@@ -89,7 +89,7 @@ impl Model for Graph {
 }
 
 impl Graph {
-    // Makes the graph of these vertices, with its result.
+    // Makes the graph of these vertices, with this edge as its result.
     pub(crate) fn of_parts(
         alloc: Global,
         vertices: Vec<Vertex>,
@@ -133,7 +133,7 @@ impl Graph {
         let _ = &self.shared;
     }
 
-    /// Returns the output that the definition names as its result.
+    /// Returns the edge to the output that the definition names as its result.
     pub fn result(&self) -> Edge
         ensures { result ≡ self.now.result }
     {
