@@ -14,7 +14,7 @@ use llb_tree::{Path, Tree};
 pub enum Look<'a> {
     /// A tree that is in the workspace.
     Here(&'a Tree),
-    /// The tree of a cache instance, which the caller has; the number is the index of its mount among the cache mounts of the vertex.
+    /// The tree of a cache instance; the caller has this tree. The number is the index of the instance's mount among the cache mounts of the vertex.
     Cached(usize),
 }
 

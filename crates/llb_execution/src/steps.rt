@@ -1,4 +1,4 @@
-//! The micro-steps of a vertex: the one place where code says what a vertex does. The list borrows nothing. Nothing here does a micro-step.
+//! The micro-steps of a vertex: the one place where code says what a vertex does. A `Steps` borrows nothing. Nothing here does a micro-step.
 
 ghost use Rattle.std.specs.Prelude.{◌≡◌, ◌<◌, ◌^◌, [], IfOk, length, map, option_map, slice_get, unwrap_or};
 ghost use Rattle.llb_loader.specs.Graph.{IsVertexOf};
@@ -50,7 +50,7 @@ impl Model for Steps {
 }
 
 impl Steps {
-    /// Returns the micro-steps of a vertex; if the loader made the vertex, its field `steps` is their number. Fails with 5 `Memory` alone.
+    /// Returns the micro-steps of a vertex. If the loader made the vertex, its field `steps` is the number of the micro-steps. Fails with 5 `Memory` alone.
     pub fn of(alloc: Global, vertex: &Vertex) -> Result<Steps, Memory>
         ensures steps { IfOk result (λ s. s ≡ (program_of vertex.now).steps) }
         ensures count { IfOk result (λ s. IsVertexOf vertex.now vertex.now.op.kind → length s ≡ vertex.now.steps) }

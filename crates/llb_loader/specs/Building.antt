@@ -31,7 +31,7 @@ pub record IsBuildable (op : Op) (named : List ℕ) : Type 0 where
   pub len : length named ≡ length op.inputs
   pub indexes : (i : ℕ) → i < length op.inputs → IsBelow 1_025 (input_at op i).index
 
--- v is the vertex of the op `from` and the digest text `text`. Input i names row `named[i]`; the edge of input i leads to the vertex of that row (`ranks`).
+-- v is the vertex of the op `from` and the digest text `text`. Input i names row `named[i]`; edge i leads to that row's vertex, whose number is in `ranks`.
 pub record IsBuilt (text : List ℕ) (from : Op) (named ranks : List ℕ) (v : Vertex) : Type 0 where
   pub digest : v.digest ≡ text
   pub op : v.op ≡ from

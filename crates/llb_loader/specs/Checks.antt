@@ -1,4 +1,4 @@
--- With which refusal the checks of rows fail. The reached rows are marked; a check goes through the marked rows in order and stops at the first that fails it.
+-- When the checks of the reached rows fail, and with which fault. Reached rows are marked; a check goes through the marked rows, and stops at a faulty row.
 use Rattle.std.specs.Prelude.{◌≡◌, ◌≢◌, ℕ, ◌<◌, ◌==◌, ◌⊎◌, Bool, false, cond, List, [], length, slice_index_or, Some, None}
 use Rattle.llb_ops.specs.declared.op.Op.{Op}
 use Rattle.llb_loader.specs.declared.row.Row.{Row}
@@ -42,7 +42,7 @@ abbrev pub RefusesRule : List Op → (ℕ → Type 0) → LoadFault → Type 0
 RefusesRule ops Marked e = (k : ℕ) × (r : Rule) × (e ≡ Invalid k r) × Marked k × BreaksFirst (op_at ops k) r
     × ((j : ℕ) → j < k → Marked j → MeetsRules (op_at ops j))
 
--- the number of outputs of the row that input i of an op names; `counts` has for each row its number of outputs, `named` has for each input the row it names
+-- the number of outputs of the row that input i names; `counts` has the number of outputs of each row, and `named` has the row that each input of the op names
 abbrev pub count_there : List ℕ → List ℕ → ℕ → ℕ
 count_there counts named i = slice_index_or counts (slice_index_or named i 0) 0
 

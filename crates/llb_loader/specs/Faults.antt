@@ -18,7 +18,7 @@ abbrev pub is_memory : LoadFault → Bool
 is_memory fault.Memory = true
 is_memory _ = false
 
--- the code returns what the definition of its result says (the function turns the code's value into that of the definition), or fails with `Memory`
+-- a call returns the value or the fault of its definition (the function maps the call's value to the definition's value), or the call fails with `Memory`
 abbrev pub Gives : {X Y : Type 0} → (X → Y) → Result X LoadFault → Result Y LoadFault → Type 0
 Gives = answer.Gives is_memory
 

@@ -28,7 +28,7 @@ pub record Numbered : Type 0 where
   pub vertices : List Vertex
   pub result : Edge
 
--- for each vertex, the vertices to which its inputs lead
+-- for each vertex, the vertices to which its edges lead
 abbrev pub links : List Vertex → List (List ℕ)
 links vertices = map (λ v. map (λ e. e.vertex) v.inputs) vertices
 
@@ -48,7 +48,7 @@ pub record HasInputs (vertices : List Vertex) (v : Vertex) : Type 0 where
   pub each : (i : ℕ) (input : Input) (e : Edge) → i < length v.inputs
       → IsEdgeOfInput vertices (slice_index_or v.op.inputs i input) (slice_index_or v.inputs i e)
 
--- what holds of each vertex: its op is within the limits of llb_ops, has no unsupported feature and meets the rules; its script and counts are the op's
+-- what holds of each vertex: its op is within llb_ops's limits, has no unsupported feature and meets the rules; `script`, `steps` and `outputs` are the op's
 pub record IsVertex (v : Vertex) : Type 0 where
   pub within : IsWithinLimits v.op
   pub featureless : feature_of v.op ≡ None

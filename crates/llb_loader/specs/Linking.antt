@@ -92,7 +92,7 @@ pub record IsApart (rows : List Row) : Type 0 where
   pub several : ¬ AllSame rows
   pub apart : (k : ℕ) → ¬ Collides rows k
 
--- The rows are as `IsApart` says, the terminal is the first row that equals the last one, and it has an input.
+-- `IsApart` holds of the rows, the terminal is the first row that equals the last row, and the terminal's op has an input.
 pub record HasResult (p : Plan) : Type 0 where
   pub apart : IsApart p.rows
   pub terminal : IsTerminal p.rows p.terminal

@@ -1,4 +1,4 @@
--- Mounts of an exec: their types, the paths that their texts read as, and the keys of the caches that they show.
+-- Mounts of an exec: their types, their dests and selectors as paths, and the keys of the caches that they show.
 use Rattle.std.specs.Prelude.{◌≡◌, ℕ, ◌<◌, ℤ, pos, negsuc, Bool, cond, List, map, slice_get, slice_index_or, Option, Some, None, IsSome, ⊤, Result, Ok, Err}
 use Rattle.std.specs.List.{All}
 use Rattle.std.specs.Ordering.{int_eq}
@@ -62,12 +62,12 @@ read_as text = value_of (path_of text)
 abbrev pub dests_of : List Mount → List (Option (List (List ℕ)))
 dests_of mounts = map (λ m. read_as m.dest) mounts
 
--- the `cwd` of an exec reads as a path; true if the exec has no `Meta`
+-- the `cwd` of an exec can be read as a path; true if the exec has no `Meta`
 abbrev pub ReadsCwd : Option Meta → Type 0
 ReadsCwd (Some meta) = IsSome (read_as meta.cwd)
 ReadsCwd None = ⊤
 
--- the dests and the selectors of the mounts, and the `cwd`, read as paths
+-- the dests and the selectors of the mounts, and the `cwd`, can be read as paths
 pub record ReadsPaths (mounts : List Mount) (meta : Option Meta) : Type 0 where
   pub dests : All IsSome (dests_of mounts)
   pub selectors : All (λ m. IsSome (read_as m.selector)) mounts

@@ -9,7 +9,7 @@ pub record IsReady (g : List (List ℕ)) (start : ℕ) (done : List ℕ) (k : �
   pub fresh : ¬ Contains done k
   pub inputs_done : All (Contains done) (inputs g k)
 
--- row k gets the next number: of the rows for which `IsReady` holds, it is the one with the least row number
+-- row k gets the next vertex number: `IsReady` holds for row k, and for no row before row k
 pub record IsNext (g : List (List ℕ)) (start : ℕ) (done : List ℕ) (k : ℕ) : Type 0 where
   pub ready : IsReady g start done k
   pub least : (j : ℕ) → IsReady g start done j → k ≤ j

@@ -1,4 +1,4 @@
--- Where an unnumbered row goes: to the ready rows, or to a row that it waits for. A `Waiter` is an unnumbered row, with how many of its inputs were checked.
+-- Where an unnumbered row is put: among the ready rows, or in the list of a row that it waits for. A `Waiter` is the row, and how many inputs were checked.
 use Rattle.std.specs.Prelude.{◌≡◌, ℕ, ◌<◌, ◌≤◌, Bool, true, false, cond, List, [], ◌∷◌, ◌++◌, ◌⊎◌, length, slice_index, slice_index_or, slice_set, ◌==◌}
 use Rattle.std.specs.List.{All}
 use Rattle.llb_loader.specs.declared.numbering.Waiter.{Waiter}

@@ -112,7 +112,7 @@ count_outputs outputs = count_by is_output outputs
 abbrev pub output_at : List ℤ → ℕ → ℤ
 output_at outputs a = slice_index_or outputs a none
 
--- If m of the numbers are other than -1, these are the numbers 0 to m - 1, each once.
+-- If m of the numbers are other than -1, these m numbers are the numbers from 0 to m - 1, each once.
 pub record AreOutputs (outputs : List ℤ) : Type 0 where
   pub within : (a : ℕ) → output_at outputs a ≢ none → IsBelow (count_outputs outputs) (output_at outputs a)
   pub once : (a b : ℕ) → output_at outputs a ≢ none → output_at outputs a ≡ output_at outputs b → a ≡ b

@@ -1,4 +1,4 @@
-//! The checks of the reached rows, which `seen` marks. Each check goes through these rows in order, and stops at the first row that fails the check.
+//! Checks the reached rows, which `seen` marks. Each check goes through the marked rows in order, and stops at the first row that fails the check.
 
 ghost use Rattle.std.specs.Prelude.{◌≡◌, ◌<◌, ◌≤◌, ◌↔◌, ℕ, false, cond, length, map, IfOk, IfErr, OnOk, IsTrue, MatchOption};
 ghost use Rattle.std.specs.List.{All};

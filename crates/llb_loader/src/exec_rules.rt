@@ -1,4 +1,5 @@
-//! The rules on execs, in five groups: the exec has words and mounts; its paths; the types, inputs and outputs of its mounts; its cache mounts; its script.
+//! Finds the first rule on execs that an op breaks. The rules are checked in five groups: an exec has words and mounts; the paths; the types, inputs and
+//! outputs of the mounts; the cache mounts; the script.
 
 ghost use Rattle.std.specs.Prelude.{◌≡◌, ◌↔◌, Some, IsSome, IfOk, IsTrue, List};
 ghost use Rattle.std.specs.List.{All};
@@ -18,7 +19,7 @@ use llb_ops::{CacheOpt, ExecOp, Input, Mount};
 use llb_wire::Memory;
 use std::alloc::{AllocError, Global};
 
-/// Returns the first rule on execs that the exec with these inputs breaks.
+/// Returns the first rule on execs that the exec with these inputs breaks; `None` if the exec meets all of them.
 pub(crate) fn broken_in_exec(
     alloc: Global,
     inputs: &[Input],

@@ -49,7 +49,7 @@ impl Drop for Vertex {
 }
 
 impl Vertex {
-    /// Returns the name of a local source, which follows `local://`; `None` if the op is no local source.
+    /// Returns the name of a local source: the part of its identifier after `local://`; `None` if the op is no local source.
     pub fn local_name(&self) -> Option<&str>
         ensures { option_map (λ t. t.now) result ≡ local_name self.now.op }
     {

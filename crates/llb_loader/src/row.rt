@@ -5,7 +5,7 @@ ghost use Rattle.std.specs.Prelude.{◌≡◌, []};
 use llb_wire::{Bytes, Text};
 use std::alloc::Global;
 
-/// An entry of a definition, and the digest text by which inputs name it.
+/// An entry of a definition, and the digest text by which inputs name the entry.
 pub struct Row {
     pub digest: Text,
     pub bytes: Bytes,

@@ -1,5 +1,5 @@
-//! Finds which rows are distinct, and which row a digest text names. Look-ups use a map that is sorted by the digest texts, so that no choice of entries makes
-//! look-ups slow. Before a look-up, one row is guessed; if that row has the digest text, no look-up is made. The terminal's digest text names no row.
+//! Finds out which rows are distinct, and which row a digest text names. Look-ups use a map that is sorted by the digest texts, so that no choice of entries
+//! makes look-ups slow. Before a look-up, one row is guessed; if that row has the digest text, no look-up is made. The terminal's digest text names no row.
 
 ghost use Rattle.std.specs.Prelude.{◌≡◌, ◌<◌, ◌≤◌, ◌↔◌, ℕ, false, length, map, IfOk, IfErr, OnOk, IsTrue, Some};
 ghost use Rattle.std.specs.List.{filter_map};

@@ -1,4 +1,4 @@
-//! The plain outcome of every vertex of a graph, computed in ascending order of vertex numbers.
+//! Computes the plain outcome of every vertex of a graph, in ascending order of vertex numbers.
 
 ghost use Rattle.std.specs.Prelude.{◌≡◌, false, Ok};
 ghost use Rattle.llb_loader.specs.Graph.{IsVertexOf, Numbered};
