@@ -16,8 +16,8 @@ use llb_wire::Memory;
 use std::alloc::Global;
 use std::marker::Model;
 
-/// The outcome of a job: how many micro-steps the work did, and the workspace, the trees of the cache instances and the fault, if there is one, after them. By
-/// the type's invariant (`IsOutcome`), these are the results of the job's remaining micro-steps, so no board has to check the results.
+/// The outcome of a job: how many micro-steps the work did, and what there is after the last one: the workspace, the trees of the cache instances, and the
+/// fault, if there is one. By the type's invariant (`IsOutcome`), these are the results of the job's remaining micro-steps, so no board has to check them.
 #[derive(Drop)]
 pub struct Outcome {
     job: Job,

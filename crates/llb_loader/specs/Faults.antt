@@ -18,7 +18,7 @@ abbrev pub is_memory : LoadFault → Bool
 is_memory fault.Memory = true
 is_memory _ = false
 
--- a call returns the value or the fault of its definition (the function maps the call's value to the definition's value), or the call fails with `Memory`
+-- a call has the result that its definition has (the function maps the call's value to the definition's value), or the call fails with `Memory`
 abbrev pub Gives : {X Y : Type 0} → (X → Y) → Result X LoadFault → Result Y LoadFault → Type 0
 Gives = answer.Gives is_memory
 

@@ -8,7 +8,7 @@ use Rattle.llb_loader.specs.Rows.{inputs, HasEdge}
 abbrev pub IsMarked : List Bool → ℕ → Type 0
 IsMarked marks k = slice_index_or marks k false ≡ true
 
--- the waiter's row has at least `checked` inputs, and `done` (it marks the numbered rows) marks the rows that the first `checked` of these inputs name
+-- `done` marks the numbered rows. The waiter's row has at least `checked` inputs, and the first `checked` of these inputs name rows that `done` marks.
 pub record IsChecked (g : List (List ℕ)) (done : List Bool) (w : Waiter) : Type 0 where
   pub within : w.checked ≤ length (inputs g w.row)
   pub passed : (i : ℕ) → i < w.checked → IsMarked done (slice_index (inputs g w.row) i)

@@ -26,7 +26,7 @@ use Rattle.llb_applet.specs.declared.fault.ScriptFault.{ScriptFault}
 use Rattle.llb_loader.specs.Scripts.{commands_in, script_fault}
 use Rattle.llb_loader.specs.Mounts.{bind, cache, tmpfs, dests_of, keys_of, AreApart, ReadsPaths}
 
--- -1, the number that means no input or no output
+-- the number -1, which means no input or no output
 abbrev pub none : ℤ
 none = negsuc 0
 

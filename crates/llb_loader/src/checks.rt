@@ -1,4 +1,5 @@
-//! Checks the reached rows, which `seen` marks. Each check goes through the marked rows in order, and stops at the first row that fails the check.
+//! Checks the reached rows, on which the result depends; `seen` marks these rows. Each check goes through the marked rows in order, and stops at the first row
+//! that fails the check.
 
 ghost use Rattle.std.specs.Prelude.{◌≡◌, ◌<◌, ◌≤◌, ◌↔◌, ℕ, false, cond, length, map, IfOk, IfErr, OnOk, IsTrue, MatchOption};
 ghost use Rattle.std.specs.List.{All};

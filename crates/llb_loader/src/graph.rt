@@ -19,7 +19,7 @@ pub struct Edge {
     pub index: u32,
 }
 
-/// A vertex, made from a reached row. Its number is its index in the list of vertices.
+/// A vertex, made from a row on which the result depends. The number of a vertex is its index in the list of vertices.
 pub struct Vertex {
     /// The digest text of the row: `sha256:` and 64 hexadecimal digits, if the graph was loaded from a definition.
     pub digest: Text,

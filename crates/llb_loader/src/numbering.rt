@@ -1,4 +1,4 @@
-//! Finds the order in which the reached rows get their vertex numbers.
+//! Finds the order in which the reached rows, on which the result depends, get their vertex numbers.
 
 ghost use Rattle.std.specs.Prelude.{◌≡◌, ◌↔◌, ℕ, ◌<◌, ◌≤◌, length, slice_index, slice_index_or, true, false, IfOk, OnOk, MatchOption, List, [], vec_len};
 ghost use Rattle.std.specs.Option.{IfSome, IfNone};
