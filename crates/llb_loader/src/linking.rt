@@ -151,9 +151,9 @@ impl Names {
 }
 
 impl Linked {
-    // Reads the entries of rows without bytes as ops, drops the entries, and resolves the digest texts by which inputs name rows. Fails with 82 `Entry`, 83
-    // `TooFew`, 84 `Collision`, 85 `NoResult` or 86 `UnknownDigest`, or with 91 `Memory`. The rows are compared before any entry is read, since each entry
-    // is dropped once it is read; what the comparison found (83 or 84) is reported only if all entries can be read.
+    // Reads the entries as ops, drops the entries, and resolves the digest texts by which inputs name rows. The rows have empty bytes; entry k has the bytes
+    // of row k. Fails with 82 `Entry`, 83 `TooFew`, 84 `Collision`, 85 `NoResult` or 86 `UnknownDigest`, or with 91 `Memory`. The rows are compared before
+    // any entry is read, since each entry is dropped once it is read; the result of this comparison (83 or 84) is reported only if all entries can be read.
     fn of(alloc: Global, rows: Vec<Row>, entries: Vec<Bytes>) -> Result<Linked, LoadFault>
         requires few { length rows.items ≤ 65_536 }
         requires len { length entries.items ≡ length rows.items }

@@ -13,8 +13,8 @@ use std::alloc::{AllocError, Global};
 use std::collections::BTreeSet;
 use std::mem;
 
-/// A row that is not numbered yet. The rows that its first `checked` inputs name are numbered. In a list of waiters, the row waits for the row that its input
-/// of index `checked` names.
+/// A row that has no vertex number yet. The first `checked` inputs of the row name rows that have vertex numbers. A waiter in a list of waiters waits for the
+/// row that its next input, at index `checked`, names.
 #[derive(Clone, Copy)]
 struct Waiter {
     row: usize,

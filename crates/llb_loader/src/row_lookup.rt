@@ -30,16 +30,16 @@ pub(crate) fn all_same(rows: &[Row], entries: &[Bytes]) -> bool
     true
 }
 
-// Returns whether two rows have the same digest and the same bytes.
+// Returns whether two rows have the same digest text and the same bytes.
 fn same(digest: &Text, other: &Text, bytes: &Bytes, others: &Bytes) -> bool
     ensures { IsTrue result ↔ ((digest.now ≡ other.now) × (bytes.now ≡ others.now)) }
 {
     digest.same(other) && bytes.same(others)
 }
 
-// Returns a map from each digest text to the first row with it, and for each row the first row with the same digest
-// text. Fails with 84 `Collision` at the first row that has an earlier row's digest but other bytes, or with 91
-// `Memory`.
+// Returns a map from each digest text to the first row with this text, and a list that has, for each row, the first
+// row with the same digest text. Fails with 84 `Collision` at the first row that has an earlier row's digest text but
+// other bytes, or with 91 `Memory`.
 pub(crate) fn index_of<'a>(
     alloc: Global,
     rows: &'a [Row],
