@@ -1,4 +1,4 @@
--- Jobs and their outcomes: what a worker takes away from a board, and what it brings back.
+-- Jobs, which workers take away from a board, and outcomes, which workers bring back to the board.
 use Rattle.std.specs.Prelude.{◌≡◌, ℕ, ◌+◌, ◌<◌, ◌^◌, length, None}
 use Rattle.std.specs.List.{All}
 use Rattle.llb_model.specs.Caches.{Distinct}
@@ -7,25 +7,25 @@ use Rattle.llb_model.specs.Table.{Job}
 use Rattle.llb_model.specs.Landing.{AreLeft, further}
 use Rattle.llb_execution.specs.Parts.{mounts_in, shown_in}
 
--- the micro-steps of a program can be done on this work: the mounts that show its caches are distinct and exist, there is a tree for each of these mounts, and
--- there are fewer than 2^32 micro-steps
+-- the micro-steps of a program can be done on this work: the numbers of the mounts that show caches are distinct, and each is the number of a mount; there is a
+-- tree for each of these mounts; and there are fewer than 2^32 micro-steps
 pub record IsWorkable (p : Program) (work : Work) : Type 0 where
   pub apart : Distinct (shown_in work.own)
   pub within : All (λ n. n < mounts_in work.own) (shown_in work.own)
   pub count : length work.trees ≡ length (shown_in work.own)
   pub few : length p.steps < 2 ^ 32
 
--- an outcome: the job, how many micro-steps remained, and their result
+-- an outcome: the job, how many micro-steps the work on the job did, and their result
 pub record OutcomeValue : Type 0 where
   pub job : Job
   pub count : ℕ
   pub left : Left
 
--- the result with which the remaining micro-steps of a job begin: the job's work, and no fault
+-- what there is before the first remaining micro-step of a job: the job's work, and no fault
 abbrev pub begun_on : Job → Left
 begun_on j = record { work = j.work; fault = None }
 
--- `count` micro-steps of the job remained, and `left` is their result; the workspace has as many mounts as before, and the same mounts show caches
+-- from number `j.done` up exactly `count` micro-steps can be done, and `left` is their result; the number of mounts and the cache mounts are as before
 pub record IsOutcome (j : Job) (count : ℕ) (left : Left) : Type 0 where
   pub few : j.done + count < 2 ^ 32
   pub all : AreLeft j.program.steps j.done (begun_on j) count

@@ -1,4 +1,4 @@
--- The trees that a workspace works on, in a fixed order, and the role of each tree: for callers that only read.
+-- The trees that a workspace works on, in a fixed order, and the role of each tree. A caller that shows a workspace reads its trees by these definitions.
 use Rattle.std.specs.Prelude.{ℕ, ◌+◌, ◌==◌, List, [], ◌∷◌, ◌++◌, map, Option, Some, None, slice_get, if◌then◌else◌}
 use Rattle.llb_tree.specs.Tree.{TreeMap}
 use Rattle.llb_mount.specs.declared.shown.Shown.{Shown}
@@ -8,20 +8,20 @@ use Rattle.llb_execution.specs.declared.look.Look.TheVariants as look
 use Rattle.llb_execution.specs.declared.look.Part.{Part}
 use Rattle.llb_execution.specs.declared.look.Part.TheVariants as part
 
--- the tree that a mount shows
+-- the tree of a mount
 abbrev pub shown_tree : Shown → TreeMap
 shown_tree m = m.tree
 
--- the trees that a workspace works on, given the trees of its cache instances in the order of the mounts that show them. Source: its local tree. File op: its
--- inputs, then the results so far. Merge: its inputs, then what is laid so far. Exec: the tree of each mount; for a mount that shows a cache, the tree of its
--- instance
+-- the trees that a workspace works on; `trees` has the trees of the cache instances, in the order of the mounts that show these instances. Source: its local
+-- tree. File op: its inputs, then its results so far. Merge: its inputs, then its result so far. Exec: the tree of each mount; for a mount that shows a cache,
+-- the tree of the instance
 abbrev pub trees_with : Workspace → List TreeMap → List TreeMap
 trees_with (LocalTree t) trees = t ∷ []
 trees_with (Files inputs results) trees = inputs ++ results
 trees_with (Layers inputs t) trees = inputs ++ t ∷ []
 trees_with (Mounted mounts caches last) trees = map shown_tree (filled mounts caches trees)
 
--- the tree that a value of the code's type `Look` names: a tree that the value borrows, or tree k of these trees of the cache instances
+-- the tree that a value of the code's type `Look` names: a tree that the value borrows, or tree k of `trees`, the trees of the cache instances
 abbrev pub looked : List TreeMap → Option Look → Option TreeMap
 looked trees None = None
 looked trees (Some (look.Here t)) = Some t.now
@@ -32,18 +32,18 @@ abbrev pub tree_or : Option TreeMap → List TreeMap → Option ℕ → Option T
 tree_or own trees None = own
 tree_or own trees (Some k) = slice_get trees k
 
--- the last position so far at which a list of numbers has i: k if the number m at position k is i, else `place`
+-- the last position so far at which a list of numbers has i: k if m, the number at position k, is i; else `place`, the last such position before k
 abbrev pub next_place : ℕ → ℕ → ℕ → Option ℕ → Option ℕ
 next_place i m k place = if m == i then Some k else place
 
--- the tree at the last position at which the number in the list is i; `own` if no number is i
+-- the last tree whose number, at the same position of the list of numbers, is i; `own` if there is no such tree
 abbrev pub last_tree : ℕ → List ℕ → List TreeMap → Option TreeMap → Option TreeMap
 last_tree i [] trees own = own
 last_tree i (m ∷ ms) [] own = own
 last_tree i (m ∷ ms) (t ∷ trees) own = last_tree i ms trees (if m == i then Some t else own)
 
--- the role of a tree in a workspace: a source's local tree, an input, the result of an action, what is laid so far, or the tree of the mount
--- with this dest
+-- the role of a tree in a workspace: a source's local tree, an input, the result of an action, a merge's result so far, or the tree of the
+-- mount with this dest
 pub data Role : Type 0 where
   Local : Role
   Input : Role
@@ -51,7 +51,7 @@ pub data Role : Type 0 where
   Laid : Role
   MountAt : List (List ℕ) → Role
 
--- the role that a `Part` of the code represents
+-- the role that a value of the code's type `Part` represents
 abbrev pub role_in : Part → Role
 role_in part.Local = Local
 role_in part.Input = Input
@@ -67,7 +67,7 @@ input_role t = Input
 abbrev pub mount_role : Shown → Role
 mount_role m = MountAt m.dest
 
--- the roles of the results of the actions from number `a` up
+-- the roles of these trees, which are the results of action `a` and the actions after it
 abbrev pub results_from : ℕ → List TreeMap → List Role
 results_from a [] = []
 results_from a (t ∷ trees) = ResultOf a ∷ results_from (a + 1) trees

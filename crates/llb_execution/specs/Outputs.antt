@@ -1,4 +1,4 @@
--- How the outputs of a vertex replace the empty trees that were made for them, one after another.
+-- How the outputs of a vertex are put, one after another, in place of the empty trees that were made beforehand.
 use Rattle.std.specs.Prelude.{ℕ, ℤ, pos, negsuc, Option, Some, None, List, [], ◌∷◌, map, slice_set, if◌then◌else◌}
 use Rattle.llb_ops.specs.declared.op.Kind.{Kind}
 use Rattle.llb_ops.specs.declared.op.Kind.TheVariants as kind
@@ -15,23 +15,23 @@ actions_in _ = []
 abbrev pub numbers_of : List Action → List ℤ
 numbers_of actions = map (λ (a : Action). a.output) actions
 
--- the tree at the first position at which the list of numbers has i; the empty tree if there is none
+-- the first tree whose output number, at the same position of the list of numbers, is i; the empty tree if there is no such tree
 abbrev pub tree_by : ℕ → List ℤ → List TreeMap → TreeMap
 tree_by i [] trees = empty_tree
 tree_by i (n ∷ ns) [] = empty_tree
 tree_by i (n ∷ ns) (t ∷ trees) = if is_output i n then t else tree_by i ns trees
 
--- the trees after the first tree is replaced, if there is one
+-- the list of trees with its first tree replaced by t; the same list if it is empty
 abbrev pub first_placed : TreeMap → List TreeMap → List TreeMap
 first_placed t [] = []
 first_placed t (old ∷ trees) = t ∷ trees
 
--- the trees after the tree with this output number is replaced, if there is such a tree
+-- the list of trees with the tree at this output number replaced by t; the same list if there is no tree at this number
 abbrev pub placed : ℤ → TreeMap → List TreeMap → List TreeMap
 placed (pos i) t trees = slice_set trees i t
 placed (negsuc i) t trees = trees
 
--- the trees after the tree with this output number is replaced, if a number is given and there is such a tree
+-- the same as `placed` if there is an output number; else the list unchanged
 abbrev pub placed_by : Option ℤ → TreeMap → List TreeMap → List TreeMap
 placed_by (Some n) t trees = placed n t trees
 placed_by None t trees = trees

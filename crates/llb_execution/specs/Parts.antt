@@ -1,4 +1,4 @@
--- What the types of this crate represent, in the words of the machine's definitions (llb_model).
+-- Which values of the machine's definitions (llb_model) the values of this crate's types represent.
 use Rattle.std.specs.Prelude.{ℕ, Bool, false, not, Option, List, [], ◌∷◌, length, map}
 use Rattle.llb_tree.specs.Tree.{TreeMap}
 use Rattle.llb_model.specs.Program as model
@@ -12,14 +12,14 @@ use Rattle.llb_execution.specs.declared.workspace.WorkState.TheVariants as own
 
 -- ---- programs
 
--- the micro-step that a value of the code's type `MicroStep` represents; the value borrows from its program
+-- the micro-step that a value of the code's type `MicroStep` represents
 abbrev pub step_in : MicroStep → model.MicroStep
 step_in step.ReadLocal = model.ReadLocal
 step_in (step.Act action) = model.Act action.now
 step_in (step.LayInput number) = model.LayInput number
 step_in (step.Run setting command later) = model.Run setting.now command.now (model.all_and later.now)
 
--- the micro-steps that a value of the code's type `ByKind` represents; the value owns their data
+-- the list of micro-steps that a value of the code's type `ByKind` represents
 abbrev pub steps_in : ByKind → List model.MicroStep
 steps_in steps.Nothing = []
 steps_in steps.Read = model.ReadLocal ∷ []
@@ -36,14 +36,14 @@ own_of (own.Files inputs results) = model.Files inputs.items results.items
 own_of (own.Layers inputs t) = model.Layers inputs.items t
 own_of (own.Mounted mounts numbers last) = model.Mounted mounts numbers.items last
 
--- how many mounts the commands of a workspace see; 0 if it is not the workspace of an exec
+-- how many mounts an exec's workspace has; 0 for a workspace of another kind
 abbrev pub mounts_in : model.Workspace → ℕ
 mounts_in (model.Mounted mounts caches last) = length mounts
 mounts_in (model.LocalTree t) = 0
 mounts_in (model.Files inputs results) = 0
 mounts_in (model.Layers inputs t) = 0
 
--- the numbers of the mounts of a workspace that show caches
+-- the numbers of the mounts that show caches, in an exec's workspace; no numbers for a workspace of another kind
 abbrev pub shown_in : model.Workspace → List ℕ
 shown_in (model.Mounted mounts caches last) = caches
 shown_in (model.LocalTree t) = []
@@ -52,15 +52,15 @@ shown_in (model.Layers inputs t) = []
 
 -- ---- micro-steps
 
--- a workspace, with the trees of the caches that it shows
+-- the work that a workspace and the trees of its cache instances make up
 abbrev pub work_with : model.Workspace → List TreeMap → model.Work
 work_with workspace trees = record { own = workspace; trees = trees }
 
--- the result of a micro-step, with this workspace, these trees and this fault, if there is one
+-- the result of a micro-step: this workspace, these trees of the cache instances, and this fault, if there is one
 abbrev pub left_with : model.Workspace → List TreeMap → Option VertexFault → model.Left
 left_with workspace trees fault = record { work = work_with workspace trees; fault = fault }
 
--- whether a micro-step is a command that is skipped, given the last status in the workspace
+-- whether a micro-step is a command that is skipped, by its join and the last status in the workspace
 abbrev pub is_skipped : model.MicroStep → model.Workspace → Bool
 is_skipped (model.Run setting command ends) workspace = not (model.is_run command.join (model.last_of workspace))
 is_skipped model.ReadLocal workspace = false

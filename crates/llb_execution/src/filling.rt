@@ -1,5 +1,5 @@
-//! Runs a command on mounts, some of which show caches; the trees of the caches are put into their mounts for that one command. This file knows mounts and
-//! commands, but neither the keys nor the instances of caches.
+//! Runs a command on mounts, some of which show caches. The trees of the cache instances are put into their mounts for this one command, and taken out
+//! afterwards. This file knows mounts and commands, but neither the keys nor the instances of caches.
 
 ghost use Rattle.std.specs.Prelude.{◌≡◌, ◌<◌, length, replicate, IfOk, OnErr};
 ghost use Rattle.std.specs.List.{All};
@@ -35,8 +35,8 @@ fn blanks(alloc: Global, count: usize) -> Result<Vec<Tree>, NoMemory>
     Ok(trees)
 }
 
-// Swaps each tree with the tree of the mount whose number is at the same index. During a swap the list has the spare tree in place of the tree that it moves
-// to the mount.
+// Swaps, for each index `i`, tree `trees[i]` with the tree of the mount that has the number `numbers[i]`. While a tree is moved to its mount, the list has the
+// spare tree in its place; returns the spare tree.
 fn swap_all(mounts: &mut Mounts, numbers: &[u32], trees: &mut Vec<Tree>, spare: Tree) -> Tree
     requires apart { Distinct numbers.now }
     requires within { All (λ n. n < length mounts.old) numbers.now }
@@ -53,8 +53,8 @@ fn swap_all(mounts: &mut Mounts, numbers: &[u32], trees: &mut Vec<Tree>, spare: 
     spare
 }
 
-// Runs a command on mounts, while the mounts with these numbers show these trees, and returns the status of the command. If the status is 0, the trees are as
-// the command left them, and these mounts have the empty tree; otherwise, or if memory is refused, mounts and trees are as they were.
+// Runs a command on mounts, and returns the command's status. While the command runs, the mounts with these numbers have the trees `trees`. If the status is 0,
+// `trees` has these mounts' trees as the command left them, and the mounts have the empty tree. Else, or if memory is refused, mounts and trees are unchanged.
 pub(crate) fn run_filled(
     alloc: Global,
     command: &Command,

@@ -1,4 +1,4 @@
-//! Does all remaining micro-steps of a vertex, one after another, on a given workspace. Each micro-step is done by `Workspace::step`.
+//! Does the remaining micro-steps of a vertex on a workspace, up to and with the first that has a fault. `Workspace::step` does each micro-step.
 
 ghost use Rattle.std.specs.Prelude.{◌≡◌, ◌+◌, ◌<◌, ◌^◌, length, IfOk, None};
 ghost use Rattle.std.specs.List.{All};
@@ -13,15 +13,15 @@ use llb_tree::Tree;
 use llb_wire::Memory;
 use std::alloc::Global;
 
-/// How many micro-steps were done, and the fault of the last of them, if it had one.
+/// How many micro-steps were done, and the fault of the last one, if this micro-step has a fault.
 #[derive(Clone, Copy)]
 pub struct Further {
     pub count: u32,
     pub fault: Option<VertexFault>,
 }
 
-/// Does the micro-steps from number `done` up, until one faults or the last one is done. `trees` are the trees of the cache instances that the workspace shows,
-/// in the order of the mounts that show them. Fails with 5 `Memory` alone; then some of the micro-steps may be done.
+/// Does the micro-steps from number `done` up, until one has a fault or the last one is done. `trees` has the trees of the cache instances, in the order of the
+/// mounts that show these instances. Fails with 5 `Memory` alone; then some of the micro-steps may be done.
 pub fn do_further(
     alloc: Global,
     steps: &Steps,

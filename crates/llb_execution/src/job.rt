@@ -1,5 +1,5 @@
-//! A job is what a worker has to do: a vertex's program, and what the program works on. A job owns all its data. By an invariant of the type, the job's
-//! micro-steps can be done.
+//! A job is what a worker has to do: a vertex's program, and what the program works on. A job borrows nothing. By an invariant of the type
+//! (`IsWorkable`), the micro-steps of the program can be done on what the job has.
 
 ghost use Rattle.std.specs.Prelude.{◌≡◌};
 ghost use Rattle.llb_execution.specs.Jobs.{IsWorkable};
@@ -61,8 +61,8 @@ impl Model for Job {
 }
 
 impl Job {
-    /// Makes a job of which no micro-step is done. The trees and the numbers are those of the cache instances, in the order of the mounts that
-    /// show them. Does not allocate.
+    /// Makes a job of which no micro-step is done. `trees` and `instances` are the trees and the numbers of the cache instances, in the order of
+    /// the mounts that show these instances. Does not allocate.
     pub fn new(
         worker: u32,
         vertex: u32,
@@ -113,28 +113,28 @@ impl Job {
         &self.program
     }
 
-    /// Returns how many micro-steps are done.
+    /// Returns how many micro-steps were done before the job was handed out; 0 for a job that `new` made.
     pub fn done(&self) -> u32
         ensures { result ≡ self.now.done }
     {
         self.done
     }
 
-    /// Returns the workspace that the job works on, in which each mount of a cache has the empty tree.
+    /// Returns the workspace with which the work on the job begins. In this workspace each mount that shows a cache has the empty tree.
     pub fn workspace(&self) -> &Workspace
         ensures { result.now ≡ self.now.work.own }
     {
         &self.workspace
     }
 
-    /// Returns the trees of the cache instances as they are at the claim, in the order of the mounts that show them.
+    /// Returns the trees that the cache instances have at the claim, in the order of the mounts that show these instances.
     pub fn trees(&self) -> &[Tree]
         ensures { result.now ≡ self.now.work.trees }
     {
         self.trees.as_slice()
     }
 
-    /// Returns the numbers of the cache instances, in the order of the mounts that show them.
+    /// Returns the numbers of the cache instances, in the order of the mounts that show these instances.
     pub fn instances(&self) -> &[u32]
         ensures { result.now ≡ self.now.instances }
     {

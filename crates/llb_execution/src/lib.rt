@@ -1,11 +1,11 @@
-//! One vertex's execution: its program of micro-steps, the workspace that the micro-steps change, and the work of a whole job away from any board,
-//! behind a gate. The crate keeps no caches. It is built on `llb_model`.
+//! One vertex's execution: its program of micro-steps, the workspace that the micro-steps change, and the work on a whole job away from any board,
+//! behind a gate. The crate keeps no caches: the caller gives the trees of cache instances. The crate is built on `llb_model`.
 //!
 //! Types: `Program`, `Steps`, `MicroStep`, `Workspace` (what a program works on), `Job` (a program with its workspace and cache trees), `Outcome`, `Outputs`
 //! (the outputs of vertices, by vertex number, from which the trees of inputs are gathered), `Gate`, `WorkFault`.
-//! Promise: `Workspace::step` (`left`, `err`) leaves exactly what the machine's micro-step leaves; if memory is refused, nothing is changed.
-//! `work` (`job`, `stopped`) does all remaining micro-steps of a job; it fails with 143 only if the gate's `may_stop` is true for that worker and that
-//! vertex.
+//! Promise: `Workspace::step` (`left`, `err`) changes the workspace and the trees exactly as the machine's micro-step (`step_on`) does; if memory is
+//! refused, the call changes nothing. `work` (`job`, `stopped`) does the remaining micro-steps of a job, up to and with the first that has a fault;
+//! `work` fails with 143 only if the gate's `may_stop` is true for that worker and that vertex.
 //!
 //! A caller:
 //!

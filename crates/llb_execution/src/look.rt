@@ -10,15 +10,15 @@ use crate::workspace::{WorkState, Workspace};
 use llb_mount::View as Mounts;
 use llb_tree::{Path, Tree};
 
-/// One of the trees that a workspace works on.
+/// An item of the list of trees that a workspace works on.
 pub enum Look<'a> {
-    /// A tree that the workspace owns.
+    /// A tree that is in the workspace.
     Here(&'a Tree),
-    /// The tree of a cache instance; the number is the index of the instance's mount among the cache mounts of the vertex.
+    /// The tree of a cache instance; the caller has this tree. The number is the index of the instance's mount among the cache mounts of the vertex.
     Cached(usize),
 }
 
-/// The role of a tree in the workspace that works on it.
+/// The role of a tree in a workspace.
 pub enum Part<'a> {
     /// The local tree of a source.
     Local,
@@ -26,17 +26,17 @@ pub enum Part<'a> {
     Input,
     /// The result of the action with this number.
     ResultOf(usize),
-    /// What a merge has laid so far.
+    /// The result so far of a merge.
     Laid,
     /// The tree that the mount at this path shows.
     MountAt(&'a Path),
 }
 
 impl Workspace {
-    /// Returns tree `i` of those that the workspace works on: the local tree of a source; the inputs of a file op, then its
-    /// results so far; the inputs of a merge, then what is laid so far; for each mount of an exec its tree or, if the mount shows
-    /// a cache, the index of the mount among the cache mounts. `held` is how many cache instances the worker holds. Returns
-    /// `None` past the last tree. Does not allocate.
+    /// Returns item `i` of the list of trees that the workspace works on; `None` past the end. A source has its local tree; a file
+    /// op its inputs and then its results so far; a merge its inputs and then its result so far; an exec an item for each mount:
+    /// the mount's tree or, if the mount shows a cache, the mount's index among the cache mounts. `held` is how many cache
+    /// instances the worker holds. Does not allocate.
     pub fn look(&self, i: u32, held: usize) -> Option<Look<'_>>
         ensures { (trees : List TreeMap) → length trees ≡ held → looked trees result ≡ slice_get (trees_with self.now trees) i }
     {
@@ -48,7 +48,7 @@ impl Workspace {
         }
     }
 
-    /// Returns how many trees the workspace works on. Does not allocate.
+    /// Returns how many trees the workspace works on: the length of the list that `look` reads. Does not allocate.
     pub fn parts(&self) -> usize
         ensures { result ≡ length (roles_of self.now) }
     {
@@ -120,7 +120,7 @@ fn mount_part(mounts: &Mounts, i: usize) -> Option<Part<'_>>
     }
 }
 
-// Returns, as a `Look`, a tree that the workspace owns.
+// Returns a tree of the workspace as a `Look`.
 fn here(tree: Option<&Tree>) -> Option<Look<'_>>
     ensures { (trees : List TreeMap) → looked trees result ≡ option_map (λ t. t.now) tree.entry }
 {
@@ -155,7 +155,7 @@ fn before_last<'a>(first: &'a [Tree], last: &'a Tree, i: u32) -> Option<&'a Tree
     None
 }
 
-// Returns the tree of a mount as a `Look`.
+// Returns, as a `Look`, the tree of mount `i` or, if the mount shows a cache, the mount's index among the cache mounts.
 fn look_in<'a>(mounts: &'a Mounts, numbers: &[u32], i: u32, held: usize) -> Option<Look<'a>>
     ensures { (trees : List TreeMap) → length trees ≡ held
         → looked trees result ≡ slice_get (map shown_tree (filled mounts.now numbers.now trees)) i }
@@ -169,7 +169,7 @@ fn look_in<'a>(mounts: &'a Mounts, numbers: &[u32], i: u32, held: usize) -> Opti
     }
 }
 
-// Returns the tree that a mount itself has, which is empty for a mount of a cache.
+// Returns the tree that mount `i` has in the workspace; this tree is empty if the mount shows a cache.
 fn mount_tree(mounts: &Mounts, i: u32) -> Option<&Tree>
     ensures { option_map (λ t. t.now) result ≡ slice_get (map shown_tree mounts.now) i }
 {
@@ -191,7 +191,7 @@ fn last_place(numbers: &[u32], i: u32, held: usize) -> Option<usize>
     place
 }
 
-// Returns the index to keep after the number at index `k` is looked at: `k` if the number is `i`, else the index that was kept before.
+// Returns the last index so far at which a list of numbers has `i`: `k` if the number at index `k` is `i`, else the earlier index `place`.
 fn next_place(i: u32, number: u32, k: usize, place: Option<usize>) -> Option<usize>
     ensures { result ≡ next_place i number k place }
 {

@@ -1,4 +1,4 @@
-//! One micro-step. It borrows its data from the list of micro-steps that it is taken from. Nothing here does a micro-step.
+//! One micro-step, as a value that borrows from the vertex's list of micro-steps (`Steps`). Nothing here does a micro-step.
 
 ghost use Rattle.std.specs.Prelude.{◌≡◌, ◌∷◌, [], map, option_map, slice_get};
 ghost use Rattle.llb_model.specs.Program.{ReadLocal, Act, LayInput, runs_of};
@@ -10,13 +10,13 @@ use llb_ops::Action;
 /// One micro-step of a vertex.
 #[derive(Clone, Copy)]
 pub enum MicroStep<'a> {
-    /// The read of a source's local tree.
+    /// Reads a source's local tree.
     ReadLocal,
-    /// An action of a file op.
+    /// Does an action of a file op.
     Act(&'a Action),
-    /// The laying of a merge's input, given by its number, over the inputs before it.
+    /// Lays the input with this number over a merge's result so far.
     LayInput(i64),
-    /// A command of an exec: its setting (directory and variables), the command, and the commands after it.
+    /// Runs or skips a command of an exec: the setting (directory and variables), the command, and the commands after it.
     Run(&'a Setting, &'a Joined, &'a [Joined]),
 }
 
@@ -30,7 +30,7 @@ pub(crate) fn read_at<'a>(k: u32) -> Option<MicroStep<'a>>
     Some(MicroStep::ReadLocal)
 }
 
-// Returns the action at index `k`.
+// Returns the micro-step that does the action at index `k`; `None` past the end.
 pub(crate) fn act_at<'a>(actions: &'a [Action], k: u32) -> Option<MicroStep<'a>>
     ensures { option_map step_in result ≡ slice_get (map Act actions.now) k }
 {
@@ -40,7 +40,7 @@ pub(crate) fn act_at<'a>(actions: &'a [Action], k: u32) -> Option<MicroStep<'a>>
     }
 }
 
-// Returns the laying of the input whose number is at index `k`.
+// Returns the micro-step that lays the input with the number `numbers[k]`; `None` past the end.
 pub(crate) fn lay_at<'a>(numbers: &[i64], k: u32) -> Option<MicroStep<'a>>
     ensures { option_map step_in result ≡ slice_get (map LayInput numbers.now) k }
 {
@@ -50,7 +50,7 @@ pub(crate) fn lay_at<'a>(numbers: &[i64], k: u32) -> Option<MicroStep<'a>>
     }
 }
 
-// Returns the command at index `k`, with the commands after it.
+// Returns the micro-step of the command at index `k`, with the commands after it; `None` past the end.
 pub(crate) fn run_at<'a>(
     setting: &'a Setting,
     commands: &'a [Joined],

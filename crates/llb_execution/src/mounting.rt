@@ -1,4 +1,4 @@
-//! What the commands of an exec share: the setting (directory and variables), and the mounts, which at first show the trees of the
+//! Makes what the commands of an exec share: the setting (directory and variables), and the mounts, which at first show the trees of the
 //! inputs. Nothing here runs a command.
 
 ghost use Rattle.std.specs.Prelude.{◌≡◌, IfOk, map, option_map, unwrap_or};
@@ -15,7 +15,7 @@ use llb_tree::{Path, Tree, TreeFault};
 use llb_wire::{Many, Text};
 use std::alloc::Global;
 
-/// Returns the setting of the commands that have this meta: the directory that they run in, and their variables.
+/// Returns the setting of an exec's commands: the directory in which the commands run (the root if there is no `meta`), and their variables.
 pub(crate) fn setting_with(alloc: Global, meta: &Option<Meta>) -> Result<Setting, NoMemory>
     ensures { IfOk result (λ s. s ≡ setting_of meta.now) }
 {
@@ -42,7 +42,7 @@ fn path_in(alloc: Global, text: &Text) -> Result<Path, NoMemory>
     match Path::read(alloc, text.as_str()) {
         Ok(path) => Ok(path),
         Err(TreeFault::Memory) => Err(NoMemory),
-        // Not reached for a loaded graph: `load` refuses texts that are no paths.
+        // Unreachable in a loaded graph: `load` refuses texts that are no paths.
         Err(_) => Ok(Path::root(alloc)),
     }
 }
@@ -57,7 +57,7 @@ fn copies(alloc: Global, texts: &[Text]) -> Result<Vec<Text>, NoMemory>
     Ok(copied)
 }
 
-/// Returns the view of an exec's mounts before its first command, given the trees of the inputs.
+/// Returns the view of an exec's mounts before the first command, from the trees of the inputs.
 pub(crate) fn view_of(alloc: Global, inputs: &[Tree], mounts: &[Mount]) -> Result<View, NoMemory>
     requires { IsView (map (shown_of inputs.now) mounts.now) }
     ensures { IfOk result (λ v. v ≡ map (shown_of inputs.now) mounts.now) }
@@ -66,7 +66,7 @@ pub(crate) fn view_of(alloc: Global, inputs: &[Tree], mounts: &[Mount]) -> Resul
     Ok(View::make(Many::new(shown))?)
 }
 
-// Makes an exec's mounts, given the trees of the inputs.
+// Returns the mounts of an exec before the first command, from the trees of the inputs.
 fn all_shown(alloc: Global, inputs: &[Tree], mounts: &[Mount]) -> Result<Vec<Shown>, NoMemory>
     ensures { IfOk result (λ v. v.items ≡ map (shown_of inputs.now) mounts.now) }
 {
@@ -77,7 +77,7 @@ fn all_shown(alloc: Global, inputs: &[Tree], mounts: &[Mount]) -> Result<Vec<Sho
     Ok(shown)
 }
 
-// Makes a mount, given the trees of the inputs.
+// Returns a mount as it is before the first command, with its dest and selector read as paths, from the trees of the inputs.
 fn shown_of(alloc: Global, inputs: &[Tree], mount: &Mount) -> Result<Shown, NoMemory>
     ensures { IfOk result (λ m. m ≡ shown_of inputs.now mount.now) }
 {
@@ -92,7 +92,7 @@ fn shown_of(alloc: Global, inputs: &[Tree], mount: &Mount) -> Result<Shown, NoMe
     })
 }
 
-// Returns the path, in a mount's tree, that the mount shows; the root for a tmpfs mount.
+// Returns the path, in the mount's tree, of what the mount shows at its dest; the root for a tmpfs mount.
 fn selector_of(alloc: Global, mount: &Mount) -> Result<Path, NoMemory>
     ensures { IfOk result (λ p. p ≡ selector_of mount.now) }
 {
@@ -102,7 +102,7 @@ fn selector_of(alloc: Global, mount: &Mount) -> Result<Path, NoMemory>
     path_in(alloc, &mount.selector)
 }
 
-// Returns the tree that a mount shows: for a bind mount the tree of its input, else the empty tree.
+// Returns the tree that a mount has at first: for a bind mount with an input the tree of this input, else the empty tree.
 fn tree_shown(alloc: Global, inputs: &[Tree], mount: &Mount) -> Result<Tree, NoMemory>
     ensures { IfOk result (λ t. t ≡ tree_shown inputs.now mount.now) }
 {
@@ -115,7 +115,7 @@ fn tree_shown(alloc: Global, inputs: &[Tree], mount: &Mount) -> Result<Tree, NoM
     }
 }
 
-/// Returns the tree of an input by its number; `None` means the empty tree. Does not allocate.
+/// Returns the tree of the input with this number; `None`, which means the empty tree, if there is no such input. Does not allocate.
 pub fn input_tree(inputs: &[Tree], input: i64) -> Option<&Tree>
     ensures { unwrap_or (option_map (λ t. t.now) result) empty_tree ≡ base_in input inputs.now }
 {

@@ -1,4 +1,4 @@
-//! Does the work of a job, away from any board: all its remaining micro-steps. The result depends on the job alone.
+//! Does the work on a job away from any board: the remaining micro-steps, up to and with the first that has a fault. The result depends on the job alone.
 
 ghost use Rattle.std.specs.Prelude.{◌≡◌, IfOk, IsTrue, Err};
 ghost use Rattle.llb_execution.specs.Parts.{left_with};
@@ -16,8 +16,8 @@ use llb_wire::Memory;
 use std::alloc::Global;
 use std::marker::Model;
 
-/// The outcome of a job: how many micro-steps remained, and what they left: the workspace, the trees of the cache instances, and the fault if there is one. By
-/// the type's invariant an outcome is the result of its job's remaining micro-steps, so no board has to check it.
+/// The outcome of a job: how many micro-steps the work did, and what there is after the last one: the workspace, the trees of the cache instances, and the
+/// fault, if there is one. By the type's invariant (`IsOutcome`), these are the results of the job's remaining micro-steps, so no board has to check them.
 #[derive(Drop)]
 pub struct Outcome {
     job: Job,
@@ -50,36 +50,36 @@ impl Outcome {
         &self.job
     }
 
-    /// Proves that the outcome is the result of the remaining micro-steps of its job.
+    /// Proves that the outcome has the results of the remaining micro-steps of its job.
     pub fn is_whole(&self)
         ensures { IsOutcome self.now.job self.now.count self.now.left }
     {
         let _ = &self.fault;
     }
 
-    /// Returns how many micro-steps of the job remained.
+    /// Returns how many micro-steps the work on the job did: all that were left, or those up to and with the first that had a fault.
     pub fn count(&self) -> u32
         ensures { result ≡ self.now.count }
     {
         self.count
     }
 
-    /// Returns the workspace after the micro-steps.
+    /// Returns the workspace after the last micro-step.
     pub fn workspace(&self) -> &Workspace
         ensures { result.now ≡ self.now.left.work.own }
     {
         &self.workspace
     }
 
-    /// Returns the fault of the last micro-step, if it had one.
+    /// Returns the fault of the last micro-step; `None` if no micro-step had a fault.
     pub fn fault(&self) -> Option<VertexFault>
         ensures { result ≡ self.now.left.fault }
     {
         self.fault
     }
 
-    /// Returns how many micro-steps of the job remained, and their result: the workspace, the trees of the cache instances, and
-    /// the fault of the last micro-step, if it had one.
+    /// Returns how many micro-steps the work on the job did, and what there is after the last one: the workspace, the trees of
+    /// the cache instances, and the fault of the last micro-step, if there is one.
     pub fn into_left(self) -> (u32, Workspace, Vec<Tree>, Option<VertexFault>)
         ensures count { result.0 ≡ self.count }
         ensures left { left_with result.1 result.2.items result.3 ≡ self.left }
@@ -95,9 +95,9 @@ impl Outcome {
     }
 }
 
-/// Does all remaining micro-steps of a job, behind a gate. Fails with 143 `Stopped` if the gate stops the worker, or with 142 `Memory`; then the job is
-/// dropped. The gate can stop the worker only if its `may_stop` is true for this worker and vertex. The micro-steps are done on copies of the job's workspace
-/// and trees.
+/// Does the remaining micro-steps of a job, up to and with the first that has a fault, and returns the outcome. Before that, the worker passes the gate. Fails
+/// with 143 `Stopped` if the gate stops the worker, or with 142 `Memory`; then the job is dropped. The gate can stop the worker only if `may_stop` of the gate
+/// is true for this worker and vertex. The micro-steps are done on copies of the job's workspace and trees.
 pub fn work<G: Gate>(alloc: Global, job: Job, gate: &G) -> Result<Outcome, WorkFault>
     ensures job { IfOk result (λ o. o.job ≡ job) }
     ensures stopped { result ≡ Err work.Stopped → IsTrue (G.may_stop job.worker job.vertex) }
@@ -106,7 +106,7 @@ pub fn work<G: Gate>(alloc: Global, job: Job, gate: &G) -> Result<Outcome, WorkF
     Ok(worked(alloc, job)?)
 }
 
-// Does all remaining micro-steps of a job.
+// Does the remaining micro-steps of a job, up to and with the first that has a fault.
 fn worked(alloc: Global, job: Job) -> Result<Outcome, Memory>
     ensures { IfOk result (λ o. o.job ≡ job) }
 {

@@ -1,5 +1,5 @@
-//! Takes the outputs of a vertex from its workspace after all its micro-steps. Each output replaces an empty tree that
-//! was made for it beforehand. Nothing here allocates.
+//! Takes the outputs of a vertex from its workspace after all micro-steps. For each output there is an empty tree, made
+//! beforehand, which the output replaces. Nothing here allocates.
 
 ghost use Rattle.std.specs.Prelude.{◌≡◌, map, length, replicate, slice_get};
 ghost use Rattle.std.specs.List.{range_with_len};
@@ -15,7 +15,7 @@ use llb_mount::Shown;
 use llb_ops::{Action, Kind, Mount};
 use llb_tree::Tree;
 
-/// Returns the outputs of a vertex, from its workspace after all its micro-steps.
+/// Returns the outputs of a vertex, from the data of its workspace after all micro-steps; they replace the empty trees in `outputs`.
 pub(crate) fn outputs_of(own: WorkState, outputs: Vec<Tree>, vertex: &Vertex) -> Vec<Tree>
     requires { outputs.items ≡ replicate (length outputs.items) empty_tree }
     ensures { result.items ≡ outputs_of (record (program_of vertex.now) { outputs = length outputs.items }) (own_of own) }
@@ -41,7 +41,7 @@ fn actions_of(kind: &Option<Kind>) -> &[Action]
     }
 }
 
-// Puts a tree in place of the first output, if there is one.
+// Puts a tree in place of output 0; does nothing if there are no outputs.
 fn place_first(mut outputs: Vec<Tree>, tree: Tree) -> Vec<Tree>
     ensures { result.items ≡ first_placed tree outputs.items }
 {
@@ -51,7 +51,7 @@ fn place_first(mut outputs: Vec<Tree>, tree: Tree) -> Vec<Tree>
     outputs
 }
 
-// Puts each result in place of its action's output, the last result first, so that of two results for one output the first stays.
+// Puts each result in place of the output of its action, from the last result to the first. So if two results have one output number, the earlier one stays.
 fn place_all(mut outputs: Vec<Tree>, mut results: Vec<Tree>, actions: &[Action]) -> Vec<Tree>
     requires { outputs.items ≡ replicate (length outputs.items) empty_tree }
     ensures { result.items ≡ map (λ i. tree_by i (numbers_of actions.now) results.items) (range_with_len 0 (length outputs.items)) }
@@ -62,7 +62,8 @@ fn place_all(mut outputs: Vec<Tree>, mut results: Vec<Tree>, actions: &[Action])
     outputs
 }
 
-// Puts each mount's whole tree in place of the mount's output, the last mount first, so that of two trees for one output the first stays.
+// Puts the whole tree of each mount in place of the mount's output, from the last mount to the first. So if two mounts have one output number, the tree of the
+// earlier mount stays.
 fn place_shown(mut outputs: Vec<Tree>, mut mounts: Vec<Shown>, given: &[Mount]) -> Vec<Tree>
     requires { outputs.items ≡ replicate (length outputs.items) empty_tree }
     ensures { result.items ≡ map (λ i. tree_for i (mount_outputs given.now) mounts.items) (range_with_len 0 (length outputs.items)) }
@@ -95,7 +96,7 @@ fn mount_output(mounts: &[Mount], m: usize) -> Option<i64>
     }
 }
 
-// Puts a tree in place of an output, if an output number is given.
+// Puts a tree in place of the output with this number; does nothing if the number is `None`, or there is no such output.
 fn place(outputs: &mut Vec<Tree>, number: Option<i64>, tree: Tree)
     ensures { outputs.new.items ≡ placed_by number tree outputs.old.items }
 {
@@ -105,7 +106,7 @@ fn place(outputs: &mut Vec<Tree>, number: Option<i64>, tree: Tree)
     }
 }
 
-// Puts a tree in place of the output with this number, if there is one.
+// Puts a tree in place of the output with this number; does nothing if there is no such output.
 fn put(outputs: &mut Vec<Tree>, output: i64, tree: Tree)
     ensures { outputs.new.items ≡ placed output tree outputs.old.items }
 {

@@ -1,5 +1,5 @@
-//! The program of a vertex: its micro-steps, how many outputs it has, and the output number of each mount of an exec. A program owns its
-//! data.
+//! The program of a vertex. A program borrows nothing from the vertex; it shares actions and commands with the vertex by counts of
+//! owners.
 
 ghost use Rattle.std.specs.Prelude.{◌≡◌, IfOk};
 ghost use Rattle.llb_loader.specs.Rules.{mount_outputs};
@@ -13,7 +13,7 @@ use llb_wire::Memory;
 use std::alloc::Global;
 use std::marker::Model;
 
-/// The program of a vertex: its micro-steps, how many outputs it has, and the output number of each mount of an exec.
+/// The program of a vertex: the vertex's micro-steps, how many outputs the vertex has, and for an exec the output number of each mount.
 pub struct Program {
     pub(crate) steps: Steps,
     pub(crate) outputs: u32,
@@ -40,7 +40,7 @@ impl Model for Program {
 }
 
 impl Program {
-    /// Makes the program of a vertex. The program shares the vertex's actions and commands. Fails with 5 `Memory` alone.
+    /// Returns the program of a vertex. The program shares actions and commands with the vertex. Fails with 5 `Memory` alone.
     pub fn of(alloc: Global, vertex: &Vertex) -> Result<Program, Memory>
         ensures { IfOk result (λ p. p ≡ program_of vertex.now) }
     {

@@ -1,5 +1,5 @@
-//! Compares two workspaces by value, the micro-steps of two vertices, and a program with the program of a vertex. Nothing here allocates: the caller has made
-//! the vertex's micro-steps before, and outputs are compared with the fields of the vertex.
+//! Compares two workspaces by value, the micro-steps of two vertices, and a program with the program of a vertex. Nothing here allocates: the caller makes the
+//! micro-steps of the vertex beforehand, and the outputs of the program are compared with the fields of the vertex.
 
 ghost use Rattle.std.specs.Prelude.{◌≡◌, ◌↔◌, IsTrue, [], ◌∷◌, map};
 ghost use Rattle.llb_loader.specs.Rules.{mount_outputs};
@@ -20,7 +20,7 @@ impl Same for Workspace {
     }
 }
 
-// Returns whether two workspaces own the same data.
+// Returns whether two workspaces are equal: of one kind, and with equal trees or, for execs, equal mounts, cache mounts and last status.
 fn same_own(own: &WorkState, other: &WorkState) -> bool
     ensures { IsTrue result ↔ (own_of own.now ≡ own_of other.now) }
 {
@@ -85,7 +85,7 @@ fn are_steps(steps: &ByKind, other: &ByKind) -> bool
     }
 }
 
-// Returns whether there are no micro-steps.
+// Returns whether the list of micro-steps is empty.
 fn are_none(steps: &ByKind) -> bool
     ensures { IsTrue result ↔ (steps_in steps.now ≡ []) }
 {
@@ -98,7 +98,7 @@ fn are_none(steps: &ByKind) -> bool
     }
 }
 
-// Returns whether there is one micro-step, the read of a source.
+// Returns whether there is exactly one micro-step, which reads the local tree of a source.
 fn are_reads(steps: &ByKind) -> bool
     ensures { IsTrue result ↔ (steps_in steps.now ≡ ReadLocal ∷ []) }
 {
@@ -111,7 +111,7 @@ fn are_reads(steps: &ByKind) -> bool
     }
 }
 
-// Returns whether the micro-steps are these actions.
+// Returns whether the micro-steps are exactly these actions, in this order.
 fn are_actions(steps: &ByKind, actions: &[Action]) -> bool
     ensures { IsTrue result ↔ (steps_in steps.now ≡ map Act actions.now) }
 {
@@ -127,7 +127,7 @@ fn are_actions(steps: &ByKind, actions: &[Action]) -> bool
     }
 }
 
-// Returns whether the micro-steps are the layings of the inputs of these numbers.
+// Returns whether the micro-steps lay the inputs with these numbers, in this order.
 fn are_layings(steps: &ByKind, numbers: &[i64]) -> bool
     ensures { IsTrue result ↔ (steps_in steps.now ≡ map LayInput numbers.now) }
 {
@@ -143,7 +143,7 @@ fn are_layings(steps: &ByKind, numbers: &[i64]) -> bool
     }
 }
 
-// Returns whether the micro-steps are these commands, run in this setting.
+// Returns whether the micro-steps are exactly these commands, in this order and in this setting.
 fn are_runs(steps: &ByKind, setting: &Setting, commands: &[Joined]) -> bool
     ensures { IsTrue result ↔ (steps_in steps.now ≡ runs_of setting.now commands.now) }
 {

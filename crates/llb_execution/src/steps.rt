@@ -1,4 +1,4 @@
-//! The micro-steps of a vertex, which own their data: the one place where code says what a vertex does. Nothing here does a micro-step.
+//! The micro-steps of a vertex: the one place where code says what a vertex does. A `Steps` borrows nothing. Nothing here does a micro-step.
 
 ghost use Rattle.std.specs.Prelude.{◌≡◌, ◌<◌, ◌^◌, [], IfOk, length, map, option_map, slice_get, unwrap_or};
 ghost use Rattle.llb_loader.specs.Graph.{IsVertexOf};
@@ -17,7 +17,7 @@ use std::alloc::Global;
 use std::marker::Model;
 
 /// The micro-steps of a vertex: one read of a source, the actions of a file op, the inputs of a merge, or the commands of an exec in
-/// their setting. Actions and commands are shared with the vertex. Contracts see them as the model's list of micro-steps.
+/// their setting. Actions and commands are shared with the vertex. Contracts see a `Steps` as the model's list of micro-steps.
 pub struct Steps {
     pub(crate) by: ByKind,
 }
@@ -50,7 +50,7 @@ impl Model for Steps {
 }
 
 impl Steps {
-    /// Returns the micro-steps of a vertex; a vertex that the loader made has as many as its field `steps` says. Fails with 5 `Memory` alone.
+    /// Returns the micro-steps of a vertex. If the loader made the vertex, its field `steps` is the number of the micro-steps. Fails with 5 `Memory` alone.
     pub fn of(alloc: Global, vertex: &Vertex) -> Result<Steps, Memory>
         ensures steps { IfOk result (λ s. s ≡ (program_of vertex.now).steps) }
         ensures count { IfOk result (λ s. IsVertexOf vertex.now vertex.now.op.kind → length s ≡ vertex.now.steps) }
@@ -84,7 +84,7 @@ impl Steps {
     }
 }
 
-// Makes the micro-steps of an op's kind; for an exec the commands of its script.
+// Returns the micro-steps of an op of this kind; for an exec, `script` has the commands.
 fn by_kind(alloc: Global, kind: &Option<Kind>, script: &Option<Script>) -> Result<ByKind, NoMemory>
     ensures { IfOk result (λ s. steps_in s ≡ steps_of kind.now script.now) }
 {

@@ -1,6 +1,6 @@
-//! The workspace: what a program works on. A workspace owns its data. At first it has the trees of the vertex's inputs; micro-steps
-//! change the workspace; at the end the outputs are taken from it. Actions are done by `llb_fileop`, layings by `llb_merge`,
-//! commands by `filling`.
+//! The workspace: what a program works on. A workspace borrows nothing. At first it has the trees of the vertex's inputs, or a
+//! source's local tree; micro-steps change the workspace; at the end the outputs are taken from the workspace. Actions are done by
+//! `llb_fileop`, micro-steps of merges by `llb_merge`, commands by the module `filling`.
 
 ghost use Rattle.std.specs.Prelude.{◌≡◌, ◌<◌, List, length, map, option_map, replicate, unwrap_or, Some, None, Result, IfOk, OnOk, OnErr};
 ghost use Rattle.std.specs.List.{All};
@@ -34,7 +34,7 @@ use std::alloc::Global;
 use std::marker::Model;
 
 /// What a program works on: for a source its local tree; for a file op the trees of its inputs and the results so far; for a
-/// merge the trees of its inputs and what is laid so far; for an exec its mounts (those that show caches have the empty tree
+/// merge the trees of its inputs and the result so far; for an exec its mounts (each mount that shows a cache has the empty tree
 /// here) and the status of the last command that ran.
 pub struct Workspace {
     pub(crate) own: WorkState,
@@ -47,8 +47,8 @@ impl Drop for Workspace {
     }
 }
 
-// What a workspace owns: a local tree; the trees of inputs and the results so far; the trees of inputs and what is laid; or mounts, the numbers of
-// those that show caches, and the last status.
+// The data of a workspace. Source: its local tree. File op: the trees of its inputs, and the results so far. Merge: the trees of its inputs, and the
+// result so far. Exec: its mounts, the numbers of the mounts that show caches, and the status of the last command that ran.
 #[derive(Drop)]
 pub(crate) enum WorkState {
     Local(Tree),
@@ -71,8 +71,8 @@ impl Model for Workspace {
 }
 
 impl Workspace {
-    /// Makes the workspace of a vertex before its first micro-step. `inputs` are the trees of the vertex's inputs, and `caches`
-    /// the numbers of its cache mounts, in ascending order. Fails with 5 `Memory` alone.
+    /// Makes the workspace of a vertex before its first micro-step. `inputs` has the trees of the vertex's inputs, and `caches`
+    /// has the numbers of the vertex's cache mounts, in ascending order. Fails with 5 `Memory` alone.
     pub fn on(
         alloc: Global,
         locals: &Locals,
@@ -88,7 +88,7 @@ impl Workspace {
         Ok(Workspace { own })
     }
 
-    /// Copies the workspace; the copy shares its trees. Fails with 5 `Memory` alone.
+    /// Copies the workspace; the copy shares the trees with the workspace. Fails with 5 `Memory` alone.
     pub fn copy(&self) -> Result<Workspace, Memory>
         ensures { IfOk result (λ v. v ≡ self.now) }
     {
@@ -106,7 +106,7 @@ impl Workspace {
         }
     }
 
-    /// Returns whether a micro-step is a command that is skipped; a skipped command changes nothing. Does not allocate.
+    /// Returns whether the micro-step is a command that is skipped, by its join and the last status. A skipped command changes nothing. Does not allocate.
     pub fn skips(&self, step: MicroStep<'_>) -> bool
         ensures { result ≡ is_skipped (step_in step.entry) self.now }
     {
@@ -116,9 +116,9 @@ impl Workspace {
         }
     }
 
-    /// Does micro-step `k`, and returns its fault, if it has one; the fault has the number `k` in it. `trees` are the trees of the cache instances that the
-    /// workspace shows, in the order of the mounts that show them; a command changes them. If there is a fault, the workspace and `trees` are as before, except
-    /// for the last status. Fails with 5 `Memory` alone; then nothing is changed.
+    /// Does micro-step `k`, and returns the fault of the micro-step, if there is one; the fault has the number `k` in it. `trees` has the trees of the cache
+    /// instances, in the order of the mounts that show these instances; a command can change the trees. If there is a fault, the workspace and `trees` are as
+    /// before, except for the last status. Fails with 5 `Memory` alone; then nothing is changed.
     pub fn step(
         &mut self,
         alloc: Global,
@@ -156,8 +156,8 @@ impl Workspace {
         }
     }
 
-    /// Returns the outputs of the vertex after all its micro-steps. Each output replaces an empty tree of `outputs`,
-    /// which the caller makes by `empty_trees`. Does not allocate.
+    /// Returns the outputs of the vertex, from its workspace after all micro-steps. `outputs` has an empty tree for each
+    /// output, which the caller makes by `empty_trees`; the outputs replace these trees. Does not allocate.
     pub fn into_outputs(self, outputs: Vec<Tree>, vertex: &Vertex) -> Vec<Tree>
         requires { outputs.items ≡ replicate vertex.now.outputs empty_tree }
         ensures { result.items ≡ outputs_of (program_of vertex.now) self }
@@ -166,7 +166,7 @@ impl Workspace {
         outputs_of(own, outputs, vertex)
     }
 
-    // Appends to the results the tree that action `k` made; if the action failed, returns its fault.
+    // Appends the tree that action `k` made to the results; if the action failed, returns its fault with the number `k`.
     fn put_result(
         &mut self,
         k: u32,
@@ -186,7 +186,7 @@ impl Workspace {
         }
     }
 
-    // Returns the tree that an action names by this number; `None` means the empty tree.
+    // Returns the input or the earlier result that an action names by this number; `None` means the empty tree.
     fn tree(&self, number: i64) -> Option<&Tree>
         ensures { unwrap_or (option_map (λ t. t.now) result) empty_tree ≡ base_in number (trees_in self.now) }
     {
@@ -217,19 +217,19 @@ impl Workspace {
                 results.push(tree)?;
                 Ok(())
             }
-            // No vertex's program gets here: only a file op has actions.
+            // No program of a vertex gets here: only a file op has actions.
             _ => Ok(()),
         }
     }
 
-    // Lays a merge's input over the inputs before it.
+    // Lays the input with this number over a merge's result so far.
     fn lay(&mut self, alloc: Global, input: i64) -> Result<(), NoMemory>
         ensures ok { OnOk result (self.new ≡ lay_on input self.old) }
         ensures err { OnErr result (self.new ≡ self.old) }
     {
         match &mut self.own {
             WorkState::Layers(inputs, laid) => lay_input(alloc, laid, inputs, input),
-            // No vertex's program gets here: only a merge has layings.
+            // No program of a vertex gets here: only a merge lays inputs.
             _ => Ok(()),
         }
     }
@@ -244,7 +244,7 @@ impl Workspace {
         }
     }
 
-    // Replaces what a merge has laid so far.
+    // Replaces a merge's result so far.
     pub(crate) fn put_laid(&mut self, tree: Tree)
         ensures { self.new ≡ put_back (Laid tree) self.old }
     {
@@ -254,7 +254,7 @@ impl Workspace {
         }
     }
 
-    // Replaces the mounts of an exec, and its last status.
+    // Replaces the mounts of an exec, and the status of the last command that ran.
     pub(crate) fn put_mounts(&mut self, mounts: Mounts, last: u32)
         ensures { self.new ≡ put_back (saves.Mounts mounts last) self.old }
     {
@@ -267,7 +267,7 @@ impl Workspace {
         }
     }
 
-    // Runs command `k` on an exec's mounts, or skips it, by its join and the last status. While the command runs, the cache mounts have the trees `trees`.
+    // Runs or skips command `k` of an exec, as its join and the last status demand. While the command runs, the cache mounts have the trees `trees`.
     // Returns the exec's fault: the command's status, if this status is not 0 and no later command may run.
     fn run(
         &mut self,
@@ -294,13 +294,13 @@ impl Workspace {
                 *last = status;
                 Ok(exit_of(k, status, later))
             }
-            // No vertex's program gets here: only an exec has commands.
+            // No program of a vertex gets here: only an exec has commands.
             _ => Ok(None),
         }
     }
 }
 
-// Copies all that a workspace has; the trees are shared.
+// Copies the data of a workspace; the copy shares the trees with the workspace.
 fn copy_of(own: &WorkState) -> Result<WorkState, NoMemory>
     ensures { IfOk result (λ o. own_of o ≡ own_of own.now) }
 {
@@ -331,7 +331,7 @@ pub(crate) fn tree_copies(alloc: Global, trees: &[Tree]) -> Result<Vec<Tree>, No
     Ok(copies)
 }
 
-// Makes the data of the workspace that a vertex's program begins with.
+// Makes the data of a vertex's workspace before the first micro-step.
 fn own_on(
     alloc: Global,
     locals: &Locals,
@@ -371,7 +371,7 @@ fn empty(alloc: Global) -> Result<Tree, NoMemory>
     Ok(Tree::empty(alloc)?)
 }
 
-// Returns the number of an action's fault; for 51 `File` the number of the tree's fault.
+// Returns the number of an action's fault; for 51 `File`, whose argument is a tree's fault, the number of that fault.
 fn number(fault: ActFault) -> u32
     ensures { result ≡ fault_number fault }
 {
@@ -397,7 +397,7 @@ fn tree_number(fault: TreeFault) -> u32
     }
 }
 
-// Lays the input with this number over a tree; the number -1 means the empty tree.
+// Lays the input with this number over the tree `laid`; the number -1 means the empty tree.
 fn lay_input(alloc: Global, laid: &mut Tree, inputs: &[Tree], input: i64) -> Result<(), NoMemory>
     ensures ok { OnOk result (laid.new ≡ lay laid.old (base_in input inputs.now)) }
     ensures err { OnErr result (laid.new ≡ laid.old) }
@@ -441,9 +441,9 @@ fn are_ands(commands: &[Joined]) -> bool
     true
 }
 
-// Returns the exec's fault after a command: the command's status, if it is not 0 and no later command may run. Later commands are looked at only if the status
-// is not 0, and only up to the first that is not joined by `&&`. The commands before that one will all be skipped, so over a whole script no command is looked
-// at twice.
+// Returns the exec's fault after a command: the command's status, if this status is not 0 and no later command may run. Later commands are looked at only if
+// the status is not 0, and only up to the first that is not joined by `&&`. Of the commands that are looked at, all but the last are skipped afterwards. So no
+// command of a script is looked at twice.
 fn exit_of(command: u32, status: u32, later: &[Joined]) -> Option<VertexFault>
     ensures { result ≡ exit_of command (all_and later.now) status }
 {

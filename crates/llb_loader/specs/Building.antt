@@ -20,18 +20,18 @@ abbrev pub vertex_at : List Vertex → ℕ → Vertex
 vertex_at vertices n = slice_index_or vertices n
     (record { digest = []; op = record { inputs = []; kind = None; extra = [] }; script = None; inputs = []; steps = 0; outputs = 0 })
 
--- the edge to this vertex, with the output index of this input
+-- the edge to the vertex with this number, and there to the output with the input's index
 abbrev pub edge_to : ℕ → Input → Edge
 edge_to vertex input = record { vertex = vertex; index = nat_abs input.index }
 
--- an op has fewer than 2^25 steps, at most 1,024 outputs, and as many inputs as there are `named` rows; the index of each input is from 0 to 1,024
+-- the op has fewer than 2^25 micro-steps, at most 1,024 outputs, and as many inputs as `named` has rows; the index of each input is from 0 to 1,024
 pub record IsBuildable (op : Op) (named : List ℕ) : Type 0 where
   pub steps : step_count op < 2 ^ 25
   pub outputs : output_count op ≤ 1_024
   pub len : length named ≡ length op.inputs
   pub indexes : (i : ℕ) → i < length op.inputs → IsBelow 1_025 (input_at op i).index
 
--- v is the vertex of this op. The edge of each input leads to the vertex with the number that `ranks` has for the row that the input names.
+-- v is the vertex of the op `from` and the digest text `text`. Input i names row `named[i]`; edge i leads to that row's vertex, whose number is in `ranks`.
 pub record IsBuilt (text : List ℕ) (from : Op) (named ranks : List ℕ) (v : Vertex) : Type 0 where
   pub digest : v.digest ≡ text
   pub op : v.op ≡ from
@@ -41,7 +41,7 @@ pub record IsBuilt (text : List ℕ) (from : Op) (named ranks : List ℕ) (v : V
   pub steps : v.steps ≡ step_count from
   pub outputs : v.outputs ≡ output_count from
 
--- the first n vertices are the vertices of the first n rows in `order`
+-- vertices 0 to n - 1 are the vertices of the first n rows in `order`
 abbrev pub AreBuilt : List Row → List Op → List (List ℕ) → List ℕ → List ℕ → List Vertex → ℕ → Type 0
 AreBuilt rows ops links ranks order vertices n = (j : ℕ) → j < n
     → IsBuilt (row_at rows (slice_index order j)).digest (op_at ops (slice_index order j)) (inputs links (slice_index order j)) ranks (vertex_at vertices j)

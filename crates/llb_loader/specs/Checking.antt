@@ -20,23 +20,23 @@ source_rules = rule.LocalName ∷ []
 abbrev pub file_rules : List Rule
 file_rules = rule.NoActions ∷ rule.ActionInput ∷ rule.ActionOutput ∷ []
 
--- the rules that an exec has a `Meta`, at least one word, and at least one mount
+-- the rules that an exec has a `Meta`, at least one word in `args`, and at least one mount
 abbrev pub word_rules : List Rule
 word_rules = rule.NoMeta ∷ rule.NoArgs ∷ rule.NoMounts ∷ []
 
--- the rules on the paths of an exec
+-- the rules on the paths of an exec: a mount is at `/`, all paths can be read, and no two mounts are at the same path
 abbrev pub path_rules : List Rule
 path_rules = rule.NoRoot ∷ rule.BadPath ∷ rule.SameDest ∷ []
 
--- the rules on what the mounts show, and on their outputs
+-- the rules on the types, the inputs and the outputs of an exec's mounts
 abbrev pub mount_rules : List Rule
 mount_rules = rule.MountKind ∷ rule.MountInput ∷ rule.MountOutput ∷ []
 
--- the rules of cache mounts
+-- the rules on the cache mounts of an exec
 abbrev pub cache_rules : List Rule
 cache_rules = rule.NoCacheOpt ∷ rule.Sharing ∷ rule.CacheTwice ∷ []
 
--- the rule on the script of an exec, with the script's fault
+-- the rule that the words of an exec are a script; this rule has the fault of these words as its argument
 abbrev pub script_rules : Option Meta → List Rule
 script_rules meta = rule.Script (script_fault meta) ∷ []
 

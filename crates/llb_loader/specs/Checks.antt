@@ -1,4 +1,4 @@
--- What the checks of the reached rows return. These rows are marked; each check goes through the marked rows in order and stops at the first row that fails.
+-- When the checks of the reached rows, on which the result depends, fail. Reached rows are marked; a check goes through them and stops at the first faulty row.
 use Rattle.std.specs.Prelude.{◌≡◌, ◌≢◌, ℕ, ◌<◌, ◌==◌, ◌⊎◌, Bool, false, cond, List, [], length, slice_index_or, Some, None}
 use Rattle.llb_ops.specs.declared.op.Op.{Op}
 use Rattle.llb_loader.specs.declared.row.Row.{Row}
@@ -12,7 +12,7 @@ use Rattle.llb_loader.specs.Linking.{op_at, input_at}
 use Rattle.llb_loader.specs.Features.{feature_of}
 use Rattle.llb_loader.specs.Rules.{MeetsRules, BreaksFirst, IsBelow}
 
--- e is the refusal that the terminal has no input, or that its first input names no row
+-- e is `NoResult` and the terminal has no input, or e is `UnknownDigest` and the terminal's first input names no row
 abbrev pub RefusesStart : List Row → ℕ → Op → LoadFault → Type 0
 RefusesStart rows t op e = ((e ≡ NoResult) × (op.inputs ≡ []))
     ⊎ ((e ≡ UnknownDigest t 0) × (0 < length op.inputs) × (row_named rows t (input_at op 0).digest ≡ None))
@@ -27,22 +27,22 @@ pub record FirstUnknown (rows : List Row) (t : ℕ) (op : Op) (i : ℕ) : Type 0
   pub unknown : row_named rows t (input_at op i).digest ≡ None
   pub before : NamesAll rows t op i
 
--- e names the least marked row with an input that names no row, and the first such input of this row
+-- of the marked rows with an input that names no row, e names the row with the least number, and the first such input of that row
 abbrev pub RefusesUnknown : List Row → ℕ → List Op → (ℕ → Type 0) → LoadFault → Type 0
 RefusesUnknown rows t ops Marked e = (k : ℕ) × (i : ℕ) × (e ≡ UnknownDigest k i) × Marked k × FirstUnknown rows t (op_at ops k) i
     × ((j : ℕ) → j < k → Marked j → NamesAll rows t (op_at ops j) (length (op_at ops j).inputs))
 
--- e names the least marked row whose op has an unsupported feature, and the first such feature of this op
+-- of the marked rows whose op has an unsupported feature, e names the row with the least number, and the first such feature of its op
 abbrev pub RefusesFeature : List Op → (ℕ → Type 0) → LoadFault → Type 0
 RefusesFeature ops Marked e = (k : ℕ) × (f : Feature) × (e ≡ Unsupported k f) × Marked k × (feature_of (op_at ops k) ≡ Some f)
     × ((j : ℕ) → j < k → Marked j → feature_of (op_at ops j) ≡ None)
 
--- e names the least marked row that breaks a rule, and the first rule that it breaks
+-- of the marked rows whose op breaks a rule, e names the row with the least number, and the first rule that its op breaks
 abbrev pub RefusesRule : List Op → (ℕ → Type 0) → LoadFault → Type 0
 RefusesRule ops Marked e = (k : ℕ) × (r : Rule) × (e ≡ Invalid k r) × Marked k × BreaksFirst (op_at ops k) r
     × ((j : ℕ) → j < k → Marked j → MeetsRules (op_at ops j))
 
--- the number of outputs of the row that input i of an op names; `counts` has the number of outputs of each row, and `named` the rows that the op's inputs name
+-- the number of outputs of the row that input i names; `counts` has the number of outputs of each row, and `named` has the row that each input of the op names
 abbrev pub count_there : List ℕ → List ℕ → ℕ → ℕ
 count_there counts named i = slice_index_or counts (slice_index_or named i 0) 0
 
@@ -56,11 +56,11 @@ pub record FirstBad (counts named : List ℕ) (op : Op) (n i : ℕ) : Type 0 whe
   pub bad : ¬ IsBelow (count_there counts named i) (input_at op i).index
   pub before : FitsAll counts named op i
 
--- how many inputs of row k are checked: all of a reached row, the first one of the terminal, else none
+-- how many inputs of row k are checked for their index: all if row k is reached, the first one if row k is the terminal and not reached, else none
 abbrev pub asked_of : List Op → List Bool → ℕ → ℕ → ℕ
 asked_of ops seen terminal k = cond (slice_index_or seen k false) (length (op_at ops k).inputs) (cond (k == terminal) 1 0)
 
--- e names the least row with a checked input (`asked_of`) that names an output that does not exist, and the first such input of that row
+-- of the rows in which a checked input (`asked_of`) names no output that exists, e names the row with the least number, and the first such input of that row
 abbrev pub RefusesIndex : List Op → List (List ℕ) → List ℕ → List Bool → ℕ → LoadFault → Type 0
 RefusesIndex ops links counts seen t e = (k : ℕ) × (i : ℕ) × (e ≡ BadIndex k i) × (k < length ops)
     × FirstBad counts (inputs links k) (op_at ops k) (asked_of ops seen t k) i

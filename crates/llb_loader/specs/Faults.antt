@@ -13,21 +13,21 @@ use Rattle.llb_loader.specs.declared.fault.Rule.TheVariants as rule
 use Rattle.llb_loader.specs.declared.fault.LoadFault.{LoadFault}
 use Rattle.llb_loader.specs.declared.fault.LoadFault.TheVariants as fault
 
--- whether a fault is `Memory`: only the code fails with this fault; no definition of a result returns it
+-- whether a fault is `Memory`: the code fails with this fault if memory is refused; the definitions of results never have it
 abbrev pub is_memory : LoadFault → Bool
 is_memory fault.Memory = true
 is_memory _ = false
 
--- a call returns what the definition of its result says, or it fails for want of memory
+-- a call has the result that its definition has (the function maps the call's value to the definition's value), or the call fails with `Memory`
 abbrev pub Gives : {X Y : Type 0} → (X → Y) → Result X LoadFault → Result Y LoadFault → Type 0
 Gives = answer.Gives is_memory
 
--- the fault of bytes that can't be read as a definition
+-- the loader's fault for bytes that can't be read as a definition, from the fault of llb_ops
 abbrev pub definition_fault : OpFault → LoadFault
 definition_fault op.Memory = fault.Memory
 definition_fault f = fault.Definition f
 
--- the fault of a row that can't be read as an op
+-- the loader's fault for row k, which can't be read as an op, from the fault of llb_ops
 abbrev pub row_fault : ℕ → OpFault → LoadFault
 row_fault k op.Memory = fault.Memory
 row_fault k f = fault.Entry k f
@@ -70,7 +70,7 @@ rule_name rule.CacheTwice = codes "CacheTwice"
 rule_name (rule.Script f) = codes "Script"
 rule_name rule.MergeInput = codes "MergeInput"
 
--- the text of a rule: its name, and for the rule on scripts the script's fault after it
+-- the text of a rule: its name; after the name `Script`, the text of the script's fault follows
 abbrev pub rule_text : Rule → List ℕ
 rule_text (rule.Script f) = codes "Script " ++ script_text f
 rule_text r = rule_name r

@@ -42,7 +42,7 @@ abbrev pub copies_with : (CopyFile → Bool) → Option ActionKind → Bool
 copies_with p (Some (Copy c)) = p c
 copies_with p _ = false
 
--- whether a copy has patterns of what to include or exclude
+-- whether a copy has include patterns or exclude patterns
 abbrev pub has_pattern : CopyFile → Bool
 has_pattern c = not (length c.include_patterns == 0) || not (length c.exclude_patterns == 0)
 
@@ -50,7 +50,7 @@ has_pattern c = not (length c.include_patterns == 0) || not (length c.exclude_pa
 abbrev pub unpacks : CopyFile → Bool
 unpacks c = c.attempt_unpack_docker_compatibility
 
--- whether a copy has a field that the table of messages does not name
+-- whether a copy has a field that llb_ops does not know; such fields are kept in `extra`
 abbrev pub has_field : CopyFile → Bool
 has_field c = not (length c.extra == 0)
 
@@ -74,6 +74,6 @@ features =
     feature.DiffOp ∷ feature.BuildOp ∷ feature.Source ∷ feature.SecretMount ∷ feature.SshMount ∷ feature.SecretEnv
     ∷ feature.Action ∷ feature.Unpack ∷ feature.Patterns ∷ feature.OwnerByName ∷ feature.CopyField ∷ []
 
--- the first unsupported feature of an op
+-- the first unsupported feature of an op; none if it has none
 abbrev pub feature_of : Op → Option Feature
 feature_of op = find (has op.kind) features

@@ -28,11 +28,11 @@ pub record Numbered : Type 0 where
   pub vertices : List Vertex
   pub result : Edge
 
--- for each vertex, the vertices to which its inputs lead
+-- for each vertex, the vertices to which its edges lead
 abbrev pub links : List Vertex → List (List ℕ)
 links vertices = map (λ v. map (λ e. e.vertex) v.inputs) vertices
 
--- an edge leads to an output of a vertex with a number below k
+-- the edge leads to a vertex with a number below k, and to an output that this vertex has
 pub record LeadsBelow (vertices : List Vertex) (k : ℕ) (e : Edge) : Type 0 where
   pub lower : e.vertex < k
   pub index : HoldsAt (λ v. e.index < v.outputs) vertices e.vertex
@@ -48,7 +48,7 @@ pub record HasInputs (vertices : List Vertex) (v : Vertex) : Type 0 where
   pub each : (i : ℕ) (input : Input) (e : Edge) → i < length v.inputs
       → IsEdgeOfInput vertices (slice_index_or v.op.inputs i input) (slice_index_or v.inputs i e)
 
--- what holds of each vertex: its op is within the limits of llb_ops, meets the rules and has no unsupported feature; the other fields are those of the op
+-- what holds of each vertex: its op is within llb_ops's limits, has no unsupported feature and meets the rules; `script`, `steps` and `outputs` are the op's
 pub record IsVertex (v : Vertex) : Type 0 where
   pub within : IsWithinLimits v.op
   pub featureless : feature_of v.op ≡ None

@@ -1,4 +1,4 @@
--- The order of the keys of caches, and the proof that it is total.
+-- The order of the keys of caches, and the proof that this order is total.
 use Rattle.std.specs.declared.cmp.Ordering.{Ordering}
 use Rattle.std.specs.Ordering.{ordering_then, nat_cmp, int_cmp}
 use Rattle.std.specs.Option.{option_cmp}
@@ -6,7 +6,7 @@ use Rattle.std.specs.Cmp.{IsTotalOrder, on_total, then_total, int_cmp_total}
 use Rattle.std.specs.Cmp.Lexicographic.{slice_cmp, nat_list_cmp_total, options_total}
 use Rattle.llb_loader.specs.Mounts.{Seed, CacheKey}
 
--- the order of seeds: by digest text, then by index
+-- the order of seeds (`Seed`, the output that a new cache instance begins with): by digest text, then by index
 abbrev pub seed_cmp : Seed → Seed → Ordering
 seed_cmp a b = ordering_then (slice_cmp nat_cmp a.digest b.digest) (int_cmp a.index b.index)
 

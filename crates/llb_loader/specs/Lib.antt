@@ -1,5 +1,5 @@
 -- Read first Load and Link (what loading returns), Linking (the graph of the rows, or the first fault) with Rows and Numbering, Graph (what is true of every
--- graph), Features and Rules (what is refused, and what an op has to be) with Mounts, MountTypes and Scripts, then Locals, Missing, Faults and Laws.
+-- graph), Features (what is not supported) and Rules (what an op has to meet) with Mounts, MountTypes and Scripts, then Locals, Missing, Faults and Laws.
 -- Bare, Checking, Checks, Stages, Placing, RowLookup, Reading, Building and KeyOrder follow the steps of the code.
 pub mod Rows
 pub mod Mounts

@@ -8,10 +8,10 @@ use Rattle.llb_loader.specs.Linking.{Refused, GraphOf}
 use Rattle.llb_loader.specs.Reading.{AreOps, RefusesRow}
 use Rattle.std.specs.Prelude.{◌⊎◌}
 
--- Each row is read as an op, and the rows with these ops make this graph.
+-- All rows can be read as ops, and the rows with these ops make the graph g.
 abbrev pub IsGraphOf : List Row → Numbered → Type 0
 IsGraphOf rows g = (ops : List Op) × AreOps rows ops × GraphOf rows ops g
 
--- e is the first refusal of the rows
+-- e is the refusal of the rows: a row can't be read as an op, or all can and the rows with these ops are refused
 abbrev pub IsRefusalOf : List Row → LoadFault → Type 0
 IsRefusalOf rows e = RefusesRow rows e ⊎ ((ops : List Op) × AreOps rows ops × Refused rows ops e)

@@ -1,4 +1,4 @@
--- The graph of the rows, or the first fault: the meaning of each refusal, and what has to hold before the next refusal is looked for.
+-- The graph that rows make, or the first fault: when each refusal applies, and what holds if neither it nor an earlier refusal applies.
 use Rattle.std.specs.Prelude.{◌≡◌, ℕ, ◌<◌, ◌≤◌, pos, nat_abs, List, [], length, map, slice_index_or, Option, Some, None, ◌⊎◌}
 use Rattle.std.specs.Option.{unwrap_or}
 use Rattle.llb_ops.specs.declared.op.Op.{Op}
@@ -26,12 +26,12 @@ op_at ops k = slice_index_or ops k (record { inputs = []; kind = None; extra = [
 abbrev pub input_at : Op → ℕ → Input
 input_at op i = slice_index_or op.inputs i (record { digest = []; index = pos 0; extra = [] })
 
--- the pair of k and i has the property P, and is the least such pair: by the first number, then by the second
+-- (k, i) is the first pair of numbers with the property P; pairs are ordered by the first number, then by the second
 pub record Foremost (P : ℕ → ℕ → Type 0) (k i : ℕ) : Type 0 where
   pub holds : P k i
   pub least : (j h : ℕ) → P j h → (k < j) ⊎ ((k ≡ j) × (i ≤ h))
 
--- what a graph is made from: the rows, their ops, the row of the terminal op, and the row of the result, which is named by the terminal's first input
+-- what a graph is made from: rows, their ops, the number of the terminal's row, and the number of the result's row, which the terminal's first input names
 pub record Plan : Type 0 where
   pub rows : List Row
   pub ops : List Op
@@ -42,7 +42,7 @@ pub record Plan : Type 0 where
 abbrev pub plan : List Row → List Op → ℕ → ℕ → Plan
 plan rows ops terminal start = record { rows = rows; ops = ops; terminal = terminal; start = start }
 
--- the row that the terminal's first input names, 0 if it names none
+-- the number of the row that the terminal's first input names; 0 if this input names no row
 abbrev pub start_in : List Row → List Op → ℕ
 start_in rows ops = unwrap_or (row_named rows (terminal_in rows) (input_at (op_at ops (terminal_in rows)) 0).digest) 0
 
@@ -58,7 +58,7 @@ pub record IsPlanOf (rows : List Row) (ops : List Op) (p : Plan) : Type 0 where
 abbrev pub links_in : Plan → List (List ℕ)
 links_in p = graph_of p.rows p.terminal p.ops
 
--- the row that input i of row k names, if it names one
+-- the number of the row that input i of row k names; none if this input names no row
 abbrev pub input_row : Plan → ℕ → ℕ → Option ℕ
 input_row p k i = row_named p.rows p.terminal (input_at (op_at p.ops k) i).digest
 
@@ -66,7 +66,7 @@ input_row p k i = row_named p.rows p.terminal (input_at (op_at p.ops k) i).diges
 abbrev pub ReachedRow : Plan → ℕ → Type 0
 ReachedRow p k = Reached (links_in p) p.start k
 
--- row k is reached and has an input i
+-- row k is reached from the row of the result (`ReachedRow`), and its op has an input with number i
 pub record HasInput (p : Plan) (k i : ℕ) : Type 0 where
   pub reached : ReachedRow p k
   pub here : i < length (op_at p.ops k).inputs
@@ -92,7 +92,7 @@ pub record IsApart (rows : List Row) : Type 0 where
   pub several : ¬ AllSame rows
   pub apart : (k : ℕ) → ¬ Collides rows k
 
--- The rows are as `IsApart` says, the terminal is the first row that equals the last one, and it has an input.
+-- `IsApart` holds of the rows, the terminal is the first row that equals the last row, and the terminal's op has an input.
 pub record HasResult (p : Plan) : Type 0 where
   pub apart : IsApart p.rows
   pub terminal : IsTerminal p.rows p.terminal
@@ -108,35 +108,35 @@ pub record IsNamed (p : Plan) : Type 0 where
   pub started : IsStarted p
   pub named : (k i : ℕ) → ¬ IsUnknown p k i
 
--- Each input of a reached row names a row, and `order` has the reached rows in the order of their numbers.
+-- Each input of a reached row names a row, and `order` has the reached rows in the order of their vertex numbers.
 pub record IsOrdered (p : Plan) (order : List ℕ) : Type 0 where
   pub named : IsNamed p
   pub numbering : IsNumbering (links_in p) p.start order
 
--- The reached rows are numbered, and none of them has an unsupported feature.
+-- `IsOrdered` holds, so the reached rows have vertex numbers; and none of their ops has an unsupported feature.
 pub record IsSupported (p : Plan) (order : List ℕ) : Type 0 where
   pub ordered : IsOrdered p order
   pub featureless : (k : ℕ) → ReachedRow p k → feature_of (op_at p.ops k) ≡ None
 
--- The reached rows are numbered and supported, and each of them meets the rules.
+-- `IsSupported` holds, so no reached row has an unsupported feature; and the op of each reached row meets the rules.
 pub record IsValid (p : Plan) (order : List ℕ) : Type 0 where
   pub supported : IsSupported p order
   pub valid : (k : ℕ) → ReachedRow p k → MeetsRules (op_at p.ops k)
 
--- No refusal applies: the reached rows are numbered, supported and valid, and each input's index is that of an output of the row that the input names.
+-- No refusal applies: `IsValid` holds, and each input of a reached row, and the terminal's first input, names an output that exists.
 pub record IsWhole (p : Plan) (order : List ℕ) : Type 0 where
   pub valid : IsValid p order
   pub indexes : (k i : ℕ) → ¬ IsBadIndex p k i
 
 -- ---- the refusals
 
--- row k is the least reached row with an unsupported feature, and f is the first such feature of its op
+-- of the reached rows whose op has an unsupported feature, row k has the least number, and f is the first such feature of its op
 pub record IsUnsupported (p : Plan) (k : ℕ) (f : Feature) : Type 0 where
   pub reached : ReachedRow p k
   pub feature : feature_of (op_at p.ops k) ≡ Some f
   pub least : (j : ℕ) → j < k → ReachedRow p j → feature_of (op_at p.ops j) ≡ None
 
--- row k is the least reached row that breaks a rule, and r is the first rule that it breaks
+-- of the reached rows whose op breaks a rule, row k has the least number, and r is the first rule that its op breaks
 pub record IsInvalid (p : Plan) (k : ℕ) (r : Rule) : Type 0 where
   pub reached : ReachedRow p k
   pub broken : BreaksFirst (op_at p.ops k) r
@@ -149,7 +149,7 @@ pub record HasNoStart (p : Plan) (k i : ℕ) : Type 0 where
   pub row : k ≡ p.terminal
   pub input : i ≡ 0
 
--- e is the refusal of the plan: each refusal applies only if no earlier one does
+-- e is the refusal of the plan; each case below also requires that no earlier refusal applies
 abbrev pub Refuses : Plan → LoadFault → Type 0
 Refuses p TooFew = AllSame p.rows
 Refuses p (Collision k) = (¬ AllSame p.rows) × Least (Collides p.rows) k
@@ -167,11 +167,11 @@ Refused rows ops e = Refuses (plan_of rows ops) e
 
 -- ---- the graph
 
--- the edge of an input: the number of the vertex that the input names, and the input's index
+-- the edge of an input: the vertex number of the row that the input names, and the input's index
 abbrev pub edge_of : Plan → List ℕ → Input → Edge
 edge_of p order i = record { vertex = rank_in order (unwrap_or (row_named p.rows p.terminal i.digest) 0); index = nat_abs i.index }
 
--- the vertex of row k
+-- the vertex that is made from row k
 abbrev pub vertex_of : Plan → List ℕ → ℕ → Vertex
 vertex_of p order k = record {
   digest = (row_at p.rows k).digest;
@@ -182,14 +182,14 @@ vertex_of p order k = record {
   outputs = output_count (op_at p.ops k);
 }
 
--- the graph of a plan; `order` has the reached rows in the order of their numbers
+-- the graph of a plan; `order` has the reached rows in the order of their vertex numbers
 abbrev pub numbered_of : Plan → List ℕ → Numbered
 numbered_of p order = record {
   vertices = map (vertex_of p order) order;
   result = edge_of p order (input_at (op_at p.ops p.terminal) 0);
 }
 
--- g is the graph of the plan of the rows, which are read as these ops; no refusal applies, and `order` has the reached rows in the order of their numbers
+-- no refusal applies to the rows, which are read as these ops; g is the graph of their plan, and `order` has the reached rows by vertex number
 pub record GraphOf (rows : List Row) (ops : List Op) (g : Numbered) : Type 0 where
   pub order : List ℕ
   pub whole : IsWhole (plan_of rows ops) order

@@ -17,7 +17,7 @@ rows_from entries = map (λ bytes. record { digest = digest_text bytes; bytes = 
 abbrev pub IsGraphIn : List ℕ → Numbered → Type 0
 IsGraphIn bytes g = (entries : List (List ℕ)) × (definition_of bytes ≡ Ok entries) × IsGraphOf (rows_from entries) g
 
--- e is the first refusal of the bytes of a definition
+-- e is the refusal of the bytes: they can't be read as a definition, or the rows of the definition's entries are refused
 abbrev pub IsRefusalIn : List ℕ → LoadFault → Type 0
 IsRefusalIn bytes e = ((f : OpFault) × (definition_of bytes ≡ Err f) × (e ≡ Definition f))
     ⊎ ((entries : List (List ℕ)) × (definition_of bytes ≡ Ok entries) × IsRefusalOf (rows_from entries) e)

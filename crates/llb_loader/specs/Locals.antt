@@ -33,7 +33,7 @@ local_name op = name_by_kind op.kind
 abbrev pub Local : Type 0
 Local = List ℕ × TreeMap
 
--- the names and trees of the code's map
+-- the entries of the code's map from names to trees, as a list of pairs
 unfoldable pub locals_of : {Z : Type 0} → List (String Z × TreeMap) → List Local
 locals_of entries = map (λ e. (string_bytes e.0, e.1)) entries
 
@@ -41,6 +41,6 @@ locals_of entries = map (λ e. (string_bytes e.0, e.1)) entries
 abbrev pub tree_of_local : List Local → List ℕ → Option TreeMap
 tree_of_local locals name = lookup (bytes_eq name) locals
 
--- the list after a tree is given for a name: the tree replaces the one that the name had; a name that had none is added at the end
+-- the list after a tree is given for a name: if the name had a tree, the new tree replaces it; else the name is added at the end, with the new tree
 abbrev pub with_local : List Local → List ℕ → TreeMap → List Local
 with_local locals name tree = insert_entry bytes_eq locals name tree

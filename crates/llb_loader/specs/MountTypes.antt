@@ -4,7 +4,7 @@ use Rattle.llb_loader.specs.Mounts.{bind, secret, ssh, cache, tmpfs}
 use Rattle.llb_loader.specs.declared.mount_type.MountType.{MountType}
 use Rattle.llb_loader.specs.declared.mount_type.MountType.TheVariants.{Bind, Secret, Ssh, Cache, Tmpfs}
 
--- the number of a type of mounts
+-- the number that a definition has for a type of mounts
 abbrev pub number_of : MountType → ℤ
 number_of Bind = bind
 number_of Secret = secret

@@ -1,4 +1,4 @@
--- Mounts of an exec: their types, the paths that their texts read as, and the keys of the caches that they show.
+-- Mounts of an exec: their types, their dests and selectors as paths, and the keys of the caches that they show.
 use Rattle.std.specs.Prelude.{◌≡◌, ℕ, ◌<◌, ℤ, pos, negsuc, Bool, cond, List, map, slice_get, slice_index_or, Option, Some, None, IsSome, ⊤, Result, Ok, Err}
 use Rattle.std.specs.List.{All}
 use Rattle.std.specs.Ordering.{int_eq}
@@ -39,7 +39,7 @@ has_type t m = int_eq m.mount_type t
 abbrev pub value_at : {X : Type 0} → List (Option X) → ℕ → Option X
 value_at values a = slice_index_or values a None
 
--- each of the two has a value, and the values are equal
+-- `a` and `b` both have a value, and the two values are equal
 abbrev pub Share : {X : Type 0} → Option X → Option X → Type 0
 Share {X} a b = (x : X) × (a ≡ Some x) × (b ≡ Some x)
 
@@ -49,25 +49,25 @@ pub record AreApart {X : Type 0} (values : List (Option X)) : Type 0 where
 
 -- ---- paths
 
--- the path in a result, if it has one
+-- the path in a result; none if the result is a fault
 abbrev pub value_of : Result (List (List ℕ)) TreeFault → Option (List (List ℕ))
 value_of (Ok path) = Some path
 value_of (Err f) = None
 
--- the path that a text reads as, if it reads as one
+-- the path that a text is read as; none if the text is no path
 abbrev pub read_as : List ℕ → Option (List (List ℕ))
 read_as text = value_of (path_of text)
 
--- for each mount, the path that its dest reads as
+-- for each mount, the path that its dest is read as; none if the dest is no path
 abbrev pub dests_of : List Mount → List (Option (List (List ℕ)))
 dests_of mounts = map (λ m. read_as m.dest) mounts
 
--- the `cwd` of an exec reads as a path; true if the exec has no `Meta`
+-- the `cwd` of an exec can be read as a path; true if the exec has no `Meta`
 abbrev pub ReadsCwd : Option Meta → Type 0
 ReadsCwd (Some meta) = IsSome (read_as meta.cwd)
 ReadsCwd None = ⊤
 
--- the dests and the selectors of the mounts, and the `cwd`, read as paths
+-- the dests and the selectors of the mounts, and the `cwd`, can be read as paths
 pub record ReadsPaths (mounts : List Mount) (meta : Option Meta) : Type 0 where
   pub dests : All IsSome (dests_of mounts)
   pub selectors : All (λ m. IsSome (read_as m.selector)) mounts
@@ -96,19 +96,19 @@ pub record CacheKey : Type 0 where
   pub seed : Option Seed
   pub mode : ℤ
 
--- the key with this seed and the ID and mode of these options
+-- the key with this seed, and with the ID and the sharing mode of these options; none without options
 abbrev pub key_by : Option Seed → Option CacheOpt → Option CacheKey
 key_by seed (Some c) = Some (record { id = c.id; seed = seed; mode = c.sharing })
 key_by seed None = None
 
--- the options of the cache that a mount shows, if it is a cache mount
+-- the options of the cache that a mount shows, if the mount is a cache mount and has options
 abbrev pub cache_in : Mount → Option CacheOpt
 cache_in m = cond (has_type cache m) m.cache_opt None
 
--- the key of the cache that a mount shows, if it shows one
+-- the key of the cache that a mount shows; none if the mount is no cache mount or has no options
 abbrev pub key_of : List Input → Mount → Option CacheKey
 key_of inputs m = key_by (seed_of inputs m.input) (cache_in m)
 
--- for each mount, the key of the cache that it shows, if it shows one
+-- for each mount, the key of the cache that the mount shows; none if the mount is no cache mount or has no options
 abbrev pub keys_of : List Input → List Mount → List (Option CacheKey)
 keys_of inputs mounts = map (key_of inputs) mounts

@@ -1,25 +1,25 @@
--- How the reached rows are numbered.
+-- How the reached rows get their vertex numbers. `g` has for each row the rows that its inputs name; `start` is the row of the result.
 use Rattle.std.specs.Prelude.{ℕ, suc, ◌<◌, ◌≤◌, ◌==◌, cond, List, [], ◌∷◌, length, take, slice_index}
 use Rattle.std.specs.List.{All, Contains}
 use Rattle.llb_loader.specs.Rows.{inputs, HasEdge, Reached}
 
--- row k is reached and not yet numbered, and all rows that it names are numbered
+-- row k is reached, is not one of the numbered rows `done`, and all rows that its inputs name are in `done`
 pub record IsReady (g : List (List ℕ)) (start : ℕ) (done : List ℕ) (k : ℕ) : Type 0 where
   pub reached : Reached g start k
   pub fresh : ¬ Contains done k
   pub inputs_done : All (Contains done) (inputs g k)
 
--- row k is the least row that can be numbered next
+-- row k gets the next vertex number: `IsReady` holds for row k, and for no row before row k
 pub record IsNext (g : List (List ℕ)) (start : ℕ) (done : List ℕ) (k : ℕ) : Type 0 where
   pub ready : IsReady g start done k
   pub least : (j : ℕ) → IsReady g start done j → k ≤ j
 
--- `order` has the reached rows in the order of their numbers: at each position is the least row that can be numbered once all rows at earlier positions are.
+-- `order` has the reached rows in the order of their vertex numbers: at each position is the row that gets the next number after the rows at earlier positions.
 pub record IsNumbering (g : List (List ℕ)) (start : ℕ) (order : List ℕ) : Type 0 where
   pub each : (i : ℕ) → i < length order → IsNext g start (take i order) (slice_index order i)
   pub whole : (k : ℕ) → Reached g start k → Contains order k
 
--- if each row has the rank that `rank` says, every edge from a reached row leads to a row of lower rank
+-- `rank` maps each row to a rank such that every edge from a reached row leads to a row of lower rank
 abbrev pub GoesDown : List (List ℕ) → ℕ → (ℕ → ℕ) → Type 0
 GoesDown g start rank = (a b : ℕ) → Reached g start a → HasEdge g a b → rank b < rank a
 
@@ -27,7 +27,7 @@ GoesDown g start rank = (a b : ℕ) → Reached g start a → HasEdge g a b → 
 abbrev pub HasCycle : List (List ℕ) → ℕ → Type 0
 HasCycle g start = (rank : ℕ → ℕ) → ¬ GoesDown g start rank
 
--- the number of row k: its first position in the list, or the list's length if row k is not in the list
+-- the first position of row k in the list, or the list's length if k is not in it; in a list for which `IsNumbering` holds this is k's vertex number
 abbrev pub rank_in : List ℕ → ℕ → ℕ
 rank_in [] k = 0
 rank_in (x ∷ xs) k = cond (x == k) 0 (suc (rank_in xs k))

@@ -1,14 +1,14 @@
--- Where an unnumbered row goes: to the ready rows, or to a row that it waits for. A `Waiter` is an unnumbered row, with how many of its inputs were checked.
+-- Where an unnumbered row is put: among the ready rows, or in the list of a row that it waits for. A `Waiter` is the row, and how many inputs were checked.
 use Rattle.std.specs.Prelude.{◌≡◌, ℕ, ◌<◌, ◌≤◌, Bool, true, false, cond, List, [], ◌∷◌, ◌++◌, ◌⊎◌, length, slice_index, slice_index_or, slice_set, ◌==◌}
 use Rattle.std.specs.List.{All}
 use Rattle.llb_loader.specs.declared.numbering.Waiter.{Waiter}
 use Rattle.llb_loader.specs.Rows.{inputs, HasEdge}
 
--- row k is marked
+-- `marks` has true for row k
 abbrev pub IsMarked : List Bool → ℕ → Type 0
 IsMarked marks k = slice_index_or marks k false ≡ true
 
--- `done` marks the rows that the first `checked` inputs of the waiter's row name
+-- `done` marks the numbered rows. The waiter's row has at least `checked` inputs, and the first `checked` of these inputs name rows that `done` marks.
 pub record IsChecked (g : List (List ℕ)) (done : List Bool) (w : Waiter) : Type 0 where
   pub within : w.checked ≤ length (inputs g w.row)
   pub passed : (i : ℕ) → i < w.checked → IsMarked done (slice_index (inputs g w.row) i)
@@ -31,7 +31,7 @@ pub record GoesToWaiting (g : List (List ℕ)) (done : List Bool) (w : Waiter) (
   pub below : b < length waiting
   pub pushed : next_waiting ≡ slice_set waiting b (slice_index_or waiting b [] ++ next ∷ [])
 
--- the waiter's row joins the ready rows, or waits for another row that it names
+-- the waiter's row joins the ready rows, or waits for a row that it names and that has no number yet
 abbrev pub IsPlacing : List (List ℕ) → List Bool → Waiter → (ℕ → Bool) → (ℕ → Bool) → List (List Waiter) → List (List Waiter) → Type 0
 IsPlacing g done w ready next_ready waiting next_waiting =
     GoesToReady g done w ready next_ready waiting next_waiting

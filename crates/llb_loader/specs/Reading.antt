@@ -9,7 +9,7 @@ use Rattle.llb_loader.specs.declared.fault.LoadFault.TheVariants.{Entry}
 use Rattle.llb_loader.specs.RowLookup.{row_at}
 use Rattle.llb_loader.specs.Linking.{op_at}
 
--- each row is read as the op with the same number
+-- there is one op for each row, and row k is read as op k
 pub record AreOps (rows : List Row) (ops : List Op) : Type 0 where
   pub len : length ops ≡ length rows
   pub each : (k : ℕ) → k < length rows → op_of (row_at rows k).bytes ≡ Ok (op_at ops k)
@@ -20,6 +20,6 @@ pub record IsUnread (rows : List Row) (k : ℕ) (f : OpFault) : Type 0 where
   pub fault : op_of (row_at rows k).bytes ≡ Err f
   pub before : (j : ℕ) → j < k → IsOk (op_of (row_at rows j).bytes)
 
--- e is the refusal of the first row that can't be read as an op
+-- e is `Entry` (82) with the number and the fault of the first row that can't be read as an op
 abbrev pub RefusesRow : List Row → LoadFault → Type 0
 RefusesRow rows e = (k : ℕ) × (f : OpFault) × (e ≡ Entry k f) × IsUnread rows k f

@@ -16,7 +16,7 @@ use Rattle.std.specs.Ordering.{nat_cmp}
 abbrev pub row_at : List Row → ℕ → Row
 row_at rows k = slice_index_or rows k (record { digest = []; bytes = [] })
 
--- all rows are the same: fewer than two are distinct
+-- all rows are equal (true also if there are no rows), so fewer than two rows are distinct
 abbrev pub AllSame : List Row → Type 0
 AllSame rows = (k : ℕ) → k < length rows → row_at rows k ≡ row_at rows 0
 
@@ -59,7 +59,7 @@ rows_named rows t op = filter_map (λ i. row_named rows t i.digest) op.inputs
 abbrev pub graph_of : List Row → ℕ → List Op → List (List ℕ)
 graph_of rows t ops = map (rows_named rows t) ops
 
--- the code's index finds for each digest text the first row that has it
+-- the code's index maps each digest text to the first row with this text, and has no other texts
 abbrev pub IsIndex : List Row → BTreeMap (Bor (List ℕ)) ℕ → Type 0
 IsIndex rows index = (d : List ℕ) → get_by (λ q. slice_cmp nat_cmp d q.now) index ≡ first_with rows d
 
@@ -68,6 +68,6 @@ pub record AreFirsts (rows : List Row) (firsts : List ℕ) : Type 0 where
   pub len : length firsts ≡ length rows
   pub each : (k : ℕ) → k < length rows → first_with rows (row_at rows k).digest ≡ Some (slice_index_or firsts k 0)
 
--- e is the refusal of the least row that collides with an earlier row
+-- e is `Collision` (84) with the number of the first row that has the digest text of an earlier row and other bytes
 abbrev pub RefusesCollision : List Row → LoadFault → Type 0
 RefusesCollision rows e = (k : ℕ) × (e ≡ Collision k) × Least (Collides rows) k

@@ -1,4 +1,4 @@
--- The rules that an op has to meet to be a vertex, in their order, and the counts of its steps and outputs.
+-- The rules that an op has to meet to become a vertex, in the order in which they are checked, and how many micro-steps and outputs an op has.
 use Rattle.std.specs.Prelude.{◌≡◌, ◌≢◌, ℕ, zero, ◌+◌, ℤ, pos, negsuc, ◌≤ℤ◌, ◌<ℤ◌, Bool, true, false, ◌||◌, ◌⊎◌, List, [], ◌∷◌, length}
 use Rattle.std.specs.Prelude.{IsSome, ⊤, ◌<◌, map, count_by, Option, Some, None, slice_index_or, unwrap_or, codes}
 use Rattle.std.specs.List.{All, Contains}
@@ -26,11 +26,11 @@ use Rattle.llb_applet.specs.declared.fault.ScriptFault.{ScriptFault}
 use Rattle.llb_loader.specs.Scripts.{commands_in, script_fault}
 use Rattle.llb_loader.specs.Mounts.{bind, cache, tmpfs, dests_of, keys_of, AreApart, ReadsPaths}
 
--- the number that means no input or no output
+-- the number -1, which means no input or no output
 abbrev pub none : ℤ
 none = negsuc 0
 
--- whether an output number is given: it is not -1
+-- whether a number is the number of an output: it is not -1
 abbrev pub is_output : ℤ → Bool
 is_output (negsuc zero) = false
 is_output _ = true
@@ -112,7 +112,7 @@ count_outputs outputs = count_by is_output outputs
 abbrev pub output_at : List ℤ → ℕ → ℤ
 output_at outputs a = slice_index_or outputs a none
 
--- If m of the numbers are other than -1, these are the numbers 0 to m - 1, each once.
+-- If m of the numbers are other than -1, these m numbers are the numbers from 0 to m - 1, each once.
 pub record AreOutputs (outputs : List ℤ) : Type 0 where
   pub within : (a : ℕ) → output_at outputs a ≢ none → IsBelow (count_outputs outputs) (output_at outputs a)
   pub once : (a b : ℕ) → output_at outputs a ≢ none → output_at outputs a ≡ output_at outputs b → a ≡ b
@@ -132,12 +132,12 @@ ShowsInput n m = (m.mount_type ≡ bind) ⊎ (m.mount_type ≡ cache) → IsInpu
 abbrev pub HasOptions : Mount → Type 0
 HasOptions m = m.mount_type ≡ cache → IsSome m.cache_opt
 
--- the options of a cache, if they are given, name one of the three modes
+-- the options of a cache, if there are any, name one of the three sharing modes
 abbrev pub IsKnownSharing : Option CacheOpt → Type 0
 IsKnownSharing (Some c) = IsBelow 3 c.sharing
 IsKnownSharing None = ⊤
 
--- if the mount is a cache mount and has options, these name one of the three modes
+-- if the mount is a cache mount and has options, the options name one of the three sharing modes
 abbrev pub IsShared : Mount → Type 0
 IsShared m = m.mount_type ≡ cache → IsKnownSharing m.cache_opt
 
@@ -147,7 +147,7 @@ pub record AreMountOutputs (mounts : List Mount) : Type 0 where
   pub caches : All (λ m. m.mount_type ≡ cache → m.output ≡ none) mounts
   pub tmpfs : All (λ m. m.mount_type ≡ tmpfs → m.output ≡ none) mounts
 
--- a `Meta`, if there is one, has at least one word
+-- a `Meta`, if there is one, has at least one word in `args`
 abbrev pub HasWord : Option Meta → Type 0
 HasWord (Some meta) = 0 < length meta.args
 HasWord None = ⊤

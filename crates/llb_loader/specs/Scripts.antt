@@ -1,4 +1,4 @@
--- The script of an exec: the commands that its words are read as.
+-- The script of an exec: the commands that the words of the exec are read as.
 use Rattle.std.specs.Prelude.{List, Option, Some, None, Ok, Err, Result}
 use Rattle.std.specs.Result.{result_ok}
 use Rattle.llb_ops.specs.declared.op.Op.{Op}
@@ -10,22 +10,22 @@ use Rattle.llb_applet.specs.declared.fault.ScriptFault.{ScriptFault}
 use Rattle.llb_applet.specs.declared.fault.ScriptFault.TheVariants.{ShellSyntax}
 use Rattle.llb_applet.specs.Scripts.{script_of}
 
--- the commands that the words of a `Meta` are read as, if they are a script
+-- the commands that the words of a `Meta` are read as, if the words are a script
 abbrev pub commands_in : Option Meta → Option (List Joined)
 commands_in (Some m) = result_ok (script_of m.args)
 commands_in None = None
 
--- the fault in a result; if there is none, a fault that is not used
+-- the fault in a result; if the result is no fault, a fault that is not used
 abbrev pub fault_or_none : Result (List Joined) ScriptFault → ScriptFault
 fault_or_none (Err f) = f
 fault_or_none (Ok cs) = ShellSyntax 0
 
--- the fault of reading the words of a `Meta`; if there is none, a fault that is not used
+-- the fault with which the words of a `Meta` are not a script; if they are a script, a fault that is not used
 abbrev pub script_fault : Option Meta → ScriptFault
 script_fault (Some m) = fault_or_none (script_of m.args)
 script_fault None = ShellSyntax 0
 
--- the commands of an exec, if its words are a script; none for another kind
+-- the commands of an exec, if the words of the exec are a script; none for another kind
 abbrev pub kind_script : Option Kind → Option (List Joined)
 kind_script (Some (Exec x)) = commands_in x.meta
 kind_script _ = None

@@ -16,7 +16,7 @@ use Rattle.llb_loader.specs.Linking.{Plan, plan, IsPlanOf, IsApart, IsNamed, Rea
 abbrev pub plan_in : Linked → Plan
 plan_in l = plan l.rows.items l.ops.items l.terminal l.start
 
--- The terminal and the row of the result are those of the rows' plan, each input of a reached row names a row, and `seen` marks the reached rows.
+-- The terminal and the row of the result in l are those of the plan of l's rows; each input of a reached row names a row; `seen` marks the reached rows.
 pub record IsLinked (l : Linked) : Type 0 where
   pub few : length l.rows.items ≤ 65_536
   pub len : length l.ops.items ≡ length l.rows.items
@@ -27,8 +27,8 @@ pub record IsLinked (l : Linked) : Type 0 where
   pub seen : length l.seen.items ≡ length l.rows.items
   pub exact : (k : ℕ) → IsMarked l.seen.items k ↔ ReachedRow (plan_in l) k
 
--- n has the rows that the inputs name, found by digest text; the rows are read as these ops. The terminal and the row of the result
--- are those of the rows' plan, each input of a reached row names a row, and `seen` marks the reached rows.
+-- n has what the digest texts in the ops of these rows name. The terminal and the row of the result in n are those of the rows' plan;
+-- `links` has for each row the rows that its inputs name; each input of a reached row names a row; `seen` marks the reached rows.
 pub record AreNames (rows : List Row) (ops : List Op) (n : Names) : Type 0 where
   pub planned : IsPlanOf rows ops (plan rows ops n.terminal n.start)
   pub named : IsNamed (plan rows ops n.terminal n.start)
@@ -36,7 +36,7 @@ pub record AreNames (rows : List Row) (ops : List Op) (n : Names) : Type 0 where
   pub seen : length n.seen.items ≡ length rows
   pub exact : (k : ℕ) → IsMarked n.seen.items k ↔ ReachedRow (plan rows ops n.terminal n.start) k
 
--- `IsLinked` holds of l, and `IsApart` of the rows. The rows are read as the ops of l, and each has the digest text of the row of l with the same number.
+-- `IsLinked` holds of l, and `IsApart` of the rows. Row k is read as op k of l, and has the same digest text as row k of l.
 pub record IsLinkedFrom (rows : List Row) (l : Linked) : Type 0 where
   pub ops : AreOps rows l.ops.items
   pub len : length l.rows.items ≡ length rows

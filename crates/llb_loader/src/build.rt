@@ -17,7 +17,7 @@ use llb_wire::{Bytes, Many, Memory, Text};
 use std::alloc::{AllocError, Global};
 use std::mem;
 
-/// Returns the vertices of the numbered rows, in the order of their numbers.
+/// Returns the vertices of the rows in `order`, which has the reached rows in the order of their vertex numbers.
 pub(crate) fn vertices_of(
     alloc: Global,
     mut rows: Vec<Row>,
@@ -67,7 +67,7 @@ fn no_row(alloc: Global) -> Row {
     Row::bare(alloc, Text::new(String::new(alloc)))
 }
 
-// Makes the vertex of an op whose inputs name these rows; `ranks` has the vertex number of each row.
+// Makes the vertex of an op. `named` has the row that each input of the op names, and `ranks` has the vertex number of each row.
 fn vertex_of(
     alloc: Global,
     digest: Text,
@@ -94,7 +94,7 @@ fn vertex_of(
     })
 }
 
-// Reads the script of an exec; `None` for other kinds.
+// Reads the script of an exec; returns `None` for other kinds.
 fn script_in(alloc: Global, op: &Op) -> Result<Option<Script>, Memory>
     ensures { IfOk result (λ script. script ≡ script_in op.now) }
 {
@@ -104,7 +104,7 @@ fn script_in(alloc: Global, op: &Op) -> Result<Option<Script>, Memory>
     }
 }
 
-// Reads the script in the words of an exec; `None` if there are no words.
+// Reads the words of an exec as a script; returns `None` if there are no words.
 fn commands_in(alloc: Global, meta: &Option<Meta>) -> Result<Option<Script>, Memory>
     ensures { IfOk result (λ script. script ≡ commands_in meta.now) }
 {
@@ -122,7 +122,7 @@ fn commands_in(alloc: Global, meta: &Option<Meta>) -> Result<Option<Script>, Mem
     }
 }
 
-// Returns the edges of the op's inputs, in their order.
+// Returns the edge of each of the op's inputs, in the order of the inputs.
 fn edges_of(
     alloc: Global,
     op: &Op,
@@ -143,7 +143,7 @@ fn edges_of(
     Ok(edges)
 }
 
-// Returns the edge to the vertex with this number, with the output index of the input.
+// Returns the edge to the vertex with this number, and there to the output with the input's index.
 fn edge(vertex: usize, input: &Input) -> Edge
     requires vertex { vertex < 65_536 }
     requires index { IsBelow 1_025 input.now.index }
@@ -155,7 +155,7 @@ fn edge(vertex: usize, input: &Input) -> Edge
     }
 }
 
-/// Returns the edge to the vertex with this number, with the output index of the op's first input.
+/// Returns the edge to the vertex with this number, and there to the output with the index of the op's first input.
 pub(crate) fn first_edge(vertex: usize, op: &Op) -> Edge
     requires some { 0 < length op.now.inputs }
     requires vertex { vertex < 65_536 }

@@ -12,7 +12,7 @@ use llb_ops::{Input, Mount};
 use std::cmp::Ordering;
 use std::marker::Model;
 
-/// The key of a cache. The seed is kept as the input that names the output.
+/// The key of a cache. The seed is an output; the key keeps the input that names this output.
 #[derive(Drop)]
 pub(crate) struct Key<'a> {
     id: &'a str,
@@ -29,7 +29,7 @@ impl<'a> Model for Key<'a> {
     ghost view = { λ k. record { id = k.id.now; seed = seed_by (option_copied k.seed); mode = k.mode } };
 }
 
-/// Returns the key of the cache that a mount shows, if it shows one.
+/// Returns the key of the cache that a mount shows; `None` if the mount is no cache mount or has no options.
 pub(crate) fn key_of<'a>(inputs: &'a [Input], mount: &'a Mount) -> Option<Key<'a>>
     ensures { result ≡ key_of inputs.now mount.now }
 {

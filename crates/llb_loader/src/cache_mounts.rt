@@ -1,4 +1,4 @@
-//! Whether the cache mounts of an exec show distinct caches.
+//! Checks whether the cache mounts of an exec show distinct caches.
 
 ghost use Rattle.std.specs.Prelude.{◌↔◌, IfOk, IsTrue};
 ghost use Rattle.llb_loader.specs.Mounts.{keys_of, AreApart};
@@ -9,7 +9,7 @@ use llb_wire::Memory;
 use std::alloc::Global;
 use std::collections::BTreeSet;
 
-/// Returns whether no two cache mounts have the same key.
+/// Returns whether no two cache mounts show caches with the same key.
 pub(crate) fn caches_apart(
     alloc: Global,
     inputs: &[Input],

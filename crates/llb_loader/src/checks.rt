@@ -1,4 +1,5 @@
-//! The checks of the reached rows, which `seen` marks. Each check goes through these rows in order, and stops at the first row that fails the check.
+//! Checks the reached rows, on which the result depends; `seen` marks these rows. Each check goes through the marked rows in order, and stops at the first row
+//! that fails the check.
 
 ghost use Rattle.std.specs.Prelude.{◌≡◌, ◌<◌, ◌≤◌, ◌↔◌, ℕ, false, cond, length, map, IfOk, IfErr, OnOk, IsTrue, MatchOption};
 ghost use Rattle.std.specs.List.{All};
@@ -51,8 +52,8 @@ pub(crate) fn check_names(
     Ok(())
 }
 
-// Returns the index of the op's first input that names no row. `named` has the rows that the inputs name; if there are as many of these as inputs, no input is
-// looked up.
+// Returns the index of the op's first input that names no row; `None` if each input names one. `named` has the rows that the inputs name; if there are as many
+// of these rows as inputs, no input is looked up.
 fn unnamed_in(
     rows: &[Row],
     index: &BTreeMap<&str, usize>,
@@ -70,7 +71,7 @@ fn unnamed_in(
     first_unknown(rows, index, terminal, op)
 }
 
-// Returns the index of the first input that names no row.
+// Returns the index of the first input that names no row; `None` if each input names one.
 fn first_unknown(
     rows: &[Row],
     index: &BTreeMap<&str, usize>,
@@ -165,7 +166,7 @@ pub(crate) fn check_indexes(
     Ok(())
 }
 
-// Returns how many inputs of a row are checked: all of a reached row, the first one of the terminal if it is not reached, else none.
+// Returns how many inputs of a row are checked: all if the row is reached, the first one if the row is the terminal and not reached, else none.
 fn asked_inputs(op: &Op, reached: bool, terminal: bool) -> usize
     ensures { result ≡ cond reached (length op.now.inputs) (cond terminal 1 0) }
 {

@@ -1,4 +1,4 @@
-//! The digest text of an entry, by which inputs name it.
+//! Computes the digest text of an entry, by which inputs name the entry.
 
 ghost use Rattle.std.specs.Prelude.{◌≡◌, IfOk};
 ghost use Rattle.llb_wire.specs.Digest.{digest_text};

@@ -1,4 +1,5 @@
-//! The rules on execs, in five groups: what is run, where the mounts are, what the mounts show and output, the cache mounts, and the script.
+//! Finds the first rule on execs that an op breaks. The rules are checked in five groups: an exec has words and mounts; the paths; the types, inputs and
+//! outputs of the mounts; the cache mounts; the script.
 
 ghost use Rattle.std.specs.Prelude.{◌≡◌, ◌↔◌, Some, IsSome, IfOk, IsTrue, List};
 ghost use Rattle.std.specs.List.{All};
@@ -18,7 +19,7 @@ use llb_ops::{CacheOpt, ExecOp, Input, Mount};
 use llb_wire::Memory;
 use std::alloc::{AllocError, Global};
 
-/// Returns the first rule on execs that the exec with these inputs breaks.
+/// Returns the first rule on execs that the exec with these inputs breaks; `None` if the exec meets all of them.
 pub(crate) fn broken_in_exec(
     alloc: Global,
     inputs: &[Input],
@@ -41,7 +42,7 @@ pub(crate) fn broken_in_exec(
     broken_script(alloc, exec)
 }
 
-// Returns the first broken rule on what an exec runs: its meta, its words and its mounts have to be there.
+// Returns the first broken one of three rules: the exec has a `meta`, its `args` has at least one word, and it has at least one mount.
 fn broken_word(exec: &ExecOp) -> Option<Rule>
     ensures { (inputs : List Input) → IsFirstBroken inputs (Some (kind.Exec exec.now)) word_rules result }
 {
@@ -57,7 +58,7 @@ fn broken_word(exec: &ExecOp) -> Option<Rule>
     None
 }
 
-// Returns the first broken rule on the paths of an exec.
+// Returns the first broken rule on the paths of an exec; `None` if the exec meets these rules.
 fn broken_path(alloc: Global, exec: &ExecOp) -> Result<Option<Rule>, Memory>
     ensures { IfOk result (λ broken. (inputs : List Input) → IsFirstBroken inputs (Some (kind.Exec exec.now)) path_rules broken) }
 {
@@ -81,7 +82,7 @@ fn broken_path(alloc: Global, exec: &ExecOp) -> Result<Option<Rule>, Memory>
     Ok(None)
 }
 
-// Returns the first broken rule on what the mounts show, and on their outputs.
+// Returns the first broken rule on the types, the inputs and the outputs of the mounts; `None` if the exec meets these rules.
 fn broken_mount(alloc: Global, inputs: &[Input], exec: &ExecOp) -> Result<Option<Rule>, AllocError>
     ensures { IfOk result (IsFirstBroken inputs.now (Some (kind.Exec exec.now)) mount_rules) }
 {
@@ -98,7 +99,7 @@ fn broken_mount(alloc: Global, inputs: &[Input], exec: &ExecOp) -> Result<Option
     Ok(None)
 }
 
-// Returns whether each mount is of a known type.
+// Returns whether the type of each mount is a number from 0 to 4.
 fn all_known(mounts: &[Mount]) -> bool
     ensures { IsTrue result ↔ All (λ m. IsBelow 5 m.mount_type) mounts.now }
 {
@@ -129,7 +130,7 @@ fn all_show(count: usize, mounts: &[Mount]) -> bool
     true
 }
 
-// Returns whether a mount, if it is a bind or cache mount, shows one of `count` inputs, or nothing.
+// Returns whether a bind or cache mount shows one of `count` inputs, or nothing; true for mounts of other types.
 fn shows_input(count: usize, mount: &Mount) -> bool
     ensures { IsTrue result ↔ ShowsInput count mount.now }
 {
@@ -170,7 +171,7 @@ fn all_silent(mount_type: MountType, mounts: &[Mount]) -> bool
     true
 }
 
-// Returns the output of each mount.
+// Returns the output number of each mount.
 fn outputs_of(alloc: Global, mounts: &[Mount]) -> Result<Vec<i64>, AllocError>
     ensures { IfOk result (λ outputs. outputs.items ≡ mount_outputs mounts.now) }
 {
@@ -181,7 +182,7 @@ fn outputs_of(alloc: Global, mounts: &[Mount]) -> Result<Vec<i64>, AllocError>
     Ok(outputs)
 }
 
-// Returns the first broken rule on cache mounts.
+// Returns the first broken rule on cache mounts; `None` if the exec meets these rules.
 fn broken_cache(alloc: Global, inputs: &[Input], exec: &ExecOp) -> Result<Option<Rule>, Memory>
     ensures { IfOk result (IsFirstBroken inputs.now (Some (kind.Exec exec.now)) cache_rules) }
 {
@@ -198,7 +199,7 @@ fn broken_cache(alloc: Global, inputs: &[Input], exec: &ExecOp) -> Result<Option
     Ok(None)
 }
 
-// Returns whether each cache mount has its options.
+// Returns whether each cache mount has options.
 fn all_have_options(mounts: &[Mount]) -> bool
     ensures { IsTrue result ↔ All HasOptions mounts.now }
 {
@@ -212,7 +213,7 @@ fn all_have_options(mounts: &[Mount]) -> bool
     true
 }
 
-// Returns whether each cache mount names a known mode.
+// Returns whether the options of each cache mount, if there are any, name a known sharing mode.
 fn all_shared(mounts: &[Mount]) -> bool
     ensures { IsTrue result ↔ All IsShared mounts.now }
 {
@@ -226,7 +227,7 @@ fn all_shared(mounts: &[Mount]) -> bool
     true
 }
 
-// Returns whether the options, if they are given, name a known mode.
+// Returns whether the options name a known sharing mode, 0 to 2; true if there are no options.
 fn is_known(options: &Option<CacheOpt>) -> bool
     ensures { IsTrue result ↔ IsKnownSharing options.now }
 {

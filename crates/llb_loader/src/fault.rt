@@ -1,4 +1,4 @@
-//! Why rows are no graph. A fault prints what comes after the word `fault` in a refusal: its number, and then its
+//! The faults of loading. A fault prints what comes after the word `fault` in a refusal: its number, and then its
 //! arguments; a feature or a rule is printed as its name. Refusals of memory of any kind become `Memory` by `?`.
 
 ghost use Rattle.std.specs.Prelude.{◌≡◌, Some, codes};
@@ -12,7 +12,8 @@ use std::alloc::{AllocError, AllocFailed};
 use std::{error, fmt};
 use thiserror::Error;
 
-/// Why rows are no graph: the first fault in this order that applies, at the least row with this fault, and there at the least input.
+/// Why a definition is refused. If several faults apply, the one with the least number is reported; of several with that number, the one of the least row; of
+/// several of that row, the one of the least input, or with the first feature or rule.
 #[derive(Drop)]
 pub enum LoadFault {
     /// 81: the definition is not readable; its fault follows.
@@ -59,7 +60,7 @@ impl fmt::Display for LoadFault {
     }
 }
 
-// Writes the number of a fault, the row that it is in, and what is wrong there.
+// Writes the number of a fault, the number of the row that has the fault, and the fault's second argument.
 fn at_row<W: fmt::Write, T: fmt::Display>(
     f: &mut fmt::Formatter<W>,
     number: &str,
@@ -138,7 +139,8 @@ impl fmt::Display for Feature {
     }
 }
 
-/// The rules that ops meet, in the order in which they are checked.
+/// The rules that ops have to meet, in the order in which they are checked. A variant says what its rule demands; a fault with this variant says that the op
+/// breaks the rule.
 #[derive(Drop)]
 pub enum Rule {
     /// The op has a kind.

@@ -118,7 +118,7 @@ fn any_unpacks(actions: &[Action]) -> bool
     false
 }
 
-// Returns whether one of the actions is a copy with patterns of what to include or exclude.
+// Returns whether one of the actions is a copy with include patterns or exclude patterns.
 fn any_has_pattern(actions: &[Action]) -> bool
     ensures { result ≡ list_any (λ a. copies_with has_pattern a.kind) actions.now }
 {
@@ -132,7 +132,7 @@ fn any_has_pattern(actions: &[Action]) -> bool
     false
 }
 
-// Returns whether the copy has patterns of what to include or exclude.
+// Returns whether the copy has include patterns or exclude patterns.
 fn has_pattern(copy: &CopyFile) -> bool
     ensures { result ≡ has_pattern copy.now }
 {

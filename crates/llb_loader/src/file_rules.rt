@@ -1,4 +1,4 @@
-//! The rules on file ops.
+//! Finds the first rule on file ops that an op breaks.
 
 ghost use Rattle.std.specs.Prelude.{◌≡◌, ◌+◌, ◌↔◌, Some, IfOk, IsTrue};
 ghost use Rattle.llb_ops.specs.declared.op.Kind.TheVariants as kind;
@@ -10,7 +10,7 @@ use crate::indices::{are_outputs, is_input};
 use llb_ops::{Action, ActionKind, FileOp, Input};
 use std::alloc::{AllocError, Global};
 
-/// Returns the first rule on file ops that the file op with these inputs breaks.
+/// Returns the first rule on file ops that the file op with these inputs breaks; `None` if the file op meets all of them.
 pub(crate) fn broken_in_file(
     alloc: Global,
     inputs: &[Input],
@@ -68,7 +68,7 @@ fn second_stands(count: usize, place: usize, action: &Action) -> bool
     }
 }
 
-// Returns the output of each action.
+// Returns the output number of each action.
 fn outputs_of(alloc: Global, actions: &[Action]) -> Result<Vec<i64>, AllocError>
     ensures { IfOk result (λ outputs. outputs.items ≡ outputs_of actions.now) }
 {

@@ -19,7 +19,7 @@ pub struct Edge {
     pub index: u32,
 }
 
-/// A vertex, made from a reached row. Its number is its index in the list of vertices.
+/// A vertex, made from a row on which the result depends. The number of a vertex is its index in the list of vertices.
 pub struct Vertex {
     /// The digest text of the row: `sha256:` and 64 hexadecimal digits, if the graph was loaded from a definition.
     pub digest: Text,
@@ -49,7 +49,7 @@ impl Drop for Vertex {
 }
 
 impl Vertex {
-    /// Returns the name of a local source, which follows `local://`; `None` if the op is no local source.
+    /// Returns the name of a local source: the part of its identifier after `local://`; `None` if the op is no local source.
     pub fn local_name(&self) -> Option<&str>
         ensures { option_map (λ t. t.now) result ≡ local_name self.now.op }
     {
@@ -60,8 +60,8 @@ impl Vertex {
     }
 }
 
-/// A loaded graph: the result, and the vertices on which it depends. Each vertex has a higher number than the vertices of its inputs. Copies share
-/// the vertices. Contracts see the list of the vertices and the result.
+/// A loaded graph: the result, and the vertices on which the result depends. Each vertex has a higher number than the vertices to which its edges
+/// lead. Copies share the vertices. Contracts see a graph as the list of its vertices, and the result.
 pub struct Graph {
     shared: Arc<Vec<Vertex>>,
     result: Edge,
@@ -89,7 +89,7 @@ impl Model for Graph {
 }
 
 impl Graph {
-    // Makes the graph of these vertices, with its result.
+    // Makes the graph of these vertices, with this edge as its result.
     pub(crate) fn of_parts(
         alloc: Global,
         vertices: Vec<Vertex>,
@@ -133,7 +133,7 @@ impl Graph {
         let _ = &self.shared;
     }
 
-    /// Returns the output that the definition names as its result.
+    /// Returns the edge to the output that the definition names as its result.
     pub fn result(&self) -> Edge
         ensures { result ≡ self.now.result }
     {

@@ -1,11 +1,11 @@
-//! The numbers of inputs and of outputs: which inputs exist, and whether outputs are numbered from 0.
+//! Checks the numbers of inputs and outputs: that an input exists, and that outputs are numbered from 0.
 
 ghost use Rattle.std.specs.Prelude.{◌≡◌, ◌↔◌, ◌<◌, pos, IfOk, MatchOption, IsTrue};
 ghost use Rattle.llb_loader.specs.Rules.{IsInput, IsBelow, is_output, AreOutputs, count_outputs};
 
 use std::alloc::{AllocError, Global};
 
-/// Returns whether the number is from -1 to `count - 1`.
+/// Returns whether the number is from -1 to `count - 1`: the number of an input, or -1 for none.
 pub(crate) fn is_input(count: usize, number: i64) -> bool
     ensures { IsTrue result ↔ IsInput count number }
 {
@@ -55,7 +55,7 @@ fn is_output(number: &i64) -> bool
     *number != -1
 }
 
-// Returns the output as an index, if it is from 0 to `count - 1`.
+// Returns the output number as an index; `None` if the number is not from 0 to `count - 1`.
 fn output_below(count: usize, output: &i64) -> Option<usize>
     ensures { MatchOption result (¬ IsBelow count output.now) (λ k. (k < count) × (output.now ≡ pos k)) }
 {

@@ -7,14 +7,14 @@ ghost use Rattle.llb_loader.specs.Laws.{HasOneAnswer, HasOneAnswerIn};
 
 use crate::row::Row;
 
-/// Proves that the rows that are reached from `start` have at most one numbering.
+/// Proves that there is at most one order in which the rows that are reached from `start` get their vertex numbers.
 pub fn one_numbering(rows: &[Vec<usize>], start: usize, first: &[usize], second: &[usize])
     requires first { IsNumbering (lists rows.now) start first.now }
     requires second { IsNumbering (lists rows.now) start second.now }
     ensures { first.now ≡ second.now }
 {}
 
-/// Proves that in a numbering every edge of a reached row leads to a row with a lower number.
+/// Proves that every edge of a reached row leads to a row with a lower vertex number, if `order` has the rows by vertex number.
 pub fn numbering_goes_down(rows: &[Vec<usize>], start: usize, order: &[usize])
     requires { IsNumbering (lists rows.now) start order.now }
     ensures { GoesDown (lists rows.now) start (rank_in order.now) }

@@ -3,9 +3,9 @@
 //!
 //! Types: `Graph` (vertices by number, and the result), `Vertex`, `Edge`, `Row` (an entry and its digest text), `Locals` (trees by name),
 //! `LoadFault` (81 to 91).
-//! Promise: `load` (`graph`, `refused`) returns the one graph of the entries, or the first refusal in a stated order. `Graph::is_graph` proves
-//! what is true of every graph: edges lead to outputs of lower vertices, vertices meet every rule, the result depends on all vertices. Law:
-//! `one_answer_in`.
+//! Promise: `load` (`graph`, `refused`) returns the one graph of the entries, or fails with the first refusal, in the order of the faults' numbers.
+//! `Graph::is_graph` proves what is true of every graph: edges lead to outputs of vertices with lower numbers, vertices meet every rule, and the
+//! result depends on all vertices. The law `one_answer_in` says that no definition has two results.
 //!
 //! A caller:
 //!

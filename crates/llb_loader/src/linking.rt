@@ -25,7 +25,7 @@ use llb_wire::{Bytes, Memory};
 use std::alloc::Global;
 use std::collections::BTreeMap;
 
-// Rows whose entries were read as ops, and whose inputs were looked up: each input of a reached row names a row. The rows have no bytes any more.
+// Rows with their ops, and with the rows that the inputs of these ops name. Each input of a reached row names a row. The bytes of the rows are empty.
 struct Linked {
     rows: Vec<Row>,
     ops: Vec<Op>,
@@ -60,10 +60,11 @@ struct Names {
     seen: Vec<bool>,
 }
 
-/// Returns the graph of the rows. The last row is the terminal; the terminal's first input is the result.
+/// Returns the graph of the rows. The terminal is the first row that equals the last row; the terminal's first input names the result.
 ///
-/// Fails with the fault of the least number that applies, at the least row with this fault, and there at the least input: 82 `Entry`, 83 `TooFew`, 84
-/// `Collision`, 85 `NoResult`, 86 `UnknownDigest`, 87 `Cycle`, 88 `Unsupported`, 89 `Invalid`, 90 `BadIndex`. Fails with 91 `Memory` if memory is refused.
+/// Fails with 82 `Entry`, 83 `TooFew`, 84 `Collision`, 85 `NoResult`, 86 `UnknownDigest`, 87 `Cycle`, 88 `Unsupported`, 89 `Invalid` or 90 `BadIndex`. If
+/// several of these apply, the call fails with the least number; there with the least row (but 86 looks at the terminal's first input before all others), and
+/// there with the least input, or the first feature or rule. Fails with 91 `Memory` if memory is refused.
 pub fn link(alloc: Global, rows: &[Row]) -> Result<Graph, LoadFault>
     requires { length rows.now ≤ 65_536 }
     ensures graph { IfOk result (λ g. IsGraphOf rows.now g) }
@@ -74,7 +75,7 @@ pub fn link(alloc: Global, rows: &[Row]) -> Result<Graph, LoadFault>
     link_entries(alloc, bare, entries)
 }
 
-// Copies the rows without their bytes.
+// Copies the rows with their digest texts alone; the bytes of the copies are empty.
 fn bared(alloc: Global, rows: &[Row]) -> Result<Vec<Row>, Memory>
     ensures { IfOk result (λ bare. bare.items ≡ bared rows.now) }
 {
@@ -98,7 +99,7 @@ fn bytes_of(alloc: Global, rows: &[Row]) -> Result<Vec<Bytes>, Memory>
     Ok(entries)
 }
 
-// Links rows that have no bytes themselves; `entries` has their bytes. Fails as `link` does.
+// Links rows whose field `bytes` is empty; `entries` has the bytes of the rows. Fails as `link` does.
 pub(crate) fn link_entries(
     alloc: Global,
     rows: Vec<Row>,
@@ -150,9 +151,9 @@ impl Names {
 }
 
 impl Linked {
-    // Reads the entries of rows without bytes as ops, drops the entries, and resolves the digest texts by which inputs name rows. Fails with 82 `Entry`, 83
-    // `TooFew`, 84 `Collision`, 85 `NoResult` or 86 `UnknownDigest`, or with 91 `Memory`. The rows are compared before any entry is read, since each entry
-    // is dropped once it is read; what the comparison found (83 or 84) is reported only if all entries can be read.
+    // Reads the entries as ops, drops the entries, and resolves the digest texts by which inputs name rows. The rows have empty bytes; entry k has the bytes
+    // of row k. Fails with 82 `Entry`, 83 `TooFew`, 84 `Collision`, 85 `NoResult` or 86 `UnknownDigest`, or with 91 `Memory`. The rows are compared before
+    // any entry is read, since each entry is dropped once it is read; the result of this comparison (83 or 84) is reported only if all entries can be read.
     fn of(alloc: Global, rows: Vec<Row>, entries: Vec<Bytes>) -> Result<Linked, LoadFault>
         requires few { length rows.items ≤ 65_536 }
         requires len { length entries.items ≡ length rows.items }
@@ -180,8 +181,8 @@ impl Linked {
         })
     }
 
-    // Numbers the reached rows and checks them. Fails with 87 `Cycle`, 88 `Unsupported`, 89 `Invalid` or 90 `BadIndex`,
-    // or with 91 `Memory`.
+    // Checks the reached rows, and returns them in the order of their vertex numbers. Fails with 87 `Cycle`, 88
+    // `Unsupported`, 89 `Invalid` or 90 `BadIndex`, or with 91 `Memory`.
     fn order(&self, alloc: Global) -> Result<Vec<usize>, LoadFault>
         requires { IsLinked self.now }
         ensures whole { IfOk result (λ order. IsWhole (plan_in self.now) order.items) }
@@ -201,7 +202,7 @@ impl Linked {
         Ok(order)
     }
 
-    // Makes the graph of the linked rows; `order` has the reached rows in the order of their numbers. Fails with 91 `Memory` alone.
+    // Makes the graph of the linked rows; `order` has the reached rows in the order of their vertex numbers. Fails with 91 `Memory` alone.
     fn into_graph(self, alloc: Global, order: &[usize]) -> Result<Graph, LoadFault>
         requires linked { IsLinked self }
         requires whole { IsWhole (plan_in self) order.now }

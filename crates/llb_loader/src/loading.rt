@@ -1,4 +1,4 @@
-//! Loads a definition: each entry becomes a row with the digest text of the entry. Entries are dropped one by one, once they are read as ops.
+//! Loads a definition: each entry becomes a row with the digest text of the entry. Each entry is dropped as soon as it is read as an op.
 
 ghost use Rattle.std.specs.Prelude.{◌≡◌, ◌≤◌, false, length, IfOk, IfErr};
 ghost use Rattle.llb_loader.specs.Faults.{is_memory};
@@ -17,8 +17,8 @@ use std::alloc::Global;
 
 /// Returns the graph of a definition. Each entry becomes a row with the digest text of its bytes.
 ///
-/// Fails with 81 `Definition` if the definition is not readable, else as `link` does. Fails with 91 `Memory` if memory
-/// is refused.
+/// Fails with 81 `Definition` if the bytes can't be read as a definition, else as `link` does. Fails with 91 `Memory` if
+/// memory is refused.
 pub fn load(alloc: Global, bytes: &[u8]) -> Result<Graph, LoadFault>
     ensures graph { IfOk result (λ g. IsGraphIn bytes.now g) }
     ensures refused { IfErr result (λ e. is_memory e ≡ false → IsRefusalIn bytes.now e) }
@@ -48,7 +48,7 @@ fn linked(alloc: Global, entries: Entries) -> Result<Graph, LoadFault>
     link_entries(alloc, rows, entries.into_vec())
 }
 
-// Returns for each entry a row that has its digest text and no bytes.
+// Returns for each entry a row with the entry's digest text and with empty bytes.
 fn titles_of(alloc: Global, entries: &[Bytes]) -> Result<Vec<Row>, Memory>
     ensures { IfOk result (λ rows. rows.items ≡ titles_from entries.now) }
 {

@@ -1,4 +1,4 @@
-//! The trees of local sources, by name, in the order in which the names were first given.
+//! The trees of local sources, by name, in the order in which the names were first added.
 
 ghost use Rattle.std.specs.Prelude.{◌≡◌, ◌↔◌, ℕ, IsTrue, List, [], Some, cond, IfOk, OnOk, OnErr, IfSome, option_map, slice_get, string_bytes};
 ghost use Rattle.std.specs.Str.{bytes_eq};
@@ -11,7 +11,7 @@ use llb_wire::{Same, Text};
 use std::alloc::Global;
 use std::marker::Model;
 
-/// The trees that local sources read, by name. Contracts see the list of names and trees.
+/// The trees that local sources read, by name. Contracts see a list of names, each with its tree.
 pub struct Locals {
     trees: IndexMap<String, Tree>,
 }
@@ -37,7 +37,7 @@ impl Model for Locals {
 }
 
 impl Locals {
-    /// Makes an empty list of trees.
+    /// Makes a list without names and trees.
     #[tactic(auto, unfolding(crate::specs::Locals::locals_of))]
     pub fn new(alloc: Global) -> Locals
         ensures { result ≡ [] }
@@ -86,7 +86,7 @@ fn copied(trees: &IndexMap<String, Tree>) -> Result<Locals, Memory>
     Ok(copies)
 }
 
-// Adds a copy of the tree at an index, under its name.
+// Adds to `copies` the name at index `i` and a copy of its tree; adds nothing if there is no index `i`.
 fn copy_at(copies: &mut Locals, trees: &IndexMap<String, Tree>, i: usize) -> Result<(), Memory>
     ensures { OnOk result (IfSome (slice_get trees.now.entries i) (λ e. copies.new ≡ with_local copies.old (string_bytes e.0) e.1)) }
 {
@@ -120,7 +120,7 @@ fn same_trees(trees: &IndexMap<String, Tree>, others: &IndexMap<String, Tree>) -
     true
 }
 
-// Returns whether two lists have the same tree under the same name at an index, or both have nothing there.
+// Returns whether two lists have the same name with the same tree at index `i`, or both have no index `i`.
 #[tactic(auto, using(crate::proofs::Trees::local_at))]
 fn same_at(trees: &IndexMap<String, Tree>, others: &IndexMap<String, Tree>, i: usize) -> bool
     ensures { IsTrue result ↔ (slice_get (locals_of trees.now.entries) i ≡ slice_get (locals_of others.now.entries) i) }

@@ -1,4 +1,4 @@
-//! The local trees that a graph needs and that are not given.
+//! Finds the first local source of a graph for which no tree is given.
 
 ghost use Rattle.std.specs.Prelude.{◌≡◌, option_map};
 ghost use Rattle.llb_loader.specs.Missing.{missing_local};

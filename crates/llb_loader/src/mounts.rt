@@ -1,4 +1,4 @@
-//! The mounts of an op, and the options of the cache that a mount shows.
+//! Finds the mounts of an op, and the options of the cache that a mount shows.
 
 ghost use Rattle.std.specs.Prelude.{◌≡◌};
 ghost use Rattle.std.specs.Option.{option_copied};
@@ -8,7 +8,7 @@ ghost use Rattle.llb_loader.specs.Rules.{kind_mounts};
 use crate::mount_type::MountType;
 use llb_ops::{CacheOpt, Kind, Mount};
 
-/// Returns the mounts of an exec, and none for other kinds. Does not allocate.
+/// Returns the mounts of an exec; returns no mounts for an op of another kind. Does not allocate.
 pub fn mounts_of(kind: &Option<Kind>) -> &[Mount]
     ensures { result.now ≡ kind_mounts kind.now }
 {
@@ -18,7 +18,7 @@ pub fn mounts_of(kind: &Option<Kind>) -> &[Mount]
     }
 }
 
-/// Returns the options of the cache that a mount shows, if it shows one. Does not allocate.
+/// Returns the options of the cache that a mount shows; `None` if the mount is no cache mount or has no options. Does not allocate.
 pub fn cache_in(mount: &Mount) -> Option<&CacheOpt>
     ensures { option_copied result ≡ cache_in mount.now }
 {

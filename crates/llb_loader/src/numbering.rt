@@ -1,4 +1,4 @@
-//! The numbering of the reached rows.
+//! Finds the order in which the reached rows, on which the result depends, get their vertex numbers.
 
 ghost use Rattle.std.specs.Prelude.{◌≡◌, ◌↔◌, ℕ, ◌<◌, ◌≤◌, length, slice_index, slice_index_or, true, false, IfOk, OnOk, MatchOption, List, [], vec_len};
 ghost use Rattle.std.specs.Option.{IfSome, IfNone};
@@ -13,15 +13,15 @@ use std::alloc::{AllocError, Global};
 use std::collections::BTreeSet;
 use std::mem;
 
-/// A row that is not numbered yet. The rows that its first `checked` inputs name are numbered. In a list of waiters, the row waits for the row that its input
-/// of index `checked` names.
+/// A row that has no vertex number yet. The first `checked` inputs of the row name rows that have vertex numbers. A waiter in a list of waiters waits for the
+/// row that its next input, at index `checked`, names.
 #[derive(Clone, Copy)]
 struct Waiter {
     row: usize,
     checked: usize,
 }
 
-// Returns the rows that are reached from `start`, in the order of their numbers; `None` if they have a cycle. `seen` marks these rows.
+// Returns the rows that are reached from `start`, in the order of their vertex numbers; `None` if these rows have a cycle. `seen` marks the reached rows.
 pub(crate) fn number(
     alloc: Global,
     rows: &[Vec<usize>],
@@ -108,7 +108,8 @@ fn first_open(named: &[usize], from: usize, done: &[bool]) -> usize
     named.len()
 }
 
-// Puts the waiter's row among the ready rows if all rows that it names are numbered. Otherwise lets it wait for the first of these rows that is not numbered.
+// Puts the waiter's row among the ready rows if all rows that its inputs name are numbered. If not, lets the waiter's row wait for the first of these rows that
+// is not numbered.
 fn place(
     rows: &[Vec<usize>],
     done: &[bool],

@@ -1,4 +1,4 @@
-//! How many micro-steps and outputs an op has.
+//! Counts the micro-steps and the outputs of an op.
 
 ghost use Rattle.std.specs.Prelude.{◌≡◌, length, unwrap_or, []};
 ghost use Rattle.llb_loader.specs.Scripts.{script_in};

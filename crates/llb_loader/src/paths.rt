@@ -1,4 +1,4 @@
-//! The paths of an exec: the dests and selectors of its mounts, and the directory in which its commands are run.
+//! Reads the paths of an exec: the dests and selectors of its mounts, and the directory in which its commands are run (`cwd`).
 
 ghost use Rattle.std.specs.Prelude.{◌≡◌, ◌↔◌, [], Some, IfOk, IsTrue, IsSome};
 ghost use Rattle.std.specs.List.{All, Contains};
@@ -70,7 +70,7 @@ pub(crate) fn selectors_read(alloc: Global, mounts: &[Mount]) -> Result<bool, Me
     Ok(true)
 }
 
-/// Returns whether the `cwd` can be read as a path.
+/// Returns whether the `cwd` can be read as a path; true if there is no `meta`.
 pub(crate) fn cwd_reads(alloc: Global, meta: &Option<Meta>) -> Result<bool, Memory>
     ensures { IfOk result (λ read. IsTrue read ↔ ReadsCwd meta.now) }
 {

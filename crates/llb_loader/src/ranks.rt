@@ -1,4 +1,4 @@
-//! The vertex numbers of the rows.
+//! Finds the vertex number of each row, from the order of the rows.
 
 ghost use Rattle.std.specs.Prelude.{◌≡◌, ℕ, ◌<◌, ◌≤◌, length, slice_index, IfOk};
 ghost use Rattle.std.specs.List.{All};
@@ -7,7 +7,7 @@ ghost use Rattle.llb_loader.specs.Numbering.{IsNumbering};
 
 use std::alloc::{AllocError, Global};
 
-/// Returns for each row its vertex number; 0 for a row that is not numbered.
+/// Returns the vertex number of each row; 0 for a row that has no vertex number. `order` has the numbered rows in the order of their vertex numbers.
 pub(crate) fn ranks_of(
     alloc: Global,
     rows: &[Vec<usize>],

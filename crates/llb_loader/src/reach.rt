@@ -1,11 +1,11 @@
-//! The rows that are reached from a row by following inputs.
+//! Finds the rows that are reached from a row by following inputs.
 
 ghost use Rattle.std.specs.Prelude.{◌≡◌, ℕ, ◌<◌, ◌↔◌, length, slice_index_or, true, false, IfOk};
 ghost use Rattle.llb_loader.specs.Rows.{lists, InRange, Reached};
 
 use std::alloc::{AllocError, Global};
 
-/// Returns for each row whether it is reached from `start`.
+/// Returns for each row whether it is reached from the row `start`; `rows` has for each row the rows that its inputs name.
 pub(crate) fn reached(
     alloc: Global,
     rows: &[Vec<usize>],

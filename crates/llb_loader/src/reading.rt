@@ -29,7 +29,7 @@ pub(crate) fn ops_of(alloc: Global, mut entries: Vec<Bytes>) -> Result<Vec<Op>, 
     Ok(ops)
 }
 
-// Returns the fault of a row that can't be read as an op.
+// Returns the loader's fault for row `k`, whose bytes can't be read as an op because of this fault.
 fn at_row(k: u32, fault: OpFault) -> LoadFault
     ensures { result ≡ row_fault k fault }
 {

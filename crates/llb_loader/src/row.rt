@@ -5,7 +5,7 @@ ghost use Rattle.std.specs.Prelude.{◌≡◌, []};
 use llb_wire::{Bytes, Text};
 use std::alloc::Global;
 
-/// An entry of a definition, and the digest text by which inputs name it.
+/// An entry of a definition, and the digest text by which inputs name the entry.
 pub struct Row {
     pub digest: Text,
     pub bytes: Bytes,
@@ -22,7 +22,7 @@ impl Drop for Row {
 }
 
 impl Row {
-    // Makes a row of this digest text that has no bytes.
+    // Makes a row with this digest text and with empty bytes.
     pub(crate) fn bare(alloc: Global, digest: Text) -> Row
         ensures { result ≡ record { digest = digest; bytes = [] } }
     {
@@ -30,7 +30,7 @@ impl Row {
         Row { digest, bytes }
     }
 
-    // Returns the digest text, without a copy.
+    // Returns the digest text of the row, which is moved and not copied.
     pub(crate) fn into_digest(self) -> Text
         ensures { result ≡ self.digest }
     {

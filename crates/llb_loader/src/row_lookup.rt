@@ -1,4 +1,4 @@
-//! Which rows are distinct, and which row a digest text names. Look-ups by digest use a map that is sorted by the digest texts, so that no choice of entries
+//! Finds out which rows are distinct, and which row a digest text names. Look-ups use a map that is sorted by the digest texts, so that no choice of entries
 //! makes look-ups slow. Before a look-up, one row is guessed; if that row has the digest text, no look-up is made. The terminal's digest text names no row.
 
 ghost use Rattle.std.specs.Prelude.{◌≡◌, ◌<◌, ◌≤◌, ◌↔◌, ℕ, false, length, map, IfOk, IfErr, OnOk, IsTrue, Some};
@@ -30,16 +30,16 @@ pub(crate) fn all_same(rows: &[Row], entries: &[Bytes]) -> bool
     true
 }
 
-// Returns whether two rows have the same digest and the same bytes.
+// Returns whether two rows have the same digest text and the same bytes.
 fn same(digest: &Text, other: &Text, bytes: &Bytes, others: &Bytes) -> bool
     ensures { IsTrue result ↔ ((digest.now ≡ other.now) × (bytes.now ≡ others.now)) }
 {
     digest.same(other) && bytes.same(others)
 }
 
-// Returns a map from each digest text to the first row with it, and for each row the first row with the same digest
-// text. Fails with 84 `Collision` at the first row that has an earlier row's digest but other bytes, or with 91
-// `Memory`.
+// Returns a map from each digest text to the first row with this text, and a list that has, for each row, the first
+// row with the same digest text. Fails with 84 `Collision` at the first row that has an earlier row's digest text but
+// other bytes, or with 91 `Memory`.
 pub(crate) fn index_of<'a>(
     alloc: Global,
     rows: &'a [Row],
@@ -85,7 +85,7 @@ pub(crate) fn terminal_of(rows: &[Row], index: &BTreeMap<&str, usize>) -> usize
     }
 }
 
-/// Returns the row that a digest text names, if it names one.
+/// Returns the row that a digest text names; `None` if the text names no row.
 pub(crate) fn row_of(
     rows: &[Row],
     index: &BTreeMap<&str, usize>,
@@ -123,7 +123,7 @@ pub(crate) fn start_of(
     }
 }
 
-// Returns the row that a digest text names, if it names one. No look-up is made if the row at `guess` has the digest text.
+// Returns the row that a digest text names; `None` if the text names no row. No look-up is made if row `guess` has the digest text.
 fn row_near(
     rows: &[Row],
     index: &BTreeMap<&str, usize>,
@@ -146,8 +146,8 @@ fn row_near(
     if row == terminal { None } else { Some(row) }
 }
 
-// Returns the rows that the op's inputs name. The guess for the first input is given; after an input that names a row, the next guess is the row after that
-// row.
+// Returns the rows that the op's inputs name. `guess` is the row that is guessed for the first input; after an input that names a row, the next guess is the
+// row after that row.
 fn rows_named_by(
     alloc: Global,
     rows: &[Row],

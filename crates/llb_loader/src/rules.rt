@@ -59,7 +59,7 @@ fn broken_in_merge(inputs: &[Input], merge: &MergeOp) -> Option<Rule>
     None
 }
 
-// Returns whether each merged input is one of `count` inputs, or nothing.
+// Returns whether each input of a merge is one of `count` inputs, or -1.
 fn all_merged(count: usize, merged: &[MergeInput]) -> bool
     ensures { IsTrue result ↔ All (λ m. IsInput count m.input) merged.now }
 {

@@ -12,12 +12,12 @@ abbrev pub cache_from : ℕ → List Vertex → Option ℕ
 cache_from k [] = None
 cache_from k (v ∷ vs) = if has_cache v then Some k else cache_from (k + 1) vs
 
--- the refusal for a missing local tree, else the refusal for a vertex that mounts a cache, else the outcomes
+-- `MissingLocal` if there is the name of a source without a tree; else `HasCache` if there is the number of a vertex with a cache; else the outcomes
 abbrev pub unless_refused : Option (List ℕ) → Option ℕ → List Outcome → Result (List Outcome) PlainFault
 unless_refused (Some name) cache all = Err (MissingLocal name)
 unless_refused None (Some v) all = Err (HasCache v)
 unless_refused None None all = Ok all
 
--- the plain outcomes of all vertices, or why an evaluation is refused
+-- what the evaluation of a build returns: the plain outcomes of all vertices, or a refusal
 abbrev pub evaluate_of : Build → Result (List Outcome) PlainFault
 evaluate_of b = unless_refused (missing_local b.locals b.graph.vertices) (cache_from 0 b.graph.vertices) (outcomes b)

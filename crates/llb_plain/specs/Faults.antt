@@ -10,18 +10,18 @@ is_memory Memory = true
 is_memory (MissingLocal name) = false
 is_memory (HasCache v) = false
 
--- a call returns what its rule returns, or it fails for want of memory
+-- a call returns what its rule returns (the function turns the code's value into the rule's value), or the call fails with `Memory`
 abbrev pub Gives : {X Y : Type 0} → (X → Y) → Result X PlainFault → Result Y PlainFault → Type 0
 Gives = answer.Gives is_memory
 
--- whether a call may need memory, given the result of its rule: true for outcomes, and for the refusal of a missing local tree, whose name the call copies
+-- whether a call may need memory, by the result of its rule: true for outcomes, and for `MissingLocal`, since the call copies the name of the source
 abbrev pub may_want_memory : {Y : Type 0} → Result Y PlainFault → Bool
 may_want_memory (Ok y) = true
 may_want_memory (Err (MissingLocal name)) = true
 may_want_memory (Err (HasCache v)) = false
 may_want_memory (Err Memory) = false
 
--- a call fails with `Memory` only if its rule returns outcomes, or the refusal of a missing local tree
+-- a call fails with `Memory` only if its rule returns outcomes, or fails with `MissingLocal`
 abbrev pub MemoryLast : {X Y : Type 0} → Result X PlainFault → Result Y PlainFault → Type 0
 MemoryLast (Ok x) rule = Unit {0}
 MemoryLast (Err e) rule = is_memory e ≡ true → may_want_memory rule ≡ true

@@ -1,5 +1,5 @@
-//! Finds vertices that mount a cache. The outcome of such a vertex, and of each vertex downstream of it, may depend on the order in which vertices run; so no
-//! graph with a cache is evaluated.
+//! Finds the first vertex that mounts a cache. The outcome of such a vertex, and of each vertex downstream of it, may depend on the order in which vertices
+//! run; so a graph with such a vertex is not evaluated.
 
 ghost use Rattle.std.specs.Prelude.{◌≡◌};
 ghost use Rattle.llb_plain.specs.Evaluation.{cache_from};
@@ -7,7 +7,7 @@ ghost use Rattle.llb_plain.specs.Evaluation.{cache_from};
 use llb_execution::mounts_cache;
 use llb_loader::Graph;
 
-// Returns the least vertex that mounts a cache; `None` if none does.
+// Returns the number of the first vertex that mounts a cache; `None` if no vertex mounts one.
 pub(crate) fn first_with_cache(graph: &Graph) -> Option<u32>
     ensures { result ≡ cache_from 0 graph.now.vertices }
 {

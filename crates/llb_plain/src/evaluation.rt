@@ -1,4 +1,4 @@
-//! The plain outcome of every vertex of a graph, computed in ascending order of vertex numbers.
+//! Computes the plain outcome of every vertex of a graph, in ascending order of vertex numbers.
 
 ghost use Rattle.std.specs.Prelude.{◌≡◌, false, Ok};
 ghost use Rattle.llb_loader.specs.Graph.{IsVertexOf, Numbered};
@@ -18,10 +18,10 @@ use llb_loader::{Graph, Locals, Vertex, missing_local};
 use llb_wire::Text;
 use std::alloc::Global;
 
-/// Returns the plain outcome of every vertex: `Blocked` if an input of the vertex is not done; else the outputs or the first fault of the vertex's whole
-/// program, run on the trees of its inputs. Fails with 101 `MissingLocal` and the name of the first local source, in the order of the vertices, for which no
-/// tree is given; else with 102 `HasCache` and the least vertex that mounts a cache; else with 103 `Memory`. If memory for the name is refused, 103 takes the
-/// place of 101.
+/// Returns the plain outcome of every vertex: `Blocked` if an input of the vertex is not done; else the outputs or the first fault of the vertex's program, run
+/// on the trees of the inputs. Fails with 101 `MissingLocal` and the name of the first local source, in the order of the vertices, for which no tree is given;
+/// else with 102 `HasCache` and the number of the first vertex that mounts a cache; else with 103 `Memory`. If memory for the name is refused, the call fails
+/// with 103 instead of 101.
 pub fn evaluate(alloc: Global, graph: &Graph, locals: &Locals) -> Result<Outcomes, PlainFault>
     ensures gives { Gives (λ o. o) result (evaluate_of (record { graph = graph.now; locals = locals.now })) }
     ensures last { MemoryLast result (evaluate_of (record { graph = graph.now; locals = locals.now })) }
@@ -36,7 +36,7 @@ pub fn evaluate(alloc: Global, graph: &Graph, locals: &Locals) -> Result<Outcome
     evaluate_all(alloc, graph, locals)
 }
 
-// Evaluates one vertex after another.
+// Returns the plain outcome of every vertex of a graph in which no vertex mounts a cache.
 fn evaluate_all(alloc: Global, graph: &Graph, locals: &Locals) -> Result<Outcomes, PlainFault>
     requires { HasNoCaches (record { graph = graph.now; locals = locals.now }) }
     ensures { Gives (λ o. o) result (Ok (outcomes (record { graph = graph.now; locals = locals.now }))) }
@@ -50,7 +50,7 @@ fn evaluate_all(alloc: Global, graph: &Graph, locals: &Locals) -> Result<Outcome
     Ok(outcomes)
 }
 
-// Returns the outcome of a vertex, from the outcomes of the vertices before it.
+// Returns the plain outcome of a vertex, from the plain outcomes of the vertices with lower numbers.
 fn next(
     alloc: Global,
     vertex: &Vertex,

@@ -1,12 +1,12 @@
-//! Why a graph is not evaluated. A fault prints its number, and its argument. Refusals of memory of any kind become `Memory`
-//! by `?`.
+//! Why a graph is not evaluated. A fault prints its number, and then its argument. Refusals of memory of any kind become
+//! `Memory` by `?`.
 
 use llb_tree::TreeFault;
 use llb_wire::Text;
 use std::alloc::{AllocError, AllocFailed};
 use thiserror::Error;
 
-/// Why a graph is not evaluated: the first cause that applies.
+/// Why a graph is not evaluated: the first of these causes that applies.
 #[derive(Debug, Drop, Error)]
 pub enum PlainFault {
     /// 101: no tree is given for a local source; the first such name, by vertex, follows.
@@ -53,7 +53,7 @@ impl From<llb_wire::Memory> for PlainFault {
     }
 }
 
-/// Converts the fault of a call on a tree that fails only for want of memory, such as the reading of a text that is known to be a path.
+/// Converts a fault of llb_tree. The calls whose faults are converted here fail only for want of memory.
 impl From<TreeFault> for PlainFault {
     ghost use Rattle.std.specs.Prelude.{◌≡◌};
     ghost use Rattle.llb_plain.specs.declared.fault.PlainFault.TheVariants as plain;

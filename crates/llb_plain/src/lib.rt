@@ -2,8 +2,9 @@
 //! crate is built on `llb_execution`, as the board is.
 //!
 //! Types: `Outcomes`, `Outcome` (done with its outputs, failed, or blocked), `PlainFault` (101 to 103).
-//! Promise: `evaluate` (`gives`, `last`) returns exactly the plain outcomes of `llb_model`. It fails with 101 and the name of the first local source, in
-//! the order of the vertices, for which no tree is given; else with 102 and the least vertex that mounts a cache.
+//! Promise: `evaluate` (`gives`, `last`) returns exactly the plain outcomes that `llb_model` defines. It fails with 101 and the name of the first local
+//! source, in the order of the vertices, for which no tree is given; else with 102 and the number of the first vertex that mounts a cache; else with 103
+//! for want of memory.
 //!
 //! A caller:
 //!

@@ -1,4 +1,4 @@
-//! How the vertices of a graph end: each with its outputs, with its first fault, or not at all.
+//! How the vertices of a graph end: a vertex is done with its outputs, or fails with its first fault, or is blocked.
 
 ghost use Rattle.std.specs.Prelude.{◌≡◌, ◌==◌, ◌++◌, ◌∷◌, [], Some, length, map, option_map, slice_get, true, IfErr, OnOk, OnErr};
 ghost use Rattle.llb_model.specs.Outcome.{ending_in, output_in};
@@ -21,7 +21,7 @@ pub enum Outcome {
     Done(Many<Tree>),
     /// The vertex failed; its first fault.
     Failed(VertexFault),
-    /// The vertex can't run: one of its inputs is not done.
+    /// The vertex can't run, since one of its inputs is not done.
     Blocked,
 }
 
@@ -37,7 +37,7 @@ impl Outcome {
     }
 }
 
-/// The outcomes of vertices, by number. Contracts see them as a list of the model's outcomes.
+/// The outcomes of vertices, by vertex number. Contracts see a value of this type as a list of the model's outcomes.
 pub struct Outcomes {
     items: Vec<Outcome>,
 }
@@ -83,7 +83,7 @@ impl Outcomes {
         Ok(())
     }
 
-    /// Returns the outcomes, by number.
+    /// Returns the outcomes, by vertex number.
     pub fn as_slice(&self) -> &[Outcome]
         ensures { map outcome_of result.now ≡ self.now }
     {
