@@ -1,6 +1,6 @@
-//! Tests what faults print. (A refusal of the program has the word `fault` before that.) The faults of records and messages,
-//! the loader's other refusals, each feature and each rule are tested in `loader`, and in `llbm` by the program (`show`,
-//! `taken_ops`, `taken_executions` and `taken_caches`).
+//! Tests the texts that faults print. In a refusal of the program, the word `fault` is before such a text. The faults of
+//! records and messages, the loader's other refusals, each feature and each rule are tested in `loader`, and in `llbm` by
+//! the program (`show`, `taken_ops`, `taken_executions` and `taken_caches`).
 
 use super::printed::prints;
 use llb_applet::ScriptFault;

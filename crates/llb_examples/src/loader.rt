@@ -50,7 +50,8 @@ const REFUSED: &[(&str, &str)] = &[
     ("A = D_ON_T; T = NAMES_A", "86 0 0"),
     // An unsupported feature of a later row is reported before a broken rule of an earlier one.
     ("A = NAMES_B; B = DIFF; T = NAMES_A", "88 1 DiffOp"),
-    // A row may repeat an earlier row. A fault of both is reported at the earlier one. The repeated row also counts in the numbers of later rows.
+    // A row may repeat an earlier row. A fault that both rows have is reported at the earlier row. The later row still counts in the numbers of the rows
+    // after it.
     (
         "T = NAMES_INDEX_ONE_OF_ROW_A; A = MAKES_A; A = MAKES_A; T = NAMES_INDEX_ONE_OF_ROW_A",
         "90 0 0",

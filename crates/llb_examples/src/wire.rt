@@ -169,8 +169,8 @@ fn text_of(rt: &impl Abort, alloc: Global, text: &str) -> Text {
     Text::from_str(alloc, text).expect(rt, "memory")
 }
 
-// Returns whether a byte string of `bytes` equals its copy, and differs from a byte string of `other`; and whether `bytes` can be
-// taken out of it again.
+// Returns whether a byte string of `bytes` equals its copy, whether it differs from a byte string of `other`, and whether the copy
+// turns back into `bytes`.
 fn keeps_bytes(rt: &impl Abort, alloc: Global, bytes: &[u8], other: &[u8]) -> bool {
     let kept = bytes_of(rt, alloc, bytes);
     kept.is_bytes();
@@ -180,7 +180,8 @@ fn keeps_bytes(rt: &impl Abort, alloc: Global, bytes: &[u8], other: &[u8]) -> bo
     holds && copied.into_vec().as_slice() == bytes
 }
 
-// Returns whether a text equals its copy, and differs from the text `other`; and whether the string can be taken out of it again.
+// Returns whether a text equals its copy, whether it differs from the text `other`, and whether the copy turns back into the same
+// string.
 fn keeps_text(rt: &impl Abort, alloc: Global, text: &str, other: &str) -> bool {
     let kept = text_of(rt, alloc, text);
     let copied = kept.copy().expect(rt, "memory");

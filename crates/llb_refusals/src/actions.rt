@@ -61,7 +61,7 @@ fn op_text(rt: &impl Abort, alloc: Global, action: &str) -> String {
     text
 }
 
-// Returns a file op with the action that a call is written as. A call such as `lay` does no action; for it the op is any op, and is not used.
+// Returns a file op with the action that a call is written as. For a call such as `lay`, which does no file action, returns some op, which is not used.
 fn op_of(rt: &impl Abort, alloc: Global, call: &str) -> Op {
     let action = if call.contains(": ") {
         call

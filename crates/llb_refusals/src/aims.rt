@@ -50,8 +50,8 @@ fn board_in(stepper: &Stepper) -> &Board {
     stepper.board()
 }
 
-// Runs a copy of the board and a copy of the stepper's board to their ends. Returns the text of the one's result and then
-// that of the other's.
+// Runs a copy of the board and a copy of the stepper's board to their ends. Returns the texts of both results, one after the
+// other.
 fn printed_results(rt: &impl Abort, alloc: Global, board: &Board, stepper: &Stepper) -> String {
     let mut text = printed_copy(rt, alloc, board);
     let other = printed_copy(rt, alloc, board_in(stepper));

@@ -1,5 +1,6 @@
-//! Calls on boards while memory is refused: opening a board, claims, steps, copies, and the work on a job. A board is written as the number of its workers,
-//! `: ` and the entries of its definition; then, if it has local trees, ` on ` and these; then, if it has events, ` after ` and these.
+//! Calls on boards while memory is refused: opening a board, claims, steps, copies, and the work on a job. A row describes a board by the number of its
+//! workers, `: ` and the entries of its definition. If the board has local trees, ` on ` and the local trees follow; if events are to be done on the board,
+//! ` after ` and the events follow.
 
 use super::board_rows::ROWS;
 use super::growths::{Row, Trial, are_refused};

@@ -1,5 +1,5 @@
 //! This crate has only tests. They make each call that allocates many times, and let each growth (each request for memory) of the call fail in turn. A
-//! library makes the growths fail; `tools/refuse` loads it into the tests. Without the library each test makes each call once, and no growth fails.
+//! library, which `tools/refuse` loads into the tests, makes the growths fail. Without the library each test makes each call once, and no growth fails.
 #![tactic(auto)]
 
 #[cfg(test)]

@@ -53,7 +53,7 @@ pub(crate) fn printed_tree(rt: &impl Abort, alloc: Global, tree: &Tree) -> Strin
     text
 }
 
-// Returns the text of the tree that a call makes, or its fault.
+// Returns the text of the tree that a call returned, or of the fault.
 pub(crate) fn tree_or_fault<E: Display>(
     rt: &impl Abort,
     alloc: Global,

@@ -55,8 +55,8 @@ impl Ran {
         None
     }
 
-    // Returns the result of a command in words. If the status is not 0, these are the status and the standard error. If the status is 0, they are the first
-    // refusal on standard output or, without a refusal, all of standard output.
+    // Returns the result of a command as text. If the status is not 0, the text has the status and the standard error. If the status is 0, the text is the
+    // first refusal on standard output or, without a refusal, all of standard output.
     fn printed(&self, rt: &impl Abort, alloc: Global, is_text: bool) -> String {
         let (status, err) = (
             self.status,
@@ -179,8 +179,8 @@ impl Trial for OnInput {
     }
 }
 
-// Returns whether the output of a session is the beginning of the session's whole output, or has a refusal in the place, and with the lines before and after
-// it, that a row of `GONE_ON` has.
+// Returns whether the output of a session is an expected one. Either it is the beginning of the session's whole output; or it has a refusal, and a row of
+// `GONE_ON` has the text before the refusal, the refusal, and the text after the refusal.
 fn is_session(out: &str, wanted: &str) -> bool {
     match out.split_once("fault ") {
         None => wanted.starts_with(out),

@@ -24,7 +24,7 @@ fn replayed(stepper: &mut Stepper, board: &Board) -> bool {
 }
 
 // Replays the record of a run on `opened`, a board that was opened in the same way. Returns whether this leads to the board at the end of the run, and
-// whether the record is as long as `before`, its length before the run, and the workers' counts of events together.
+// whether the length of the record is `before` (the length before the run) plus the workers' counts of events.
 fn is_replayed(alloc: Global, end: &RunEnd, opened: Board, before: usize) -> bool {
     let mut stepper = Stepper::new(alloc, opened);
     let mut made = before as u64;
@@ -147,8 +147,8 @@ pub(crate) fn printed_alone(rt: &impl Abort, alloc: Global, board: Board) -> Str
     printed_end(rt, alloc, &alone(board))
 }
 
-// Runs a board in threads while growth `k` is refused. Ends the test unless the run ends with a fault that the row has, or completes without that memory; the
-// record is right (`is_replayed`); and `run_alone` completes the run's board. Returns whether the growth was refused.
+// Runs a board in threads while growth `k` is refused. Checks that the run ends with a fault that the row has, or completes without that memory; that the
+// record is right (`is_replayed`); and that `run_alone` completes the run's board. Returns whether the growth was refused.
 fn is_growth<R: Abort + Threads + Wait + Sync>(rt: &R, alloc: Global, row: &Row, k: usize) -> bool {
     let (_, on, lacks, wanted) = *row;
     let board = board_on(rt, alloc, &board_in(rt, on));
@@ -240,8 +240,8 @@ fn run_by(board: &Board, k: usize) -> Option<u32> {
     }
 }
 
-// Runs a board while the start of thread `k` is refused. Ends the test unless the run then has the row's fault; the vertex that the thread's worker ran
-// before is done; the record is right (`is_replayed`); and `run_alone` completes the run's board. Returns whether the start was refused.
+// Runs a board while the start of thread `k` is refused. Checks that the run then has the row's fault; that the vertex which the thread's worker ran before
+// the run is done; that the record is right (`is_replayed`); and that `run_alone` completes the run's board. Returns whether the start was refused.
 fn is_thread<R: Abort + Threads + Wait + Sync>(rt: &R, alloc: Global, row: &Row, k: usize) -> bool {
     let (_, on, fault, wanted) = *row;
     let written = board_in(rt, on);

@@ -26,7 +26,8 @@ enum Answer {
     Entries(Result<Entries, AsmFault>),
 }
 
-// A text to be read; a tree and entries to be written, each with an equal copy; and the bytes that are written.
+// A text to be read; a tree and entries to be written, each with an equal value to compare with; and the bytes that are
+// written.
 #[derive(Drop)]
 struct OnText {
     call: &'static str,

@@ -26,7 +26,8 @@ d 0755 0 0 /sub
 f 0644 0 0 6869 /sub/f
 ";
 
-// The trees of `EMPTY_AND_SUB`, but the content of `/sub/f` is a token: the byte 255, and the number 1 in four bytes.
+// The trees of `EMPTY_AND_SUB`, but in place of the content of `/sub/f` is a token as the laws of `llb_contents` use it: the
+// byte 255, and the number 1 in four bytes.
 const SUB_BY_A_TOKEN: &str = "== p
 d 0755 0 0 /
 == q
@@ -43,7 +44,7 @@ f 0644 0 0 68656c6c6f2c0a /text/head
 f 0644 0 0 776f726c640a /text/tail
 ";
 
-/// Returns the text of the local trees that are called `name` here; an empty text if none are.
+/// Returns the text of local trees by the name of its constant in this file; an empty text if no constant has the name.
 pub fn locals_named(name: &str) -> &'static str {
     match name {
         "EMPTY_P" => EMPTY_P,

@@ -30,7 +30,7 @@ fn push_lines(text: &mut String, lines: &str) -> Result<(), AllocError> {
     text.push_str("\n")
 }
 
-// Appends the text of an exec up to its first mount, without its closing lines.
+// Appends the text of an exec up to and with its first mount, without the lines that close the exec.
 fn push_exec(text: &mut String, inputs: &str, script: &str) -> Result<(), AllocError> {
     write!(
         text,

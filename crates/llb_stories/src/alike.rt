@@ -35,7 +35,7 @@ const COPIES: &[Copied] = &[
         (TWO_FILES, 2, "claim 1 1\nclaim 0 0"),
         [false, true],
     ),
-    // Boards with another number of workers, or another file, differ.
+    // Boards with different numbers of workers, or over different files, differ.
     (OPENED, "", (TWO_FILES, 3, ""), [false, true]),
     (
         OPENED,

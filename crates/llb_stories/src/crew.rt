@@ -66,7 +66,7 @@ impl Gate for Meet {
     }
 }
 
-// Returns how many of the events are claims; `None` if one of them is of a vertex at which the claim's worker did not pass the gate.
+// Returns how many of the events are claims; `None` if some claim's worker did not pass the gate at the claim's vertex.
 fn claims_let_pass(events: &[Event], gate: &Meet) -> Option<u32> {
     let mut count = 0u32;
     for event in events {

@@ -99,7 +99,7 @@ fn a_gate_stops_whom_it_does_not_let_work(rt: HostRuntime) {
     );
 }
 
-// Which outcome lands on which board: the definition of the outcome, which comes from the work of worker 0 on vertex 0; the definition of the board; the
+// Which outcome lands on which board. A row has the definition that worker 0 works on, at vertex 0, to make the outcome; the definition of the board; the
 // events that were done on the board; the worker for which the outcome is to land; and the number of the fault, or 0 if the outcome lands.
 type Landing = (&'static str, &'static str, &'static str, u32, u32);
 
@@ -253,8 +253,8 @@ fn a_vertex_is_claimed_worked_on_and_settled_with_each_refusal_on_the_way(rt: Ho
     );
 }
 
-// Worker 0 does a step and gives its vertex up, and worker 1 claims the vertex. An outcome of the first claim does not land for worker 1: it is worker 0's,
-// and the step has changed the cache.
+// Worker 0 does a step and gives its vertex up, and worker 1 claims the vertex. The outcome of worker 0's job does not land for worker 1: it is another
+// worker's, and the step has changed the cache.
 const GIVEN_UP: Expected = (
     "step 0\ncancel 0\ncancel 0\ncancel 9\nclaim 1 0",
     "done\ndone\n136\n131\ndone\n",

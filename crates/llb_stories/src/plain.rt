@@ -1,6 +1,6 @@
 //! Stories of plain outcomes, which an evaluation without a board returns. A line that begins with `@ ` has the name of the local trees, `: `, and the
-//! entries of the definition. The lines below it have the result. If the evaluation is refused, this is the refusal; otherwise it is, for each vertex, how
-//! the vertex ended and, if the vertex is done, the trees of its outputs.
+//! entries of the definition. If the evaluation is refused, the line below has the refusal. Otherwise the lines below have, for each vertex, how the vertex
+//! ended and, if the vertex is done, the trees of its outputs.
 
 use super::checks::{is_so, prints, say_tree};
 use super::sessions::{StoryKind, are_stories, wanted};

@@ -1,4 +1,4 @@
-//! A ready queue with room for one number or two, on one thread: what it returns, and what its faults print.
+//! Tests of a ready queue with room for one number or two, on one thread: what the queue returns, and what the queue's faults print.
 
 ghost use Rattle.llb_ready.specs.Hands.{SamePart};
 ghost use Rattle.llb_ready.specs.Passes.{IsReadyPassOf, hand_of};

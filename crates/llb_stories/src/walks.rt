@@ -126,8 +126,8 @@ fn is_two_before(board: &Board) -> bool {
         && board.worker(1) == Some(WorkerStatus::Runs(1, 1, true))
 }
 
-// Replays the record of two workers up to a breakpoint at a claim of the merge, and takes two events back. Returns whether the replay stops there, and
-// whether the first five events are then left.
+// Replays the record of two workers up to a breakpoint at a claim of the merge, and takes two events back. Returns whether the breakpoint is added, whether
+// the replay stops there, and whether the first five events are then left.
 fn is_replayed(stepper: &mut Stepper) -> [bool; 3] {
     let broken = breaks_at(stepper, Break::Claims(2));
     let wanted = Stop {

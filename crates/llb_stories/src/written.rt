@@ -10,7 +10,7 @@ use llb_wire::{Bytes, Text};
 use std::alloc::Global;
 use std::process::Abort;
 
-// The key of a cache: the key's ID, the key's mode and, if the key has a seed, the index of that output of the first entry which is the seed.
+// The key of a cache: the key's ID, the key's mode and, if the key has a seed, which output of the first entry is the seed.
 pub(crate) type CacheRow = (&'static str, Mode, Option<u32>);
 
 /// Appends the assembler's text of the entries of a short text.

@@ -1,5 +1,5 @@
-//! The program passes the words of its command line, the files, and the process's readers and writers to `llb_commands`, which does what the words ask for.
-//! Then the program sets the exit status.
+//! The program passes the words of its command line, the machine's files, and the process's readers and writers to `llb_commands`, which does what the words
+//! ask for. Then the program sets the exit status.
 #![tactic(auto)]
 
 #[cfg(test)]

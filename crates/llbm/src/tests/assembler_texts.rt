@@ -1,6 +1,5 @@
 //! Tests `asm` and `dis`. The text that `asm` reads is in the call itself, after `$`; each `|` of the text is the end of a
 //! line.
-//! a line.
 
 use super::transcripts::is_transcript;
 

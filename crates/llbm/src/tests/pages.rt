@@ -1,6 +1,5 @@
 //! Tests the pages of help and of the version. For words that ask for a page, the program prints the text that `clap`
 //! renders for these words.
-//! words.
 
 use super::failing::{Device, rooms_of};
 use super::transcripts::{ran_words, tried};

@@ -1,4 +1,4 @@
-//! Tests `read_bounded`, which reads a whole input with bounds on its bytes and on the number of reads.
+//! Tests `read_bounded`, which reads a whole input with a bound on its bytes and a bound on the number of reads.
 
 use super::devices::Slow;
 use llb_commands::{ReadFault, read_bounded};

@@ -14,7 +14,7 @@ pub(crate) const SPELLED: &str = concat!(
     "== WRONG_WIRE_TYPE\nraw 0800\n",
     // A digest is not UTF-8.
     "== NOT_UTF8\nraw 0a030a01ff\n",
-    // An exec of `true` with a mount at the root; its cwd is written although it is empty.
+    // An exec of `true` with a mount at the root. The bytes have the exec's cwd, although the cwd is empty.
     "== EMPTY_CWD\nraw ",
     "121a",                   // exec, of 26 bytes
     "0a08",                   // meta, of 8
@@ -24,7 +24,7 @@ pub(crate) const SPELLED: &str = concat!(
     "08ffffffffffffffffff01", // input -1
     "1a012f",                 // dest "/"
     "\n",
-    // The shared cache `a` at `/c` and at `/d`; at `/d` the number 0 of the mode is written.
+    // An exec with the shared cache `a` at `/c` and at `/d`. The bytes of the mount at `/d` have the number of the cache's mode, although the number is 0.
     "== SHARED_WRITTEN\nraw ",
     "1262",                   // exec, of 98 bytes
     "0a06",                   // meta, of 6
