@@ -23,7 +23,7 @@ pub(crate) trait Trial: Sized + Drop {
     /// Returns the result of the call in words.
     fn printed(&self, rt: &impl Abort, alloc: Global) -> String;
 
-    /// Returns whether what the call was made on is unchanged, by comparing it with an equal value that was made in the same steps.
+    /// Returns whether the values on which the call was made are unchanged. They are compared with equal values, which were made in the same steps.
     fn is_as_before(&mut self, rt: &impl Abort, alloc: Global) -> bool;
 }
 

@@ -1,5 +1,5 @@
 //! Tests a chain of 65,535 vertices, the most that a definition may have. The chain is loaded, evaluated, run, and stepped through to its end and back. This
-//! takes seconds as `rt ci` builds the test. It takes minutes in `rt try --test` (with `--seconds 900`), which checks each call.
+//! takes seconds if `rt ci` builds the test. It takes minutes with `rt try --test --seconds 900`, which checks each call.
 
 use llb_asm::assemble;
 use llb_board::Board;

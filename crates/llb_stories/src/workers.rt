@@ -9,7 +9,7 @@ use llb_stepper::Stepper;
 use std::alloc::Global;
 use std::process::Abort;
 
-// All events that two workers can have on three vertices.
+// All events that two workers can have on three vertices, apart from cancels.
 const EVENTS: [Event; 10] = [
     Event::Claim(0, 0),
     Event::Claim(0, 1),

@@ -50,7 +50,7 @@ fn errors(rt: &HostRuntime) -> io::Result<LineWriter<Stderr>> {
 fn main(rt: HostRuntime) -> ExitCode {
     let alloc = rt.alloc();
     let Ok(mut err) = errors(&rt) else {
-        // Unreachable: a buffer for no bytes needs no memory.
+        // This line is never reached: a buffer of zero bytes needs no memory.
         return ExitCode::from(3);
     };
     let words = match words_given(&rt) {

@@ -236,8 +236,8 @@ fn transcript<R: Abort + Threads + Wait + Sync>(rt: &R, alloc: Global, story: &s
     text
 }
 
-/// Makes the calls of a transcript. Ends the test at the first line that differs from the transcript's. The lines of a transcript are indented by four
-/// spaces.
+/// Makes the calls of a transcript. Ends the test at the first line of a result that is not the transcript's next line. The lines of a transcript are
+/// indented by four spaces.
 pub(crate) fn is_transcript<R: Abort + Threads + Wait + Sync>(rt: &R, alloc: Global, story: &str) {
     let text = transcript(rt, alloc, story);
     let mut lines = text.lines();
