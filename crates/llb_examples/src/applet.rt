@@ -1,4 +1,4 @@
-//! Scripts that are run on views with one mount, and on views with more.
+//! Tests of scripts: they run on views with one mount, and on views with more than one.
 
 use super::stage::are_transcripts;
 

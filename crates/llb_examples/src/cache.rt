@@ -1,4 +1,4 @@
-//! Leases of caches, as transcripts (module `leases`), and comparisons of caches.
+//! Tests leases of caches by transcripts (module `leases`), and compares caches with copies of caches.
 
 use super::leases::{is_copy, transcript};
 use super::printed::row_holds;

@@ -1,6 +1,6 @@
-//! What faults print, without the word `fault` that a refusal has in front. The faults of records and messages, the loader's
-//! other refusals, each feature and each rule are tested in `loader` and by the program (`show`, `taken_ops`,
-//! `taken_executions` and `taken_caches` in `llbm`).
+//! Tests the texts that faults print. In a refusal of the program, the word `fault` is before such a text. The faults of
+//! records and messages, the loader's other refusals, each feature and each rule are tested in `loader`, and in `llbm` by
+//! the program (`show`, `taken_ops`, `taken_executions` and `taken_caches`).
 
 use super::printed::prints;
 use llb_applet::ScriptFault;
@@ -49,7 +49,7 @@ fn refusals_of_a_definition(rt: HostRuntime) {
     prints(&rt, alloc, &llb_loader::Memory, "92");
 }
 
-// Returns the fault of a script whose word `apk` names no applet.
+// Returns the fault of a script that calls `apk`, which is none of the thirteen small commands.
 fn no_applet(rt: &impl Abort, alloc: Global) -> ScriptFault {
     ScriptFault::NoApplet(Text::from_str(alloc, "apk").expect(rt, "memory"))
 }

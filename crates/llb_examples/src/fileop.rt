@@ -1,4 +1,5 @@
-//! Calls of `llb_fileop`. The trees that file actions make, and their faults, are tested by the program (`file_actions` in `llbm`).
+//! Calls of `llb_fileop`. The trees that file actions make, and the faults of file actions, are tested in `llbm` by the program
+//! (`file_actions`).
 
 use super::ops::{COPY, MAKES_A};
 use super::printed::{is_same, say, say_fault, say_path, say_tree};
@@ -17,7 +18,7 @@ fn resolved(rt: &impl Abort, alloc: Global, text: &str) -> String {
     printed
 }
 
-// Texts, the paths that they are read as, and whether they end in a slash.
+// Texts. After each text come the path that the text is read as, and whether the text ends in a slash.
 const TEXTS: &[(&str, &str)] = &[
     ("a//b/../", "/a true"),
     ("/a/b", "/a/b false"),
@@ -45,7 +46,7 @@ fn act_alone(alloc: Global, action: &Action, tree: &Tree) -> Result<Tree, ActFau
     act(alloc, action, tree, None)
 }
 
-// Does the action of a file op's entry on the empty tree. Returns the text of the tree after it, or the fault.
+// Does the action of a file op's entry on the empty tree. Returns the text of the tree after the action, or the fault.
 fn acted(rt: &impl Abort, alloc: Global, entry: &[u8]) -> String {
     let op = read_op(alloc, entry).expect(rt, "an op");
     let action = action_in(&op).expect(rt, "an action");

@@ -1,4 +1,4 @@
-//! Patterns. A case has the text of a pattern, the text of a path, and whether the path matches the pattern.
+//! Tests of patterns. A case has the text of a pattern, the text of a path, and whether the path matches the pattern.
 
 use super::printed::{holds, repeated, row_holds};
 use llb_glob::{Pattern, PatternFault};
@@ -21,7 +21,7 @@ const REFUSED: Result<bool, PatternFault> = Err(PatternFault::BadPattern);
 
 type Case = (&'static str, &'static str, Result<bool, PatternFault>);
 
-// Texts of patterns, texts of paths, and whether the path matches.
+// Texts of patterns, texts of paths, and whether the path matches the pattern.
 const CASES: &[Case] = &[
     // Each name of the path has to match the part of the pattern at the same position.
     ("a*", "/ab", Ok(true)),
@@ -102,8 +102,8 @@ fn a_path_matches_part_by_part_and_a_bad_pattern_is_refused(rt: HostRuntime) {
     }
 }
 
-// For the pattern: a text, how often it is repeated, and the rest; for the path: a text, and how often it is repeated; and whether
-// the path matches the pattern.
+// A long case. The pattern is a part, repeated a number of times, and a rest. The path is a name, repeated a number of times. The
+// last item is whether the path matches the pattern.
 type Long = (
     &'static str,
     usize,

@@ -1,4 +1,4 @@
-//! Keys of caches: which keys are the same, and what faults print for a key.
+//! Tests which keys of caches are the same, and what faults print for a key.
 
 use super::leases::{Row, key_of};
 use super::printed::{prints, row_holds};
@@ -25,7 +25,7 @@ fn again(rt: &impl Abort, alloc: Global, row: &Row<'_>) -> Key {
     key.to_key(alloc).expect(rt, "memory")
 }
 
-// Returns whether the copy of a key is the same as the key, and whether it is the same as the key of the row `other`.
+// Returns whether the copy of a key is the same as the key, and whether the copy is the same as the key of the row `other`.
 fn compared(rt: &impl Abort, alloc: Global, row: &Row<'_>, other: &Row<'_>) -> (bool, bool) {
     let (key, other) = (key_of(rt, alloc, row), again(rt, alloc, other));
     let copy = key.copy().expect(rt, "memory");

@@ -1,14 +1,15 @@
-//! Calls on caches as transcripts. A line that begins with `> ` is a call, and the lines after it are its result; a line that begins with `# `
-//! describes the next calls. A NEED is the ID and the mode of its key, the index of the key's seed (`-` if there is none), and the name of the one
-//! file in the need's tree (none for an empty tree). LEASE is the position of a lease among those granted, I the position of one of its needs.
+//! Transcripts of calls on caches. A line that begins with `> ` is a call, and the lines below it are the call's result; a line that begins with `# `
+//! describes the calls below it. A NEED is the ID and the mode of a key, the index of the key's seed (`-` if the key has none), and the name of the only file
+//! in the need's tree (no name if the tree is empty). LEASE is the position of a lease among the leases that were granted, and I the position of a need among
+//! the needs of that lease.
 //!
-//! `lease NEED, ..` prints the number of the new lease and the number of each need's instance, or the fault, or `twice` if two needs have the same
-//! key. `near ROW NEED, ..` does the same, but tries row ROW first for each key. `see LEASE I` prints the name of the file in the instance of that
-//! need, and `set LEASE I NAME` replaces that file by one with this name. `back LEASE` gives a lease back. `count NEED` prints how many instances the
-//! key has, how many leases are current, and each instance's file. `next NEED` prints the number of the instance that a lease would take, or `shut`
-//! if the lease would be refused. `look ROW NEED` looks up the key, and tries row ROW first (`-` for none); it prints the key's row, `held` or
-//! `free`, the number of the instance that a lease would take, and the instance's file if the instance exists. `grow NEED` prints what a lease would
-//! add to the rows. `new` begins with empty caches.
+//! `lease NEED, ..` prints the number of the new lease and the number of the instance of each need, or the fault, or `twice` if two needs have the same key.
+//! `near ROW NEED, ..` does the same, but looks for each key in row ROW first. `see LEASE I` prints the name of the file in the need's instance, and
+//! `set LEASE I NAME` replaces that file by one with the name NAME. `back LEASE` gives a lease back. `count NEED` prints how many instances the key has, how
+//! many leases are current, and the file of each instance. `next NEED` prints the number of the instance that a lease of the key would take, or `shut` if the
+//! lease would be refused. `look ROW NEED` looks for the key, in row ROW first (`-` for no row). It prints the row of the key, `held` or `free`, the number
+//! of the instance that a lease would take, and the file of that instance if the instance exists. `grow NEED` prints what a lease of the key would add to the
+//! rows. `new` makes the caches empty.
 
 use super::printed::{file, made, row_holds, say, say_fault, say_number};
 use super::trees::word_and_rest;
@@ -47,7 +48,7 @@ fn row_of(need: &str) -> Row<'_> {
     (id, mode_of(way), seed.parse::<u32>().ok(), name)
 }
 
-// Returns a tree with one empty file of this name; for an empty name, a tree without files.
+// Returns a tree with one empty file of this name. If the name is empty, returns a tree without files.
 fn marked(rt: &impl Abort, alloc: Global, name: &str) -> Tree {
     if name.is_empty() {
         return Tree::empty(alloc).expect(rt, "memory");
@@ -158,7 +159,7 @@ fn growth(caches: &Caches, key: &Key) -> Growth {
     caches.growth(&key.by_ref())
 }
 
-// Leases an instance for each need, and tries row `rows[i]` first for need `i`. Returns `None` if two needs have the same key.
+// Leases an instance for each need. Looks for the key of need `i` in row `rows[i]` first. Returns `None` if two needs have the same key.
 fn leased_near(
     caches: &mut Caches,
     needs: Vec<Need>,
@@ -172,7 +173,7 @@ fn leased_near(
 
 // ---- the results of the calls as texts
 
-// Appends the number of a lease, a colon, and for each of its needs the number of the instance.
+// Appends the number of a lease, a colon, and for each need of the lease the number of the need's instance.
 fn say_lease(rt: &impl Abort, text: &mut String, caches: &Caches, lease: Lease) {
     say_number(rt, text, lease.number());
     say(rt, text, ":");
@@ -189,7 +190,7 @@ fn ask(rt: &impl Abort, alloc: Global, text: &mut String, stage: &mut Stage, wor
     say_asked(rt, text, stage, asked);
 }
 
-// Requests a lease as `ask` does, but tries the given row first for each key.
+// Requests a lease as `ask` does, but looks for each key in the given row first.
 fn ask_near(rt: &impl Abort, alloc: Global, text: &mut String, stage: &mut Stage, words: &str) {
     let (row, needs) = word_and_rest(words);
     let row = row.parse::<usize>().ok();
@@ -245,7 +246,7 @@ fn say_next(rt: &impl Abort, alloc: Global, text: &mut String, caches: &Caches, 
     say(rt, text, "\n");
 }
 
-// Appends what a look-up of a key finds: the row of the key, `held` or `free`, the number of the instance that a lease would take, and its file.
+// Appends what is found for a key: the row of the key, `held` or `free`, the number of the instance that a lease would take, and the file of that instance.
 fn say_found(rt: &impl Abort, alloc: Global, text: &mut String, caches: &Caches, words: &str) {
     let (row, need) = word_and_rest(words);
     let key = key_of(rt, alloc, &row_of(need));
@@ -348,7 +349,7 @@ fn stage_after(rt: &impl Abort, alloc: Global, calls: &str) -> Stage {
     stage
 }
 
-// Does `calls` on empty caches, copies the caches, and does `more` on the original. Returns whether the copy equals the caches after `others`.
+// Does `calls` on empty caches, copies the caches, and does `more` on the original. Returns whether the copy equals caches on which `others` were done.
 pub(crate) fn is_copy(
     rt: &impl Abort,
     alloc: Global,

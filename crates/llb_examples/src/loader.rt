@@ -1,5 +1,5 @@
-//! The graph that `link` makes of rows, or why it refuses them. Here the digest of a row may be any text. Rows are written as `DIGEST = NAME`, with
-//! `; ` between rows; NAME is the name of an entry of `llb_samples`.
+//! Tests `link`, which makes a graph of rows, or refuses the rows. The digest of a row may be any text here. Rows are written as `DIGEST = NAME`, with `; `
+//! between rows; NAME is the name of an entry of `llb_samples`.
 
 use super::printed::{is_same, prints, say};
 use llb_loader::{Graph, LoadFault, Row, link};
@@ -28,7 +28,7 @@ fn push_given(rt: &impl Abort, rows: &mut Vec<Row>, given: &str) {
     push_row(rt, rows, digest, entry.as_slice());
 }
 
-// Returns the graph of rows, or why they are refused.
+// Returns the graph that `link` makes of rows, or the fault with which `link` refuses the rows.
 fn graph_of(rt: &impl Abort, alloc: Global, given: &str) -> Result<Graph, LoadFault> {
     let mut rows = Vec::new(alloc);
     for one in given.split("; ") {
@@ -44,13 +44,14 @@ fn refusal(rt: &impl Abort, alloc: Global, given: &str) -> LoadFault {
 
 // Rows, and the fault with which they are refused.
 const REFUSED: &[(&str, &str)] = &[
-    // In the first case the inputs lead from row to row in a cycle. In the second case an input names no row; in the third case the terminal names no row.
+    // In the first case the inputs lead from row to row in a cycle. In the second case an input names no row. In the third case an input names the terminal.
     ("A = ON_B; B = ON_A; T = NAMES_A", "87"),
     ("A = ON_B; B = ON_C; T = NAMES_A", "86 1 0"),
     ("A = D_ON_T; T = NAMES_A", "86 0 0"),
     // An unsupported feature of a later row is reported before a broken rule of an earlier one.
     ("A = NAMES_B; B = DIFF; T = NAMES_A", "88 1 DiffOp"),
-    // A row that repeats an earlier row has a number too, so it counts in the numbers of later rows.
+    // A row may repeat an earlier row. A fault that both rows have is reported at the earlier row. The later row still counts in the numbers of the rows
+    // after it.
     (
         "T = NAMES_INDEX_ONE_OF_ROW_A; A = MAKES_A; A = MAKES_A; T = NAMES_INDEX_ONE_OF_ROW_A",
         "90 0 0",
@@ -63,7 +64,7 @@ const REFUSED: &[(&str, &str)] = &[
     ("A = MAKES_A; A = DIFF; T = NAMES_A", "84 1"),
     ("A = MAKES_A; A = DIFF; B = FIELD_ZERO", "82 2 3"),
     ("A = MAKES_A; B = DIFF", "85"),
-    // If two rows break rules, the row with the lower number is reported.
+    // If two rows break rules, the row with the lower number is reported: its number and the rule.
     (
         "A = LOCKS_TWICE_ON_B; B = MOUNTS_BARE; T = NAMES_A",
         "89 0 CacheTwice",
@@ -90,11 +91,11 @@ fn printed_ends(rt: &impl Abort, alloc: Global, graph: &Graph) -> String {
     format!(in alloc; "{count} {first} {last}").expect(rt, "memory")
 }
 
-// Rows, and the graph that they make.
+// Rows, and what `printed_ends` returns for their graph.
 const GRAPHS: &[(&str, &str)] = &[
     // A cycle among rows that the result does not depend on is no fault.
     ("B = ON_C; A = MAKES_A; C = ON_B; T = NAMES_A", "1 A 0"),
-    // Two executions may mount the same cache.
+    // Two executions may lock the same cache.
     ("A = LOCKS_ON_B; B = LOCKS; T = NAMES_A", "2 B 1"),
 ];
 
@@ -110,7 +111,7 @@ fn rows_are_graphs(rt: HostRuntime) {
     }
 }
 
-// Appends an op of a chain: a merge whose input is the row with this number as its digest text.
+// Appends an op of a chain: a merge whose only input names the row with the digest text `below`.
 fn push_op(rt: &impl Abort, text: &mut String, below: u32) {
     write!(
         text,
@@ -119,8 +120,8 @@ fn push_op(rt: &impl Abort, text: &mut String, below: u32) {
     .expect(rt, "memory");
 }
 
-// Returns the text of a chain of `count` ops and its terminal. Each op has the next op as its input, the last op makes `/a`, and the
-// terminal names the first op.
+// Returns the text of a chain of `count` ops, and of a terminal. Each op has the next op as its input, the last op makes `/a`, and the terminal names the
+// first op.
 fn chain_text(rt: &impl Abort, alloc: Global, count: u32) -> String {
     let mut text = String::new(alloc);
     for at in 1..count {

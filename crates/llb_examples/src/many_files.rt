@@ -1,4 +1,4 @@
-//! A tree of a thousand files and its copies: a change of one of them does not change the others. Trees are compared by their whole texts.
+//! Tests that a change of a tree does not change its copies, on a tree of a thousand files. Trees are compared by their whole texts.
 
 use super::overlay::copied;
 use super::printed::{dir, file, is_so, made, put, say};
@@ -16,7 +16,7 @@ fn put_file(alloc: Global, tree: &mut Tree, at: u16, content: &str) -> Result<()
     put(alloc, tree, &file(path.as_str(), content))
 }
 
-// Puts the same content into each of the files. Returns the tree.
+// Puts the same content into each of the thousand files. Returns the tree.
 fn filled(alloc: Global, mut tree: Tree, content: &str) -> Result<Tree, TreeFault> {
     for at in 0..FILES {
         put_file(alloc, &mut tree, at, content)?;
@@ -29,7 +29,7 @@ fn many(rt: &impl Abort, alloc: Global) -> Tree {
     filled(alloc, made(rt, alloc, &[dir("/d")]), "").expect(rt, "memory")
 }
 
-// Returns the text of the tree of `many` after file 500 gets the content `of_500`, and all other files get the content `others`, both in hexadecimal.
+// Returns the text of the tree of `many` with the content `of_500` in file 500 and the content `others` in all other files, both in hexadecimal.
 fn wanted(rt: &impl Abort, alloc: Global, others: &str, of_500: &str) -> String {
     let mut text = String::new(alloc);
     say(rt, &mut text, "d 0755 0 0 /\nd 0755 0 0 /d\n");
@@ -46,8 +46,8 @@ fn prints(rt: &impl Abort, alloc: Global, tree: &Tree, others: &str, of_500: &st
     text.as_slice() == wanted(rt, alloc, others, of_500).as_bytes()
 }
 
-// Copies a tree, puts one byte into file 500 of the tree, and drops the tree (if `first_goes`) or else the copy. Returns whether the copy's text is
-// unchanged and, if the copy was dropped, the tree's text has one changed line.
+// Copies a tree and puts one byte into file 500 of the tree. If `first_goes`, drops the tree, and returns whether the copy's text is unchanged. Otherwise
+// drops the copy, and returns whether the copy's text was unchanged and the tree's text has one changed line.
 fn one_byte(rt: &impl Abort, alloc: Global, mut first: Tree, first_goes: bool) -> bool {
     let copied = copied(rt, &first);
     put_file(alloc, &mut first, 500, "!").expect(rt, "memory");
@@ -68,7 +68,7 @@ fn one_byte_in_one_of_a_thousand_files_is_not_in_the_copy(rt: HostRuntime) {
     }
 }
 
-// Calls `one_byte` in two threads at once, each on a copy of the same tree. One thread drops its tree first, the other thread its copy.
+// Calls `one_byte` in two threads at once, each with a copy of the same tree. The one call drops the changed tree, the other call the unchanged one.
 fn one_byte_each<R: Abort + Threads + Sync>(rt: &R, alloc: Global, tree: &Tree) -> (bool, bool) {
     let (one, other) = (copied(rt, tree), copied(rt, tree));
     thread::join(

@@ -1,6 +1,6 @@
-//! Views. A row describes a mount: its dest, its selector, whether it is read-only, and the name of the one file in its
-//! tree. A story is a line of text: the result of each step, the mounts after the steps, a bar, and the mounts of a copy
-//! that was made before the steps.
+//! Tests of views. A row describes a mount: its dest, its selector, whether it is read-only, and the name of the only file in
+//! its tree. A story has some steps and a line of text: the result of each step, the mounts after the steps, a bar, and the
+//! mounts of a copy of the view that was made before the steps.
 
 use super::printed::{file, holds, is_same, made, prints, row_holds, say, say_names, say_path};
 use super::tree::path_of;
@@ -67,7 +67,8 @@ fn one_mount_is_at_the_root_and_no_two_at_one_dest(rt: HostRuntime) {
     }
 }
 
-// Returns the number of the mount to which a path leads, and how many names its dest has; `None` if no view has these mounts.
+// Returns the number of the mount to which a path leads, and how many names the mount's dest has; `None` if no view has these
+// mounts.
 fn route(rt: &impl Abort, alloc: Global, rows: &[Row], text: &str) -> Option<(u32, u32)> {
     let view = view_of(rt, alloc, rows)?;
     Some(view.route(&path_of(rt, alloc, text)))
@@ -124,7 +125,8 @@ fn a_path_is_routed_to_the_longest_dest(rt: HostRuntime) {
     }
 }
 
-// A step of a story: a tree with one file of this name is put into the mount with this number.
+// A step of a story: puts a tree with one file of this name into the mount with this number, by `set_tree` (`Set`) or by
+// `swap_tree` (`Swap`).
 #[derive(Clone, Copy)]
 enum Step {
     Set(u32, &'static str),
@@ -149,7 +151,8 @@ fn say_mounts(rt: &impl Abort, alloc: Global, text: &mut String, view: &View) {
     }
 }
 
-// Appends `ok` if the tree of a mount was replaced; otherwise the fault, and the files of the tree that the fault has.
+// Appends `ok` if the tree of a mount was replaced. Otherwise appends the fault, and the files of the tree that the fault
+// returns.
 fn say_set(rt: &impl Abort, alloc: Global, text: &mut String, answer: Result<(), ReadOnly>) {
     match answer {
         Ok(()) => say(rt, text, "ok "),

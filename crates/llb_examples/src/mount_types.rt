@@ -1,4 +1,4 @@
-//! The types of mounts, by their numbers in a definition.
+//! Tests the numbers that the types of mounts have in a definition.
 
 use super::printed::is_so;
 use llb_loader::MountType;

@@ -1,4 +1,5 @@
-//! The nodes of a tree, walks through a tree, and how long a path may be so that a tree fits below it.
+//! Tests the nodes of a tree, walks through a tree, and how many names a path may have so that a given tree fits below the
+//! path.
 
 use super::printed::{Row, is_same, made, row_holds, say, say_node, say_path, say_tree};
 use super::tree::{deep_tree, path_with};
@@ -25,7 +26,7 @@ fn path_below(rt: &impl Abort, alloc: Global, names: &str, name: &str) -> String
     path
 }
 
-// Appends the children of a node, each with the text of its path, to the list `left`, the last child first.
+// Appends each child of a node, with the text of the child's path, to the list `left`. The last child comes first.
 fn leave_children<'a>(
     rt: &impl Abort,
     alloc: Global,
@@ -56,7 +57,8 @@ fn say_nodes(rt: &impl Abort, alloc: Global, text: &mut String, root: &Node) {
     }
 }
 
-// Returns the text of a tree as read from its nodes and, after a bar, as read by a walk.
+// Returns the entries of a tree as text: first as the tree's nodes have them and, after a bar, as a walk through the tree
+// returns them.
 fn printed(rt: &impl Abort, alloc: Global, rows: &[Row<'_>]) -> String {
     let tree = made(rt, alloc, rows);
     let mut text = String::new(alloc);
@@ -66,7 +68,7 @@ fn printed(rt: &impl Abort, alloc: Global, rows: &[Row<'_>]) -> String {
     text
 }
 
-// Trees, and their texts as read from the nodes and by a walk.
+// Trees, and what `printed` returns for them.
 const TOLD: &[(&[Row<'static>], &str)] = &[
     (&[], " d| d"),
     (TWO, " d d/e f/f=x| d d/e f/f=x"),
@@ -142,8 +144,8 @@ fn cut_at(rt: &impl Abort, tree: &mut Tree, path: &Path) {
     tree.remove(path).expect(rt, "what is there");
 }
 
-// Returns whether a tree fits below a path of `names` names. The tree has `levels` directories, each in the directory
-// before it, without the directories at depth `cut` or deeper.
+// Returns whether a tree fits below a path of `names` names. The tree is a chain of `levels` directories, each in the one
+// before it; the directories at depth `cut` and deeper are removed.
 fn fits(
     rt: &impl Abort,
     alloc: Global,

@@ -1,4 +1,5 @@
-//! Entries and definitions. An op that was read is compared by its canonical bytes; its fields are tested by the program (`messages` in `llbm`).
+//! Tests of reading and writing entries and definitions. An op that was read is checked by its canonical bytes, which are the bytes that `write_op` writes
+//! for the op. The fields of the op are tested in `llbm` by the program (`messages`).
 
 use super::printed::{holds, is_so, row_holds};
 use llb_ops::{
@@ -15,11 +16,11 @@ pub(crate) const MAKES_A: &[u8] =
     \xFF\xFF\xFF\xFF\xFF\xFF\xFF\xFF\xFF\x01\x2A\x16\x0A\x02/a\x10\xA4\x03\x1A\x02hi\x28\
     \xFF\xFF\xFF\xFF\xFF\xFF\xFF\xFF\xFF\x01";
 
-// A terminal that names output 0 of the entry above.
+// A terminal that names output 0 of the entry `MAKES_A`.
 const NAMES_A: &[u8] = b"\x0A\x49\x0A\x47\
     sha256:e00d65597895790f7dc26dbf724a411bd83c8e15881ab3eea18ea75095782dab";
 
-// The definition of these two entries.
+// The definition that has the entries `MAKES_A` and `NAMES_A`.
 const BOTH: &[u8] = b"\x0A\x32\
     \x22\x30\x12\x2E\x08\xFF\xFF\xFF\xFF\xFF\xFF\xFF\xFF\xFF\x01\x10\
     \xFF\xFF\xFF\xFF\xFF\xFF\xFF\xFF\xFF\x01\x2A\x16\x0A\x02/a\x10\xA4\x03\x1A\x02hi\x28\
@@ -32,25 +33,25 @@ const SOURCE: &[u8] =
     b"\x1A\x25\x0A\x09local://a\x12\x06\x0A\x01k\x12\x01v\x12\x06\x0A\x01j\x12\x01w\
     \x12\x08\x0A\x01k\x12\x01x\x18\x07";
 
-// The canonical bytes of this source. It has one attribute for each key: for `k` the later value, at the position of the first.
+// The canonical bytes of `SOURCE`. They have one attribute for each key. The attribute for `k` has the later of the two values, at the position of the first.
 const SETTLED_SOURCE: &[u8] =
     b"\x1A\x1D\x0A\x09local://a\x12\x08\x0A\x01k\x12\x01x\x18\x07\x12\x06\x0A\x01j\x12\x01w";
 
-// An execution with one mount. All fields of the mount are set, and it has two unknown fields.
+// An exec with one mount. The mount has a value for each of its fields, and two unknown fields.
 const MOUNT: &[u8] = b"\x12\x25\x12\x23\x08\x01\x12\x02/s\x1A\x02/d\x20\x02\x28\x01\x30\x03\
     \x9A\x01\x02\x08\x05\xA2\x01\x05\x0A\x01k\x10\x02\xAA\x01\x00\xB2\x01\x00";
 
-// A copy of `/f` to `/d/` with mode and timestamp -1 and an unknown field 14.
+// A file op that copies `/f` to `/d/`. Its mode and its timestamp are -1, and it has an unknown field, 14.
 pub(crate) const COPY: &[u8] = b"\x22\x27\x12\x25\x10\x01\x22\x21\x0A\x02/f\x12\x03/d/\x20\
     \xFF\xFF\xFF\xFF\xFF\xFF\xFF\xFF\xFF\x01\x58\xFF\xFF\xFF\xFF\xFF\xFF\xFF\xFF\xFF\x01\x70\x01";
 
-// The execution of `/bin/sh -c true` with one variable, the cwd `/`, and output 0 of `MAKES_A` mounted at `/`; then a platform and constraints.
+// An exec of `/bin/sh -c true` with one environment variable, the cwd `/`, and output 0 of `MAKES_A` mounted at `/`; then a platform and constraints.
 const RUNS_TRUE: &[u8] = b"\x0A\x49\x0A\x47\
     sha256:e00d65597895790f7dc26dbf724a411bd83c8e15881ab3eea18ea75095782dab\
     \x12\x28\x0A\x21\x0A\x07/bin/sh\x0A\x02-c\x0A\x04true\x12\x09PATH=/bin\x1A\x01/\x12\x03\x1A\x01/\
     \x52\x0E\x0A\x05amd64\x12\x05linux\x5A\x00";
 
-// Calls the laws of an op that was read, and of the entry that it was read from.
+// Calls the laws about an entry, and about the op that was read from the entry.
 fn laws(entry: &[u8], op: &Op) {
     entry_has_fields(entry);
     op_is_read_again(op);
@@ -79,7 +80,7 @@ const ENTRIES: &[(&[u8], Result<&[u8], OpFault>)] = &[
     (MOUNT, Ok(MOUNT)),
     (COPY, Ok(COPY)),
     (RUNS_TRUE, Ok(RUNS_TRUE)),
-    // If an input has several indexes, the last one counts, however its number is spelled.
+    // If an input has several indexes, the last index counts. The number of an index may have more bytes than it needs.
     (b"\x0A\x04\x10\x01\x10\x02", Ok(b"\x0A\x02\x10\x02")),
     (b"\x0A\x04\x10\x82\x80\x00", Ok(b"\x0A\x02\x10\x02")),
     // If a message is split into several records, their payloads are joined; this holds inside another message too.
@@ -88,7 +89,7 @@ const ENTRIES: &[(&[u8], Result<&[u8], OpFault>)] = &[
         b"\x22\x0C\x12\x0A\x2A\x08\x22\x02\x0A\x00\x22\x02\x12\x00",
         Ok(b"\x22\x0A\x12\x08\x2A\x06\x22\x04\x0A\x00\x12\x00"),
     ),
-    // The member of a oneof whose record comes last is set. Only the records of this member that come after the last record of another member count.
+    // Of a oneof, the member whose record comes last is set. Records of this member that come before a record of another member do not count.
     (
         b"\x22\x02\x12\x00\x3A\x00\x22\x02\x12\x00",
         Ok(b"\x22\x02\x12\x00"),
@@ -98,7 +99,7 @@ const ENTRIES: &[(&[u8], Result<&[u8], OpFault>)] = &[
         b"\x22\x0C\x12\x0A\x32\x08\x22\x06\x0A\x04\x0A\x00\x10\x00",
         Ok(b"\x22\x0A\x12\x08\x32\x06\x22\x04\x0A\x02\x10\x00"),
     ),
-    // Two payloads of a merge are joined, unless a record of another member of the oneof is between them.
+    // The payloads of two records of a merge are joined, unless a record of another member of the oneof is between the two.
     (
         b"\x32\x02\x0A\x00\x32\x0D\x0A\x0B\x08\xFF\xFF\xFF\xFF\xFF\xFF\xFF\xFF\xFF\x01",
         Ok(b"\x32\x0F\x0A\x00\x0A\x0B\x08\xFF\xFF\xFF\xFF\xFF\xFF\xFF\xFF\xFF\x01"),
@@ -184,7 +185,7 @@ fn definition_rewritten(alloc: Global, definition: &[u8]) -> Result<Bytes, OpFau
     write_definition(alloc, &entries)
 }
 
-// Definitions, and the bytes that are written after they are read, or the fault.
+// Definitions; and the bytes that are written for the entries of each definition, or the fault with which the definition is refused.
 const DEFINITIONS: &[(&[u8], Result<&[u8], OpFault>)] = &[
     (BOTH, Ok(BOTH)),
     (b"\x12\x01\xFF\x20\x07\x0A\x00", Ok(b"\x0A\x00")),
@@ -200,7 +201,7 @@ fn a_definition_keeps_its_entries_and_skips_other_fields(rt: HostRuntime) {
     }
 }
 
-// Returns whether the field with this number has this name.
+// Returns whether a message has a field with this number and this name, which is found both by the number and by the name.
 fn is_field(message: MessageName, number: u32, name: &str) -> bool {
     rows_are_apart(message);
     let one = field_numbered(message, number);

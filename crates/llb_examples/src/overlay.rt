@@ -1,4 +1,4 @@
-//! One tree laid over another, with the modes and owners that an `OverlaySettings` sets. The stories show the entries of the resulting tree.
+//! Tests of laying one tree over another with an `OverlaySettings`, which sets modes and owners. The stories show the entries of the resulting tree.
 
 use super::printed::{Row, is_so, made, row_holds};
 use super::stage::are_transcripts;
@@ -255,8 +255,8 @@ fn a_lower_tree_is_lent_or_handed_over_or_laid_over_in_place(rt: HostRuntime) {
     }
 }
 
-// Returns whether `overlay`, which changes the lower tree, makes the same tree as `overlaid` on a copy. The `OverlaySettings` keeps directories, and sets
-// the mode and the group.
+// Returns whether `overlay`, which changes the lower tree itself, makes the same tree as `overlaid` makes of a copy. The `OverlaySettings` keeps directories,
+// and sets the mode and the group.
 fn way_in_place(rt: &impl Abort, alloc: Global) -> bool {
     let (mut lower, upper) = (made(rt, alloc, LOWER), made(rt, alloc, UPPER));
     let settings = OverlaySettings::new(Some(0o4640), None, Some(5), true).expect(rt, "a settings");

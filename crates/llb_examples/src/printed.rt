@@ -1,5 +1,5 @@
-//! Makes trees from rows, and writes a tree on one line. Each entry is written as `d` or `f`, its path, its mode and owner in parentheses if they are not
-//! those of a new entry, and for a file `=` and the content.
+//! Makes trees from rows, and writes a tree on one line. An entry is written as `d` or `f` and its path, and for a file `=` and the content. After the path
+//! the mode and the owner follow in parentheses, if they are not those of a new entry.
 
 use llb_samples::push_path;
 use llb_tree::{Bytes, Entry, Meta, Name, Node, Path, Tree, TreeFault};

@@ -14,7 +14,7 @@ const SHARED: &[Row<'_>] = &[
     ("/a/c/d", 0o644, 0, 0, Some("y")),
 ];
 
-// Each story begins with the same tree, and makes a second tree that shares memory with it.
+// Each story begins with the same tree. It makes a second tree, which shares memory with the first.
 const TAKEN_IS_EDITED: &str = "
     # A file of a copy is replaced and a directory goes.
     > new
@@ -180,8 +180,8 @@ fn the_tree_is_edited_and_what_was_taken_stays(rt: HostRuntime) {
     are_transcripts(&rt, rt.alloc(), TREE_IS_EDITED);
 }
 
-// Copies a tree and edits the tree. Returns whether the copy equals the tree before the edit, the edit changes the tree (or
-// leaves it as it is, if memory is refused), and the copy is unchanged.
+// Copies a tree, and edits the tree. Returns whether the copy equals the tree before the edit, and is unchanged by the edit;
+// and whether the edit changes the tree or, if memory is refused to the edit, leaves the tree unchanged.
 fn is_whole(alloc: Global, call: &str) -> Result<bool, TreeFault> {
     let fresh = tree_of(alloc, SHARED)?;
     let mut tree = tree_of(alloc, SHARED)?;

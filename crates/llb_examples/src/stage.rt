@@ -1,6 +1,6 @@
-//! Calls of libraries as transcripts. A line that begins with `> ` is a call, and the lines after it are its result or its fault; a line
-//! that begins with `# ` describes the next calls. The calls work on two trees (module `trees`) and on the mounts of a view (module
-//! `views`). After the call `new` the trees are empty, and there are no mounts.
+//! Transcripts of calls of libraries. A line that begins with `> ` is a call, and the lines below it are the call's result or fault; a line that begins with
+//! `# ` describes the calls below it. The calls work on two trees (module `trees`) and on the mounts of a view (module `views`). After the call `new` the
+//! trees are empty, and there are no mounts.
 
 use super::printed::{is_same, is_so, say, say_fault};
 use super::trees::{Trees, answer, word_and_rest};

@@ -1,4 +1,4 @@
-//! Names, paths and trees.
+//! Tests of names, paths and trees.
 
 use super::printed::{Row, file, holds, is_same, is_so, made, repeated, row_holds, say_path};
 use super::stage::are_transcripts;
@@ -25,7 +25,8 @@ fn printed(rt: &impl Abort, alloc: Global, start: Option<&str>, text: &str) -> S
     printed
 }
 
-// The path from which a text is read, the text, and its path, or the fault 26.
+// The path from which a text is read, if it is not the root; the text; and the path that the text is read as, or 26, the
+// number of the fault.
 const TEXTS: &[(Option<&str>, &str, &str)] = &[
     (None, "/usr//./local/../bin/", "/usr/bin"),
     (None, "usr/bin", "/usr/bin"),
@@ -66,7 +67,7 @@ fn names_of(alloc: Global, text: &str) -> Result<usize, TreeFault> {
     Ok(path.names().len())
 }
 
-// A part of a text, how often it is repeated, the rest of the text, and how many names the path of this text has.
+// A part of a text, how often the part is repeated, the rest of the text, and how many names the path of the whole text has.
 type Counted = (&'static str, usize, &'static str, Result<usize, TreeFault>);
 
 const COUNTS: &[Counted] = &[
@@ -335,7 +336,7 @@ pub(crate) fn deep_tree(rt: &impl Abort, alloc: Global, names: usize) -> Tree {
     tree
 }
 
-// Returns the result of a graft of a tree with one file `/b` at a path of `names` names.
+// Grafts a tree with one file, `/b`, at a path of `names` names of another tree. Returns the result.
 fn graft_depth(rt: &impl Abort, alloc: Global, names: usize) -> Result<(), TreeFault> {
     let mut tree = deep_tree(rt, alloc, names);
     let other = made(rt, alloc, &[file("/b", "")]);

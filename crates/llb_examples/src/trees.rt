@@ -1,11 +1,11 @@
-//! Calls on trees in transcripts (module `stage`). There are two trees, this tree and the other tree, both empty at first.
+//! Calls on trees in transcripts (module `stage`). There are two trees, which are called this tree and the other tree, and are empty at first.
 //!
 //! `dir PATH MODE OWNER` and `file PATH MODE OWNER CONTENT` put an entry into this tree; `\n` at the end of CONTENT is a line end. `remove PATH` removes what
 //! is at or below PATH. `graft PATH GOAL` puts a copy of what is at or below PATH at GOAL. `share PATH GOAL MODE OWNER` puts a file at GOAL with the content
-//! of the file at PATH, if there is one. `overlay MODE USER GROUP KEEPS` lays the other tree over this tree, with the `OverlaySettings` of these words (`-`
-//! sets nothing). `look PATH` shows the entry at PATH, `list PATH` the names in the directory PATH, and `tree` this whole tree. `copy` makes the other tree a
-//! copy of this tree, `subtree PATH` a copy of what is at or below PATH, and `below PATH` a tree that has only this tree, at PATH. `swap` exchanges the two
-//! trees.
+//! of the file at PATH; without such a file it does nothing. `overlay MODE USER GROUP KEEPS` lays the other tree over this tree, with the `OverlaySettings`
+//! that the four words describe (`-` sets nothing). `look PATH` shows the entry at PATH, `list PATH` shows the names in the directory PATH, and `tree` shows
+//! this whole tree. `copy` replaces the other tree by a copy of this tree, `subtree PATH` by a copy of what is at or below PATH in this tree, and
+//! `below PATH` by a tree that has nothing but a copy of this tree at PATH. `swap` exchanges the two trees.
 
 use super::printed::{say, say_looked, say_names, say_tree};
 use llb_tree::{Bytes, Meta, OverlaySettings, Path, Tree, TreeFault};
@@ -149,7 +149,7 @@ fn tell(
     Ok(())
 }
 
-// Does a call, and appends what it shows; or fails with its fault.
+// Does a call, and appends what the call shows. Fails with the fault of the call.
 pub(crate) fn answer(
     rt: &impl Abort,
     alloc: Global,

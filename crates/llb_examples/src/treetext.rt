@@ -1,5 +1,5 @@
-//! The text of a tree: printed, hashed to the tree's digest, and read. A test of reading prints the tree again that
-//! a text is read as, or prints the fault.
+//! Tests of the text of a tree: the text is printed, hashed to the tree's digest, and read. A test that reads a text prints
+//! the tree that was read, or the fault.
 
 use super::printed::{file, holds, is_same, is_so, made, prints, say};
 use llb_tree::Tree;
@@ -36,7 +36,7 @@ fn answer(rt: &impl Abort, alloc: Global, text: &str) -> String {
     found
 }
 
-// Texts of trees, each of which is printed again after it is read.
+// Texts of trees. If such a text is read, the tree that is read prints the same text.
 const TEXTS: &[&str] = &[
     "d 0755 0 0 /\n",
     "d 0755 0 0 /\nf 0600 1 1 - /old\n",
@@ -139,7 +139,7 @@ fn the_last_line_of_many_is_faulty(rt: HostRuntime) {
     );
 }
 
-// Returns the result for a text of two lines: the line of a root, and this line.
+// Reads a text of two lines: the line of a root directory, and `line`. Returns what `answer` returns for this text.
 fn second_line(rt: &impl Abort, alloc: Global, line: &str) -> String {
     let mut text = String::new(alloc);
     say(rt, &mut text, "d 0755 0 0 /\n");

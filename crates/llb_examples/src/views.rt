@@ -1,6 +1,7 @@
-//! Calls of transcripts (module `stage`) that run scripts on a view. `mount DEST SELECTOR` moves this tree (module `trees`) into a new mount, which is
-//! read-only if the word `read-only` follows. `run CWD TEXT` runs TEXT as a script in the directory CWD, on a view of copies of the mounts. It prints
-//! the statuses of the script's commands, `-` for a skipped one, and then for each mount a bar and its tree; if TEXT is no script, it prints its fault.
+//! Calls of transcripts (module `stage`) that run scripts on a view. `mount DEST SELECTOR` moves this tree (module `trees`) into a new mount. The mount is
+//! read-only if the word `read-only` follows. `run CWD TEXT` runs the script TEXT in the directory CWD, on a view of copies of the mounts. The call `run`
+//! prints the statuses of the script's commands (`-` for a command that is skipped), and then for each mount a bar and the mount's tree. If TEXT is no
+//! script, the call prints the fault of TEXT.
 
 use super::printed::{say, say_fault, say_number, say_tree};
 use super::trees::{Trees, word_and_rest};
@@ -67,7 +68,7 @@ fn script_of(rt: &impl Abort, alloc: Global, text: &str) -> Result<Script, Scrip
     Ok(script.copy().expect(rt, "memory"))
 }
 
-// Returns whether a command with this join runs after this status.
+// Returns whether a command with this join runs if the last status is `last`.
 fn is_run(join: Join, last: u32) -> bool {
     match join {
         Join::Then => true,

@@ -1,4 +1,4 @@
-//! Calls of `llb_wire`: numbers, records, texts and lists, and writers that fail.
+//! Tests of `llb_wire`: numbers, records, texts and lists, and writers that fail.
 
 use super::printed::{holds, is_same, is_so, prints, row_holds};
 use llb_wire::{
@@ -169,7 +169,8 @@ fn text_of(rt: &impl Abort, alloc: Global, text: &str) -> Text {
     Text::from_str(alloc, text).expect(rt, "memory")
 }
 
-// Returns whether a byte string of `bytes` equals its copy, differs from a byte string of `other`, and is turned back into `bytes`.
+// Returns whether a byte string of `bytes` equals its copy, whether it differs from a byte string of `other`, and whether the copy
+// turns back into `bytes`.
 fn keeps_bytes(rt: &impl Abort, alloc: Global, bytes: &[u8], other: &[u8]) -> bool {
     let kept = bytes_of(rt, alloc, bytes);
     kept.is_bytes();
@@ -179,7 +180,8 @@ fn keeps_bytes(rt: &impl Abort, alloc: Global, bytes: &[u8], other: &[u8]) -> bo
     holds && copied.into_vec().as_slice() == bytes
 }
 
-// Returns whether a text equals its copy, differs from the text `other`, and is turned back into the same string.
+// Returns whether a text equals its copy, whether it differs from the text `other`, and whether the copy turns back into the same
+// string.
 fn keeps_text(rt: &impl Abort, alloc: Global, text: &str, other: &str) -> bool {
     let kept = text_of(rt, alloc, text);
     let copied = kept.copy().expect(rt, "memory");
@@ -232,8 +234,8 @@ impl Write for Narrow {
     }
 }
 
-// Writes `hello`, no bytes and `x` to such a writer, which gets more room before `x`. Returns how many bytes the writer took,
-// and whether writing `hello` failed, whether writing no bytes then succeeded, and whether `x` was refused.
+// Writes `hello`, no bytes and `x` to a writer that has room for `room` bytes; before `x` the writer gets more room. Returns how
+// many bytes the writer took; whether writing `hello` failed; whether writing no bytes then succeeded; and whether `x` was refused.
 fn written(alloc: Global, room: usize) -> (usize, [bool; 3]) {
     let mut writer = Narrow {
         room,

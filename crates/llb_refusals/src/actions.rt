@@ -1,5 +1,4 @@
-//! File actions and merges. An action works on a copy of the given tree; here the given tree is compared afterwards with one that was made in
-//! the same steps.
+//! File actions and merges while memory is refused. After a refused call, the trees on which the call was made are compared with equal trees.
 
 use super::growths::{Row, Trial, are_refused};
 use super::printed::{printed_fault, printed_text, printed_tree, tree_or_fault};
@@ -20,8 +19,8 @@ enum Answer {
     LaidOver(Result<(), Memory>),
 }
 
-// Two trees, each with another tree that is equal to it; copies of the first tree, one for each of two calls that take a tree; and an op with
-// one action.
+// The two trees of a call, each with an equal tree to compare with; two copies of the first tree, since `lay_onto` consumes a tree and is called twice; and
+// the op of a file action.
 #[derive(Drop)]
 struct OnTrees {
     call: &'static str,
@@ -42,14 +41,14 @@ fn two_copies(rt: &impl Abort, alloc: Global, tree: &Tree) -> Vec<Tree> {
     vec![in alloc; copied(rt, tree), copied(rt, tree)].expect(rt, "memory")
 }
 
-// Returns the op of the first entry.
+// Returns the op of the first entry of a short text (`llb_samples`).
 fn op_in(rt: &impl Abort, alloc: Global, written: &str) -> Op {
     let entries = entries_of(rt, alloc, written);
     let entry = entries.as_slice().first().expect(rt, "an entry");
     read_op(alloc, entry.as_slice()).expect(rt, "an op")
 }
 
-// Returns the text of an op with one action. `action` is the action's member of the oneof, then `: ` and the action's fields with a comma
+// Returns the assembler's text of a file op with one action. `action` is the kind of the action, such as `mkdir`, then `: ` and the action's fields with `, `
 // between them.
 fn op_text(rt: &impl Abort, alloc: Global, action: &str) -> String {
     let mut text = String::new(alloc);
@@ -62,7 +61,7 @@ fn op_text(rt: &impl Abort, alloc: Global, action: &str) -> String {
     text
 }
 
-// Returns the op of the action that a call does; for a call that does no action, an op that is not used.
+// Returns a file op with the action that a call is written as. For a call such as `lay`, which does no file action, returns some op, which is not used.
 fn op_of(rt: &impl Abort, alloc: Global, call: &str) -> Op {
     let action = if call.contains(": ") {
         call

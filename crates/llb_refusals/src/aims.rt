@@ -1,4 +1,5 @@
-//! Loads and opens a definition by the call that meets the premises of the project's aim.
+//! Calls `aim_is_met` while memory is refused. This call loads a definition and opens a board and a stepper that meet the
+//! premises of the project's aim.
 
 use super::boards::copy_of;
 use super::growths::{Row, Trial, are_refused};
@@ -15,7 +16,7 @@ use llb_wire::Bytes;
 use std::alloc::Global;
 use std::process::Abort;
 
-// A text, its entries and their definition, and what the boards are opened with.
+// A text of the assembler, its entries, their definition, and the result of the latest call.
 #[derive(Drop)]
 struct OnDefinition {
     text: String,
@@ -49,7 +50,8 @@ fn board_in(stepper: &Stepper) -> &Board {
     stepper.board()
 }
 
-// Returns the trees of the results, after each board is run to its end.
+// Runs a copy of the board and a copy of the stepper's board to their ends. Returns the texts of both results, one after the
+// other.
 fn printed_results(rt: &impl Abort, alloc: Global, board: &Board, stepper: &Stepper) -> String {
     let mut text = printed_copy(rt, alloc, board);
     let other = printed_copy(rt, alloc, board_in(stepper));

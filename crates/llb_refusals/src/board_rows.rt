@@ -1,5 +1,5 @@
-//! The rows for calls on boards: the call; what the board is opened on and the events that it has; the fault for refused memory; and the result of the
-//! call if no memory is refused.
+//! The rows for calls on boards. A row has the call; the board, written as in `boards`; the fault with which the call fails if memory is refused; and the
+//! result of the call if no memory is refused.
 
 use super::boards::TWO_FILES;
 use super::growths::Row;

@@ -1,5 +1,6 @@
-//! Boards: an opening, claims, steps, copies and work. A board is written as the number of its workers and its definition, then ` on ` and its
-//! local trees, and then ` after ` and the events that were done on it.
+//! Calls on boards while memory is refused: opening a board, claims, steps, copies, and the work on a job. A row describes a board by the number of its
+//! workers, `: ` and the entries of its definition. If the board has local trees, ` on ` and the local trees follow; if events are to be done on the board,
+//! ` after ` and the events follow.
 
 use super::board_rows::ROWS;
 use super::growths::{Row, Trial, are_refused};
@@ -50,7 +51,7 @@ enum Answer {
     Looked(bool),
 }
 
-/// A board as it is written in a row.
+/// The parts of the text by which a row describes a board.
 #[derive(Clone, Copy)]
 pub(crate) struct Written {
     pub workers: u32,
@@ -91,7 +92,7 @@ fn parts_of(rt: &impl Abort, alloc: Global, written: &Written) -> Parts {
     }
 }
 
-/// Makes a board on which no event was done.
+/// Returns the board that a row describes, but without the board's events.
 pub(crate) fn board_on(rt: &impl Abort, alloc: Global, written: &Written) -> Board {
     match opened(parts_of(rt, alloc, written), written.workers, alloc) {
         Answer::Opened(Ok(board)) => board,
@@ -139,7 +140,7 @@ fn is_done(board: &mut Board, event: Event) -> bool {
     }
 }
 
-/// Makes a board, and does its events on it.
+/// Returns the board that a row describes, with the board's events done. Ends the test if one of the events is refused.
 pub(crate) fn board_of(rt: &impl Abort, alloc: Global, written: &Written) -> Board {
     let mut board = board_on(rt, alloc, written);
     for line in written.events.split("; ") {
@@ -158,7 +159,7 @@ pub(crate) fn are_same(board: &Board, other: &Board) -> bool {
     board.same(other)
 }
 
-// What a board is opened on, with an equal copy, and the result of the latest opening.
+// What a board is opened on; equal parts to compare with; and the result of the latest opening.
 #[derive(Drop)]
 struct OnParts {
     workers: u32,
@@ -168,7 +169,7 @@ struct OnParts {
 }
 
 impl OnParts {
-    // Returns what is handed to the opening: the first time the parts that were made, and after a refusal the parts that the refused opening returned.
+    // Returns the parts for the next opening: those that `ready` made or, if memory was refused to the latest opening, those that this opening returned.
     fn taken(&mut self) -> Option<Parts> {
         let answer = mem::replace(&mut self.answer, Answer::None);
         match answer {
@@ -254,7 +255,8 @@ fn openings(rt: HostRuntime) {
     are_refused::<OnParts>(&rt, rt.alloc(), OPENINGS);
 }
 
-// A board, another board that is equal to it, and a board on which the event of the call was done; and jobs for calls that take a job.
+// The board on which the call is made; an equal board, `twin`; an equal board on which the event of the call was then done, `goal`; and jobs, for a call that
+// takes a job.
 #[derive(Drop)]
 struct OnBoard {
     call: &'static str,
@@ -269,7 +271,7 @@ fn job_of(board: &mut Board, v: u32) -> Option<Job> {
     board.claim(0, v).ok()
 }
 
-// Appends the job of a claim.
+// Claims vertex `v` for worker 0, and appends the job.
 fn push_job(rt: &impl Abort, jobs: &mut Vec<Job>, board: &mut Board, v: u32) {
     let job = job_of(board, v).expect(rt, "a job");
     jobs.push(job).expect(rt, "memory");
@@ -313,13 +315,12 @@ fn board_called(board: &mut Board, call: &str) -> Answer {
     }
 }
 
-// Returns in words that worker `w` works at vertex `v`, and then `name`: `the board` if the board is as it should be,
-// else `another`.
+// Returns the words `W at V, NAME`: worker `w` works at vertex `v`, and NAME is `the board` if the board is the expected one, and `another` if it is not.
 fn printed_work(rt: &impl Abort, alloc: Global, w: u32, v: u32, name: &str) -> String {
     format!(in alloc; "{w} at {v}, {name}").expect(rt, "memory")
 }
 
-// Returns in words what a micro-step did, and then `name`: `the board` if the board is as it should be, else `another`.
+// Returns in words what a micro-step did, and then `name`: `the board` if the board is the expected one, and `another` if it is not.
 fn printed_stepped(rt: &impl Abort, alloc: Global, stepped: Stepped, name: &str) -> String {
     format!(in alloc; "{stepped:?}, {name}").expect(rt, "memory")
 }
@@ -329,7 +330,7 @@ fn name_of(is_same: bool) -> &'static str {
 }
 
 impl OnBoard {
-    // Returns in words whether the board equals the board on which the event of the call was done.
+    // Returns `the board` if the board equals `goal`, on which the event of the call was done; otherwise returns `another`.
     fn behind(&self) -> &'static str {
         name_of(self.board.same(&self.goal))
     }
@@ -347,7 +348,7 @@ impl OnBoard {
         if are_same { "the events" } else { "others" }
     }
 
-    // Returns whether the vertex whose claim was refused is still Ready; true for any other call.
+    // Returns, for a call that is a claim, whether the vertex of the claim is Ready. Returns true for any other call.
     fn is_ready(&self) -> bool {
         match event_in(self.call) {
             Some(Event::Claim(_, v)) => self.board.status(v) == Some(Status::Ready),

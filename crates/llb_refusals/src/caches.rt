@@ -1,5 +1,5 @@
-//! Leases of caches. A need is written as the ID and the mode of its key, and the tree with which a new instance begins; there is a comma between
-//! two needs.
+//! Leases of caches while memory is refused. A need is written as the ID and the mode of its key and, if the key has a seed, the name of the tree with which
+//! a new instance begins. Two needs have `, ` between them. The needs of earlier leases follow after ` after `, with ` then ` between two leases.
 
 use super::growths::{Row, Trial, are_refused};
 use super::printed::{printed_fault, printed_text, text_of};
@@ -16,7 +16,7 @@ enum Answer {
     Ready(Result<Lent, Memory>),
 }
 
-// Two equal values of caches; needs for two calls that take needs; and, for each need, an instance of its key.
+// Two equal values of caches; the needs of the call twice, since `lease` consumes needs and is called twice; and an instance of the key of each need.
 #[derive(Drop)]
 struct OnCaches {
     call: &'static str,
@@ -35,7 +35,7 @@ fn mode_of(way: &str) -> Mode {
     }
 }
 
-// Returns a key, with a seed if a tree is named.
+// Returns a key. The key has a seed if `tree` is not empty.
 fn key_of(rt: &impl Abort, alloc: Global, id: &str, way: &str, tree: &str) -> Key {
     let seed = if tree.is_empty() {
         None
@@ -73,12 +73,12 @@ fn leased(caches: &mut Caches, needs: Many<Need>) -> Answer {
     Answer::None
 }
 
-// Takes a lease if it is granted.
+// Requests a lease, and ignores whether the lease is granted.
 fn lease_out(caches: &mut Caches, needs: Many<Need>) {
     let _ = leased(caches, needs);
 }
 
-// Returns caches with a lease for each of these lists of needs.
+// Returns caches with a lease for each list of needs in `out`.
 fn caches_of(rt: &impl Abort, alloc: Global, out: &'static str) -> Caches {
     let mut caches = Caches::new(alloc);
     for needs in out.split(" then ") {
@@ -106,7 +106,7 @@ fn two_needs(rt: &impl Abort, alloc: Global, written: &'static str) -> Vec<Many<
     needs
 }
 
-// Returns instance 0 of each key that is needed.
+// Returns, for each need, the instance of its key with the number 0.
 fn instances_of(rt: &impl Abort, alloc: Global, written: &'static str) -> Vec<Instance> {
     let mut instances = Vec::new(alloc);
     for need in needs_of(rt, alloc, written).into_vec() {

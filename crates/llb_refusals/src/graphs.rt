@@ -1,4 +1,4 @@
-//! Definitions as graphs, local trees, and plain outcomes.
+//! Calls on graphs, local trees and plain outcomes while memory is refused.
 
 use super::growths::{Row, Trial, are_refused};
 use super::printed::{printed_fault, printed_numbers, printed_text, printed_tree, say, text_of};
@@ -20,7 +20,8 @@ enum Answer {
     Outcomes(Result<Outcomes, PlainFault>),
 }
 
-// A definition, its rows, its graph and local trees, with an equal copy of the graph and of the local trees; and names and trees for two calls that take them.
+// A definition, rows, a graph and local trees; a graph and local trees that are equal to these; and a name and a tree twice, since `Locals::add` consumes
+// both and is called twice.
 #[derive(Drop)]
 struct OnGraph {
     call: &'static str,
@@ -34,7 +35,8 @@ struct OnGraph {
     answer: Answer,
 }
 
-// Returns the entries as rows with names of one letter as digest texts; the last row is the terminal.
+// Returns the rows that a text describes. Before each row the text has ` = `. A row has its digest text, which is one letter, and the name of its entry. The
+// last row is the terminal.
 fn rows_of(rt: &impl Abort, alloc: Global, written: &str) -> Vec<Linked> {
     let mut rows = Vec::new(alloc);
     for one in written.split(" = ") {
@@ -49,7 +51,7 @@ fn rows_of(rt: &impl Abort, alloc: Global, written: &str) -> Vec<Linked> {
     rows
 }
 
-// Returns a name and a tree for each of two calls.
+// Returns a name and the tree `F` twice, for two calls.
 fn handed(rt: &impl Abort, alloc: Global, name: &str) -> Vec<(Text, Tree)> {
     let mut handed = Vec::new(alloc);
     for _ in 0..2 {
@@ -75,7 +77,7 @@ fn linked(alloc: Global, rows: &[Linked]) -> Answer {
     Answer::Graph(link(alloc, rows))
 }
 
-// Returns how many vertices there are, and the vertex of the result.
+// Returns the number of vertices of a graph, and the vertex of the graph's result.
 fn printed_graph(rt: &impl Abort, alloc: Global, graph: &Graph) -> String {
     printed_numbers(rt, alloc, graph.vertices().len(), graph.result().vertex)
 }
@@ -121,12 +123,13 @@ impl OnGraph {
     }
 }
 
-// Returns one text for the call `wanted`, and another for all other calls.
+// Returns `text` if the call is `wanted`, and `other` if it is not.
 fn on_call<'a>(call: &str, wanted: &str, text: &'a str, other: &'a str) -> &'a str {
     if call == wanted { text } else { other }
 }
 
-// Returns the entries of the graph that a call is made on; a call that makes a graph itself does not use them.
+// Returns the entries of the graph on which a call is made. For `load` and `link`, which make a graph themselves, these are the entries of a graph that is
+// not used.
 fn graph_for<'a>(call: &str, written: &'a str) -> &'a str {
     match call {
         "load" | "link" => "MAKES_A; RESULT 0",

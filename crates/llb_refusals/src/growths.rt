@@ -1,17 +1,18 @@
-//! Refuses each growth (each request for memory) of a call in turn. This is done by `tools/llbm_tools/refuse.c`, a library between the test and its allocator.
-//! The test names the growth to the library by a request for memory of a size that no allocator grants.
+//! Refuses each growth (each request for memory) of a call in turn. The library `tools/llbm_tools/refuse.c`, which is between the test and the allocator,
+//! makes the growth fail. To say which growth is to fail, a test requests memory: the number of the growth is in the size of the request, which is so large
+//! that no allocator grants it.
 
 use super::printed::is_same;
 use llb_samples::tree_text;
 use std::alloc::Global;
 use std::process::Abort;
 
-/// A call in words; what the call is made on; its result in words if memory is refused; and its result if no memory is refused. For a call that does
-/// not allocate the third text is empty. If the third text has several faults with ` and ` between them, each of them has to be the result of some
-/// refusal; with `or` between them, any of them may be a result. The last text may be the name of a tree instead of the tree's text.
+/// A row of a test: the call; what the call is made on; the result of the call if memory is refused; and the result if no memory is refused. The third text
+/// is empty for a call that does not allocate. If it has several faults with ` and ` between them, each of them has to be the result of some refusal. If it
+/// has several with ` or ` between them, each refusal has one of them as its result. The last text may be the name of a tree in place of the tree's text.
 pub(crate) type Row = (&'static str, &'static str, &'static str, &'static str);
 
-/// A call with what it needs, and its latest result.
+/// A call that can be made more than once, with the values that the call is made on and the result of the latest call.
 pub(crate) trait Trial: Sized + Drop {
     /// Makes what the call of a row needs.
     fn ready(rt: &impl Abort, alloc: Global, row: &Row) -> Self;
@@ -22,7 +23,7 @@ pub(crate) trait Trial: Sized + Drop {
     /// Returns the result of the call in words.
     fn printed(&self, rt: &impl Abort, alloc: Global) -> String;
 
-    /// Returns whether what the call was made on is unchanged, by comparing it with an equal value that was made in the same steps.
+    /// Returns whether the values on which the call was made are unchanged. They are compared with equal values, which were made in the same steps.
     fn is_as_before(&mut self, rt: &impl Abort, alloc: Global) -> bool;
 }
 
@@ -32,25 +33,25 @@ const START: usize = 0x3000_0000_0000_0000;
 
 const TELL: usize = 0x2000_0000_0000_0000;
 
-/// More growths than any call takes.
+/// A number above the number of growths of any call. A call with more growths ends the test.
 pub(crate) const MOST: usize = 100_000;
 
-/// Refuses, from now on, the growth with this number if the library is loaded; else refuses no growth.
+/// Makes the `k`-th later growth fail, and only that one. Has no effect if the library is not loaded.
 pub(crate) fn refuse(alloc: Global, k: usize) {
     let _ = Vec::<u8>::with_capacity(alloc, ASK | k);
 }
 
-/// Refuses, from now on, the start of the thread with this number if the library is loaded; else refuses no start.
+/// Makes the `k`-th later start of a thread fail, and only that one. Has no effect if the library is not loaded.
 pub(crate) fn refuse_thread(alloc: Global, k: usize) {
     let _ = Vec::<u8>::with_capacity(alloc, START | k);
 }
 
-/// Returns whether a growth or a start of a thread was refused; from now on nothing is refused.
+/// Returns whether the growth, or the start of a thread, that was to fail has failed. After this call nothing fails.
 pub(crate) fn was_refused(alloc: Global) -> bool {
     Vec::<u8>::with_capacity(alloc, TELL).is_ok()
 }
 
-/// Returns whether a result in words is one of the faults that may come if memory is refused.
+/// Returns whether a result is one of the faults in `lacks`, the third text of a row.
 pub(crate) fn is_lack(printed: &str, lacks: &str) -> bool {
     for lack in lacks.split(" and ") {
         if lack == printed {
@@ -65,8 +66,8 @@ pub(crate) fn is_lack(printed: &str, lacks: &str) -> bool {
     false
 }
 
-// Makes a call while the growth with this number is refused. Returns the result in words, or `None` if the call has no such growth. Checks that the refusal
-// changes nothing, and that the same call then succeeds.
+// Makes the call of a row while growth `k` of the call is refused. Returns the result in words, or `None` if the call has no such growth. Ends the test if
+// the refused call changes what it was made on, or if the same call, made again, does not have the row's last text as its result.
 fn told_at<T: Trial>(rt: &impl Abort, alloc: Global, row: &Row, k: usize) -> Option<String> {
     let (call, on, lacks, wanted) = *row;
     let mut trial = T::ready(rt, alloc, row);
@@ -99,7 +100,7 @@ fn is_among(lack: &str, came: &[String]) -> bool {
     false
 }
 
-// Returns whether each expected fault is among the results.
+// Returns whether each of the faults in `lacks` is one of the results in `came`.
 fn all_came(lacks: &str, came: &[String]) -> bool {
     for lack in lacks.split(" and ") {
         if !is_among(lack, came) {
@@ -109,7 +110,8 @@ fn all_came(lacks: &str, came: &[String]) -> bool {
     true
 }
 
-// Refuses one growth after another, each in a new call, until the call has no growth of that number; returns the results.
+// Makes the call of a row while its first growth is refused, then while its second growth is refused, and so on until the call has no growth with that
+// number. Returns the results of the calls that were refused memory.
 fn growths<T: Trial>(rt: &impl Abort, alloc: Global, row: &Row) -> Vec<String> {
     let mut came = Vec::new(alloc);
     for k in 1..MOST {
@@ -121,14 +123,14 @@ fn growths<T: Trial>(rt: &impl Abort, alloc: Global, row: &Row) -> Vec<String> {
     panic!(rt; "no end of growths");
 }
 
-/// Prints how many growths of the call were refused, the number of the fault or `none`, and the call.
+/// Prints how many growths were refused, the row's faults (`none` for a call that does not allocate), the call, and what the call is made on.
 pub(crate) fn print_count(rt: &impl Print, count: usize, row: &Row) {
     let (call, on, lacks, _) = *row;
     let number = if lacks.is_empty() { "none" } else { lacks };
     let _ = println!(rt; "refused {count} ({number}): {call} on {on}");
 }
 
-/// Tries each row.
+/// Refuses in turn each growth of each row's call. Ends the test if a result is not one that the row has; prints a line for each row.
 pub(crate) fn are_refused<T: Trial>(rt: &(impl Abort + Print), alloc: Global, rows: &[Row]) {
     for row in rows {
         let came = growths::<T>(rt, alloc, row);

@@ -1,5 +1,5 @@
-//! Tests, and nothing else: each growth (each request for memory) of each call that allocates is refused in turn. This is done by a library that `tools/refuse`
-//! loads into the tests; without it each test makes each call once, and nothing is refused.
+//! This crate has only tests. They make each call that allocates many times, and let each growth (each request for memory) of the call fail in turn. A
+//! library, which `tools/refuse` loads into the tests, makes the growths fail. Without the library each test makes each call once, and no growth fails.
 #![tactic(auto)]
 
 #[cfg(test)]

@@ -1,4 +1,5 @@
-//! Reads and writes entries and definitions. These calls never change the entries and the op that they are made on.
+//! Calls that read, write and copy ops, entries and definitions while memory is refused. None of these calls changes the
+//! entries or the op on which it is made.
 
 use super::growths::{Row, Trial, are_refused};
 use super::printed::{printed_bytes, printed_fault, printed_text};
@@ -21,7 +22,7 @@ enum Answer {
     Actions(Result<Actions, Memory>),
 }
 
-// A definition, its entries, and the op of the first entry, each with an equal copy.
+// A definition; the definition's entries, and the op of the first entry, each with an equal value to compare with.
 #[derive(Drop)]
 struct OnEntries {
     call: &'static str,
@@ -66,7 +67,7 @@ fn copy_actions(op: &Op) -> Answer {
     }
 }
 
-// Returns the canonical bytes of an op in words.
+// Returns the bytes that `write_op` writes for an op, in hexadecimal.
 fn printed_op(rt: &impl Abort, alloc: Global, op: &Op) -> String {
     let bytes = write_op(alloc, op).expect(rt, "memory");
     printed_bytes(rt, alloc, bytes.as_slice())
@@ -128,14 +129,14 @@ impl Trial for OnEntries {
     }
 }
 
-// A file `/a` with the content `hi`, made on the empty tree.
+// The bytes of a file op that makes the file `/a` with the content `hi` on the empty tree.
 const A: &str =
     "raw 2230122e08ffffffffffffffffff0110ffffffffffffffffff012a160a022f6110a4031a02686928ffffffffffffffffff01";
 
 const A_BYTES: &str =
     "2230122e08ffffffffffffffffff0110ffffffffffffffffff012a160a022f6110a4031a02686928ffffffffffffffffff01";
 
-// A merge of nothing, with a platform and constraints.
+// A merge of one input, the empty tree, with a platform and constraints.
 const MERGE: &str = "raw 320d0a0b08ffffffffffffffffff01520e0a05616d64363412056c696e75785a00";
 
 const MERGE_BYTES: &str = "320d0a0b08ffffffffffffffffff01520e0a05616d64363412056c696e75785a00";

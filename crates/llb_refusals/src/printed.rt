@@ -8,7 +8,7 @@ use std::alloc::Global;
 use std::fmt::Display;
 use std::process::Abort;
 
-// Ends the test if a text is not the expected one; the failure shows both.
+// Ends the test if a text is not the expected one; the failure shows both texts.
 pub(crate) fn is_same(rt: &impl Abort, printed: &str, wanted: &str) {
     assert_eq!(rt; printed, wanted);
 }
@@ -17,7 +17,7 @@ pub(crate) fn say(rt: &impl Abort, text: &mut String, more: &str) {
     text.push_str(more).expect(rt, "memory");
 }
 
-// Returns what a fault prints.
+// Returns the text that a fault, or another value, prints.
 pub(crate) fn printed_fault<E: Display>(rt: &impl Abort, alloc: Global, fault: &E) -> String {
     format!(in alloc; "{fault}").expect(rt, "memory")
 }
@@ -32,7 +32,7 @@ pub(crate) fn printed_bytes(rt: &impl Abort, alloc: Global, bytes: &[u8]) -> Str
     text
 }
 
-// Returns a path, as its names with `/` before each.
+// Returns the text of a path: each of the path's names with `/` before it.
 pub(crate) fn printed_path(rt: &impl Abort, alloc: Global, path: &Path) -> String {
     let mut text = String::new(alloc);
     push_path(&mut text, path).expect(rt, "memory");
@@ -44,7 +44,7 @@ fn printed_digest(rt: &impl Abort, alloc: Global, tree: &Tree) -> String {
     printed_text(rt, alloc, digest.as_str())
 }
 
-// Returns the text of a tree, or its digest if the text is long.
+// Returns the text of a tree, or the tree's digest if the text has more than 1,000 bytes.
 pub(crate) fn printed_tree(rt: &impl Abort, alloc: Global, tree: &Tree) -> String {
     let text = text_of_tree(alloc, tree).expect(rt, "a text");
     if text.len() > 1000 {
@@ -53,7 +53,7 @@ pub(crate) fn printed_tree(rt: &impl Abort, alloc: Global, tree: &Tree) -> Strin
     text
 }
 
-// Returns the text of the tree that a call makes, or its fault.
+// Returns the text of the tree that a call returned, or of the fault.
 pub(crate) fn tree_or_fault<E: Display>(
     rt: &impl Abort,
     alloc: Global,

@@ -1,4 +1,4 @@
-//! The program's commands, over readers and writers in memory that have room for all that is written.
+//! The program's commands while memory is refused. The writers are lists in memory that have room for the whole output, so that writing does not allocate.
 
 use super::growths::{MOST, Row, Trial, are_refused, is_lack, print_count, refuse, was_refused};
 use super::printed::{is_same, printed_bytes, printed_text, say};
@@ -14,7 +14,7 @@ use std::process::Abort;
 use std::sync::Wait;
 use std::thread::Threads;
 
-// What a command wrote, and its status.
+// The status of a command, and what the command wrote to standard output and to standard error.
 #[derive(Drop)]
 struct Ran {
     status: u8,
@@ -30,7 +30,7 @@ fn ran_nothing(rt: &impl Abort, alloc: Global) -> Ran {
     }
 }
 
-// Returns what the command reads: a definition or a text.
+// Returns the input of a command: the assembler's text for `asm_over`, and a definition for any other command.
 fn input_of(rt: &impl Abort, alloc: Global, call: &str, on: &str) -> Vec<u8> {
     match call {
         "asm_over" => entries_text(rt, alloc, on).into_bytes(),
@@ -44,7 +44,7 @@ impl Ran {
         self.err.clear();
     }
 
-    // Returns the first refusal in what is written.
+    // Returns the first line of standard output that is a refusal.
     fn refusal(&self) -> Option<&str> {
         let text = str::from_utf8(self.out.as_slice()).ok()?;
         for line in text.lines() {
@@ -55,8 +55,8 @@ impl Ran {
         None
     }
 
-    // Returns a status other than 0 with what is on `err`; for status 0 returns the first refusal that is written, or all that is written if there is no
-    // refusal.
+    // Returns the result of a command as text. If the status is not 0, the text has the status and the standard error. If the status is 0, the text is the
+    // first refusal on standard output or, without a refusal, all of standard output.
     fn printed(&self, rt: &impl Abort, alloc: Global, is_text: bool) -> String {
         let (status, err) = (
             self.status,
@@ -104,7 +104,7 @@ fn step(alloc: Global, mut file: &[u8], commands: &str, handed: &mut Vec<Locals>
     }
 }
 
-// Makes the call of a command that takes no local trees.
+// Calls a command that takes no local trees: `asm_over`, `dis_over` or `show_over`.
 fn other(alloc: Global, call: &str, mut input: &[u8], ran: &mut Ran) {
     let Ran { status, out, err } = ran;
     *status = match call {
@@ -114,7 +114,7 @@ fn other(alloc: Global, call: &str, mut input: &[u8], ran: &mut Ran) {
     };
 }
 
-// Returns the commands of a session, each on its line.
+// Returns the commands of a session, each on a line of its own.
 fn lines_of(rt: &impl Abort, alloc: Global, commands: &str) -> String {
     let lines: Vec<&str> = commands.split("; ").collect(alloc).expect(rt, "memory");
     let mut text = lines.join(alloc, "\n").expect(rt, "memory");
@@ -167,7 +167,8 @@ impl Trial for OnInput {
         self.ran.printed(rt, alloc, self.call != "asm_over")
     }
 
-    // Returns whether what is written is the beginning of what should be written. If memory is refused, `asm` writes nothing, and a session may go on.
+    // Returns whether the output of a command that was refused memory is an expected one: `asm` has written nothing; a session may have gone on after the
+    // refused command (`is_session`); any other command has written the beginning of its whole output.
     fn is_as_before(&mut self, _rt: &impl Abort, _alloc: Global) -> bool {
         match (self.call, str::from_utf8(self.ran.out.as_slice())) {
             ("asm_over", _) => self.ran.out.is_empty(),
@@ -178,8 +179,8 @@ impl Trial for OnInput {
     }
 }
 
-// Returns whether a session printed the beginning of what it should print, or printed a refusal for want of memory and then what the later commands print
-// after it.
+// Returns whether the output of a session is an expected one. Either it is the beginning of the session's whole output; or it has a refusal, and a row of
+// `GONE_ON` has the text before the refusal, the refusal, and the text after the refusal.
 fn is_session(out: &str, wanted: &str) -> bool {
     match out.split_once("fault ") {
         None => wanted.starts_with(out),
@@ -198,7 +199,7 @@ fn is_text(text: &str, other: &str) -> bool {
     text == other
 }
 
-// Returns whether a row of `GONE_ON` has this text before a refusal, the refusal, and this text after it.
+// Returns whether a row of `GONE_ON` has the text `before`, the fault `fault` and the text `after`.
 fn is_row(before: &str, fault: &str, after: &str) -> bool {
     for (wanted, lacks, behind) in GONE_ON {
         if is_text(before, wanted) && is_lack(fault, lacks) && is_text(after, behind) {
@@ -238,8 +239,8 @@ const SETTLED: &str =
     "1 claim 0 0 -> file 1\n2 step 0 -> acted 0\n3 settle 0 -> 0 done\nstop\nback 2\n0 running 0\n\
     3 settle 0 -> 0 done\n";
 
-// For each command of the session: what is printed before it, the faults with which it fails if memory is refused, and what the later commands print after
-// that.
+// For each command of the sessions below that can be refused memory: what is printed before the command, the faults with which the command may fail, and what
+// the later commands print after the failure.
 const GONE_ON: &[(&str, &str, &str)] = &[
     // The refused `break` added no breakpoint, so the run goes to its end.
     (
@@ -368,7 +369,7 @@ fn commands(rt: HostRuntime) {
     are_refused::<OnInput>(&rt, rt.alloc(), ROWS);
 }
 
-// The words of a command line, or bytes that are read up to a bound; and the result of the call in words.
+// Which words of a command line, or which bytes, the call reads; and the result of the latest call in words.
 #[derive(Drop)]
 struct OnWords {
     call: &'static str,
@@ -446,7 +447,8 @@ fn run_many<R: Threads + Wait + Sync>(
     *status = run_many_over(rt, alloc, &mut input, out, err, locals, workers);
 }
 
-// Returns whether growth `k` of a run by two workers was refused. If it was, the status is 3, or the run did without that memory.
+// Runs a definition by two workers while growth `k` is refused. Ends the test unless the run fails with a fault that the row has, or prints the right result
+// without that memory. Returns whether the growth was refused.
 fn is_growth<R: Abort + Threads + Wait + Sync>(rt: &R, alloc: Global, row: &Row, k: usize) -> bool {
     let (_, on, lacks, wanted) = *row;
     let input = input_of(rt, alloc, "run_many_over", on);

@@ -1,4 +1,4 @@
-//! Runs to the end: on one thread, and in several; and the queue that threads share.
+//! Runs to the end while memory is refused, on one thread and in several; and the queue that these threads share.
 
 use super::boards::{Open, TWO_FILES, are_same, board_in, board_of, board_on};
 use super::growths::{
@@ -23,8 +23,8 @@ fn replayed(stepper: &mut Stepper, board: &Board) -> bool {
     stepper.replay(board.events().as_slice()).is_ok()
 }
 
-// Returns whether the record of a run, replayed on a board that was opened in the same way, leads to the board at the run's end, and whether the record's
-// length is its length before the run plus the counts of the workers.
+// Replays the record of a run on `opened`, a board that was opened in the same way. Returns whether this leads to the board at the end of the run, and
+// whether the length of the record is `before` (the length before the run) plus the workers' counts of events.
 fn is_replayed(alloc: Global, end: &RunEnd, opened: Board, before: usize) -> bool {
     let mut stepper = Stepper::new(alloc, opened);
     let mut made = before as u64;
@@ -46,7 +46,7 @@ fn printed_end(rt: &impl Abort, alloc: Global, end: &RunEnd) -> String {
     }
 }
 
-// A board as it is written in a row, the board itself, and the end of the board's run.
+// The text by which a row describes a board; the board; and the end of the latest run.
 #[derive(Drop)]
 struct OnRun {
     on: &'static str,
@@ -55,7 +55,7 @@ struct OnRun {
 }
 
 impl OnRun {
-    // Returns the board to be run: first the board that was made, and then the board with which the first run ended.
+    // Returns the board for the next run: first the board that `ready` made, and later the board with which the latest run ended.
     fn taken(&mut self) -> Option<Board> {
         match self.end.take() {
             Some(
@@ -92,8 +92,8 @@ impl Trial for OnRun {
         }
     }
 
-    // Returns whether the record, replayed on a board that was opened in the same way, leads to the board at the end; the record keeps the events that were
-    // done before a refusal.
+    // Returns whether a replay of the run's record, on a board that was opened in the same way, leads to the board at the end of the run. The board itself
+    // may have changed: the events that were done before the refusal stay in the record.
     fn is_as_before(&mut self, rt: &impl Abort, alloc: Global) -> bool {
         let opened = board_on(rt, alloc, &board_in(rt, self.on));
         match &self.end {
@@ -133,7 +133,7 @@ fn crew<R: Threads + Wait + Sync>(rt: &R, alloc: Global, board: Board) -> RunEnd
     run_workers(rt, alloc, board, &Open)
 }
 
-// Returns whether no worker runs anything, and no cache is held.
+// Returns whether no worker runs anything, and no lease of a cache is current.
 fn are_idle(board: &Board) -> bool {
     for w in 0..64 {
         if matches!(board.worker(w), Some(WorkerStatus::Runs(..))) {
@@ -147,8 +147,8 @@ pub(crate) fn printed_alone(rt: &impl Abort, alloc: Global, board: Board) -> Str
     printed_end(rt, alloc, &alone(board))
 }
 
-// Returns whether growth `k` of a run in threads was refused. If the growth was refused, the run ends with a fault, or does without the memory. In both cases
-// the run's record is right, and `run_alone` completes the run's board.
+// Runs a board in threads while growth `k` is refused. Checks that the run ends with a fault that the row has, or completes without that memory; that the
+// record is right (`is_replayed`); and that `run_alone` completes the run's board. Returns whether the growth was refused.
 fn is_growth<R: Abort + Threads + Wait + Sync>(rt: &R, alloc: Global, row: &Row, k: usize) -> bool {
     let (_, on, lacks, wanted) = *row;
     let board = board_on(rt, alloc, &board_in(rt, on));
@@ -223,7 +223,7 @@ fn runs_by_threads(rt: HostRuntime) {
     }
 }
 
-// Returns whether a vertex is done; true if none is given.
+// Returns whether vertex `v` is done; true if `v` is `None`.
 fn is_done(board: &Board, v: Option<u32>) -> bool {
     match v {
         Some(v) => board.status(v) == Some(Status::Done),
@@ -231,7 +231,7 @@ fn is_done(board: &Board, v: Option<u32>) -> bool {
     }
 }
 
-// Returns the vertex that the worker of thread `k` runs; the first thread is number 1.
+// Returns the vertex that the worker of thread `k` runs. Threads are counted from 1, so this is worker `k - 1`.
 fn run_by(board: &Board, k: usize) -> Option<u32> {
     let worker = u32::try_from(k.checked_sub(1)?).ok()?;
     match board.worker(worker) {
@@ -240,8 +240,8 @@ fn run_by(board: &Board, k: usize) -> Option<u32> {
     }
 }
 
-// Returns whether thread `k` of a run was kept from starting. If it was, the run ends with a fault; the vertex that the thread's worker ran before is done, the
-// run's record is right, and `run_alone` completes the run's board.
+// Runs a board while the start of thread `k` is refused. Checks that the run then has the row's fault; that the vertex which the thread's worker ran before
+// the run is done; that the record is right (`is_replayed`); and that `run_alone` completes the run's board. Returns whether the start was refused.
 fn is_thread<R: Abort + Threads + Wait + Sync>(rt: &R, alloc: Global, row: &Row, k: usize) -> bool {
     let (_, on, fault, wanted) = *row;
     let written = board_in(rt, on);
@@ -279,8 +279,8 @@ fn threads<R: Abort + Threads + Wait + Sync>(rt: &R, alloc: Global, row: &Row) -
     panic!(rt; "no end of threads");
 }
 
-// For each of these boards, each thread in turn can't be started. All workers but the first run something; in the last row only the second and the last worker
-// run something.
+// Boards, each of which is run while one thread after another can't be started. In the first two rows every worker but the first already runs a vertex; in
+// the last row only the second worker and the last worker do.
 const THREADS: &[Row] = &[
     (
         "run_workers",
@@ -310,7 +310,7 @@ fn runs_without_a_thread(rt: HostRuntime) {
     }
 }
 
-// A queue that is closed in the call that makes it.
+// The result of the latest call, which makes a queue and closes it.
 #[derive(Drop)]
 struct OnQueue {
     answer: Option<Result<(), ReadyFault>>,

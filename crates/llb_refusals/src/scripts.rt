@@ -1,4 +1,4 @@
-//! Views, scripts, and commands on views.
+//! Calls on views and scripts, and commands that run on a view, while memory is refused.
 
 use super::growths::{Row, Trial, are_refused};
 use super::printed::{path_of, printed_fault, printed_text, printed_tree, say, text_of};
@@ -20,8 +20,8 @@ enum Answer {
     Ran(Result<u8, llb_applet::Memory>),
 }
 
-// The arguments of a script, its commands, where they run, and a view with an equal copy; and mounts for two calls that take
-// mounts.
+// The arguments of a script; the script; the directory and the environment in which its commands run; a view, with an equal
+// view; and the mounts of a view twice, since `View::make` consumes mounts and is called twice.
 #[derive(Drop)]
 struct OnView {
     call: &'static str,
@@ -49,7 +49,7 @@ fn read(alloc: Global, args: &[Text]) -> Answer {
     Answer::Script(read_script(alloc, args))
 }
 
-// Returns the script of a text; the script of the text `true` if the text is no script.
+// Returns the script that a text is read as. If the text is no script, returns the script of the text `true`.
 fn script_of(rt: &impl Abort, alloc: Global, text: &str) -> Script {
     let args = args_of(rt, alloc, text);
     assert!(rt; !args.is_empty());
@@ -103,7 +103,7 @@ fn view_of(rt: &impl Abort, mounts: Vec<Shown>) -> View {
     View::make(Many::new(mounts)).expect(rt, "a view")
 }
 
-// Returns mounts for two calls.
+// Returns the mounts of `mounts_of` twice, for two calls.
 fn handed(rt: &impl Abort, alloc: Global, root: &'static str) -> Vec<Many<Shown>> {
     let mut handed = Vec::new(alloc);
     for _ in 0..2 {

@@ -1,4 +1,5 @@
-//! Steppers. A stepper is written as its board (`boards`), and after ` then ` the commands that were done on it, in the words of a session.
+//! Calls on steppers while memory is refused. A stepper is written as its board (see `boards`), then ` then ` and the commands that were done on the stepper,
+//! which are written as in a session.
 
 use super::boards::{are_same, board_in, board_of};
 use super::growths::{Row, Trial, are_refused};
@@ -71,7 +72,7 @@ fn stepper_of(rt: &impl Abort, alloc: Global, on: &'static str) -> Stepper {
     stepper
 }
 
-// Returns the events of a run to its end by one worker.
+// Lets the stepper of a text go to its end or its first breakpoint. Returns the record.
 fn run_of(rt: &impl Abort, alloc: Global, on: &'static str) -> Vec<Event> {
     let mut stepper = stepper_of(rt, alloc, on);
     let _ = stop_of(&mut stepper);
@@ -90,7 +91,7 @@ fn printed_line(rt: &impl Abort, alloc: Global, line: &Option<Text>) -> String {
 }
 
 impl OnStepper {
-    // Returns the last line of the record, or the fault.
+    // Returns the line of the record's last event, or the fault.
     fn printed_last(&self, rt: &impl Abort, alloc: Global) -> String {
         let count = self.stepper.board().events().len();
         match self.stepper.record_line(count as u64) {
@@ -99,7 +100,7 @@ impl OnStepper {
         }
     }
 
-    // Returns whether `go` leads to the same board on the stepper and on the stepper that is equal to it; then takes the events back.
+    // Lets the stepper and its twin go on, and takes the events back. Returns whether both stopped in the same way, with equal boards.
     fn goes_alike(&mut self) -> bool {
         match (stop_of(&mut self.stepper), stop_of(&mut self.twin)) {
             (Some(stop), Some(other)) => {

@@ -1,4 +1,4 @@
-//! Texts that are read and written: trees, patterns, the paths of actions, and entries.
+//! Texts that are read and written while memory is refused: trees, patterns, the paths of file actions, and entries.
 
 use super::growths::{Row, Trial, are_refused};
 use super::printed::{path_of, printed_fault, printed_path, printed_text, printed_tree, say};
@@ -26,7 +26,8 @@ enum Answer {
     Entries(Result<Entries, AsmFault>),
 }
 
-// A text to be read; a tree and entries to be written, each with an equal copy; and the bytes that are written.
+// A text to be read; a tree and entries to be written, each with an equal value to compare with; and the bytes that are
+// written.
 #[derive(Drop)]
 struct OnText {
     call: &'static str,
@@ -40,7 +41,7 @@ struct OnText {
     answer: Answer,
 }
 
-// Returns which of three paths a pattern matches, in words.
+// Returns those of the three paths `/abc`, `/*` and `/d` that a pattern matches, as one text.
 fn printed_matches(rt: &impl Abort, alloc: Global, pattern: &Pattern) -> String {
     let mut text = String::new(alloc);
     for path in ["/abc", "/*", "/d"] {
@@ -157,7 +158,8 @@ impl Trial for OnText {
         }
     }
 
-    // Returns whether what was written is the beginning of what should be written.
+    // Returns whether the bytes that were written are the beginning of the expected text, and the tree and the entries are
+    // unchanged.
     fn is_as_before(&mut self, _rt: &impl Abort, _alloc: Global) -> bool {
         self.wanted.as_bytes().starts_with(self.out.as_slice())
             && self.tree.same(&self.twin)
@@ -165,7 +167,7 @@ impl Trial for OnText {
     }
 }
 
-// A merge of nothing, with a platform and constraints.
+// A merge of one input, the empty tree, with a platform and constraints.
 const MERGE: &str = "raw 320d0a0b08ffffffffffffffffff01520e0a05616d64363412056c696e75785a00";
 
 const MERGE_DEFINITION: &str =

@@ -1,4 +1,4 @@
-//! Paths and trees; trees are named as in `written`.
+//! Calls on paths and trees while memory is refused. A row has a tree by its name (`written`).
 
 use super::growths::{Row, Trial, are_refused};
 use super::printed::{

@@ -6,7 +6,7 @@ use llb_wire::{Memory, Wire, write_record, write_varint};
 use std::alloc::Global;
 use std::process::Abort;
 
-// Bytes to which a record is appended.
+// Bytes to which a number or a record is appended.
 #[derive(Drop)]
 struct OnBytes {
     call: &'static str,

@@ -1,4 +1,4 @@
-//! What calls are made on, from short texts: trees by their names, definitions by their entries (`llb_samples`), and local trees.
+//! Makes the values on which calls are made, from short texts: trees from their names, definitions from their entries (`llb_samples`), and local trees.
 
 use super::printed::{printed_bytes, text_of};
 use llb_loader::{Graph, Locals};
@@ -14,8 +14,8 @@ pub(crate) fn tree_named(rt: &impl Abort, alloc: Global, name: &str) -> Tree {
     samples::tree_named(alloc, name).expect(rt, "a tree")
 }
 
-/// Makes a tree, and another that is equal to it: a copy, which shares its nodes, if `copy of` comes before the name; else one that is made in
-/// the same steps.
+/// Returns a tree, and another tree that is equal to it. If `on` begins with `copy of `, the second tree is a copy of the first, and shares its nodes.
+/// Otherwise the two trees are made separately, by the same steps.
 pub(crate) fn tree_and_twin(rt: &impl Abort, alloc: Global, on: &'static str) -> (Tree, Tree) {
     match on.strip_prefix("copy of ") {
         Some(name) => {
@@ -27,7 +27,7 @@ pub(crate) fn tree_and_twin(rt: &impl Abort, alloc: Global, on: &'static str) ->
     }
 }
 
-/// Returns the assembler's text of entries that are given by a short text.
+/// Returns the assembler's text of the entries of a short text.
 pub(crate) fn entries_text(rt: &impl Abort, alloc: Global, written: &str) -> String {
     samples::entries_text(alloc, written).expect(rt, "memory")
 }
@@ -40,7 +40,7 @@ pub(crate) fn definition_of(rt: &impl Abort, alloc: Global, written: &str) -> By
     samples::definition_of(alloc, written).expect(rt, "a definition")
 }
 
-/// Returns the bytes of the definition of entries, in hexadecimal.
+/// Returns the bytes of the definition that has these entries, in hexadecimal.
 pub(crate) fn printed_entries(rt: &impl Abort, alloc: Global, entries: &Entries) -> String {
     let bytes = write_definition(alloc, entries).expect(rt, "memory");
     printed_bytes(rt, alloc, bytes.as_slice())

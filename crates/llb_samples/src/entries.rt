@@ -1,6 +1,6 @@
 //! The entries of the definitions in tests. Above each entry is a line with `== `, the entry's name and a description. The entry is written as the
-//! assembler's text, in which ` | ` replaces some line ends. `%0`, `%1` and `%2` name the first three entries of the definition in which the entry is used:
-//! `MERGES_0_1` merges the first two entries, whatever they are. A digest of one letter names a row of a test.
+//! assembler's text, in which ` | ` replaces some line ends. `%0`, `%1` and `%2` are the digests of the first three entries of the definition in which the
+//! entry is used: `MERGES_0_1` merges the first two entries, whatever they are. A digest of one letter is the digest of a row in tests of `link`.
 
 pub(crate) const ENTRIES: &str = concat!(
     r#"

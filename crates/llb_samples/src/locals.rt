@@ -1,4 +1,4 @@
-//! Local trees as texts, each tree after a line with `== ` and the name of its source.
+//! Texts of local trees. Above the lines of each tree is a line with `== ` and the name of the tree's source.
 
 use crate::trees::tree_from;
 use llb_loader::Locals;
@@ -17,7 +17,7 @@ d 0755 0 0 /
 f 0644 0 0 6869 /f
 ";
 
-// `p` is empty, and `q` has a directory `/sub` with a file `/sub/f`.
+// The local tree `p`, which is empty, and `q`, which has a directory `/sub` with a file `/sub/f`.
 const EMPTY_AND_SUB: &str = "== p
 d 0755 0 0 /
 == q
@@ -26,7 +26,8 @@ d 0755 0 0 /sub
 f 0644 0 0 6869 /sub/f
 ";
 
-// The trees of `EMPTY_AND_SUB`, but the content of `/sub/f` is a token: the byte 255, and the number 1 in four bytes.
+// The trees of `EMPTY_AND_SUB`, but in place of the content of `/sub/f` is a token as the laws of `llb_contents` use it: the
+// byte 255, and the number 1 in four bytes.
 const SUB_BY_A_TOKEN: &str = "== p
 d 0755 0 0 /
 == q
@@ -43,7 +44,7 @@ f 0644 0 0 68656c6c6f2c0a /text/head
 f 0644 0 0 776f726c640a /text/tail
 ";
 
-/// Returns the text of the local trees with this name; an empty text if there are none.
+/// Returns the text of local trees by the name of its constant in this file; an empty text if no constant has the name.
 pub fn locals_named(name: &str) -> &'static str {
     match name {
         "EMPTY_P" => EMPTY_P,

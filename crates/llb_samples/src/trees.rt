@@ -1,4 +1,4 @@
-//! Trees by their names and by their texts.
+//! Sample trees, by their names or by their texts.
 
 use crate::written::block;
 use llb_tree::Tree;
@@ -87,7 +87,7 @@ f 0644 2 2 7570 /c/d
 f 0644 2 2 7570 /z
 ";
 
-/// Returns the text of the tree with this name; if there is no such tree, returns `name` itself, as the text of a tree.
+/// Returns the text of the tree with this name. If there is no such tree, returns `name` itself, which is then the text of a tree.
 pub fn tree_text<'a>(name: &'a str) -> &'a str {
     block(TREES, name).unwrap_or(name)
 }
@@ -107,7 +107,8 @@ fn wide_text(alloc: Global) -> Result<String, AllocError> {
     Ok(text)
 }
 
-/// Returns the tree with this name, or with this text if there is no such name. `WIDE` has a directory `/d` with the empty files `000` to `999`.
+/// Returns the tree with this name. If there is no such tree, reads `name` as the text of a tree. `WIDE` has a directory `/d` with the empty files `000` to
+/// `999`.
 pub fn tree_named(alloc: Global, name: &str) -> Option<Tree> {
     match name {
         "WIDE" => tree_from(alloc, wide_text(alloc).ok()?.as_str()),

@@ -1,9 +1,9 @@
 //! Definitions from short texts. A short text has the entries of a definition, with `; ` between them.
 //!
-//! An entry is one of these: a name in `entries`; `RESULT_N` or `RESULT N`, the terminal that names entry N; `sh: SCRIPT`, an exec of the script on the empty
-//! tree at `/`; `locked: SCRIPT`, `private: SCRIPT` or `shared: SCRIPT`, the same exec with the cache `k` of this mode at `/c`; or lines of the assembler's
-//! text. A new instance of the cache begins empty; if ` on 0` follows the mode, as in `locked on 0: SCRIPT`, it begins with the output of the first entry. A
-//! `;` in a script is written as `\x3b`.
+//! An entry is written in one of four ways: a name in `entries`; `RESULT_N` or `RESULT N`, the terminal that names entry N; the script of an exec; or lines
+//! of the assembler's text. `sh: SCRIPT` is an exec of the script on the empty tree at `/`. `locked: SCRIPT`, `private: SCRIPT` and `shared: SCRIPT` are the
+//! same exec with the cache `k` of this mode at `/c`. A new instance of this cache is empty, unless ` on 0` follows the mode, as in `locked on 0: SCRIPT`:
+//! then it begins with the output of the first entry. A `;` in a script is written as `\x3b`.
 
 use crate::entries::ENTRIES;
 use llb_asm::assemble;
@@ -30,7 +30,7 @@ fn push_lines(text: &mut String, lines: &str) -> Result<(), AllocError> {
     text.push_str("\n")
 }
 
-// Appends the text of an exec up to its first mount, without its closing lines.
+// Appends the text of an exec up to and with its first mount, without the lines that close the exec.
 fn push_exec(text: &mut String, inputs: &str, script: &str) -> Result<(), AllocError> {
     write!(
         text,
@@ -72,7 +72,7 @@ fn push_result(text: &mut String, on: &str) -> Result<(), AllocError> {
     write!(text, "op {{\ninputs {{\ndigest %{on}\n}}\n}}\n")
 }
 
-// Appends the text of an entry that is no name in `entries`.
+// Appends the text of an entry that is not written as a name in `entries`.
 fn push_made(text: &mut String, entry: &str) -> Result<(), AllocError> {
     if let Some(on) = entry.strip_prefix("RESULT") {
         return push_result(text, on.strip_prefix('_').unwrap_or(on).trim());
@@ -90,7 +90,7 @@ fn push_entry(text: &mut String, entry: &str) -> Result<(), AllocError> {
     }
 }
 
-/// Returns the assembler's text of entries that are given by a short text.
+/// Returns the assembler's text of the entries of a short text.
 pub fn entries_text(alloc: Global, written: &str) -> Result<String, AllocError> {
     let mut text = String::new(alloc);
     for entry in written.split("; ") {
@@ -99,36 +99,36 @@ pub fn entries_text(alloc: Global, written: &str) -> Result<String, AllocError> 
     Ok(text)
 }
 
-/// Returns the entries that a text is assembled to.
+/// Returns the entries that the assembler makes of a text; `None` if it refuses the text.
 pub fn entries_in(alloc: Global, text: &str) -> Option<Entries> {
     assemble(alloc, text.as_bytes()).ok()
 }
 
-/// Returns the entries that are given by a short text.
+/// Returns the entries of a short text; `None` if the assembler refuses one of them.
 pub fn entries_of(alloc: Global, written: &str) -> Option<Entries> {
     let text = entries_text(alloc, written).ok()?;
     entries_in(alloc, text.as_str())
 }
 
-/// Returns the definition of the entries that are given by a short text.
+/// Returns the definition that has the entries of a short text; `None` if the assembler refuses one of them.
 pub fn definition_of(alloc: Global, written: &str) -> Option<Bytes> {
     let entries = entries_of(alloc, written)?;
     write_definition(alloc, &entries).ok()
 }
 
-// Returns the graph of entries.
+// Returns the graph of the definition that has these entries.
 fn graph_with(alloc: Global, entries: &Entries) -> Option<Graph> {
     let definition = write_definition(alloc, entries).ok()?;
     load(alloc, definition.as_slice()).ok()
 }
 
-/// Returns the graph of the entries that a text is assembled to.
+/// Returns the graph of the definition that the assembler makes of a text; `None` if the text or the definition is refused.
 pub fn graph_in(alloc: Global, text: &str) -> Option<Graph> {
     let entries = entries_in(alloc, text)?;
     graph_with(alloc, &entries)
 }
 
-/// Returns the graph of the entries that are given by a short text.
+/// Returns the graph of the definition that has the entries of a short text; `None` if an entry or the definition is refused.
 pub fn graph_of(alloc: Global, written: &str) -> Option<Graph> {
     let entries = entries_of(alloc, written)?;
     graph_with(alloc, &entries)

@@ -1,4 +1,4 @@
-//! Boards that are equal by value, boards that differ in one thing, and copies.
+//! Tests which boards are equal by value: boards with the same events, boards that differ in one thing, and copies of boards.
 
 use super::calls::{are_done, are_same, copy_of};
 use super::checks::row_holds;
@@ -19,8 +19,8 @@ const IN_A_ROW_OPENED: Side = (IN_A_ROW, 2, "");
 
 const ON_A_CACHE: Side = ("locked: write /c/a x && false; RESULT_0", 2, "claim 0 0");
 
-// A board, the events that are done on the board after it is copied, and another board; whether the copy equals the other board, and
-// whether the copy still equals the board that was copied.
+// A board; the events that are done on it after it was copied; and another board. Then: whether the copy equals the other board, and whether the copy still
+// equals the first board.
 type Copied = (Side, &'static str, Side, [bool; 2]);
 
 const COPIES: &[Copied] = &[
@@ -28,14 +28,14 @@ const COPIES: &[Copied] = &[
     (OPENED, "", OPENED, [true, true]),
     (CLAIMED, "", OPENED, [false, true]),
     (CLAIMED, "", CLAIMED, [true, true]),
-    // Two claims in two orders lead to the same state, but the records differ.
+    // Two orders of the same two claims lead to one state, but to different records.
     (
         (TWO_FILES, 2, "claim 0 0\nclaim 1 1"),
         "",
         (TWO_FILES, 2, "claim 1 1\nclaim 0 0"),
         [false, true],
     ),
-    // Boards with another number of workers, or another file, differ.
+    // Boards with different numbers of workers, or over different files, differ.
     (OPENED, "", (TWO_FILES, 3, ""), [false, true]),
     (
         OPENED,
@@ -43,7 +43,7 @@ const COPIES: &[Copied] = &[
         ("MAKES_Z; MAKES_B; MERGES_0_1; RESULT_2", 2, ""),
         [false, true],
     ),
-    // A copy does not change with the board.
+    // A copy does not change when the board changes.
     (OPENED, "claim 0 0", OPENED, [true, false]),
     (CLAIMED, "step 0", CLAIMED, [true, false]),
     (

@@ -1,4 +1,4 @@
-//! Stories of runs whose executions mount a cache: which execution may hold the cache at which time, and what executions see in it.
+//! Stories of runs whose execs mount a cache: which exec may hold the cache at which time, and what execs see in the cache.
 
 use super::sessions::{StoryKind, are_stories};
 

@@ -1,5 +1,4 @@
-//! Calls on boards and steppers, each in a function without clauses: a story only compares the values that calls return, and needs none
-//! of their other promises.
+//! Calls on boards and steppers. Each is in a function without clauses, since a story only compares the values that a call returns.
 
 use llb_board::{Board, Event, Gate, Job, LandFault, OpenFault, Outcome, WorkFault, work};
 use llb_cache::Caches;
@@ -10,7 +9,7 @@ use llb_wire::Same;
 use std::alloc::Global;
 use std::process::Abort;
 
-// Opens a board. No lease of the caches may be current.
+// Opens a board. Ends the test if a lease of the caches is current.
 pub(crate) fn opened(
     rt: &impl Abort,
     alloc: Global,
@@ -23,7 +22,7 @@ pub(crate) fn opened(
     Board::open(alloc, graph, locals, caches, workers)
 }
 
-// Returns the event that a line of a session asks for.
+// Returns the event that a line of a session asks for; `None` if the line asks for no event.
 pub(crate) fn event_in(line: &str) -> Option<Event> {
     match request_in(line.as_bytes()) {
         Some(Request::Event(event)) => Some(event),
@@ -63,7 +62,7 @@ fn is_done(board: &mut Board, line: &str) -> bool {
     }
 }
 
-// Does events, a line each as in a session, up to the first that is refused. Returns whether all were granted.
+// Does the events of a text, which are written as in a session, up to the first that is refused. Returns whether all events were granted.
 pub(crate) fn are_done(board: &mut Board, events: &str) -> bool {
     for line in events.lines() {
         if !is_done(board, line) {
@@ -73,7 +72,7 @@ pub(crate) fn are_done(board: &mut Board, events: &str) -> bool {
     true
 }
 
-// Does events, a line each as in a session. Appends a line for each: `done`, or what its refusal prints.
+// Does the events of a text, which are written as in a session. Appends a line for each event: `done`, or what the event's refusal prints.
 pub(crate) fn say_events(rt: &impl Abort, text: &mut String, board: &mut Board, events: &str) {
     for line in events.lines() {
         let event = event_in(line).expect(rt, "an event");
@@ -96,7 +95,7 @@ pub(crate) fn claimed(board: &mut Board, w: u32, v: u32) -> Option<Job> {
     board.claim(w, v).ok()
 }
 
-// Works on a job behind a gate. Returns the outcome, or the number of the fault.
+// Works on a job, with a gate that may stop the work. Returns the outcome, or the number of the fault.
 pub(crate) fn worked_out<G: Gate>(alloc: Global, job: Job, gate: &G) -> Result<Outcome, u32> {
     match work(alloc, job, gate) {
         Ok(outcome) => Ok(outcome),
@@ -105,7 +104,8 @@ pub(crate) fn worked_out<G: Gate>(alloc: Global, job: Job, gate: &G) -> Result<O
     }
 }
 
-// Claims vertex `v` for worker `w`, and works on the job behind a gate. Returns the outcome, or the number of the fault; 0 if the claim is refused.
+// Claims vertex `v` for worker `w`, and works on the job as `worked_out` does. Returns the outcome, or the number of the fault; the number is 0 if the claim
+// is refused.
 pub(crate) fn worked<G: Gate>(
     alloc: Global,
     board: &mut Board,
@@ -119,7 +119,7 @@ pub(crate) fn worked<G: Gate>(
     }
 }
 
-// Returns the number of the fault with which an outcome does not land; 0 if it lands.
+// Lands an outcome for worker `w`. Returns 0, or the number of the fault with which the outcome does not land.
 pub(crate) fn landed(board: &mut Board, w: u32, outcome: Outcome) -> u32 {
     match board.land(w, outcome) {
         Ok(_) => 0,

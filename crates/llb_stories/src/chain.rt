@@ -1,5 +1,5 @@
-//! A chain of as many vertices as a definition may have: it is read, evaluated, run, and stepped through to its end and back. As `rt ci` builds it, this
-//! takes seconds; `rt try --test`, whose programs check each call, takes minutes for it (`--seconds 900`).
+//! Tests a chain of 65,535 vertices, the most that a definition may have. The chain is loaded, evaluated, run, and stepped through to its end and back. This
+//! takes seconds if `rt ci` builds the test. It takes minutes with `rt try --test --seconds 900`, which checks each call.
 
 use llb_asm::assemble;
 use llb_board::Board;
@@ -15,7 +15,7 @@ use llb_work::{RunEnd, run_alone};
 use std::alloc::Global;
 use std::process::Abort;
 
-// How many vertices there are; each has three events: a claim, one micro-step and a settle.
+// The number of vertices of the chain. Each vertex has three events: a claim, one micro-step and a settle.
 const COUNT: u32 = 65_535;
 
 const EVENTS: usize = 196_605;
@@ -86,7 +86,7 @@ fn goes_back(stepper: &mut Stepper) -> bool {
     stepper.back().is_ok()
 }
 
-// Returns whether exactly `EVENTS` events can be taken back, which leaves an empty record.
+// Takes `EVENTS` events back. Returns whether this succeeds, the record is then empty, and no further event can be taken back.
 fn is_taken_back(stepper: &mut Stepper) -> bool {
     for _event in 0..EVENTS {
         if !goes_back(stepper) {

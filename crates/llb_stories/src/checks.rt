@@ -1,7 +1,8 @@
-//! What a session does not print of a board: what each worker does, and which instances caches have. Such a story is a transcript of the same form
-//! as a session's: a line that begins with `> ` is a call, and the lines after it are its result. The calls are: a session's events, which print
-//! nothing if they are granted; `job W V`, a claim that prints its job and the instances of caches that it takes; `worker W`; `instance MODE I`,
-//! the tree of an instance of the cache `k` with that mode; and `leases`.
+//! Stories about what a session does not print: what each worker of a board does, and which instances caches have. Such a story is a transcript as in
+//! `sessions`: a line that begins with `> ` is a call, and the lines below it are the call's result. A call is an event as in a session, which prints nothing
+//! if it is granted, or one of these. `job W V` claims vertex V for worker W, and prints the job and the job's cache instances. `worker W` prints what worker
+//! W does. `instance MODE I` prints the tree of instance I of the cache `k` with that mode (`seeded`: locked, with a seed). `leases` prints the number of
+//! current leases.
 
 use super::calls::{event_in, is_event_done};
 use super::instances::{K_LOCKED, K_PRIVATE, K_SEEDED, K_SHARED};
@@ -53,7 +54,7 @@ pub(crate) fn say_tree(rt: &impl Abort, text: &mut String, tree: &Tree) {
     say(rt, text, lines.as_str());
 }
 
-// Appends the numbers of instances, each with its tree.
+// Appends, for each instance, its number and its tree.
 fn say_instances(rt: &impl Abort, text: &mut String, instances: &[u32], trees: &[Tree]) {
     for (number, tree) in instances.iter().zip(trees) {
         say(rt, text, "instance ");
@@ -84,7 +85,7 @@ fn cache_of(mode: &str) -> CacheRow {
     }
 }
 
-// Appends the text of the tree that an instance of a cache has.
+// Appends the text of the tree that an instance of a cache has; `none` if there is no such instance.
 fn say_instance(rt: &impl Abort, text: &mut String, board: &Board, mode: &str, number: u32) {
     let key = key_of(rt, *text.allocator(), &cache_of(mode));
     match board.caches().instance(&key, number) {
@@ -108,7 +109,7 @@ fn law(board: &Board) {
     headline(board);
 }
 
-// Appends a call as a transcript has it, and its result; nothing for a line that is no call.
+// Appends the line of a call and the call's result; appends nothing if the line is no call.
 fn say_line(rt: &impl Abort, text: &mut String, board: &mut Board, line: &str) {
     if let Some(call) = line.strip_prefix("> ") {
         say(rt, text, line);
@@ -134,12 +135,12 @@ pub(crate) fn is_so(rt: &impl Abort, holds: bool) {
     assert!(rt; holds);
 }
 
-// Ends the test if the row with this number does not hold; the failure names the row.
+// Ends the test if `is_so` is false; the failure shows the number `row`.
 pub(crate) fn row_holds(rt: &impl Abort, row: usize, is_so: bool) {
     assert!(rt; is_so, "row {row}");
 }
 
-// Ends the test if a text is not the expected one; the failure shows both.
+// Ends the test if a text is not the expected one; the failure shows both texts.
 pub(crate) fn is_same(rt: &impl Abort, printed: &str, wanted: &str) {
     assert_eq!(rt; printed, wanted);
 }
@@ -151,7 +152,7 @@ pub(crate) fn prints<E: Display>(rt: &impl Abort, alloc: Global, fault: &E, want
     is_same(rt, text.as_str(), wanted);
 }
 
-// Returns whether the calls of a transcript on a board have the results that come after them.
+// Makes the calls of a story on a board. Returns whether each call has the result that the story has below it.
 pub(crate) fn is_answered(rt: &impl Abort, alloc: Global, board: &mut Board, story: &str) -> bool {
     let text = transcript(rt, alloc, board, story);
     text.as_str() == wanted(rt, alloc, story).as_str()

@@ -1,5 +1,5 @@
-//! Sessions as conversations: which lines are commands and which are not, the end of a session, its bounds, and that each line
-//! gets its reply before the next one is read.
+//! Tests whole sessions: which lines are commands, how a session ends, the bounds on the session's input, and that each line gets its reply before the next
+//! line is read.
 
 use super::checks::{is_so, row_holds};
 use super::runs::ONE_FILE;
@@ -13,9 +13,9 @@ use std::io;
 use std::io::{ErrorKind, Read, Write};
 use std::process::Abort;
 
-// The commands to a stepper over one file with one worker, and all that they print.
+// The lines of a session, and all that the session prints. The stepper has a definition of one file and one worker.
 const CONVERSATIONS: &[(&str, &str)] = &[
-    // A session ends with its commands, or with a line `quit`.
+    // A session ends after its last line, or at a line `quit`.
     ("", ""),
     ("next\n", "1 claim 0 0 -> file 1\n"),
     (
@@ -30,7 +30,7 @@ const CONVERSATIONS: &[(&str, &str)] = &[
     ),
     ("next", "1 claim 0 0 -> file 1\n"),
     ("tree 0 0\ntree 0 1\ntree 7 0\n", "none\nnone\nnone\n"),
-    // Any other line is refused, with its number.
+    // A line that is no command is refused with 173 and the number of the line.
     (
         "\nnext \n next\nbreak\nbreak fail 1\nclaim 0\nclaim 0  0\nstep +0\nstep 4294967296\ngo\r\nclaim 00 00\nQUIT\n",
         "fault 173 1\nfault 173 2\nfault 173 3\nfault 173 4\nfault 173 5\nfault 173 6\nfault 173 7\nfault 173 8\nfault 173 9\n\
@@ -42,7 +42,8 @@ fn on_one_file(rt: &impl Abort, alloc: Global) -> Stepper {
     Stepper::new(alloc, board_of(rt, alloc, ONE_FILE, "", 1))
 }
 
-// Runs a conversation over one file within these bounds. Returns how it ends, or `None` if it does not print the expected text.
+// Runs a session with bounds on the bytes and on the reads of its input. Returns how the session ends, or `None` if the session does not print the text
+// `wanted`.
 fn ended(
     rt: &impl Abort,
     alloc: Global,
@@ -78,7 +79,8 @@ fn lines_are_answered_up_to_the_end(rt: HostRuntime) {
 
 const TWICE: &str = "next\nnext\n";
 
-// The bounds on the bytes and on the reads of the commands, what two lines print within these bounds, and the number of the fault, or 0.
+// A bound on the bytes and a bound on the reads of the input; what a session of two lines prints within these bounds; and the number of the fault with which
+// the session ends, or 0.
 const BOUNDS: &[(usize, u64, &str, u32)] = &[
     (9, 5, "1 claim 0 0 -> file 1\n", 185),
     (5, 5, "1 claim 0 0 -> file 1\n", 185),
@@ -104,7 +106,7 @@ fn lines_within_the_bounds_are_answered(rt: HostRuntime) {
     }
 }
 
-// A reader that returns one byte in each read. It returns the bytes of a line only after all lines before that line have their replies.
+// A reader that returns one byte in each read. A read fails if a line that was already read does not have its reply yet.
 #[derive(Drop)]
 struct Waits<'a> {
     bytes: &'a [u8],
@@ -131,7 +133,7 @@ impl Read for Waits<'_> {
     }
 }
 
-// A writer that counts its flushes, one for each reply.
+// A writer that counts its flushes. A session flushes once for each reply.
 #[derive(Drop)]
 struct Counts<'a> {
     text: Vec<u8>,
@@ -149,7 +151,7 @@ impl Write for Counts<'_> {
     }
 }
 
-// Returns whether each line gets its reply before the next one is read.
+// Returns whether a session prints the text `wanted`, and writes the reply to each line before it reads the next line.
 fn is_conversation(alloc: Global, stepper: &mut Stepper, commands: &str, wanted: &str) -> bool {
     let answered = Cell::new(0);
     let mut lines = Waits {

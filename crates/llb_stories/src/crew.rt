@@ -1,4 +1,4 @@
-//! Two workers, each in a thread of its own, with a gate that holds each until the other has arrived.
+//! Runs of two workers, each in a thread of its own, with a gate that holds a worker until the other worker has arrived.
 
 use super::calls::{breaks_at, goes_back, replayed};
 use super::checks::{is_so, row_holds};
@@ -10,8 +10,8 @@ use llb_work::{RunEnd, RunFault, run_workers};
 use std::sync::atomic::{AtomicU64, Ordering};
 use std::thread;
 
-// A gate that holds a worker at vertex 0 or 1 until two workers have arrived; it stops a worker that has yielded to other threads 100,000 times. For each
-// vertex the gate notes the worker that it let pass.
+// A gate that holds a worker at vertex 0 or 1 until two workers have arrived. The gate stops a worker that has yielded to other threads 100,000 times while
+// it waited. For each vertex the gate keeps the number of the worker that passed.
 #[derive(Drop)]
 struct Meet {
     arrived: AtomicU64,
@@ -38,7 +38,7 @@ impl Meet {
         }
     }
 
-    // Returns whether the gate let this worker pass at this vertex.
+    // Returns whether worker `w` has passed the gate at vertex `v`.
     fn let_pass(&self, w: u32, v: u32) -> bool {
         self.seat(v).load(Ordering::SeqCst) == u64::from(w)
     }
@@ -66,7 +66,7 @@ impl Gate for Meet {
     }
 }
 
-// Returns how many claims there are; `None` if the gate did not let the worker of each claim pass.
+// Returns how many of the events are claims; `None` if some claim's worker did not pass the gate at the claim's vertex.
 fn claims_let_pass(events: &[Event], gate: &Meet) -> Option<u32> {
     let mut count = 0u32;
     for event in events {
@@ -80,8 +80,8 @@ fn claims_let_pass(events: &[Event], gate: &Meet) -> Option<u32> {
     Some(count)
 }
 
-// Returns the smaller and the larger of the two workers' numbers of events, and how many claims there are; `None` if there is a fault, the
-// board is not complete, or the gate did not let the worker of each claim pass.
+// Returns how many events one worker did and how many the other did, the smaller number first, and how many claims there are. Returns `None` if there is a
+// fault, if the board is not complete, or if `claims_let_pass` returns `None`.
 fn figures(end: &RunEnd, gate: &Meet) -> Option<(u64, u64, u32)> {
     let [first, second, ..] = end.made;
     let claims = claims_let_pass(end.board.events().as_slice(), gate)?;
@@ -91,7 +91,7 @@ fn figures(end: &RunEnd, gate: &Meet) -> Option<(u64, u64, u32)> {
     Some((first.min(second), first.max(second), claims))
 }
 
-// Returns whether one of the two files is made, and the worker of the other file has finished its micro-steps and has not settled.
+// Returns whether one of the two files is made, and the worker of the other file has done its micro-step but has not settled.
 fn is_half_made(board: &Board) -> bool {
     match (board.status(0), board.status(1)) {
         (Some(Status::Done), Some(Status::Running(w))) => {
@@ -109,8 +109,8 @@ const AT_THE_MERGE: Stop = Stop {
     at_break: true,
 };
 
-// Returns whether a replay stops after the claim of the merge, which is its seventh event, and whether, two events earlier, one file is made and the other one
-// is finished and not settled.
+// Replays the record up to a breakpoint at the claim of the merge, and takes two events back. Returns whether the replay stops after seven events; whether
+// five events are left; and whether one file is then made, and the vertex of the other file is finished but not settled.
 fn is_walked(stepper: &mut Stepper, events: &[Event]) -> [bool; 3] {
     let broken = breaks_at(stepper, Break::Claims(2));
     let stopped = replayed(stepper, events) == Some(AT_THE_MERGE);
@@ -123,7 +123,8 @@ fn is_walked(stepper: &mut Stepper, events: &[Event]) -> [bool; 3] {
     ]
 }
 
-// The vertices are claimed before either worker passes the gate, so the third claim is the seventh event.
+// The gate lets neither worker work before both files' vertices are claimed. So two claims, two steps and two settles come first, and the claim of the merge
+// is the seventh event.
 #[test]
 fn two_workers_are_at_work_together_and_their_record_is_walked(rt: HostRuntime) {
     let alloc = rt.alloc();
@@ -139,8 +140,8 @@ fn two_workers_are_at_work_together_and_their_record_is_walked(rt: HostRuntime) 
     );
 }
 
-// Returns whether the run was stopped right after its claim of vertex 0, which the worker then gave up: the vertex is ready, no cache is held, and the record
-// and the worker's count have these two events.
+// Returns whether the run was stopped at vertex 0: the record has a claim of vertex 0 and then its cancel, the vertex is Ready again, no lease of a cache is
+// current, and the worker's count of events is 2.
 fn is_stopped(end: &RunEnd) -> bool {
     let [first, ..] = end.made;
     matches!(end.fault, Some(RunFault::Stopped))
@@ -157,7 +158,8 @@ fn a_worker_alone_waits_for_nobody_and_is_stopped(rt: HostRuntime) {
     is_so(&rt, is_stopped(&end));
 }
 
-// A vertex on a locked cache, and one on a shared cache, which is stepped under the lock.
+// A definition with one vertex on a locked cache, and a definition with one vertex on a shared cache. On the shared cache, the micro-steps are done under the
+// lock.
 const ON_CACHES: &[&str] = &[
     "locked: write /c/a x; RESULT_0",
     "shared: write /c/a x; RESULT_0",

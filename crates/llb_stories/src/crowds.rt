@@ -1,5 +1,5 @@
-//! Runs with more workers than there is work for, so that most workers sleep. Runs that no gate stops are done four times, and end each time with all
-//! their events.
+//! Runs of at most 31 vertices by 1 to 64 workers. Of 64 workers, most have nothing to do and sleep. Some runs go to the end, some are stopped by a gate, and
+//! some begin in the middle.
 
 use super::calls::{are_same, is_event_done, replayed};
 use super::checks::row_holds;
@@ -16,7 +16,7 @@ use std::sync::atomic::{AtomicU64, Ordering};
 use std::thread;
 use std::thread::Threads;
 
-// A gate that lets every worker pass; at every third vertex it first yields to other threads 20 times.
+// A gate that lets every worker pass. At every third vertex the worker first yields to other threads 20 times.
 struct Slow;
 
 impl Gate for Slow {
@@ -34,7 +34,7 @@ impl Gate for Slow {
     }
 }
 
-// A gate that stops any worker at this vertex.
+// A gate that stops every worker at the vertex with this number, and lets workers pass at all other vertices.
 struct Shut(u32);
 
 impl Gate for Shut {
@@ -74,13 +74,13 @@ impl Gate for Ten {
     }
 }
 
-// What the vertices do. Each makes a file on the output of the vertex before it (`Chain`) or on the empty tree (`Fan`), or runs a command that ends with a
-// status, on up to two caches.
+// What the vertices of a graph do. In a `Chain` each vertex makes a file on the output of the vertex before it; in a `Fan` each makes a file on the empty
+// tree. In the last three shapes each vertex runs a command on one or two caches.
 #[derive(Clone, Copy)]
 enum Shape {
     Chain,
     Fan,
-    // Every third vertex fails.
+    // Every third vertex runs a command that fails; the others are as in a `Chain`.
     Failing,
     // All vertices use one locked cache.
     Locked,
@@ -106,7 +106,7 @@ fn push_file(rt: &impl Abort, text: &mut String, before: Option<u32>, v: u32) {
     .expect(rt, "memory");
 }
 
-// Appends an exec of a command on the empty tree at `/` and on caches, each given by its ID and its mode.
+// Appends an exec. Its command is `script` with the number `v` after it. Its mounts are the empty tree at `/`, and a cache for each pair of an ID and a mode.
 fn push_command(rt: &impl Abort, text: &mut String, script: &str, v: u32, caches: &[(u32, u32)]) {
     write!(
         text,
@@ -138,7 +138,7 @@ fn push_vertex(rt: &impl Abort, text: &mut String, shape: Shape, v: u32) {
     }
 }
 
-// Returns the definition of `count` vertices, and of a merge of their outputs.
+// Returns the assembler's text of `count` vertices, a merge of their outputs, and the terminal.
 fn definition(rt: &impl Abort, alloc: Global, shape: Shape, count: u32) -> String {
     let mut text = String::new(alloc);
     for v in 0..count {
@@ -148,12 +148,12 @@ fn definition(rt: &impl Abort, alloc: Global, shape: Shape, count: u32) -> Strin
     text
 }
 
-// Returns whether a run has ended without a fault, with this number of events.
+// Returns whether a run completed its board without a fault, and its workers did `events` events.
 fn is_whole(end: &RunEnd, events: u64) -> bool {
     matches!(counts(end, 64), Some((all, _)) if all == events)
 }
 
-// Returns whether `runs` runs end without a fault, each with this number of events.
+// Runs a graph `runs` times. Returns whether each run completes its board without a fault, with `events` events.
 fn all_end<R: Abort + Threads + Wait + Sync>(
     rt: &R,
     alloc: Global,
@@ -171,7 +171,8 @@ fn all_end<R: Abort + Threads + Wait + Sync>(
     true
 }
 
-// Returns the number of a row for the shape at an index and a number of workers below 100; different pairs have different numbers.
+// Returns the number of the row for the shape at index `at` and a number of workers. The number of workers is below 100, so different rows have different
+// numbers.
 fn row(at: usize, workers: u32) -> usize {
     at.wrapping_mul(100).wrapping_add(workers as usize)
 }
@@ -205,7 +206,7 @@ fn are_idle(board: &Board, workers: u32) -> bool {
     board.caches().leases() == 0
 }
 
-// Returns whether a run was stopped before its board was complete, and no worker runs anything.
+// Returns whether a run was stopped before its board was complete, no worker runs anything, and no lease is current.
 fn is_stopped(end: &RunEnd, workers: u32) -> bool {
     matches!(end.fault, Some(RunFault::Stopped))
         && !end.board.is_complete()
@@ -231,20 +232,20 @@ fn a_stop_ends_the_run_of_those_that_sleep_and_leaves_nobody_at_work(rt: HostRun
     }
 }
 
-// Returns whether a replay of the record of `end` on the board `opened` leads to a board equal to `end`.
+// Replays the record of the board `end` on the board `opened`. Returns whether this leads to a board equal to `end`.
 fn is_replayed(alloc: Global, opened: Board, end: &Board) -> bool {
     let mut stepper = Stepper::new(alloc, opened);
     let stop = replayed(&mut stepper, end.events().as_slice());
     stop.is_some() && are_same(stepper.board(), end)
 }
 
-// Returns whether `run_alone` completes a board, and the first output of vertex `v` is then the same tree as on the board `wanted`.
+// Completes a board by `run_alone`. Returns whether this succeeds, and the first output of vertex `v` is then the same tree as on the board `wanted`.
 fn is_completed(board: Board, wanted: &Board, v: u32) -> bool {
     let end = run_alone(board);
     end.fault.is_none() && end.board.is_complete() && have_one_tree(&end.board, wanted, v)
 }
 
-// The gate lets workers pass at ten of the 30 vertices.
+// A graph has 31 vertices, and the gate lets workers pass only ten times.
 #[test]
 fn workers_that_are_stopped_in_the_middle_leave_what_one_driver_completes(rt: HostRuntime) {
     let shapes = [
@@ -273,7 +274,7 @@ fn is_cancel(event: &Event) -> bool {
     matches!(event, Event::Cancel(_))
 }
 
-// Returns whether vertex 0, which worker 1 ran before the run, is done, and only vertex 1 was cancelled.
+// Returns whether vertex 0, which worker 1 already ran before the run, is done, and whether the only cancel is that of vertex 1.
 fn is_ended(end: &RunEnd) -> bool {
     let cancels = end
         .board
@@ -288,7 +289,7 @@ fn is_ended(end: &RunEnd) -> bool {
         && are_idle(&end.board, 2)
 }
 
-// The gate stops any worker at vertex 1.
+// Worker 1 already runs vertex 0 when the run begins. The gate stops any worker at vertex 1.
 #[test]
 fn what_a_worker_ran_before_is_ended_though_another_is_stopped(rt: HostRuntime) {
     for (at, shape) in [Shape::Fan, Shape::Mixed].iter().enumerate() {

@@ -1,4 +1,4 @@
-//! Stories of runs on local trees: sources, merges, file operations and executions.
+//! Stories of runs on local trees: sources, merges, file ops and execs.
 
 use super::sessions::{StoryKind, are_stories};
 

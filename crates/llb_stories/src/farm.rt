@@ -1,4 +1,4 @@
-//! Many workers, each in a thread of its own, that take their vertices from one queue.
+//! Runs of many workers, each in a thread of its own. The workers take their vertices from one queue.
 
 use super::calls::{are_same, replayed};
 use super::checks::{is_answered, is_so, row_holds};
@@ -17,8 +17,8 @@ use std::sync::atomic::{AtomicU64, Ordering};
 use std::thread;
 use std::thread::Threads;
 
-// A gate that holds workers at the vertices below `count` until `count` of them have arrived. It stops a worker that has yielded to other threads
-// 1,000,000 times.
+// A gate that holds a worker at a vertex below `count` until `count` workers have arrived. The gate stops a worker that has yielded to other threads
+// 1,000,000 times while it waited.
 #[derive(Drop)]
 struct Gather {
     count: u64,
@@ -68,7 +68,7 @@ fn push_layers(rt: &impl Abort, text: &mut String, count: u32) {
     }
 }
 
-// Appends the merge of `count` entries, and the terminal that names it.
+// Appends a merge of the outputs of the first `count` entries, and the terminal that names the merge.
 pub(crate) fn push_merge(rt: &impl Abort, text: &mut String, count: u32) {
     text.push_str("op {\n").expect(rt, "memory");
     push_digests(rt, text, count);
@@ -77,8 +77,8 @@ pub(crate) fn push_merge(rt: &impl Abort, text: &mut String, count: u32) {
     write!(text, "}}\n}}\nop {{\ninputs {{\ndigest %{count}\n}}\n}}\n").expect(rt, "memory");
 }
 
-// Returns how many events the first `workers` workers made in all, and the fewest that one of them made; `None` if there is a fault, or the board is
-// not complete.
+// Returns how many events the first `workers` workers did in all, and the smallest number that one of them did. Returns `None` if there is a fault, or if the
+// board is not complete.
 pub(crate) fn counts(end: &RunEnd, workers: usize) -> Option<(u64, u64)> {
     if end.fault.is_some() || !end.board.is_complete() {
         return None;
@@ -106,7 +106,7 @@ fn sixty_four_workers_are_at_work_together(rt: HostRuntime) {
     is_so(&rt, matches!(counts(&end, 64), Some((258, 3..))));
 }
 
-// Returns whether the merge is the only user of either file, and has no users itself.
+// Returns whether the merge is the only user of each file's vertex, and has no users itself.
 fn have_users(board: &Board) -> bool {
     board.users(0) == [2].as_slice()
         && board.users(1) == [2].as_slice()
@@ -128,7 +128,8 @@ pub(crate) fn have_one_tree(one: &Board, other: &Board, v: u32) -> bool {
     }
 }
 
-// Returns how many events a run with this number of workers has; `None` if its result is not the same tree as on the given board.
+// Runs two files and their merge by `workers` workers. Returns the number of events; `None` if the run fails, or if its result is not the same tree as on the
+// board `wanted`.
 fn made_by<R: Abort + Threads + Wait + Sync>(
     rt: &R,
     alloc: Global,
@@ -156,7 +157,7 @@ const ON_CACHES: &str =
     "locked: write /c/a x; locked: write /c/b y; private: write /c/a x; private: write /c/b y; \
     shared: append /c/l a && append /c/l b; shared: append /c/l c && append /c/l d";
 
-// Returns a board over `count` entries and the merge of their outputs.
+// Returns a board over the `count` entries of a short text and a merge of their outputs.
 pub(crate) fn merge_on(
     rt: &impl Abort,
     alloc: Global,
@@ -170,7 +171,7 @@ pub(crate) fn merge_on(
     board_from(rt, alloc, text.as_str(), workers)
 }
 
-// Returns a board of executions on a shared, a private and a locked cache, two on each, and of the merge of their outputs.
+// Returns a board of six execs and a merge of their outputs. Two execs mount a locked cache, two a private one and two a shared one.
 fn on_caches(rt: &impl Abort, alloc: Global) -> Board {
     merge_on(rt, alloc, ON_CACHES, 6, 64)
 }
@@ -185,7 +186,7 @@ fn a_record_of_threads_on_caches_is_replayed(rt: HostRuntime) {
     is_so(&rt, stop.is_some() && are_same(stepper.board(), &end.board));
 }
 
-// Vertices 4 and 5 mount the shared cache; vertex 6 is the merge.
+// The gate counts the passes at vertices 0 to 3 and those at the other vertices: 4 and 5, which mount the shared cache, and 6, the merge.
 #[test]
 fn each_vertex_passes_the_gate_once(rt: HostRuntime) {
     let gate = Counting::new(4);
@@ -206,7 +207,8 @@ const WRITTEN: &str = "
     0
     ";
 
-// While one worker holds the cache, the claim of the other is refused; the refused vertex waits until the cache is free.
+// Three vertices mount one locked cache. While one worker holds the cache, a claim by the other worker is refused; the refused vertex waits until the cache
+// is free.
 #[test]
 fn a_vertex_whose_cache_is_held_is_taken_later(rt: HostRuntime) {
     let alloc = rt.alloc();

@@ -1,5 +1,5 @@
-//! What the faults of calls on a board print if memory was refused. The other refusals of claims, steps, settles and cancels are printed by sessions (`runs`,
-//! `caches`), and the refusals of an opening by the program (`run` in `llbm`).
+//! Tests what the faults of calls on a board print if memory was refused. The other refusals of claims, steps, settles and cancels are tested by sessions
+//! (`runs`, `caches`), and the refusals of an opening by the program (`run` in `llbm`).
 
 use super::checks::prints;
 use super::runs::IN_A_ROW;

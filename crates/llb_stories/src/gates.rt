@@ -16,7 +16,8 @@ impl Gate for Open {
     }
 }
 
-/// Counts how often workers pass at the vertices below a number, and at the other vertices. At vertex 0 the gate yields to other threads for a while.
+/// Counts how often workers pass the gate at the vertices below `from`, and how often at the other vertices. A worker that passes at vertex 0 yields to other
+/// threads for a while.
 #[derive(Drop)]
 pub(crate) struct Counting {
     from: u32,
@@ -33,7 +34,7 @@ impl Counting {
         }
     }
 
-    /// Returns how often workers have passed at the vertices below that number, and how often at the other vertices.
+    /// Returns how often workers have passed at the vertices below `from`, and how often at the other vertices.
     pub(crate) fn passed(&self) -> (u64, u64) {
         let below = self.below.load(Ordering::SeqCst);
         (below, self.others.load(Ordering::SeqCst))

@@ -1,4 +1,4 @@
-//! Stories of calls on boards: what each worker does, and which instances caches have, with their trees.
+//! Stories of calls on boards: what each worker does, which instances caches have, and the trees of these instances.
 
 use super::sessions::{StoryKind, are_stories};
 use super::written::CacheRow;

@@ -1,4 +1,4 @@
-//! Work on jobs away from the board: the outcome, gates that stop the work, and on which boards the outcome lands.
+//! Work on jobs away from the board: the outcome of the work, gates that stop the work, and the boards on which the outcome lands.
 
 use super::calls::{are_done, claimed, copy_of, landed, opened, say_events, worked, worked_out};
 use super::checks::{is_answered, is_same, is_so, row_holds};
@@ -48,7 +48,7 @@ const SECOND_COMMAND_FAILS: &str =
 
 const APPENDS: &str = "locked: append /c/l a && append /c/l b; RESULT_0";
 
-// Claims vertex 0 for worker `w`, and works on the job. Returns the outcome, or the number of the fault.
+// Claims vertex 0 of a new board for worker `w`, and works on the job with a gate. Returns the outcome, or the number of the fault.
 fn outcome_from<G: Gate>(
     rt: &impl Abort,
     alloc: Global,
@@ -60,7 +60,7 @@ fn outcome_from<G: Gate>(
     worked(alloc, &mut board, w, 0, gate)
 }
 
-// Returns how many micro-steps were done, and whether the last one has failed; or the number of the fault.
+// Works as `outcome_from` does. Returns how many micro-steps were done and whether the last one failed, or the number of the fault.
 fn counted<G: Gate>(
     rt: &impl Abort,
     alloc: Global,
@@ -74,7 +74,7 @@ fn counted<G: Gate>(
     }
 }
 
-// Definitions, and what `counted` returns of the outcome of worker 0 at vertex 0.
+// Definitions, and what `counted` returns for worker 0 if no gate stops the work on vertex 0.
 const COUNTS: &[(&str, (u32, bool))] = &[
     (TWO_FILES, (1, false)),
     (FIRST_FAILS, (1, true)),
@@ -99,24 +99,23 @@ fn a_gate_stops_whom_it_does_not_let_work(rt: HostRuntime) {
     );
 }
 
-// An outcome, and whether it lands: the definition over which worker 0 works at vertex 0; the definition of the board on which the outcome is to
-// land; the events done on that board; the worker that is to land it; and the number of the fault, or 0 if it lands.
+// Which outcome lands on which board. A row has the definition that worker 0 works on, at vertex 0, to make the outcome; the definition of the board; the
+// events that were done on the board; the worker for which the outcome is to land; and the number of the fault, or 0 if the outcome lands.
 type Landing = (&'static str, &'static str, &'static str, u32, u32);
 
 const CLAIMED: &str = "claim 0 0";
 
 const LANDINGS: &[Landing] = &[
-    // The worker that is to land an outcome has to run a vertex.
+    // An outcome lands only if the worker that brings it runs a vertex on that board.
     (TWO_FILES, TWO_FILES, CLAIMED, 0, 0),
     (TWO_FILES, TWO_FILES, CLAIMED, 1, 136),
     (TWO_FILES, TWO_FILES, CLAIMED, 5, 131),
     (TWO_FILES, TWO_FILES, "", 0, 136),
-    // The job has to be what the worker still has to do: an outcome does not land if its job is over another graph, or if the worker has done a step after the
-    // claim.
+    // An outcome does not land on a board over another graph, nor on a board on which the worker has done a step since the claim.
     (OTHER_FILES, TWO_FILES, CLAIMED, 0, 139),
     (TWO_FILES, TWO_FILES, "claim 0 0\nstep 0", 0, 139),
-    // The outcome of a cancelled claim lands if the same worker claims the vertex again. It does not land for another worker, nor
-    // after the vertex's cache was written to.
+    // The outcome of a cancelled claim lands if the same worker claims the vertex again. It does not land for another worker, nor after a micro-step has
+    // written to the vertex's cache.
     (TWO_FILES, TWO_FILES, "claim 0 0\ncancel 0\nclaim 0 0", 0, 0),
     (APPENDS, APPENDS, "claim 0 0\ncancel 0\nclaim 1 0", 1, 139),
     (
@@ -152,7 +151,7 @@ fn an_outcome_lands_where_its_worker_has_just_that_to_do(rt: HostRuntime) {
     }
 }
 
-// Returns whether landing an outcome has the effect of the remaining steps and the settle.
+// Returns whether landing an outcome does the vertex's remaining step and its settle on the board.
 fn is_a_block(board: &mut Board, outcome: Outcome) -> [bool; 3] {
     let record = [Event::Claim(0, 0), Event::Step(0), Event::Settle(0)];
     let lands = landed(board, 0, outcome) == 0;
@@ -163,7 +162,7 @@ fn is_a_block(board: &mut Board, outcome: Outcome) -> [bool; 3] {
     ]
 }
 
-// Returns whether an outcome does not land after its worker has done a step on the vertex, and whether that worker can still settle.
+// Does a step on the vertex of an outcome. Returns whether the outcome then does not land, and whether its worker can still settle the vertex.
 fn is_late(board: &mut Board, outcome: Outcome) -> [bool; 3] {
     let stepped = are_done(board, "step 0");
     let refused = landed(board, 0, outcome) == 139;
@@ -187,7 +186,7 @@ fn an_outcome_does_not_land_once_a_step_was_done(rt: HostRuntime) {
     is_so(&rt, is_late(&mut board, outcome) == [true; 3]);
 }
 
-// Events, a line each, and what they print.
+// Events, a line each as in a session, and the lines that `say_events` appends for them.
 type Expected = (&'static str, &'static str);
 
 const IDLE: Expected = (
@@ -207,7 +206,7 @@ fn are_expected(rt: &impl Abort, alloc: Global, board: &mut Board, expected: Exp
     is_same(rt, text.as_str(), expected.1);
 }
 
-// Returns whether the opening of a board with this number of workers is refused.
+// Returns whether a board with this number of workers can't be opened.
 fn are_refused(rt: &impl Abort, alloc: Global, workers: u32) -> bool {
     let graph = graph_from(rt, alloc, TWO_FILES);
     let board = opened(
@@ -226,8 +225,8 @@ fn is_opening(board: &Board) -> bool {
     board.status(0) == Some(Status::Ready) && board.events().is_empty()
 }
 
-// A run of a board for two workers, from its opening to its first settle, with each call that is refused on the way. A copy that was made
-// before the claim does not change. The outcome `other` is of a board whose first vertex makes another file.
+// Takes a board for two workers from its opening to its first settle, and makes on the way the calls that the board then refuses. A copy that is made before
+// the claim does not change. The outcome `other` is from a board on which the first vertex makes another file.
 #[test]
 fn a_vertex_is_claimed_worked_on_and_settled_with_each_refusal_on_the_way(rt: HostRuntime) {
     let alloc = rt.alloc();
@@ -254,8 +253,8 @@ fn a_vertex_is_claimed_worked_on_and_settled_with_each_refusal_on_the_way(rt: Ho
     );
 }
 
-// The outcome of a cancelled job does not land for the worker that claims the vertex next: the outcome is of another worker, and
-// the cache has changed.
+// Worker 0 does a step and gives its vertex up, and worker 1 claims the vertex. The outcome of worker 0's job does not land for worker 1: it is another
+// worker's, and the step has changed the cache.
 const GIVEN_UP: Expected = (
     "step 0\ncancel 0\ncancel 0\ncancel 9\nclaim 1 0",
     "done\ndone\n136\n131\ndone\n",

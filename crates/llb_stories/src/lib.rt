@@ -1,5 +1,5 @@
-//! Worked examples of whole runs: tests of boards and of the workers on them, and nothing else. The values are written out
-//! from the rules by hand.
+//! This crate has only tests: worked examples of whole runs, on boards and by workers. The expected values are written by
+//! hand from the rules.
 #![tactic(auto)]
 
 #[cfg(test)]

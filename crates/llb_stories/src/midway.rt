@@ -1,4 +1,4 @@
-//! Workers on a board that is given in the middle of a run: each first ends the vertex that it runs.
+//! Runs of boards on which workers already run vertices. Each worker first ends the vertex that it runs.
 
 use super::calls::is_event_done;
 use super::checks::{is_so, row_holds};
@@ -13,7 +13,7 @@ use std::process::Abort;
 // The second vertex has two micro-steps.
 const DEFINITION: &str = "MAKES_A; sh: true && write /k v; MERGES_0_1; RESULT_2";
 
-// The record of one worker that begins with the second vertex.
+// The record of a run by one worker, which takes the second vertex first.
 const BY_ONE: [Event; 11] = [
     Event::Claim(0, 1),
     Event::Step(0),
@@ -28,7 +28,7 @@ const BY_ONE: [Event; 11] = [
     Event::Settle(0),
 ];
 
-// Returns a board on which these events were done.
+// Returns a board for `workers` workers on which these events were done.
 fn board_after(rt: &impl Abort, alloc: Global, workers: u32, events: &[Event]) -> Board {
     let mut board = board_of(rt, alloc, DEFINITION, "", workers);
     for event in events {
@@ -37,8 +37,8 @@ fn board_after(rt: &impl Abort, alloc: Global, workers: u32, events: &[Event]) -
     board
 }
 
-// Returns whether the run had no fault, the record is `BY_ONE`, and worker 0's count has all events of the record but the first `before`, which were done
-// before the run.
+// Returns whether the run had no fault, the record is `BY_ONE`, and worker 0 did all events of the record but the first `before`, which were done before the
+// run.
 fn is_by_one(end: &RunEnd, before: usize) -> bool {
     let [made, ..] = end.made;
     let events = end.board.events().as_slice();
@@ -47,7 +47,8 @@ fn is_by_one(end: &RunEnd, before: usize) -> bool {
         && made == 11u64.saturating_sub(before as u64)
 }
 
-// The four cases: the worker has claimed the second vertex; it has done one of the two micro-steps; it has done both; it has settled the vertex.
+// The run begins in four states. In the first the worker has claimed the second vertex; in the second and third it has also done one or both of the vertex's
+// micro-steps; in the fourth it has settled the vertex.
 #[test]
 fn a_worker_first_ends_what_it_runs(rt: HostRuntime) {
     for before in 1..=4 {

@@ -1,5 +1,5 @@
-//! What the opening of a board takes and returns, and which caches one board leaves for the next. Which local tree is missing is
-//! printed by the program, and tested there (`run` in `llbm`).
+//! Tests what a board takes when it is opened, what a refused opening returns, and which caches a board leaves for the next
+//! board. That a local tree is missing is tested in `llbm` (`run`), where the program prints the tree's name.
 
 use super::calls::{are_done, opened};
 use super::checks::{is_answered, is_so, row_holds};
@@ -23,7 +23,7 @@ const WORKERS: &[(u32, Option<usize>)] = &[
     (64, None),
 ];
 
-// Returns how many vertices the returned graph has, if the opening is refused for the number of workers.
+// Returns, if the opening is refused for the number of workers, how many vertices the returned graph has; else `None`.
 fn vertices_back(fault: &OpenFault) -> Option<usize> {
     match fault {
         OpenFault::Workers(back, _, _) => Some(back.vertices().len()),
@@ -74,7 +74,7 @@ fn a_record_is_copied(rt: HostRuntime) {
     is_so(&rt, record.len() == 1);
 }
 
-// Returns the caches of a board after some events.
+// Returns the caches that a board has after these events.
 fn left(rt: &impl Abort, alloc: Global, definition: &str, events: &str) -> Caches {
     let mut board = board_of(rt, alloc, definition, "", 2);
     assert!(rt; are_done(&mut board, events));
@@ -109,7 +109,8 @@ fn keys_stand_in_the_order_of_the_first_claims(rt: HostRuntime) {
     );
 }
 
-// What the calls on a board return. The board is opened on the caches of another board, which was in the middle of its run.
+// Calls on a board, with their results. The board was opened with the caches of another board, which was left in the middle of
+// its run.
 const BEHIND: &str = "
     > worker 0
     idle
@@ -148,7 +149,7 @@ fn a_board_that_is_left_in_the_middle_gives_its_caches_to_the_next(rt: HostRunti
     is_so(&rt, is_answered(&rt, alloc, &mut board, BEHIND));
 }
 
-// Returns whether the opening is refused for the number of workers, and these caches are returned.
+// Returns whether the opening is refused for the number of workers and returns caches equal to these.
 fn has_caches(fault: &OpenFault, caches: &Caches) -> bool {
     match fault {
         OpenFault::Workers(_, _, back) => back.same(caches),

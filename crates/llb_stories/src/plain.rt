@@ -1,6 +1,6 @@
-//! Plain outcomes: what an evaluation without a board returns. A line that begins with `@ ` has the name of the local trees and the entries of the
-//! definition (`written`). The lines after it are the result: the refusal, or for each vertex how it ended, with the trees of its outputs if it is
-//! done.
+//! Stories of plain outcomes, which an evaluation without a board returns. A line that begins with `@ ` has the name of the local trees, `: `, and the
+//! entries of the definition. If the evaluation is refused, the line below has the refusal. Otherwise the lines below have, for each vertex, how the vertex
+//! ended and, if the vertex is done, the trees of its outputs.
 
 use super::checks::{is_so, prints, say_tree};
 use super::sessions::{StoryKind, are_stories, wanted};
@@ -183,7 +183,7 @@ fn printed(rt: &impl Abort, alloc: Global, head: &str) -> String {
     text
 }
 
-// Returns whether an evaluation of the local trees and the definition of a story's first line has the result that the story's other lines have.
+// Evaluates the definition and the local trees of a story's first line, `head`. Returns whether the result is the one that the story's other lines have.
 pub(crate) fn are_outcomes(rt: &impl Abort, alloc: Global, head: &str, lines: &str) -> bool {
     printed(rt, alloc, head).as_str() == wanted(rt, alloc, lines).as_str()
 }

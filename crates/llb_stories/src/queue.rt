@@ -1,4 +1,4 @@
-//! A ready queue with room for one number or two, on one thread: what it returns, and what its faults print.
+//! Tests of a ready queue with room for one number or two, on one thread: what the queue returns, and what the queue's faults print.
 
 ghost use Rattle.llb_ready.specs.Hands.{SamePart};
 ghost use Rattle.llb_ready.specs.Passes.{IsReadyPassOf, hand_of};
@@ -7,8 +7,8 @@ use super::checks::{is_same, is_so};
 use llb_ready::{Full, ReadyFault, ReadyPass, ReadyQueue};
 use std::sync::Wait;
 
-// Puts a number into the queue; `take` takes a number from it. A story needs only one promise of these calls: the pass is still a pass of this queue, with the
-// same fraction of the whole pass.
+// Puts a number into the queue; `take` takes a number out of the queue. A caller needs a pass to do either. A story needs only one promise of these two
+// calls: the pass is still a pass of this queue, and still the same fraction of the whole pass.
 fn put<R: Wait>(rt: &R, queue: &ReadyQueue, pass: &mut ReadyPass, v: u32) -> Result<(), Full>
     requires { IsReadyPassOf queue.now pass.old }
     ensures pass { IsReadyPassOf queue.now pass.new }

@@ -1,5 +1,5 @@
-//! Records of workers in threads, on caches that are not shared: a stepper replays such a record, line by line; and one worker
-//! that takes the vertices in the order of the record's claims leaves the same trees.
+//! Records of workers in threads, on caches that are not shared. A stepper replays such a record line by line. One worker that takes the vertices in the
+//! order of the record's claims leaves the same trees.
 
 use super::calls::{are_same, is_event_done, replayed};
 use super::checks::row_holds;
@@ -37,7 +37,8 @@ fn worker_of(event: Event) -> u32 {
     }
 }
 
-// Returns the reply to the last of these events, by the position of that event among the events of its worker since the worker's last claim.
+// Returns the expected reply to the last of these events. In `ANSWERS`, the row is that of the vertex which the event's worker claimed last; the position in
+// the row is the number of events that the worker has done since that claim.
 fn answer_to(events: &[Event]) -> &'static str {
     let mut place = 0usize;
     let worker = events.last().map(|event| worker_of(*event));
@@ -53,7 +54,7 @@ fn answer_to(events: &[Event]) -> &'static str {
     "none"
 }
 
-// Returns what a session prints for the last of these events, which are the first events of the record.
+// Returns the line that a session prints for the last of `events`, which are the beginning of a record.
 fn line_of(rt: &impl Abort, alloc: Global, events: &[Event]) -> String {
     let (number, answer) = (events.len(), answer_to(events));
     let mut text = String::new(alloc);
@@ -85,7 +86,7 @@ fn are_lines(rt: &impl Abort, alloc: Global, stepper: &Stepper, events: &[Event]
     true
 }
 
-// Claims vertex `v` for worker 0, and does the chosen events up to its settle. Returns whether all these events were granted.
+// Claims vertex `v` for worker 0, and does the chosen events up to the settle of the vertex. Returns whether all these events were granted.
 fn is_run(board: &mut Board, v: u32) -> bool {
     let mut done = is_event_done(board, Event::Claim(0, v));
     for _ in 0..9 {
@@ -99,7 +100,8 @@ fn is_run(board: &mut Board, v: u32) -> bool {
     false
 }
 
-// Returns whether the vertices that these events claim can be run to their ends, one by one, in the order of the claims.
+// Runs the vertices that these events claim to their ends, one by one in the order of the claims. Returns whether all events of these runs are granted, and
+// the board is then complete.
 fn are_run(board: &mut Board, events: &[Event]) -> bool {
     for event in events {
         if let Event::Claim(_, v) = event {
@@ -111,7 +113,7 @@ fn are_run(board: &mut Board, events: &[Event]) -> bool {
     board.is_complete()
 }
 
-// Returns whether two boards have the same trees in their outputs and in their caches.
+// Returns whether two boards have the same trees in the vertices' first outputs and in the caches.
 fn have_same_trees(one: &Board, other: &Board) -> bool {
     for v in 0..6 {
         if !have_one_tree(one, other, v) {
@@ -126,8 +128,8 @@ const WHOLE: Stop = Stop {
     at_break: false,
 };
 
-// Returns whether a replay of a board's record leads to an equal board, and has the lines that `line_of` returns; and whether running the board's vertices in
-// the order of their claims leaves the same trees.
+// Replays the record of the board `ended`, and runs the vertices by one worker in the order of the record's claims. Returns whether the replay does 24
+// events, leads to an equal board, and has the lines of `line_of`; and whether the run by one worker completes, and leaves the same trees.
 fn is_record(rt: &impl Abort, alloc: Global, ended: &Board, workers: u32) -> [bool; 5] {
     let events = ended.events().as_slice();
     let mut stepper = Stepper::new(alloc, board_by(rt, alloc, workers));

@@ -1,6 +1,6 @@
-//! Stories as transcripts, most of them of sessions on boards. A line that begins with `@ ` opens a board (`written`). A line that begins with `> `
-//! is a command; the lines after it are what the command prints. A line that begins with `# ` describes the story. Spaces before and after a line
-//! are ignored. Stories of calls (`checks`), of plain outcomes (`plain`) and of shared vertices (`sharing`) have the same form.
+//! Stories as transcripts, most of them of sessions on boards. A line that begins with `@ ` has the board on which the story begins (`written`). A line that
+//! begins with `> ` is a command, and the lines below it are what the command prints. A line that begins with `# ` describes the story. Spaces before and
+//! after a line are ignored. Stories of calls (`checks`), of plain outcomes (`plain`) and of shared vertices (`sharing`) have the same form.
 
 use super::checks::is_answered;
 use super::plain::are_outcomes;
@@ -15,7 +15,7 @@ pub(crate) const LIMIT: usize = 1 << 20;
 
 pub(crate) const READS: u64 = 1 << 20;
 
-// Returns the expected lines of a transcript, without the spaces before and after each line.
+// Returns the lines of a transcript without empty lines, descriptions, and spaces before and after a line.
 pub(crate) fn wanted(rt: &impl Abort, alloc: Global, story: &str) -> String {
     let mut text = String::new(alloc);
     for line in story.lines() {
@@ -28,7 +28,7 @@ pub(crate) fn wanted(rt: &impl Abort, alloc: Global, story: &str) -> String {
     text
 }
 
-// Appends a command as a transcript has it, and what it prints; nothing for a line that is no command.
+// Appends the line of a command and what the command prints; appends nothing if the line is no command.
 fn say(rt: &impl Abort, alloc: Global, stepper: &mut Stepper, line: &str, out: &mut Vec<u8>) {
     if let Some(command) = line.strip_prefix("> ") {
         out.extend_from_slice(line.as_bytes()).expect(rt, "memory");
@@ -80,7 +80,7 @@ fn is_story(rt: &impl Abort, alloc: Global, kind: StoryKind, head: &str, lines: 
     }
 }
 
-// Ends the test at the first story whose result differs from the lines that are written in it.
+// Ends the test at the first story whose result differs from the story's lines.
 pub(crate) fn are_stories(rt: &impl Abort, alloc: Global, kind: StoryKind, story: &str) {
     let (_, stories) = story.split_once("@ ").expect(rt, "a story");
     for story in stories.split("@ ") {

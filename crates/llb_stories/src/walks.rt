@@ -1,4 +1,4 @@
-//! Runs that are stepped through to their ends and taken back, event by event, after which everything is as before; and records that are replayed.
+//! Runs that go to their ends and are taken back event by event, after which the board is as before; and records that are replayed.
 
 ghost use Rattle.std.specs.Prelude.{◌≡◌};
 
@@ -12,7 +12,7 @@ use llb_stepper::{Break, Stepper, Stop};
 use std::alloc::Global;
 use std::process::Abort;
 
-// Does the chosen events, at most `most` of them, and takes them all back. Returns whether the board was complete before they were taken back.
+// Does the chosen events, at most `most` of them, and takes all of them back. Returns whether the board was complete before the events were taken back.
 fn there_and_back(board: &mut Board, most: u32) -> bool
     ensures { board.new ≡ board.old }
 {
@@ -41,7 +41,7 @@ fn finish(board: &mut Board) -> bool {
     board.is_complete()
 }
 
-// Definitions, and the calls on the complete board with their results.
+// Definitions; and for each of them calls on the complete board, with their results.
 const WALKED: &[(&str, &str)] = &[
     (FAILS_FIRST, "> leases\n0"),
     (IN_A_ROW, "> worker 0\nidle"),
@@ -59,8 +59,8 @@ const WALKED: &[(&str, &str)] = &[
     ),
 ];
 
-// Returns whether a run completes, whether taking it back leaves a board equal to a copy that was made before, and whether the board and the copy then go on to
-// the same end, with the results in `ended`.
+// Runs a board to its end and takes the run back. Returns whether the run completes the board; whether the board then equals a copy that was made before the
+// run; whether the board and the copy go on to equal ends; and whether calls on the complete board have the results in `ended`.
 fn is_walked(rt: &impl Abort, alloc: Global, definition: &str, ended: &str) -> [bool; 4] {
     let mut board = board_of(rt, alloc, definition, "", 2);
     let mut fresh = copy_of(&board).expect(rt, "memory");
@@ -118,7 +118,7 @@ const OF_TWO_WORKERS: [Event; 10] = [
     Event::Settle(0),
 ];
 
-// Returns whether five of the seven events up to the claim of the merge are done: one file is done, and the other one is finished and not settled.
+// Returns whether the first five events of the record are done: vertex 0 is done, and worker 1 has finished vertex 1 but has not settled it.
 fn is_two_before(board: &Board) -> bool {
     board.events().len() == 5
         && board.status(0) == Some(Status::Done)
@@ -126,7 +126,8 @@ fn is_two_before(board: &Board) -> bool {
         && board.worker(1) == Some(WorkerStatus::Runs(1, 1, true))
 }
 
-// Returns whether a replay of the record of two workers stops at a breakpoint at a claim of the merge, and whether events can be taken back from there.
+// Replays the record of two workers up to a breakpoint at a claim of the merge, and takes two events back. Returns whether the breakpoint is added, whether
+// the replay stops there, and whether the first five events are then left.
 fn is_replayed(stepper: &mut Stepper) -> [bool; 3] {
     let broken = breaks_at(stepper, Break::Claims(2));
     let wanted = Stop {

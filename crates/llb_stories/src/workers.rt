@@ -1,4 +1,4 @@
-//! All orders of the events of two workers.
+//! Tries all orders in which two workers can do their events.
 
 use super::checks::is_so;
 use super::runs::TWO_FILES;
@@ -9,7 +9,7 @@ use llb_stepper::Stepper;
 use std::alloc::Global;
 use std::process::Abort;
 
-// All events that two workers can have on three vertices.
+// All events that two workers can have on three vertices, apart from cancels.
 const EVENTS: [Event; 10] = [
     Event::Claim(0, 0),
     Event::Claim(0, 1),
@@ -23,7 +23,7 @@ const EVENTS: [Event; 10] = [
     Event::Settle(1),
 ];
 
-// What the end of each run prints: the run is complete, and its result has both files.
+// Commands at the end of a run, and what they print: the run is complete, and its result has both files.
 const END: &str = "
     > next
     end
@@ -59,7 +59,7 @@ fn cancels_left(event: Event, cancels: u32) -> Option<u32> {
     }
 }
 
-// Returns the most events of a run that goes on from the stepper's board with at most `cancels` cancels. Tries only runs of at most `most` further events.
+// Returns the length of the longest record to which the stepper can go on with at most `cancels` cancels. Tries at most `most` further events.
 fn longest_run(stepper: &mut Stepper, cancels: u32, most: u32) -> usize {
     let mut longest = stepper.board().events().len();
     if most == 0 {
@@ -76,7 +76,8 @@ fn longest_run(stepper: &mut Stepper, cancels: u32, most: u32) -> usize {
     longest
 }
 
-// The claim of a vertex of two commands has four events: the claim itself, two steps and a settle or cancel. Each cancel allows four more.
+// The vertex has two commands. Each claim of it leads to at most four events: the claim, two steps, and a settle or a cancel. So each cancel allows four more
+// events.
 #[test]
 fn a_run_has_four_events_for_a_claim_of_two_commands(rt: HostRuntime) {
     let appends = "locked: append /c/l a && append /c/l b; RESULT_0";
@@ -87,8 +88,8 @@ fn a_run_has_four_events_for_a_claim_of_two_commands(rt: HostRuntime) {
     }
 }
 
-// Returns how many runs go on from the stepper's board to an end, and at how many of these ends the stepper prints `END`. Tries only runs of at most `most`
-// events.
+// Tries all runs that go on from the stepper's board, for at most `most` events. Returns how many of them end, and at how many of these ends the commands of
+// `END` print the lines of `END`.
 fn ends(rt: &impl Abort, alloc: Global, stepper: &mut Stepper, most: u32) -> [u32; 2] {
     let mut all = 0u32;
     let mut right = 0u32;
@@ -111,8 +112,8 @@ fn ends(rt: &impl Abort, alloc: Global, stepper: &mut Stepper, most: u32) -> [u3
     [1, u32::from(is_transcript(rt, alloc, stepper, END))]
 }
 
-// One worker does both vertices (2 workers, 2 orders), or each does one (2 ways, 20 interleavings of their events); then either of them does the merge:
-// (2 * 2 + 2 * 20) * 2 = 88.
+// Two files and their merge. Either one worker makes both files (2 workers, 2 orders), or each makes one (2 ways, 20 interleavings of their events). Then
+// either worker does the merge: (2 * 2 + 2 * 20) * 2 = 88.
 #[test]
 fn all_88_interleavings_of_two_workers_end_in_the_same_trees(rt: HostRuntime) {
     let board = board_of(&rt, rt.alloc(), TWO_FILES, "", 2);

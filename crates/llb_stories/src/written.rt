@@ -1,4 +1,5 @@
-//! Boards from short texts: definitions are written by their entries, local trees by their texts (`llb_samples`), and keys of caches by rows (`CacheRow`).
+//! Makes boards from short texts. A definition is written as its entries, local trees as their texts (both as in `llb_samples`), and the key of a cache as a
+//! `CacheRow`.
 
 use llb_board::Board;
 use llb_cache::{Caches, Key, Mode, Need, Seed};
@@ -9,16 +10,16 @@ use llb_wire::{Bytes, Text};
 use std::alloc::Global;
 use std::process::Abort;
 
-// A key: its ID, its mode, and which output of the first entry is its seed, if it has one.
+// The key of a cache: the key's ID, the key's mode and, if the key has a seed, which output of the first entry is the seed.
 pub(crate) type CacheRow = (&'static str, Mode, Option<u32>);
 
-/// Appends the text of some entries.
+/// Appends the assembler's text of the entries of a short text.
 pub(crate) fn push_entries(rt: &impl Abort, text: &mut String, entries: &str) {
     let entries = entries_text(*text.allocator(), entries).expect(rt, "memory");
     text.push_str(entries.as_str()).expect(rt, "memory");
 }
 
-/// Returns the definition of some entries.
+/// Returns the definition that has the entries of a short text.
 pub(crate) fn definition_from(rt: &impl Abort, alloc: Global, entries: &str) -> Bytes {
     definition_of(alloc, entries).expect(rt, "a definition")
 }
@@ -54,8 +55,8 @@ pub(crate) fn board_of(
     board_on(rt, alloc, graph, locals_of(rt, alloc, given), workers)
 }
 
-/// Returns the board of a story by its first line: the number of workers, after ` on ` the name of its local trees if it has some, and after `: `
-/// the entries of its definition.
+/// Returns the board that the first line of a story describes. The line has the number of workers; then, if there are local trees, ` on ` and their name;
+/// then `: ` and the entries of the definition.
 pub(crate) fn board_in(rt: &impl Abort, alloc: Global, head: &str) -> Board {
     let (opened, definition) = head.split_once(": ").expect(rt, "a definition");
     let (workers, locals) = opened.split_once(" on ").unwrap_or((opened, ""));
@@ -81,7 +82,7 @@ pub(crate) fn key_of(rt: &impl Abort, alloc: Global, row: &CacheRow) -> Key {
     Key { id, seed, mode }
 }
 
-// Returns a need for each key, with the empty tree for a new instance.
+// Returns a need for each key. A new instance of the key begins with the empty tree.
 pub(crate) fn needs_of(rt: &impl Abort, alloc: Global, rows: &[CacheRow]) -> Vec<Need> {
     let mut needs = Vec::new(alloc);
     for row in rows {

@@ -1,4 +1,5 @@
-//! The program: passes the words, files, readers and writers of the process to `llb_commands`, which does what the words ask for; then sets the exit status.
+//! The program passes the words of its command line, the machine's files, and the process's readers and writers to `llb_commands`, which does what the words
+//! ask for. Then the program sets the exit status.
 #![tactic(auto)]
 
 #[cfg(test)]
@@ -20,7 +21,7 @@ fn words_given(rt: &HostRuntime) -> Result<Vec<String>, WordsFault<'static>> {
     Ok(words.skip(1).collect(rt.alloc())?)
 }
 
-// The files of the machine that the program runs on. Contracts know nothing of their bytes.
+// Opens the files of the machine that the program runs on. Contracts say nothing about the bytes of these files.
 #[derive(Clone, Copy)]
 struct Files<'a> {
     rt: &'a HostRuntime,
@@ -49,7 +50,7 @@ fn errors(rt: &HostRuntime) -> io::Result<LineWriter<Stderr>> {
 fn main(rt: HostRuntime) -> ExitCode {
     let alloc = rt.alloc();
     let Ok(mut err) = errors(&rt) else {
-        // Unreachable: a buffer for no bytes needs no memory.
+        // This line is never reached: a buffer of zero bytes needs no memory.
         return ExitCode::from(3);
     };
     let words = match words_given(&rt) {

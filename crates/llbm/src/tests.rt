@@ -1,4 +1,4 @@
-//! Tests of the program over readers and writers in memory: the worked examples, refusals, and devices that fail.
+//! Tests the program over readers and writers that are in memory: the worked examples, refusals, and devices that fail.
 
 mod assembler_texts;
 mod assembling;

@@ -1,4 +1,5 @@
-//! `asm` and `dis` on texts that are written in the call itself: `$` and the text, in which `|` ends a line.
+//! Tests `asm` and `dis`. The text that `asm` reads is in the call itself, after `$`; each `|` of the text is the end of a
+//! line.
 
 use super::transcripts::is_transcript;
 

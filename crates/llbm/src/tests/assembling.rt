@@ -1,8 +1,9 @@
-//! `asm` and `dis`: texts and the definitions of their entries, and refusals.
+//! Tests `asm` on the texts below and `dis` on definitions: what they write, and which fault they print for an input that
+//! they refuse.
 
 use super::transcripts::is_transcript;
 
-/// Texts, each with its name.
+/// The texts that a call names after `@`, each below a line with `== `, the text's name and a description.
 pub(crate) const TEXTS: &str = "
 == MERGE: A merge of nothing.
 op {

@@ -1,10 +1,10 @@
-//! Readers and writers in memory, some of which fail after a number of calls.
+//! Readers and writers that are in memory, some of which fail after a number of reads, writes or flushes.
 
 use std::alloc::Global;
 use std::io;
 use std::io::{ErrorKind, Read, Write};
 
-/// The result of a call: its status, and what it wrote.
+/// The result of a call of the program: its exit status, and the bytes that it wrote to standard output and to standard error.
 #[derive(Drop)]
 pub(crate) struct Ran {
     pub status: u8,
@@ -19,15 +19,15 @@ impl Ran {
         self.status == status && texts
     }
 
-    /// Returns whether the call ended with status 3 and wrote the first `length` bytes of the text to standard output, and then
-    /// this line to standard error.
+    /// Returns whether the call ended with status 3, wrote only the first `length` bytes of `text` to standard output, and
+    /// wrote exactly `line` to standard error.
     pub(crate) fn is_cut(&self, text: &str, length: usize, line: &str) -> bool {
         let printed = self.out.len() == length && self.err.as_slice() == line.as_bytes();
         self.status == 3 && printed && text.as_bytes().starts_with(self.out.as_slice())
     }
 
-    /// Returns whether the call ended with status 3 and wrote nothing but the first `length` bytes of the line, to standard
-    /// error.
+    /// Returns whether the call ended with status 3, wrote nothing to standard output, and wrote only the first `length` bytes
+    /// of `line` to standard error.
     pub(crate) fn is_cut_line(&self, line: &str, length: usize) -> bool {
         let printed = self.out.is_empty() && self.err.len() == length;
         self.status == 3 && printed && line.as_bytes().starts_with(self.err.as_slice())
@@ -37,11 +37,11 @@ impl Ran {
 /// How many reads, writes and flushes the devices of a call do before they fail.
 #[derive(Clone, Copy)]
 pub(crate) struct Rooms {
-    /// How many bytes standard input returns before it fails.
+    /// How many reads of standard input succeed before one fails. Each read returns at most one byte.
     pub input: usize,
-    /// How many bytes the file of a definition returns before it fails.
+    /// How many reads of the definition's file succeed before one fails.
     pub file: usize,
-    /// How many bytes each file of a local source returns before it fails.
+    /// How many reads of each local source's file succeed before one fails.
     pub local: usize,
     pub out: usize,
     pub flushes: usize,
@@ -50,7 +50,7 @@ pub(crate) struct Rooms {
 
 const MANY: usize = 1 << 20;
 
-/// Devices that do not fail.
+/// Devices that do not fail within the 1,048,576 reads, writes or flushes that each of them does.
 pub(crate) const AMPLE: Rooms = Rooms {
     input: MANY,
     file: MANY,
@@ -60,7 +60,7 @@ pub(crate) const AMPLE: Rooms = Rooms {
     err: MANY,
 };
 
-/// A reader that returns one byte in each read, and fails after a number of bytes.
+/// A reader that returns one byte in each read, and none at the end of its bytes. After `room` reads the next read fails.
 #[derive(Drop)]
 pub(crate) struct Slow<'a> {
     pub bytes: &'a [u8],
@@ -84,7 +84,8 @@ impl<'a> Read for Slow<'a> {
     }
 }
 
-/// A writer that takes one byte in each write, and fails after a number of bytes, or after a number of flushes.
+/// A writer that takes one byte in each write. After `room` writes the next write fails; after `flushes` flushes the next flush
+/// fails.
 #[derive(Drop)]
 pub(crate) struct Narrow {
     pub room: usize,
@@ -101,7 +102,7 @@ impl Narrow {
         }
     }
 
-    /// Returns what was written.
+    /// Returns the bytes that were written.
     pub(crate) fn into_held(self) -> Vec<u8> {
         self.held
     }

@@ -1,4 +1,4 @@
-//! Entries of executions with their names, written like the entries of `definitions`.
+//! Execs for the definitions of calls. They are written in the same way as the entries in `definitions`.
 
 pub(crate) const EXECUTIONS: &str = r#"
 == COPIES: An exec on the first two entries with three mounts, of which two give an output.

@@ -1,4 +1,5 @@
-//! Devices that fail: for each call the first read, write or flush fails, then the second, and so on, up to the last one that the call needs.
+//! Tests of devices that fail. Each call is made many times: first its first read (or write, or flush) fails, then its second, and so on up to the last one
+//! that the call needs.
 
 use super::devices::{AMPLE, Ran, Rooms};
 use super::transcripts::tried;
@@ -7,8 +8,8 @@ use std::process::Abort;
 use std::sync::Wait;
 use std::thread::Threads;
 
-// The device that fails: a reader, with the number of reads of one byte that the call needs, including the read at the end of the
-// input; or a writer, with the line of the fault with which the call ends.
+// The device that fails. `Input`, `File` and `Local` have the number of reads of one byte that the call needs, including the read at the end of the input.
+// `Out` and `Flush` have the line that the call writes to standard error after the failure.
 #[derive(Clone, Copy)]
 pub(crate) enum Device {
     Input(usize),
@@ -19,8 +20,7 @@ pub(crate) enum Device {
     Err,
 }
 
-// The device that fails; a call; and the call's status, its output and what it writes to standard error if no device
-// fails.
+// A case: the device that fails; the call; and the call's status, standard output and standard error if no device fails.
 type Case = (Device, &'static str, u8, &'static str, &'static str);
 
 // Returns how many reads, writes or flushes of the device the call needs.
@@ -48,7 +48,8 @@ pub(crate) fn rooms_of(device: Device, room: usize) -> Rooms {
     rooms
 }
 
-// Returns whether a call ended as it should, given that its device failed after `room` reads, writes or flushes, fewer than the call needs.
+// Returns whether a call ended as expected after its device failed. The device did `room` reads, writes or flushes before it failed, which is less than the
+// call needs.
 fn is_failure(ran: &Ran, case: &Case, room: usize) -> bool {
     let (device, _, _, out, err) = case;
     match device {
@@ -67,7 +68,8 @@ fn is_right(ran: &Ran, case: &Case, room: usize) -> bool {
     ran.is(*status, out, err)
 }
 
-// Fails the device at each read, write or flush in turn.
+// Makes the call with a device that fails at its first read, write or flush, then at its second, and so on; and last with a device that does not fail. Ends
+// the test if a result is not the expected one.
 fn is_tried<R: Abort + Threads + Wait + Sync>(rt: &R, alloc: Global, case: &Case) {
     let (device, call, ..) = case;
     for room in 0..=needed(case) {
@@ -84,7 +86,8 @@ const LOCAL: &str = "d 0755 0 0 /\nf 0644 0 0 6869 /f\n";
 
 const CLAIM: &str = "1 claim 0 0 -> file 1\n";
 
-// The definition of `MAKES_A; RESULT_0` has 129 bytes, the text `ABC` 11, and the local tree `Q` 32.
+// A reader that fails; the call; and what the call prints if the reader does not fail. The definition of `MAKES_A; RESULT_0` has 129 bytes, so the call needs
+// 130 reads. The text `ABC` has 11 bytes, and the local tree `Q` has 32.
 const READ: &[(Device, &str, &str)] = &[
     (Device::Input(130), "run < MAKES_A; RESULT_0", TREE),
     (
@@ -136,7 +139,7 @@ fn a_writer_that_fails_at_any_write_has_a_prefix_of_the_text(rt: HostRuntime) {
     }
 }
 
-// Commands that are refused, and a vertex that fails.
+// Calls that are refused, and calls whose vertex fails. After each call come its status and its line on standard error.
 const REFUSED: &[(&str, u8, &str)] = &[
     ("run < FIELD_ZERO; RESULT_A", 2, "fault 82 0 3\n"),
     (
@@ -171,7 +174,7 @@ fn a_line_that_standard_error_does_not_take_is_a_failed_write(rt: HostRuntime) {
 const SESSION: &str =
     "step FILE < MAKES_A; RESULT_0 | break settle 0; go; back; status; next; tree 0 0; quit";
 
-// The lines of the session above, and the replies to them.
+// The lines of `SESSION`, each with its reply.
 const LINES: &[(&str, &str)] = &[
     ("break settle 0\n", ""),
     (
@@ -185,7 +188,7 @@ const LINES: &[(&str, &str)] = &[
     ("quit\n", ""),
 ];
 
-// Returns how many of the lines end within this number of bytes.
+// Returns how many lines of the session are complete within its first `bytes` bytes.
 fn lines_within(bytes: usize) -> usize {
     let mut left = bytes;
     for (at, (line, _)) in LINES.iter().enumerate() {
@@ -206,7 +209,7 @@ fn answers(rt: &impl Abort, alloc: Global, lines: usize) -> String {
     text
 }
 
-// Returns whether the session ends with this status and this line on standard error, after the replies to the first `lines` lines.
+// Returns whether the session prints exactly the replies to its first `lines` lines, and ends with the status and the standard error in `end`.
 fn ends_after<R: Abort + Threads + Wait + Sync>(
     rt: &R,
     alloc: Global,

@@ -1,5 +1,5 @@
-//! File actions: the tree after each action, or the fault with which the action fails. A copy takes its sources from the
-//! local tree `p`.
+//! Tests of file actions: the tree after each action, or the fault with which the action fails. A copy takes its sources
+//! from the first entry, which is the local tree `p`.
 
 use super::transcripts::is_transcript;
 
@@ -216,7 +216,7 @@ fn files_and_directories_are_made_and_removed(rt: HostRuntime) {
     is_transcript(&rt, rt.alloc(), MADE_AND_REMOVED);
 }
 
-// A path of 128 names, and one of 129.
+// A directory at a path of 128 names can be made. One at a path of 129 names is refused.
 const DEEP: &str = "
     > run q=X < SOURCE_Q; act mkdir | path \"\
     /a/a/a/a/a/a/a/a/a/a/a/a/a/a/a/a/a/a/a/a/a/a/a/a/a/a/a/a/a/a/a/a/a/a/a/a/a/a/a/a/a/a/a/a/a/a/a/a/a/a/a/a/a/a/a/a/a/a/a/a/a/a/a/a\

@@ -1,4 +1,4 @@
-//! Merges: each input is laid over the inputs before it.
+//! Tests of merges: each input is laid over the inputs before it.
 
 use super::transcripts::is_transcript;
 

@@ -1,4 +1,4 @@
-//! Definitions that are cut off, and definitions at a limit and past it.
+//! Definitions that are cut off, and definitions and texts that are at a limit or just past the limit.
 
 use super::devices::Ran;
 use super::transcripts::definition_of;
@@ -35,7 +35,8 @@ fn assembled(alloc: Global, text: &str) -> Ran {
     Ran { status, out, err }
 }
 
-// The definition has two entries, a file and the terminal that names it, and 129 bytes; the record of the first entry is the first 52 bytes.
+// The definition has 129 bytes and two entries: a file op, and the terminal that names the file op. The record of the first entry is the first 52 bytes. So a
+// cut after 0 or 52 bytes leaves whole records, of fewer than two entries.
 #[test]
 fn a_definition_that_is_cut_is_refused(rt: HostRuntime) {
     let definition = definition_of(&rt, rt.alloc(), "MAKES_A; RESULT_0");
@@ -52,7 +53,7 @@ fn a_definition_that_is_cut_is_refused(rt: HostRuntime) {
     }
 }
 
-// Returns the text `before`, then `part` as often as `count` says, and then `rest`.
+// Returns the text `before`, then `count` copies of `part`, and then `rest`.
 fn repeated(
     rt: &impl Abort,
     alloc: Global,
@@ -70,7 +71,7 @@ fn repeated(
     text
 }
 
-// An empty entry is a record of the two bytes `0a 00`. Equal entries count as one entry, and one entry is too few.
+// An empty entry is a record of the two bytes `0a 00`. The loader counts equal entries as one entry, and fails with 83 because a definition has at least two.
 #[test]
 fn a_definition_has_65536_entries_at_most(rt: HostRuntime) {
     let alloc = rt.alloc();
@@ -94,7 +95,7 @@ fn a_text_of_entries_has_65536_at_most(rt: HostRuntime) {
     assert!(rt; disassembled(alloc, definition.as_str().as_bytes()).is(2, "", "fault 13\n"));
 }
 
-// Returns a definition of three entries: an empty entry, the entry with these bytes, and the terminal, which names the entry with these bytes.
+// Returns a definition of three entries: an empty entry; the entry whose bytes are `entry`, in hexadecimal; and the terminal, which names the second entry.
 fn with_entry(rt: &impl Abort, alloc: Global, entry: &str) -> Bytes {
     let text = repeated(
         rt,
@@ -108,13 +109,15 @@ fn with_entry(rt: &impl Abort, alloc: Global, entry: &str) -> Bytes {
     write_definition(alloc, &entries).expect(rt, "memory")
 }
 
-// Returns a definition with a merge of empty trees. The bytes of the merge's entry are `head`, and then 13 bytes for each input, whose number is -1.
+// Returns a definition with a merge of `count` empty trees. The bytes of the merge's entry are `head`, and then for each input a record of 13 bytes with the
+// input's number, -1.
 fn merge_of(rt: &impl Abort, alloc: Global, head: &str, count: usize) -> Bytes {
     let entry = repeated(rt, alloc, head, "0a0b08ffffffffffffffffff01", count, "");
     with_entry(rt, alloc, entry.as_str())
 }
 
-// The head is the tag of field 6 of an op and the length of the message: 13,312 bytes for 1,024 inputs, and 13,325 for 1,025.
+// The head is the tag of field 6 of an op, which is a merge, and the length of the merge's message: 13,312 bytes for 1,024 inputs, and 13,325 bytes for 1,025
+// inputs.
 #[test]
 fn a_merge_has_1024_inputs_at_most(rt: HostRuntime) {
     let alloc = rt.alloc();

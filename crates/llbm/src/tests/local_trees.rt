@@ -1,4 +1,4 @@
-//! The files of local sources with their names: texts of trees, and texts that are not.
+//! The files of local sources, each below a line with its name. Some are texts of trees; the others can't be read as trees.
 
 pub(crate) const FILES: &str = "
 == P

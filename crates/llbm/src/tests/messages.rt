@@ -1,4 +1,4 @@
-//! Messages field by field: entries given as bytes, and the text that `dis` writes for them.
+//! Tests each message field by field: a call has the bytes of an entry, and `dis` writes the entry's text.
 
 use super::transcripts::is_transcript;
 

@@ -1,4 +1,5 @@
-//! The pages of help and of the version, compared with the text that `clap` renders for the same words.
+//! Tests the pages of help and of the version. For words that ask for a page, the program prints the text that `clap`
+//! renders for these words.
 
 use super::failing::{Device, rooms_of};
 use super::transcripts::{ran_words, tried};
@@ -6,7 +7,8 @@ use llb_commands::llbm_command;
 use std::alloc::Global;
 use std::process::Abort;
 
-// Returns what is to be printed for words that `clap` refuses: the fault, and the text that `clap` renders for its refusal.
+// Returns what the program has to print for words for which `clap` returns an error: the line `fault 183`, and then the
+// error's text.
 fn printed_by_clap(rt: &impl Abort, alloc: Global, words: &str) -> String {
     let mut printed = String::new(alloc);
     let given: Vec<&str> = words.split(' ').collect(alloc).expect(rt, "memory");
@@ -85,7 +87,8 @@ fn nothing_follows_another_refusal(rt: HostRuntime) {
     }
 }
 
-// Words, and the beginning of their message; standard error takes only as many bytes as this beginning has.
+// Words of a command line, and the first bytes of what is printed for them. Standard error takes only these bytes, and then
+// fails.
 const NARROW: &[(&str, &str)] = &[
     ("--help", "fau"),
     ("run -h", "fault 183\nRu"),

@@ -1,4 +1,4 @@
-//! Reading within small bounds.
+//! Tests `read_bounded`, which reads a whole input with a bound on its bytes and a bound on the number of reads.
 
 use super::devices::Slow;
 use llb_commands::{ReadFault, read_bounded};
@@ -7,7 +7,8 @@ use std::io;
 use std::io::{ErrorKind, Read};
 use std::test::Fail;
 
-// Returns the result of reading `hello` within these bounds, in words.
+// Reads `hello` with at most `limit` bytes and `reads` reads, from a reader that fails after `room` reads. Returns the
+// result in words.
 fn hello(alloc: Global, limit: usize, reads: u64, room: usize) -> &'static str {
     let mut input = Slow {
         bytes: b"hello",
@@ -42,7 +43,7 @@ fn an_input_past_a_bound_is_not_read(rt: HostRuntime) {
     }
 }
 
-// A reader that is interrupted a number of times before it returns anything.
+// A reader whose first `times` reads are interrupted, and whose later reads return bytes.
 #[derive(Drop)]
 struct Startled<'a> {
     bytes: &'a [u8],

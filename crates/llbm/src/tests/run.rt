@@ -1,4 +1,4 @@
-//! `run`: the worked examples, refusals, and several workers.
+//! Tests of `run`: the worked examples, refusals, and runs by several workers.
 
 use super::devices::Ran;
 use super::transcripts::{definition_of, is_transcript};

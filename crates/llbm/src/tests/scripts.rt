@@ -1,4 +1,4 @@
-//! Scripts: how many commands a script has, or its first fault.
+//! Tests how scripts are read: how many commands a script has, or the first fault of the script.
 
 use super::transcripts::is_transcript;
 

@@ -1,4 +1,4 @@
-//! `show`: the text of a graph, and refusals.
+//! Tests of `show`: the text of a graph, and refusals.
 
 use super::transcripts::is_transcript;
 

@@ -1,4 +1,4 @@
-//! What is printed for a local source that has no tree.
+//! Tests what is printed for a local source that has no tree.
 
 use super::devices::Ran;
 use llb_commands::{SourceFault, source_refusal};

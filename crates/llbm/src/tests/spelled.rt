@@ -1,5 +1,5 @@
-//! Entries given as bytes: some that are no ops, and some that are spelled otherwise than the assembler spells them. Beside each record of such a spelling is a
-//! note that says what the record is; for a record that contains the records after it, the note is beside its first bytes.
+//! Entries given as bytes. Some are no ops. The others are ops whose bytes are not those that the assembler writes; in such an op a note beside each record
+//! says what the record is. If a record contains other records, the note is beside its tag and its length.
 
 pub(crate) const SPELLED: &str = concat!(
     // The first field has the number 0.
@@ -14,7 +14,7 @@ pub(crate) const SPELLED: &str = concat!(
     "== WRONG_WIRE_TYPE\nraw 0800\n",
     // A digest is not UTF-8.
     "== NOT_UTF8\nraw 0a030a01ff\n",
-    // An exec of `true` with a mount at the root; its cwd is written although it is empty.
+    // An exec of `true` with a mount at the root. The bytes have the exec's cwd, although the cwd is empty.
     "== EMPTY_CWD\nraw ",
     "121a",                   // exec, of 26 bytes
     "0a08",                   // meta, of 8
@@ -24,7 +24,7 @@ pub(crate) const SPELLED: &str = concat!(
     "08ffffffffffffffffff01", // input -1
     "1a012f",                 // dest "/"
     "\n",
-    // The shared cache `a` at `/c` and at `/d`; at `/d` the number 0 of the mode is written.
+    // An exec with the shared cache `a` at `/c` and at `/d`. The bytes of the mount at `/d` have the number of the cache's mode, although the number is 0.
     "== SHARED_WRITTEN\nraw ",
     "1262",                   // exec, of 98 bytes
     "0a06",                   // meta, of 6
@@ -48,7 +48,7 @@ pub(crate) const SPELLED: &str = concat!(
     "0a0161",                 // ID "a"
     "1000",                   // sharing 0
     "\n",
-    // A copy with a pattern that comes after a field for which the assembler has no name.
+    // A copy with an include pattern that comes after a field for which the assembler has no name.
     "== PATTERN_LAST\nraw ",
     "221f",                   // file, of 31 bytes
     "121d",                   // actions, of 29
@@ -58,7 +58,7 @@ pub(crate) const SPELLED: &str = concat!(
     "7001",                   // field 14, which has no name
     "620161",                 // include_patterns "a"
     "\n",
-    // A copy with a pattern, and after the pattern the field that says that archives are to be unpacked.
+    // A copy with an include pattern, and after the pattern the field that says that archives are to be unpacked.
     "== UNPACKING_LAST\nraw ",
     "221f",                   // file, of 31 bytes
     "121d",                   // actions, of 29

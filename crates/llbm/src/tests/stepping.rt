@@ -1,4 +1,4 @@
-//! `step`: sessions over a definition, and refusals.
+//! Tests of `step`: sessions over a definition, and refusals.
 
 use super::devices::Ran;
 use super::transcripts::{definition_of, is_transcript};

@@ -1,8 +1,8 @@
-//! Cache mounts: which ones the loader accepts, and the rule by which it refuses any other.
+//! Tests of cache mounts: which ones the loader accepts, and which rule it reports for each one that it refuses.
 
 use super::transcripts::is_transcript;
 
-// The root, and caches at `/c` and `/d`.
+// Execs with cache mounts. Most execs have a bind mount at the root, and caches at `/c` or `/d`.
 const MOUNTS: &str = r#"
     # Caches are taken, at the root too.
     > show < TRUE | -1 / | -1 /c SHARED | }; RESULT
@@ -107,8 +107,8 @@ fn caches_are_taken_one_key_once_and_judged_in_order(rt: HostRuntime) {
     is_transcript(&rt, rt.alloc(), MOUNTS);
 }
 
-// Execs that mount the locked cache `a` at `/c` and at `/d`. Each of the two mounts has an input, with whose tree a new
-// instance begins, or no input.
+// Execs that mount the locked cache `a`, most of them at `/c` and at `/d`. A mount may have an input: a new instance of the
+// cache then begins with the input's tree.
 const SEEDS: &str = r#"
     # Two outputs, or one and none, are two caches.
     > show < TRUE | -1 / | -1 /a OUTPUT_1 | }; merge { | }; FOUR_INPUTS | TRUE | -1 / | -1 /c LOCKED | 0 /d LOCKED | }; RESULT

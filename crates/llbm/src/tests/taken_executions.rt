@@ -1,4 +1,4 @@
-//! Executions: which ones the loader accepts, and the feature or rule by which it refuses any other.
+//! Tests of execs: which ones the loader accepts, and which feature or rule it reports for each one that it refuses.
 
 use super::transcripts::is_transcript;
 
@@ -54,7 +54,7 @@ fn an_exec_is_taken_or_refused_by_its_feature_or_its_rule(rt: HostRuntime) {
     is_transcript(&rt, rt.alloc(), CASES);
 }
 
-// The mounts of an exec whose script is `true`.
+// Execs of the script `true`, each with other mounts.
 const MOUNTS: &str = r#"
     # One is at the root.
     > show < TRUE | -1 / | }; RESULT
@@ -135,7 +135,8 @@ fn the_mounts_of_an_exec_are_judged_in_order(rt: HostRuntime) {
     is_transcript(&rt, rt.alloc(), MOUNTS);
 }
 
-// A script on three mounts: an input at the root; `/out`, an empty tree, whose output is the result; and a tmpfs.
+// Execs of a script on three mounts: at `/` the tree of an input; at `/out` an empty tree, whose output is the result; at
+// `/tmp` a tmpfs.
 const OUTPUTS: &str = r#"
     > show < MAKES_A; INPUT_0 | MAKES_OUT_A | 0 / | -1 /out OUTPUT_1 | -1 /tmp NO_OUTPUT TMPFS | }; RESULT_1_1
     0 file steps 1 outputs 1 inputs -

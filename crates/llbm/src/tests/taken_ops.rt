@@ -1,4 +1,4 @@
-//! Single ops: which ones the loader accepts, and the feature or rule by which it refuses any other.
+//! Tests of single ops: which ones the loader accepts, and which feature or rule it reports for each one that it refuses.
 
 use super::transcripts::is_transcript;
 
@@ -110,7 +110,7 @@ fn an_op_is_taken_or_refused_by_its_feature_or_its_rule(rt: HostRuntime) {
     is_transcript(&rt, rt.alloc(), OPS);
 }
 
-// Copies from the empty tree to the empty tree, each with other fields.
+// Copies from the empty tree to the empty tree, which differ in the fields that are set.
 const COPIES: &str = r#"
     > show < COPY | } | } | }; RESULT
     0 file steps 1 outputs 1 inputs -
@@ -146,7 +146,7 @@ fn a_copy_is_taken_without_what_is_refused_of_it(rt: HostRuntime) {
     is_transcript(&rt, rt.alloc(), COPIES);
 }
 
-// The loader looks at what a message means and not at how it is spelled.
+// Which ops the loader accepts depends on the fields of an op, and not on how the bytes of the op spell these fields.
 const SPELLINGS: &str = r#"
     > show < EMPTY_CWD; RESULT
     0 exec steps 1 outputs 1 inputs -

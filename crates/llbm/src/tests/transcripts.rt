@@ -1,8 +1,10 @@
-//! The program as transcripts. A line that begins with `> ` is a call, and the lines after it are what the call writes, its error lines with `! ` before them,
-//! and its status if that is not 0. A line that begins with `# ` describes the next calls. A call is the program's words. After ` < ` comes its input, in one
-//! of four forms: entries, as a definition (`written`); `=` and bytes in hexadecimal; `@` and the name of a text; `$` and a text in which `|` ends a line. The
-//! call of a session ends with ` | ` and its commands, which are separated by `;`. The file `FILE` has the definition too, and the other files are in
-//! `local_trees`. What `asm` writes is shown in hexadecimal. All devices read and write one byte at a time.
+//! Tests the program by transcripts. A line that begins with `> ` is a call. The lines below it are what the call writes to standard output, then what it
+//! writes to standard error after `! `, and then its status if the status is not 0. A line that begins with `# ` describes the calls below it.
+//!
+//! A call has the words of the command line, and after ` < ` its input in one of four forms: the entries of a definition, in the form of `written`; `=` and
+//! bytes in hexadecimal; `@` and the name of a text in `assembling`; `$` and a text in which each `|` is the end of a line. In a call of `step`, the commands
+//! of the session follow after ` | `, separated by `;`. The file `FILE` has the same bytes as the input; the other files are in `local_trees`. The output of
+//! `asm` is shown in hexadecimal. All devices read and write one byte at a time.
 
 use super::assembling::TEXTS;
 use super::devices::{AMPLE, Narrow, Ran, Rooms, Slow};
@@ -19,7 +21,7 @@ use std::process::Abort;
 use std::sync::Wait;
 use std::thread::Threads;
 
-// The files of a call: its definition, and the local sources.
+// The files that a call can open: `FILE`, which has the call's definition, and the files of local sources.
 #[derive(Clone, Copy)]
 struct Shelf<'a> {
     definition: &'a [u8],
@@ -48,7 +50,7 @@ impl<'a> Sources for Shelf<'a> {
     }
 }
 
-// A call, as its line in a transcript describes it.
+// A call, read from its line in a transcript.
 #[derive(Clone, Copy)]
 struct Call<'a> {
     words: &'a str,
@@ -80,7 +82,7 @@ fn lines_ended(rt: &impl Abort, alloc: Global, text: &str) -> Bytes {
     Bytes::new(lines)
 }
 
-/// Returns the input of a call as bytes: the definition of the entries in the call, or the bytes or the text that the call has in place of entries.
+/// Returns the input of a call as bytes, from any of its four forms (see the head of this file).
 pub(crate) fn definition_of(rt: &impl Abort, alloc: Global, entries: &str) -> Bytes {
     if let Some(digits) = entries.strip_prefix("=") {
         return read_hex(alloc, digits)
@@ -109,7 +111,7 @@ fn lines_of(rt: &impl Abort, alloc: Global, commands: &str) -> String {
     text
 }
 
-// Returns devices that fail after the numbers of reads, writes and flushes in `rooms`; standard input has these bytes.
+// Returns streams whose devices fail after the numbers of reads, writes and flushes in `rooms`. Standard input has the bytes `bytes`.
 fn streams_of(alloc: Global, bytes: &[u8], rooms: Rooms) -> Streams<Slow<'_>, Narrow, Narrow> {
     let room = rooms.input;
     let mut out = Narrow::new(alloc, rooms.out);
@@ -149,7 +151,7 @@ fn ran<R: Abort + Threads + Wait + Sync>(
     }
 }
 
-/// Returns the result of these words on no input.
+/// Returns the result of a call with these words. The input of the call is empty.
 pub(crate) fn ran_words<R: Abort + Threads + Wait + Sync>(
     rt: &R,
     alloc: Global,
@@ -168,7 +170,7 @@ pub(crate) fn tried<R: Abort + Threads + Wait + Sync>(
     ran(rt, alloc, &call_in(call), rooms)
 }
 
-// Appends the bytes that were written; if they do not end with a line end, appends a line that says so.
+// Appends the bytes that were written. If the last byte is not the end of a line, appends a line that says so.
 fn say_bytes(rt: &impl Abort, text: &mut String, bytes: &[u8]) {
     let written = str::from_utf8(bytes).unwrap_or("no text\n");
     text.push_str(written).expect(rt, "memory");
@@ -212,7 +214,7 @@ fn say_call<R: Abort + Threads + Wait + Sync>(
     say_status(rt, text, ran.status);
 }
 
-// Appends a line of a transcript; if the line is a call, appends the result of the call too.
+// Appends the line and the result of its call if the line is a call; otherwise appends nothing.
 fn say_line<R: Abort + Threads + Wait + Sync>(
     rt: &R,
     alloc: Global,
@@ -234,7 +236,7 @@ fn transcript<R: Abort + Threads + Wait + Sync>(rt: &R, alloc: Global, story: &s
     text
 }
 
-/// Makes the calls of a transcript, and ends the test at the first line of a result that is not the line in the transcript. The lines of a transcript are
+/// Makes the calls of a transcript. Ends the test at the first line of a result that is not the transcript's next line. The lines of a transcript are
 /// indented by four spaces.
 pub(crate) fn is_transcript<R: Abort + Threads + Wait + Sync>(rt: &R, alloc: Global, story: &str) {
     let text = transcript(rt, alloc, story);

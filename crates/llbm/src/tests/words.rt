@@ -1,5 +1,6 @@
-//! The words of the command line, as transcripts: after `> ` come the words (`''` is an empty one), and in the next line what they
-//! ask for: the command, the workers, the file if there is one, and for each local source the name and the file.
+//! Tests how the words of a command line are read, by transcripts. After `> ` come the words; `''` is an empty word. The line
+//! below has what the words ask for: the command, the number of workers, the file if there is one, and the name and the file of
+//! each local source. If the words are refused, that line has the fault.
 
 use super::devices::{Narrow, Ran};
 use llb_commands::{Command, Line, Local, WordsFault, command_of, words_refusal};
@@ -256,7 +257,7 @@ const REFUSALS: &[(WordsFault<'static>, u8, &str)] = &[
     (WordsFault::Memory, 3, "fault 184\n"),
 ];
 
-// Returns what is printed to a writer that takes `room` bytes.
+// Writes the refusal of a command line to a writer that fails after `room` bytes. Returns the status and what was written.
 fn printed(alloc: Global, fault: &WordsFault<'_>, room: usize) -> Ran {
     let mut err = Narrow::new(alloc, room);
     let status = words_refusal(fault, &mut err);

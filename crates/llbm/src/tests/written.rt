@@ -1,10 +1,11 @@
-//! Definitions as calls write them: entries with `; ` between them.
+//! Definitions as calls write them: a list of entries with `; ` between them.
 //!
-//! An entry is a name of `definitions`, `execution_definitions` or `spelled`, or else the content of an op, in pieces with ` | ` between them. A piece is a
-//! name of `pieces`, or a line of the assembler's text, or a mount: its input, its dest, and the names of pieces whose lines follow these two in the mount.
-//! `RESULT` is the terminal that names the entry before it. `act KIND | FIELD | ..` is an op with that one action on the output of the entry before it; the
-//! second tree of the action is the output of the first entry. `sh TEXT` is an execution of that text, with the output of the entry before it at the root, or
-//! the empty tree if there is none.
+//! An entry is the name of an entry in `definitions`, `execution_definitions` or `spelled`, or one of these forms:
+//! `RESULT` is the terminal that names the entry before it. `act KIND | FIELD | ..` is an op with one file action, on the output of the entry before it; the
+//! second input of the action is the output of the first entry of the definition. `sh TEXT` is an exec of the script TEXT, with the output of the entry
+//! before it at the root, or with the empty tree if no entry is before it. Anything else is the content of an op: pieces with ` | ` between them. A piece is
+//! the name of a piece in `pieces`, or a line of the assembler's text, or a mount. A mount is written as its input, its dest, and the names of the pieces
+//! that the mount has after its dest.
 
 use super::definitions::ENTRIES;
 use super::execution_definitions::EXECUTIONS;
@@ -12,7 +13,7 @@ use super::pieces::PIECES;
 use super::spelled::SPELLED;
 use std::process::Abort;
 
-/// Returns the lines after the line with `== ` and this name; in that line a description may follow the name after `:`.
+/// Returns the lines below the line `== NAME` or `== NAME: DESCRIPTION`, where NAME is the wanted name; `None` if there is no such line.
 pub(crate) fn block<'a>(text: &'a str, wanted: &str) -> Option<&'a str> {
     for block in text.split("== ") {
         if let Some((head, lines)) = block.split_once('\n') {
@@ -75,7 +76,7 @@ fn push_act(rt: &impl Abort, text: &mut String, before: usize, action: &str) {
     push(rt, text, "}\n}\n}\n}\n");
 }
 
-// Appends an execution of a script on the output of an entry, or on the empty tree if there is none.
+// Appends an exec of a script. At its root is the output of the entry with the number `before`, or the empty tree if there is no such number.
 fn push_script(rt: &impl Abort, text: &mut String, before: Option<usize>, script: &str) {
     push(rt, text, "op {\n");
     if let Some(before) = before {
@@ -98,7 +99,7 @@ fn entry_named(name: &str) -> Option<&'static str> {
         .or(block(SPELLED, name))
 }
 
-// Appends the text of the entry with number `at`, which has no name.
+// Appends the text of an entry that is written in one of the other forms, not by a name. Its number in the definition is `at`.
 fn push_made(rt: &impl Abort, text: &mut String, at: usize, entry: &str) {
     let before = at.saturating_sub(1);
     let (word, rest) = entry.split_once(' ').unwrap_or((entry, ""));
@@ -110,7 +111,7 @@ fn push_made(rt: &impl Abort, text: &mut String, at: usize, entry: &str) {
     }
 }
 
-/// Appends the text of the entries; nothing if none is written.
+/// Appends the text of the entries that a call has; appends nothing if it has none.
 pub(crate) fn push_entries(rt: &impl Abort, text: &mut String, entries: &str) {
     if entries.is_empty() {
         return;
