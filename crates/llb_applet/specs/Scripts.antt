@@ -21,7 +21,7 @@ commands_of number [] = Ok []
 commands_of number (call ∷ calls) =
     command_of number call.words >>= λ c. commands_of (number + 1) calls >>= λ cs. Ok (joined call.join c ∷ cs)
 
--- the commands of a text, or the first fault; if there is a bad position, `ShellSyntax` with this position
+-- the commands of a text, given its first bad position, if any: `ShellSyntax` with this position; without one the commands of its calls, or their first fault
 abbrev pub commands_unless : Option ℕ → List ℕ → Result (List Joined) ScriptFault
 commands_unless (Some place) text = Err (ShellSyntax place)
 commands_unless None text = commands_of 0 (calls_of text)

@@ -1,4 +1,4 @@
-//! Commands. A command is a call whose applet exists and whose words are in one of the applet's forms, so running it checks no form again.
+//! Commands. A command is a call whose applet exists and whose words fit one of the applet's forms. When a command runs, its form is not checked again.
 
 ghost use Rattle.std.specs.Prelude.{◌≡◌, List, ℕ, is_some, Ok};
 ghost use Rattle.llb_applet.specs.declared.applet.Applet.TheVariants.{Mkdir, Concat, Chmod, Test};
