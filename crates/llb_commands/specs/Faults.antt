@@ -19,7 +19,7 @@ abbrev pub output_text : OutputFault → List ℕ
 output_text output.Write = codes "182"
 output_text output.Memory = codes "184"
 
--- the text of a fault
+-- the text of a fault of the program: the number and the arguments that follow the word `fault`
 abbrev pub program_text : ProgramFault → List ℕ
 program_text (fault.Refused f) = load_text f
 program_text fault.Loading = codes "91"
@@ -45,11 +45,11 @@ source_text (source.Text f) = reading_text f
 source_text source.Reading = codes "184"
 source_text source.Adding = codes "92"
 
--- the line of a fault
+-- the line for the text of a fault
 abbrev pub fault_line : List ℕ → List ℕ
 fault_line text = codes "fault " ++ (text ++ codes "\n")
 
--- the status for a fault: 2 for a refusal of the input, else 3
+-- the exit status for a fault of the program: 2 for a refusal (`IsRefusal`), else 3
 abbrev pub status_of : ProgramFault → ℕ
 status_of (fault.Refused f) = 2
 status_of (fault.MissingLocal name) = 2

@@ -15,11 +15,11 @@ use Rattle.llb_commands.specs.declared.fault.OutputFault.TheVariants.{Write, Mem
 abbrev pub edge_text : Edge → List ℕ
 edge_text e = decimal e.vertex ++ (codes "." ++ decimal e.index)
 
--- an input in the graph's text, with a space before it
+-- the text of an input of a vertex: a space, and then the edge
 abbrev pub input_text : Edge → List ℕ
 input_text e = codes " " ++ edge_text e
 
--- the inputs of a vertex in the graph's text; a dash if there are none
+-- the text of the inputs of a vertex: each input with a space before it, or a space and a dash if there are none
 abbrev pub inputs_text : List Edge → List ℕ
 inputs_text [] = codes " -"
 inputs_text (e ∷ es) = flat_map input_text (e ∷ es)

@@ -183,7 +183,7 @@ fn locals_in<'a>(alloc: Global, matches: &ArgMatches<'a>) -> Result<Many<Local<'
     }
 }
 
-// Returns the number of workers that the matches of a command have.
+// Returns the number of workers in the matches of a command; if they have none, 2 for `step` and 1 for any other command.
 fn workers_in(command: Command, matches: &ArgMatches<'_>) -> u32
     ensures { IsWorkers command (rows_of (found_of matches.now)) result }
 {
@@ -194,7 +194,7 @@ fn workers_in(command: Command, matches: &ArgMatches<'_>) -> u32
     }
 }
 
-// Returns the file that the matches of a command have.
+// Returns the file that the matches of `step` name; `None` for any other command.
 fn file_in<'a>(command: Command, matches: &ArgMatches<'a>) -> Option<&'a str>
     ensures { IsFile command (rows_of (found_of matches.now)) result }
 {
@@ -204,7 +204,7 @@ fn file_in<'a>(command: Command, matches: &ArgMatches<'a>) -> Option<&'a str>
     }
 }
 
-// Returns the `Line` that a command and its matches make.
+// Returns the `Line` with this command, and with the workers, the file and the local sources in its matches.
 fn line_of<'a>(
     alloc: Global,
     command: Command,
@@ -245,7 +245,7 @@ fn refused_by<'a>(error: Error) -> WordsFault<'a>
     }
 }
 
-/// Returns what `command_of` returns, and for words that are refused also the page that they ask for.
+/// Returns what `command_of` returns; if the words are refused, the fault is returned with the page that the words ask for.
 pub(crate) fn line_or_page<'a, S: AsStr>(
     alloc: Global,
     words: &'a [S],

@@ -126,7 +126,7 @@ impl ProgramFault {
     }
 }
 
-/// Writes the fault's line, and returns its status; 3 if the line can't be written.
+/// Writes the line of a fault, and returns the exit status for this fault; 3 if the line can't be written.
 pub fn refusal<E: Write>(fault: &ProgramFault, err: &mut E) -> u8
     ensures { Tells (E.contents err.old) (E.contents err.new) fault.now result }
 {

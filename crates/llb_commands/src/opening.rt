@@ -13,7 +13,7 @@ use llb_loader::{Graph, Locals};
 use std::alloc::Global;
 use std::io::Read;
 
-/// Opens a board with this number of workers and no caches; fails with the reason if no board can be opened.
+/// Opens a board with this number of workers and with caches without instances; fails with the reason if no board can be opened.
 pub(crate) fn opened(
     alloc: Global,
     graph: Graph,

@@ -48,7 +48,7 @@ enum Ended {
     Failed(Board),
 }
 
-// Returns the board of a run, if the run was not cut short by a fault.
+// Returns the board of a run if no fault cut the run short; else fails with the program's fault for that fault.
 fn whole(board: Board, fault: Option<RunFault>) -> Result<Board, ProgramFault>
     ensures { IsWhole board fault result }
 {
@@ -97,7 +97,7 @@ fn print_over<W: Write>(alloc: Global, tree: &Tree, out: &mut W) -> Result<(), P
     print_tree(alloc, tree, &mut sink)
 }
 
-// Writes the text of the tree of an output; returns the board if the vertex is not done, and so has no such tree.
+// Writes the text of the tree that an edge leads to, an output of a vertex; returns the board if the vertex is not done, since there is no such tree then.
 fn print_output<W: Write>(
     alloc: Global,
     board: Board,

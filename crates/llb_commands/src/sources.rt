@@ -149,7 +149,7 @@ impl SourceFault {
     }
 }
 
-/// Writes the line of a local source that has no tree, and returns its fault's status; 3 if the line can't be written.
+/// Writes the line of the fault of a local source, and returns the exit status for this fault; 3 if the line can't be written.
 pub fn source_refusal<E: Write>(fault: &SourceFault, err: &mut E) -> u8
     ensures { TellsSource (E.contents err.old) (E.contents err.new) fault.now result }
 {

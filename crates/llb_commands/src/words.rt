@@ -99,7 +99,7 @@ impl WordsFault<'_> {
     }
 }
 
-/// Writes the line of refused words, and returns their fault's status; 3 if the line can't be written.
+/// Writes the line for refused words, and returns the exit status for their fault; 3 if the line can't be written.
 pub fn words_refusal<E: Write>(fault: &WordsFault<'_>, err: &mut E) -> u8
     ensures { TellsWords (E.contents err.old) (E.contents err.new) fault.now result }
 {

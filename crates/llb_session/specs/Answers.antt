@@ -26,12 +26,12 @@ use Rattle.llb_session.specs.Texts.{status_lines, record_line, record_lines, tre
 abbrev pub GrantsEvent : Event → Stepping → List ℕ → Stepping → Type 0
 GrantsEvent e s text t = (done_of s e ≡ Ok t) × (text ≡ record_line t (length t.board.events))
 
--- the chosen event (`chosen` of llb_model) is done, if there is one; else `end` is printed
+-- the chosen event (the event that `chosen` of llb_model returns) is done as `GrantsEvent` says; if there is none, `end` is printed
 abbrev pub GrantsNext : Option Event → Stepping → List ℕ → Stepping → Type 0
 GrantsNext None s text t = (t ≡ s) × (text ≡ codes "end\n")
 GrantsNext (Some e) s text t = GrantsEvent e s text t
 
--- the last line of a `go`: `stop` after a breakpoint, `end` if no chosen event is left
+-- the last line that a `go` prints: `stop` if its last event met a breakpoint, else `end`: there was no further event to do
 abbrev pub stop_line : Bool → List ℕ
 stop_line at_break = if at_break then codes "stop\n" else codes "end\n"
 
@@ -58,9 +58,9 @@ Grants ask.Caches s text t = (t ≡ s) × (text ≡ key_lines s.board.rows (leng
 Grants (ask.Cache k i) s text t = (t ≡ s) × (text ≡ tree_lines (cached_at s.board.rows s.board.state.store k i))
 Grants ask.Quit s text t = (t ≡ s) × (text ≡ [])
 
--- ---- a request that is refused for another cause than memory
+-- ---- a request that is refused, but not for want of memory
 
--- the request is refused with this fault, for another cause than refused memory
+-- the request is refused with this fault, but not for want of memory; only an event and `back` can be refused so
 abbrev pub Refuses : Request → Stepping → StepperFault → Type 0
 Refuses (ask.Event e) s fault = done_of s e ≡ Err fault
 Refuses ask.Back s fault = (s.past ≡ []) × (fault ≡ NothingBefore)
@@ -104,7 +104,7 @@ IsPerformed r s t (Err fault) = (t ≡ s) × FailsWith r s fault
 
 -- ---- a line
 
--- a refusal prints its line and changes nothing
+-- the request is refused: the line that reports the refusal is printed, and the stepper is unchanged
 pub record PrintsRefusal (r : Request) (s : Stepping) (text : List ℕ) (t : Stepping) : Type 0 where
   pub fault : StepperFault
   pub fails : FailsWith r s fault
@@ -122,7 +122,7 @@ abbrev pub AnswersAs : Option Request → Stepping → ℕ → List ℕ → Step
 AnswersAs None s n text t = PrintsNumber s n text t
 AnswersAs (Some r) s n text t = Grants r s text t ⊎ PrintsRefusal r s text t
 
--- whether a line may fail for want of memory: it is neither `clear` nor `quit`
+-- a line with this request, or without a request, may fail for want of memory: every line but `clear` and `quit`
 abbrev pub MayFail : Option Request → Type 0
 MayFail None = ⊤
 MayFail (Some r) = Wants r Memory

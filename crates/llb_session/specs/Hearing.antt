@@ -1,4 +1,4 @@
--- How a conversation uses bytes one by one, from one state to the next.
+-- How a conversation uses the bytes that it has read, one by one. Each byte leads from one state of the conversation to the next.
 use Rattle.std.specs.Prelude.{◌≡◌, ◌+◌, ◌<◌, length, ◌⊎◌, ℕ, Bool, true, false, List, [], ◌++◌, Result, Ok, Err}
 use Rattle.llb_stepper.specs.Stepping.{Stepping}
 use Rattle.llb_session.specs.declared.conversation.Pending.{Pending}
@@ -12,7 +12,7 @@ use Rattle.llb_session.specs.Conversation.{Talks, Talked, Standing, Answered, Qu
 abbrev pub standing : Stepping → Pending → Standing
 standing s p = record { session = s; number = p.answered + 1; line = p.line.items }
 
--- what is written for the line that was being read, once its line end is read; the result says whether the session goes on, or that writing failed
+-- what is written once the line end of the line in state p is read: true, the whole reply; false, nothing, as the line ends the session; `Write`, a prefix
 abbrev pub IsSaid : Standing → Stepping → Stream → Result Bool SessionFault → Type 0
 IsSaid p t out (Ok true) = (text : List ℕ) × Answers p.session p.number p.line text t × IsWritten out text
 IsSaid p t out (Ok false) = Quits p.line × (t ≡ p.session) × IsKept out
@@ -22,7 +22,7 @@ IsSaid p t out (Err (Unending interrupted)) = ⊥
 IsSaid p t out (Err Memory) = ⊥
 IsSaid p t out (Err TooLong) = ⊥
 
--- what is written at the end of the input for a last line without a line end
+-- what is written at the end of the input for the bytes after the last line end: their reply as a line; nothing if there are no bytes or they end the session
 abbrev pub IsLast : Standing → Stepping → Stream → Result (Unit {0}) SessionFault → Type 0
 IsLast p t out (Ok u) =
     ((text : List ℕ) × Talks p.session p.number (last_line p.line) text t × IsWritten out text)
@@ -33,13 +33,13 @@ IsLast p t out (Err (Unending interrupted)) = ⊥
 IsLast p t out (Err Memory) = ⊥
 IsLast p t out (Err TooLong) = ⊥
 
--- the replies to the lines that some bytes complete are written; p is the state before these bytes, and q the state after them
+-- the bytes lead from state p to state q, and the replies to the lines whose line ends are among these bytes are written
 pub record Went (p : Standing) (bytes : List ℕ) (q : Standing) (out : Stream) : Type 0 where
   pub text : List ℕ
   pub talked : Talked p bytes text q
   pub printed : IsWritten out text
 
--- how the use of bytes ends: the bytes `heard` were used, and the bytes `unheard`, which follow them, were not used
+-- what has happened when no further byte is used: the bytes `heard` were used, and the bytes `unheard`, which follow them, were not
 abbrev pub IsHeard : Standing → List ℕ → List ℕ → Standing → Stream → Result Bool SessionFault → Type 0
 IsHeard p heard unheard q out (Ok true) = (unheard ≡ []) × Went p heard q out
 IsHeard p heard unheard q out (Ok false) = AtLineEnd heard (λ bytes. Quit p bytes q.session out)
