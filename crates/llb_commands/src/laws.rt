@@ -18,8 +18,8 @@ use llb_stepper::{
 use llb_wire::Bytes;
 use std::alloc::Global;
 
-/// Proves that two definitions with the same entries, if one worker runs both on the same local trees, yield the same text of their result. One of them is the
-/// definition that a text is assembled to; the other is any bytes whose entries are those of the text.
+/// Proves that two definitions with the same entries, each run by one worker on the same local trees, yield the same text of their result if both yield a
+/// text. The first is the definition that a text is assembled to; the second is any bytes whose entries are those of the text.
 pub fn assembled_runs_alike(text: &[u8], entries: &Entries, bytes: &Bytes)
     ensures { RunsAlike text.now entries.now bytes.now }
 {

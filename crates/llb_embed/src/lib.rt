@@ -1,9 +1,9 @@
 //! The library for C: a handle holds local trees, a session and what the last call wrote, and each call has the contract of the program's
-//! command. It is built on `llb_commands`, and is linked as a static library; what its caller has to promise is in bindings/llbm.h.
+//! command. The crate is built on `llb_commands`, and is linked as a static library. bindings/llbm.h says what a caller has to promise.
 //!
 //! Types: `Llb`, a handle: a struct of zeroes until a call puts a value into it.
-//! Promise: each exported call does what the program's command does, on the bytes handed in and what the handle holds (clauses `ran`, `opened`, `replied` and
-//! the like); as much of the output and of the messages as fits is copied, and the whole length is returned (`copied`, `all`).
+//! Promise: each exported call does what the program's command does, on the bytes that it is given and the value in the handle (clauses `ran`, `opened`,
+//! `replied` and others). `llb_output` and `llb_messages` copy as many bytes as fit, and return the whole length (`copied`, `all`).
 //!
 //! A caller:
 //!

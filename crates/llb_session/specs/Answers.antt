@@ -122,7 +122,7 @@ abbrev pub AnswersAs : Option Request → Stepping → ℕ → List ℕ → Step
 AnswersAs None s n text t = PrintsNumber s n text t
 AnswersAs (Some r) s n text t = Grants r s text t ⊎ PrintsRefusal r s text t
 
--- a line with this request, or without a request, may fail for want of memory: every line but `clear` and `quit`
+-- a line may fail for want of memory, given its request, or nothing for a line that is no request; only `clear` and `quit` may not
 abbrev pub MayFail : Option Request → Type 0
 MayFail None = ⊤
 MayFail (Some r) = Wants r Memory

@@ -48,7 +48,7 @@ break_at word rest =
 abbrev pub break_in : List ℕ → Option Request
 break_in rest = if is_text rest (codes "fail") then Some (ask.Break Fails) else then_in (parted rest) (λ p. break_at p.0 p.1)
 
--- the request of a line `work ..`, given the text after `work`, and the number that this text is, if it is one: a worker, or a worker and one of its trees
+-- the request of a line `work W` or `work W I`, for worker W and its tree I, given the text after `work` and the number that this text spells, if any
 abbrev pub work_by : List ℕ → Option ℕ → Option Request
 work_by rest (Some w) = Some (ask.Work w)
 work_by rest None = option_map (λ (p : ℕ × ℕ). ask.WorkTree p.0 p.1) (pair_in rest)

@@ -59,7 +59,7 @@ fn bytes_of(alloc: Global, text: &str) -> Result<Vec<u8>, AllocError>
     Ok(bytes)
 }
 
-// Returns what a `go` prints: the lines of the events after the first `from`, and then the line `stop` or `end`, which says how the `go` ended.
+// Returns what a `go` prints: the lines of the record after its first `from` events, and then the line `stop` or `end`, which says how the `go` ended.
 fn go_text(
     alloc: Global,
     stepper: &Stepper,

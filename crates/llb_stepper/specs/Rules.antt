@@ -14,7 +14,7 @@ use Rattle.llb_stepper.specs.declared.fault.StepperFault.{StepperFault}
 use Rattle.llb_stepper.specs.declared.fault.StepperFault.TheVariants as fault
 use Rattle.llb_stepper.specs.Stepping.{Stepping, GoesBack, answered, onward, meets, meets_at, run_on}
 
--- whether a fault says that memory was refused, to the board or to the stepper itself
+-- whether memory was refused, to the board or to the stepper itself, according to this fault
 abbrev pub stepper_memory : StepperFault → Bool
 stepper_memory (fault.Board e) = walk_memory e
 stepper_memory fault.NothingBefore = false
@@ -25,7 +25,7 @@ stepper_memory fault.Memory = true
 abbrev pub GivesEvent : {X Y : Type 0} → (X → Y) → Result X StepperFault → Result Y StepperFault → Type 0
 GivesEvent = answer.Gives stepper_memory
 
--- the stepper after one event, or the board's refusal of the event
+-- the stepper after one event, or the fault of the refused event, given what the board's call `walk` returns
 abbrev pub done_by : Stepping → Result (BoardValue × short.Reply) WalkFault → Result Stepping StepperFault
 done_by s (Ok p) = Ok (onward s p.0)
 done_by s (Err e) = Err (fault.Board e)
@@ -42,7 +42,7 @@ ChosenIsDone s = (e : Event) (fault : StepperFault) → chosen s.board.build s.b
 abbrev pub ThereAndBack : Stepping → Type 0
 ThereAndBack s = (e : Event) (t u : Stepping) → done_of s e ≡ Ok t → GoesBack t u → u ≡ s
 
--- one event was granted, and `met` says whether it meets a breakpoint
+-- event e is granted on s, t is the stepper after the event, and `met` says whether the event meets a breakpoint
 abbrev pub MeetsOn : Stepping → Event → Stepping → Bool → Type 0
 MeetsOn s e t met = (b : BoardValue) × (r : Reply) × (answered s.board e ≡ Some (b, r)) × (t ≡ onward s b) × (met ≡ list_any (meets e r) s.breaks)
 

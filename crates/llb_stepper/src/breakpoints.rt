@@ -23,10 +23,10 @@ struct Kinds {
     failures: bool,
 }
 
-/// Breakpoints, in the order in which they were added. Contracts see the list of them.
+/// Breakpoints, in the order in which they were added. In contracts they are a list.
 #[derive(Drop)]
 pub(crate) struct Breakpoints {
-    /// The list that contracts see; code searches `kinds`.
+    /// The list that is the value in contracts; the code searches `kinds` instead.
     list: Vec<Break>,
     kinds: Kinds,
 }

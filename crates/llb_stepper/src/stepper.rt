@@ -20,8 +20,8 @@ use llb_wire::Text;
 use std::alloc::Global;
 use std::marker::Model;
 
-/// A board, what undoes each event that the stepper did on it, and breakpoints. Contracts see the board, the breakpoints, and the board before each of these
-/// events (the board before the last event comes first).
+/// A board, what undoes each event that the stepper did on it, and breakpoints. In contracts a stepper is the board, the breakpoints, and the board before each
+/// of these events (the board before the last event comes first).
 pub struct Stepper {
     alloc: Global,
     board: Board,
@@ -284,7 +284,7 @@ pub fn there_and_back(stepper: &Stepper)
     let _ = &stepper.board;
 }
 
-/// Proves that the board before the last `n` events is the board to which the record without its last `n` events leads, however these events were done.
+/// Proves that taking back the last `n` events, for any `n` that the stepper can take back, leads to the board after the record without these events.
 pub fn past_is_the_records(stepper: &Stepper)
     ensures { PastIsTheRecords stepper.now }
 {
@@ -298,9 +298,9 @@ pub fn record_is_the_run(stepper: &Stepper)
     let _ = &stepper.board;
 }
 
-/// Proves that the record of a board, done again event by event on the board as it was opened, leads to the board, however the events were first done. So a
-/// stepper without breakpoints that begins with the board as it was opened and replays the record ends on the board, with a line for each event of the record
-/// and its reply.
+/// Proves that the record of a board, done again event by event on the board as it was opened, leads to the board, however the events were first done. So
+/// suppose that a stepper without breakpoints begins with the board as it was opened, and replays the record. It ends on the board, and its lines are the
+/// events of the record and their replies.
 pub fn replay_is_the_run(board: &Board)
     ensures leads { IsReplayed board.now }
     ensures lines { ReplaysOnAStepper board.now }
@@ -308,8 +308,8 @@ pub fn replay_is_the_run(board: &Board)
     board.replays();
 }
 
-/// Proves that the reply that a call on a board returns is the last reply in the record of the board after the call. The calls are `claim`, `step`, `settle`,
-/// `cancel` and `land`; after `land` the last replies are those to the steps, and then the reply to the settle.
+/// Proves that the reply that a call on a board returns is the reply to the last event of the record after the call. This holds for `claim`, `step`, `settle`
+/// and `cancel`. For `land`, which appends steps and a settle to the record, the replies to all these events are the last replies of the record's run.
 pub fn replies_are_recorded(board: &Board)
     ensures { RepliesAreRecorded board.now }
 {
