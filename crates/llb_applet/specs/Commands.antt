@@ -1,5 +1,5 @@
--- The result of each command, applet by applet. If the command succeeds, with status 0, its result is the view after it. If it fails, with
--- status 1, its result is nothing, and the view is unchanged.
+-- The result of each command, applet by applet. If a command succeeds, with status 0, the result is the view after the command. If it fails,
+-- with status 1, the result is nothing, and the view is unchanged.
 use Rattle.std.specs.Prelude.{ℕ, Bool, true, false, if◌then◌else◌, List, [], ◌∷◌, ◌++◌, length, ◌-◌, slice_get, Option, Some, None, is_some}
 use Rattle.std.specs.Prelude.{option_map, option_and_then, unwrap_or, codes}
 use Rattle.std.specs.List.{flat_map}
@@ -22,7 +22,7 @@ infixl 10 ◌>>=◌
 abbrev pub ◌>>=◌ : {A B : Type 0} → Option A → (A → Option B) → Option B
 o >>= f = option_and_then f o
 
--- the path that a word is read as, from the cwd; nothing if the word is no path
+-- the path that a word is read as, relative to the setting's cwd; nothing if the word is no path
 abbrev pub path_by : Setting → List ℕ → Option (List (List ℕ))
 path_by setting word = result_ok (path_from setting.cwd word)
 
@@ -51,11 +51,11 @@ written view spot content = with_file view spot (meta_there (entry_at view spot)
 abbrev pub writes : Setting → Mounts → List ℕ → List ℕ → Option Mounts
 writes setting view word content = spot_by setting view word >>= λ spot. written view spot content
 
--- a word with a line end
+-- a word, followed by a line end
 abbrev pub line : List ℕ → List ℕ
 line word = word ++ 10 ∷ []
 
--- the view after a word and a line end are appended to the file at a spot, or written to a new file there
+-- the view after a line (a word and a line end) is appended to the file at a spot; if there is no file, the line is written to a new one
 abbrev pub appended : Mounts → Spot → List ℕ → Option Mounts
 appended view spot word = written view spot (unwrap_or (option_map (λ f. f.1) (file_in (entry_at view spot))) [] ++ line word)
 
@@ -96,7 +96,7 @@ is_kind Something e = is_some e
 is_kind File e = is_some (file_in e)
 is_kind Dir e = is_dir e
 
--- the line for a name in the directory at path p: the name, then `/` if it is the name of a directory, and a line end
+-- the line for a name in the directory at path p: the name, then `/` if the entry with this name is a directory, and a line end
 abbrev pub line_of : TreeMap → List (List ℕ) → List ℕ → List ℕ
 line_of t p name = name ++ (if is_dir (finite.get t (p ++ name ∷ [])) then codes "/" else []) ++ 10 ∷ []
 

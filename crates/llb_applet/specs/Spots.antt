@@ -76,7 +76,7 @@ with_new_dir view spot = if is_dest spot || is_some (entry_at view spot) then
 abbrev pub dir_at : TreeMap → List (List ℕ) → Result TreeMap TreeFault
 dir_at t p = if is_dir (finite.get t p) then Ok t else put_dir t p new_dir_meta
 
--- the tree after each of these directories that is missing is made: the first name's in p, each later name's in the directory of the name before; or the fault
+-- the tree after the directories p/a, p/a/b, p/a/b/c .. for the names a, b, c .. are made, apart from those that are there already; or the first fault
 abbrev pub dirs_below : TreeMap → List (List ℕ) → List (List ℕ) → Result TreeMap TreeFault
 dirs_below t p [] = Ok t
 dirs_below t p (n ∷ ns) = answer.◌>>=◌ (dir_at t (p ++ n ∷ [])) (λ next. dirs_below next (p ++ n ∷ []) ns)

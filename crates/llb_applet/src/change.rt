@@ -233,7 +233,7 @@ fn put_dirs(alloc: Global, tree: &mut Tree, path: &Path, names: &[Name]) -> Resu
     tree.graft(path, &made)
 }
 
-// Makes a tree of directories alone, one for each of the names, each in the directory of the name before it.
+// Makes a tree that has only directories, one for each of the names: the first in the root, each later one in the directory of the name before.
 fn chain(alloc: Global, names: &[Name]) -> Result<Tree, AllocError>
     requires { length names.now ≤ 128 }
     ensures { IfOk result (λ t. dirs_below empty_tree [] names.now ≡ Ok t) }

@@ -75,7 +75,7 @@ impl Same for Script {
     }
 }
 
-/// The state while calls are read: the commands of the whole calls, the join of the current call, and its words.
+/// The state while calls are read: the commands of the calls before the current one, the join of the current call, and its words so far.
 #[derive(Drop)]
 pub struct Reading {
     commands: Vec<Joined>,
@@ -146,7 +146,7 @@ fn read_shell(alloc: Global, text: &str) -> Result<Vec<Joined>, ScriptFault>
     read_text(alloc, text)
 }
 
-// Reads arguments as one call.
+// Reads arguments as the words of one call, and makes the call's command; or fails with the call's fault.
 fn read_call(alloc: Global, args: &[Text]) -> Result<Vec<Joined>, ScriptFault>
     requires { 0 < length args.now }
     ensures gives { Gives (λ c. c.items) result (commands_of 0 (first_call args.now ∷ [])) }

@@ -284,7 +284,8 @@ pub fn there_and_back(stepper: &Stepper)
     let _ = &stepper.board;
 }
 
-/// Proves that taking back the last `n` events, for any `n` that the stepper can take back, leads to the board after the record without these events.
+/// Proves for each `n`: the board before the last `n` events, if the stepper did them, is the board to which the record without these events leads, in whatever
+/// way they were done.
 pub fn past_is_the_records(stepper: &Stepper)
     ensures { PastIsTheRecords stepper.now }
 {
