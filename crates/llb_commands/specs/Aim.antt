@@ -24,8 +24,8 @@ pub record IsAccepted (definition : List ℕ) (graph : Numbered) (board : BoardV
   pub board_over : board.build.graph ≡ graph
   pub stepper_over : stepper.board.build.graph ≡ graph
 
--- The property holds for every board over the graph whose state is the one to which the table leads from the board's opening state, by the board's events.
--- So it holds for all local trees, any number of workers, and every interleaving of events.
+-- The property holds for every board over the graph, if the table leads by the board's events from the board's opening state to the board's state. So it
+-- holds for all local trees, any number of workers, and every interleaving of events.
 abbrev pub AfterAll : Numbered → (BoardValue → Type 0) → Type 0
 AfterAll graph Holds = (b : BoardValue) (replies : List Reply) → b.build.graph ≡ graph
     → run b.build (opening b.build b.opening) b.events ≡ Some (b.state, replies) → Holds b

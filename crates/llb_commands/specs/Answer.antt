@@ -62,7 +62,7 @@ abbrev pub plain_result : Build → Option TreeMap
 plain_result b = output_in (ending_in (outcome b b.graph.result.vertex)) b.graph.result.index
 
 -- The bytes are the definition of a graph. A run of the graph on these local trees by this number of workers has ended, and its result is a tree with this
--- text. No vertex has failed then. Without caches the tree is also the result's tree by the plain outcomes.
+-- text. Then no vertex has failed, and without caches the tree is also the result's tree by the plain outcomes.
 pub record Yields (workers : ℕ) (locals : List Local) (bytes text : List ℕ) : Type 0 where
   pub graph : Numbered
   pub loaded : IsGraphIn bytes graph

@@ -1,4 +1,4 @@
--- What a call returns that reads the rest of an input, within a limit on the bytes and a bound on the number of reads.
+-- The result of reading the rest of an input, within a limit on the bytes and a bound on the number of reads.
 use Rattle.std.specs.Prelude.{◌≡◌, ◌≤◌, ◌<◌, ◌+◌, ℕ, List, length, Option, Result, Ok, Err, IfSome, Vec}
 use Rattle.std.specs.Io.KnownBytes.{Consumes, IsAtEnd}
 use Rattle.std.specs.Global.{Global}

@@ -42,11 +42,11 @@ workers_rule = record (new_rule (codes "workers")) {
   parser = Some (Signed (pos 0) (pos 4294967295));
 }
 
--- the command `run`
+-- `clap`'s description of the command `run`
 abbrev pub run_app : App
 run_app = with_rule (with_rule (new_app (codes "run")) workers_rule) local_rule
 
--- the command `step`, with its file before the local sources
+-- `clap`'s description of the command `step`: the word for the file comes before the words for local sources
 abbrev pub step_app : App
 step_app = with_rule (with_rule (with_rule (new_app (codes "step")) workers_rule) file_rule) local_rule
 
@@ -54,11 +54,11 @@ step_app = with_rule (with_rule (with_rule (new_app (codes "step")) workers_rule
 abbrev pub with_plain : App → Text → App
 with_plain app name = with_subcommand app (new_app name).top
 
--- the program with the commands `run`, `show` and `step`
+-- `clap`'s description of the program with the commands `run`, `show` and `step`
 abbrev pub graph_app : App
 graph_app = with_subcommand (with_plain (with_subcommand base_app run_app.top) (codes "show")) step_app.top
 
--- the program with all commands: `run` takes workers and local sources, `step` a file, workers and local sources, and the others take no words
+-- `clap`'s description of the program: `run` takes workers and local sources, `step` takes these and a file, and the other commands take no words
 abbrev pub llbm_app : App
 llbm_app = with_plain (with_plain graph_app (codes "asm")) (codes "dis")
 

@@ -45,7 +45,7 @@ source_text (source.Text f) = reading_text f
 source_text source.Reading = codes "184"
 source_text source.Adding = codes "92"
 
--- the line for the text of a fault
+-- the line that reports a fault, given the text of the fault
 abbrev pub fault_line : List ℕ → List ℕ
 fault_line text = codes "fault " ++ (text ++ codes "\n")
 
@@ -59,7 +59,7 @@ status_of (fault.Assembling f) = 2
 status_of fault.TooLong = 2
 status_of _ = 3
 
--- the line of a fault is written, and the status is the fault's; or the line could not be written, and the status is 3
+-- the line of a fault with this text is written, and the status is `of_fault`; or the line could not be written, and the status is 3
 abbrev pub TellsLine : Option (List ℕ) → Option (List ℕ) → List ℕ → ℕ → ℕ → Type 0
 TellsLine err err' text of_fault status = ((status ≡ of_fault) × Appends err err' (fault_line text)) ⊎ (status ≡ 3)
 

@@ -11,7 +11,7 @@ use Rattle.llb_commands.specs.Output as output
 use Rattle.llb_commands.specs.declared.fault.OutputFault.{OutputFault}
 use Rattle.llb_commands.specs.declared.fault.OutputFault.TheVariants.{Write, Memory}
 
--- the text of an edge: its vertex and its index
+-- the text of an edge: the number of the vertex, a point, and the index of the vertex's output
 abbrev pub edge_text : Edge → List ℕ
 edge_text e = decimal e.vertex ++ (codes "." ++ decimal e.index)
 

@@ -34,7 +34,7 @@ abbrev pub told : Result TreeMap TextFault → Result TreeMap SourceFault
 told (Ok t) = Ok t
 told (Err e) = Err (Text e)
 
--- the result of reading a file as a tree: `ReadsTree` for its bytes, if they are known
+-- the result of reading a file as a tree: if the bytes of the file are known, `ReadsTree` holds for them
 abbrev pub Reads : Option (List ℕ) → Result TreeMap SourceFault → Type 0
 Reads known r = IfSome known (λ bytes. ReadsTree bytes r)
 
