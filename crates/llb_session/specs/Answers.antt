@@ -31,11 +31,11 @@ abbrev pub GrantsNext : Option Event → Stepping → List ℕ → Stepping → 
 GrantsNext None s text t = (t ≡ s) × (text ≡ codes "end\n")
 GrantsNext (Some e) s text t = GrantsEvent e s text t
 
--- the last line that a `go` prints: `stop` if its last event met a breakpoint, else `end`: there was no further event to do
+-- the last line that a `go` prints: `stop` if its last event met a breakpoint, and `end` if there was no further event to do
 abbrev pub stop_line : Bool → List ℕ
 stop_line at_break = if at_break then codes "stop\n" else codes "end\n"
 
--- a granted `go` changes stepper s to stepper t, and prints the lines of the events that the `go` did, and then the line that says how it ended
+-- a granted `go` changes stepper s to stepper t, and prints the lines of the events that the `go` did, and then the line `stop` or `end`
 pub record GrantsGo (s : Stepping) (text : List ℕ) (t : Stepping) : Type 0 where
   pub stop : Stop
   pub goes : IsGo s t stop
@@ -116,19 +116,19 @@ pub record PrintsNumber (s : Stepping) (n : ℕ) (text : List ℕ) (t : Stepping
   pub printed : (text ≡ fault_line (BadCommand n)) ⊎ (text ≡ fault_line Memory)
   pub same : t ≡ s
 
--- The reply to line n. A request that is granted prints its text, and one that is refused prints the line that reports its refusal. Any other line prints
--- fault 173 with n, or fault 174.
+-- The reply to line n. A granted request prints its text. A refused request prints the line that reports the refusal. A line that is no request prints fault
+-- 173 with n, or fault 174.
 abbrev pub AnswersAs : Option Request → Stepping → ℕ → List ℕ → Stepping → Type 0
 AnswersAs None s n text t = PrintsNumber s n text t
 AnswersAs (Some r) s n text t = Grants r s text t ⊎ PrintsRefusal r s text t
 
--- a line may fail for want of memory, given its request, or nothing for a line that is no request; only `clear` and `quit` may not
+-- a line may fail for want of memory, unless it asks for `clear` or `quit`; a line that is no request may fail too
 abbrev pub MayFail : Option Request → Type 0
 MayFail None = ⊤
 MayFail (Some r) = Wants r Memory
 
--- The reply to line n, given that memory for the line that reports a refusal was granted. A request that is granted prints its text, and one that is
--- refused prints the line that reports its refusal. A line that is no request prints fault 173 with n, and changes nothing.
+-- The reply to line n, if memory is granted for any line that reports a refusal. A granted request prints its text. A refused request prints the line that
+-- reports the refusal. A line that is no request prints fault 173 with n, and changes nothing.
 abbrev pub RespondsAs : Option Request → Stepping → ℕ → List ℕ → Stepping → Type 0
 RespondsAs None s n text t = (text ≡ fault_line (BadCommand n)) × (t ≡ s)
 RespondsAs (Some r) s n text t = Grants r s text t ⊎ PrintsRefusal r s text t
@@ -144,7 +144,7 @@ Responds s n line t (Ok (Some text)) = (¬ Quits line) × RespondsAs (request_in
 Responds s n line t (Ok None) = Quits line × (t ≡ s)
 Responds s n line t (Err e) = MayFail (request_in line) × (t ≡ s)
 
--- line n of a session, counted from 1, does not end the session: the text is its reply, and t is the stepper after it
+-- line n of a session, counted from 1, does not end the session; the text is the reply to the line, and t is the stepper after the line
 pub record Answers (s : Stepping) (n : ℕ) (line text : List ℕ) (t : Stepping) : Type 0 where
   pub goes_on : ¬ Quits line
   pub answers : AnswersAs (request_in line) s n text t
@@ -155,7 +155,7 @@ IsReplyWritten bytes out (Ok true) = IsWritten out bytes
 IsReplyWritten bytes out (Ok false) = ⊥
 IsReplyWritten bytes out (Err e) = IsPartWritten out bytes
 
--- what is written after a line: its reply, a prefix of it if the writer failed, or nothing if the line ends the session
+-- what is written for a line: the reply to the line, a prefix of the reply if the writer failed, or nothing if the line ends the session
 abbrev pub Says : Stepping → ℕ → List ℕ → Stepping → Stream → Result Bool Failed → Type 0
 Says s n line t out (Ok true) = (text : List ℕ) × Answers s n line text t × IsWritten out text
 Says s n line t out (Ok false) = Quits line × (t ≡ s) × IsKept out

@@ -10,7 +10,7 @@ use Rattle.llb_session.specs.Answers.{Answers, Quits}
 
 -- ---- lines
 
--- a line has no line end (byte 10) in it
+-- a line does not contain a line end (byte 10)
 abbrev pub IsLine : List ℕ → Type 0
 IsLine line = All (λ b. b ≢ 10) line
 
@@ -32,7 +32,7 @@ last_line (b ∷ rest) = (b ∷ rest) ∷ []
 
 -- ---- the replies to lines
 
--- the replies to some lines, counted from n, are this text; s is the stepper before them, and t the stepper after them
+-- the text is the replies to these lines, whose numbers begin with n; s is the stepper before the lines, and t the stepper after the lines
 abbrev pub Talks : Stepping → ℕ → List (List ℕ) → List ℕ → Stepping → Type 0
 Talks s n [] text t = (text ≡ []) × (t ≡ s)
 Talks s n (line ∷ lines) text t =
@@ -98,7 +98,7 @@ pub record Concluded (s : Stepping) (input : List ℕ) (t : Stepping) (out : Str
 
 -- ---- how a conversation ends
 
--- a conversation: the most bytes that it may use, the most reads that it may make, the stepper before and after it, and its two streams
+-- a conversation: the most bytes that it may use, the most reads that it may make, the stepper before and after the conversation, and its two streams
 pub record Conversation : Type 0 where
   pub limit : ℕ
   pub reads : ℕ

@@ -8,7 +8,7 @@ use Rattle.llb_session.specs.Answers.{Answers, Quits}
 use Rattle.llb_session.specs.Streams.{Stream, IsKept, IsWritten, IsPartWritten}
 use Rattle.llb_session.specs.Conversation.{Talks, Talked, Standing, Answered, Quit, CutShort, AtLineEnd, last_line}
 
--- the state of a conversation by its stepper and by what the code keeps: how many lines got a reply, and the bytes of the next line
+-- the state of a conversation, made from its stepper and from what the code keeps: how many lines got a reply, and the bytes of the next line so far
 abbrev pub standing : Stepping → Pending → Standing
 standing s p = record { session = s; number = p.answered + 1; line = p.line.items }
 
@@ -39,7 +39,7 @@ pub record Went (p : Standing) (bytes : List ℕ) (q : Standing) (out : Stream) 
   pub talked : Talked p bytes text q
   pub printed : IsWritten out text
 
--- what has happened when no further byte is used: the bytes `heard` were used, and the bytes `unheard`, which follow them, were not
+-- what is true once no further byte is used: the bytes `heard` were used, and the bytes `unheard`, which follow them, were not used
 abbrev pub IsHeard : Standing → List ℕ → List ℕ → Standing → Stream → Result Bool SessionFault → Type 0
 IsHeard p heard unheard q out (Ok true) = (unheard ≡ []) × Went p heard q out
 IsHeard p heard unheard q out (Ok false) = AtLineEnd heard (λ bytes. Quit p bytes q.session out)

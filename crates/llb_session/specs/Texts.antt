@@ -80,7 +80,7 @@ abbrev pub role_line_of : ℕ → Option Role → List ℕ
 role_line_of i None = []
 role_line_of i (Some role) = role_line i role
 
--- the lines of a worker's trees whose numbers are lower than the given number
+-- the lines for the trees that a worker works on, as far as their numbers are lower than the given number
 unfoldable pub role_lines : List Role → ℕ → List ℕ
 role_lines roles zero = []
 role_lines roles (suc i) = role_lines roles i ++ role_line_of i (slice_get roles i)

@@ -37,7 +37,7 @@ pub record AreKinds (breaks : List Break) (kinds : Kinds) : Type 0 where
   pub settles : (v : ℕ) → contains nat_cmp kinds.settles v ≡ list_any (is_at_settles v) breaks
   pub failures : kinds.failures ≡ list_any is_at_failures breaks
 
--- the new sets have the breakpoints of the old ones, and also breakpoint b
+-- the new sets have the breakpoints of the old sets, and also breakpoint b
 pub record AreKindsOfOneMore (old : Kinds) (b : Break) (new : Kinds) : Type 0 where
   pub claims : (v : ℕ) → contains nat_cmp new.claims v ≡ (contains nat_cmp old.claims v || is_at_claims v b)
   pub settles : (v : ℕ) → contains nat_cmp new.settles v ≡ (contains nat_cmp old.settles v || is_at_settles v b)

@@ -9,7 +9,7 @@ use Rattle.llb_board.specs.declared.board.walk.Walked.{Walked}
 use Rattle.llb_stepper.specs.declared.stop.Break.{Break}
 use Rattle.llb_stepper.specs.Stepping.{Stepping, answered}
 
--- the boards that result from board b when its events are taken back one after another, the last event first
+-- the boards that result from board b when these events, which were done last, are taken back one after another, the last event first
 abbrev pub past_of : BoardValue → List Walked → List BoardValue
 past_of b [] = []
 past_of b (w ∷ ws) = undone w.undo b ∷ past_of (undone w.undo b) ws

@@ -33,7 +33,7 @@ done_text v = decimal v ++ codes " done"
 abbrev pub failed_text : ℕ → List ℕ
 failed_text v = decimal v ++ codes " failed"
 
--- two numbers with a space between them
+-- the text of two numbers with a space between them
 abbrev pub pair_text : ℕ → ℕ → List ℕ
 pair_text a b = decimal a ++ (codes " " ++ decimal b)
 
@@ -42,7 +42,7 @@ abbrev pub fault_text : VertexFault → List ℕ
 fault_text (vertex.Action a n) = codes "fault " ++ pair_text a n
 fault_text (vertex.Exit c s) = codes "ran " ++ pair_text c s
 
--- the text for a claimed vertex: the kind of the vertex's op, and how many micro-steps the vertex has
+-- the text for a claimed vertex: the kind of the vertex's op, and how many micro-steps the vertex has; `none` if there is no vertex
 abbrev pub claimed_text : Option Vertex → List ℕ
 claimed_text (Some v) = kind_text v.op.kind ++ (codes " " ++ decimal v.steps)
 claimed_text None = codes "none"

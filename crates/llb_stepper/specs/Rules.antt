@@ -14,7 +14,7 @@ use Rattle.llb_stepper.specs.declared.fault.StepperFault.{StepperFault}
 use Rattle.llb_stepper.specs.declared.fault.StepperFault.TheVariants as fault
 use Rattle.llb_stepper.specs.Stepping.{Stepping, GoesBack, answered, onward, meets, meets_at, run_on}
 
--- whether memory was refused, to the board or to the stepper itself, according to this fault
+-- whether this fault says that memory was refused, to the board or to the stepper itself
 abbrev pub stepper_memory : StepperFault → Bool
 stepper_memory (fault.Board e) = walk_memory e
 stepper_memory fault.NothingBefore = false
