@@ -72,7 +72,7 @@ fn workers_arg<'a>(alloc: Global, help: &'a str) -> Arg<'a>
         .value_parser(value_parser!(u32))
 }
 
-// Returns the command `run`.
+// Returns `clap`'s description of the command `run`.
 fn run_command<'a>(alloc: Global) -> Result<clap::Command<'a>, AllocError>
     ensures app { IfOk result (λ c. app_of c ≡ run_app) }
     ensures plain { IfOk result (λ c. (fields_of c).has_globals ≡ false) }
@@ -83,7 +83,7 @@ fn run_command<'a>(alloc: Global) -> Result<clap::Command<'a>, AllocError>
         .arg(local_arg(alloc))
 }
 
-// Returns the command `step`.
+// Returns `clap`'s description of the command `step`.
 fn step_command<'a>(alloc: Global) -> Result<clap::Command<'a>, AllocError>
     ensures app { IfOk result (λ c. app_of c ≡ step_app) }
     ensures plain { IfOk result (λ c. (fields_of c).has_globals ≡ false) }
@@ -95,7 +95,7 @@ fn step_command<'a>(alloc: Global) -> Result<clap::Command<'a>, AllocError>
         .arg(local_arg(alloc))
 }
 
-// Returns a command that takes no words.
+// Returns `clap`'s description of a command that takes no words.
 fn plain_command<'a>(alloc: Global, name: &'a str, about: &'a str) -> clap::Command<'a>
     ensures app { app_of result ≡ new_app name.now }
     ensures plain { (fields_of result).has_globals ≡ false }
@@ -103,7 +103,7 @@ fn plain_command<'a>(alloc: Global, name: &'a str, about: &'a str) -> clap::Comm
     clap::Command::new(alloc, name).about(about)
 }
 
-// Returns the program's command line without its commands.
+// Returns `clap`'s description of the program without its commands.
 fn base_command<'a>(alloc: Global) -> Result<clap::Command<'a>, AllocError>
     ensures app { IfOk result (λ c. app_of c ≡ base_app) }
     ensures plain { IfOk result (λ c. (fields_of c).has_globals ≡ false) }
@@ -117,7 +117,7 @@ fn base_command<'a>(alloc: Global) -> Result<clap::Command<'a>, AllocError>
         .bin_name("llbm")
 }
 
-// Returns the program's command line with the commands `run`, `show` and `step`.
+// Returns `clap`'s description of the program with the commands `run`, `show` and `step`.
 fn graph_commands<'a>(alloc: Global) -> Result<clap::Command<'a>, AllocError>
     ensures { IfOk result (λ c. app_of c ≡ graph_app) }
 {
@@ -132,7 +132,7 @@ fn graph_commands<'a>(alloc: Global) -> Result<clap::Command<'a>, AllocError>
         .subcommand(step_command(alloc)?)
 }
 
-/// Returns the command line as it is given to `clap`, with all commands.
+/// Returns `clap`'s description of the program with all its commands.
 pub fn llbm_command<'a>(alloc: Global) -> Result<clap::Command<'a>, AllocError>
     ensures { IfOk result (λ c. app_of c ≡ llbm_app) }
 {
@@ -149,7 +149,7 @@ pub fn llbm_command<'a>(alloc: Global) -> Result<clap::Command<'a>, AllocError>
     graph_commands(alloc)?.subcommand(asm)?.subcommand(dis)
 }
 
-// Returns the command with this name; the caller promises that the name is a command's.
+// Returns the command with this name; the caller promises that a command has the name.
 fn command_named(name: &str) -> Command
     requires { IsName name.now }
     ensures { name_of result ≡ name.now }
@@ -234,7 +234,7 @@ fn bare_run<'a>(alloc: Global) -> Line<'a>
     }
 }
 
-// Returns the fault for a refusal by `clap`.
+// Returns the fault for a refusal by `clap`: 184 if memory was refused to `clap`, else 183 without a word.
 fn refused_by<'a>(error: Error) -> WordsFault<'a>
     ensures { IsFaultOfKind (kind_of error) result }
 {

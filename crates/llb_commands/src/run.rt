@@ -44,7 +44,7 @@ impl Gate for Open {
 enum Ended {
     // The text of the run's result is written.
     Printed,
-    // A vertex failed, so the result is no tree; the board has all vertices that failed.
+    // A vertex failed, so the result is no tree; the board says which vertices failed.
     Failed(Board),
 }
 

@@ -24,7 +24,7 @@ pub enum Command {
     Disassemble,
 }
 
-/// A local source: its name, and the file that has its tree's text.
+/// A local source: the name of the source, and the file with the text of its tree.
 #[derive(Clone, Copy, Debug)]
 pub struct Local<'a> {
     pub name: &'a str,
