@@ -1,5 +1,5 @@
-//! The library for C: a handle holds local trees, a session and what the last call wrote, and each call has the contract of the program's
-//! command. The crate is built on `llb_commands`, and is linked as a static library. bindings/llbm.h says what a caller has to promise.
+//! The library for C: a handle holds local trees, a session and what the last call wrote, and the contract of each call cites the definition of
+//! the program's command. The crate is built on `llb_commands`, and is linked as a static library. bindings/llbm.h says what a caller has to promise.
 //!
 //! Types: `Llb`, a handle: a struct of zeroes until a call puts a value into it.
 //! Promise: each exported call does what the program's command does, on the bytes that it is given and the value in the handle (clauses `ran`, `opened`,

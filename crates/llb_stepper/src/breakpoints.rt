@@ -12,7 +12,7 @@ use std::alloc::{AllocError, Global};
 use std::collections::BTreeSet;
 use std::marker::Model;
 
-// The breakpoints of a list as sets, one for each kind.
+// The breakpoints of a list as sets of vertices, and a flag for the breakpoint at failures.
 #[derive(Drop)]
 struct Kinds {
     /// The vertices with a breakpoint at their claims.

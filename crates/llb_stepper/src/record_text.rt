@@ -21,7 +21,7 @@ fn event_text(alloc: Global, event: Event) -> Result<String, AllocError>
     }
 }
 
-// Returns the text for a claim: the kind of the vertex's op, and how many micro-steps the vertex has.
+// Returns the text for a claim: the kind of the vertex's op, and how many micro-steps the vertex has; `none` if there is no vertex.
 fn claimed_text(alloc: Global, vertex: Option<&Vertex>) -> Result<String, AllocError>
     ensures { IfOk result (λ s. string_bytes s ≡ claimed_text (option_map (λ v. v.now) vertex.entry)) }
 {

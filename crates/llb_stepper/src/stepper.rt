@@ -299,9 +299,9 @@ pub fn record_is_the_run(stepper: &Stepper)
     let _ = &stepper.board;
 }
 
-/// Proves that the record of a board, done again event by event on the board as it was opened, leads to the board, however the events were first done. So
-/// suppose that a stepper without breakpoints begins with the board as it was opened, and replays the record. It ends on the board, and its lines are the
-/// events of the record and their replies.
+/// Proves that the record of a board, done again event by event on the board as it was opened, leads to the board, however the events were first done. If a
+/// stepper without breakpoints begins with the board as it was opened, and replays the record, it ends on the board, and its lines are the events of the
+/// record and their replies.
 pub fn replay_is_the_run(board: &Board)
     ensures leads { IsReplayed board.now }
     ensures lines { ReplaysOnAStepper board.now }
