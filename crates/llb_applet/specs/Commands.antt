@@ -69,7 +69,7 @@ target_of view source path =
     spot_of view path >>= λ spot.
     if is_dir (entry_at view spot) then (last_name source >>= λ name. result_ok (below path name) >>= spot_of view) else Some spot
 
--- the view after the file that the first word names is copied, with its mode and owner, to the path that the second word names; nothing if that is refused
+-- the view after the file that the first word names is copied, with its mode and owner, to the path that the second word names; nothing if the copy fails
 abbrev pub copied : Setting → Mounts → List ℕ → List ℕ → Option Mounts
 copied setting view from to =
     path_by setting from >>= λ source.

@@ -5,7 +5,7 @@ use Rattle.std.specs.Global.{Global}
 use Rattle.llb_commands.specs.declared.bounded.ReadFault.{ReadFault}
 use Rattle.llb_commands.specs.declared.bounded.ReadFault.TheVariants.{TooLong, Failed, Unending, Memory}
 
--- at most `limit` bytes were read, and the bytes that followed them are the rest of the input
+-- at most `limit` bytes were read from the input, and what remains of the input is the bytes that follow them
 pub record Took (limit : ℕ) (left left' : Option (List ℕ)) : Type 0 where
   pub bytes : List ℕ
   pub few : length bytes ≤ limit

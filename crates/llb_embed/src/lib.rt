@@ -3,7 +3,7 @@
 //!
 //! Types: `Llb`, a handle: a struct of zeroes until a call puts a value into it.
 //! Promise: each exported call does what the program's command does, on the bytes that it is given and the value in the handle (clauses `ran`, `opened`,
-//! `replied` and others). `llb_output` and `llb_messages` copy as many bytes as fit, and return the whole length (`copied`, `all`).
+//! `replied` and others). The calls that copy the output or the messages copy as many bytes as fit, and return the whole length (`copied`, `all`).
 //!
 //! A caller:
 //!

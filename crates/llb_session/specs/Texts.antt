@@ -105,7 +105,7 @@ abbrev pub seed_text : Option Seed → List ℕ
 seed_text None = codes "-"
 seed_text (Some s) = s.digest ++ (codes "." ++ decimal s.index)
 
--- the line for key k of the caches, which has n instances
+-- the line for key k of the caches, a key with n instances
 abbrev pub key_line : ℕ → Key → ℕ → List ℕ
 key_line k key n =
     decimal k

@@ -75,7 +75,7 @@ fn go_text(
     Ok(text)
 }
 
-// Does the chosen events up to a stop, and returns their lines; if memory for the lines is refused, takes the events back.
+// Does chosen events up to a stop (`Stepper::go`), and returns their lines; if memory for the lines is refused, takes the events back.
 fn go(alloc: Global, stepper: &mut Stepper) -> Result<Vec<u8>, StepperFault>
     ensures { IsPerformed ask.Go stepper.old stepper.new result }
 {

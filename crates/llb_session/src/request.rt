@@ -19,7 +19,7 @@ pub enum Request {
     Event(Event),
     /// Does the chosen event, which is the one that `Stepper::next` returns.
     Next,
-    /// Does the chosen events, up to one that meets a breakpoint.
+    /// Does chosen events one after another, until one meets a breakpoint or there is none.
     Go,
     /// Takes the last event back.
     Back,

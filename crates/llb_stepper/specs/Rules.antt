@@ -34,7 +34,7 @@ done_by s (Err e) = Err (fault.Board e)
 abbrev pub done_of : Stepping → Event → Result Stepping StepperFault
 done_of s e = done_by s (walk_of s.board e)
 
--- the chosen event is refused only for want of memory
+-- the chosen event (the event that `chosen` of llb_model returns) is refused only for want of memory
 abbrev pub ChosenIsDone : Stepping → Type 0
 ChosenIsDone s = (e : Event) (fault : StepperFault) → chosen s.board.build s.board.state ≡ Some e → done_of s e ≡ Err fault → stepper_memory fault ≡ true
 

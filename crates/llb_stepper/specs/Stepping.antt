@@ -142,12 +142,12 @@ abbrev pub ChosenThen : Option (BoardValue × Reply) → (BoardValue → Type 0)
 ChosenThen None Are = ⊥
 ChosenThen (Some p) Are = Are p.0
 
--- each event is granted, and is the chosen event of the board before it
+-- each event of the list is granted, and is the event that `chosen` of llb_model returns for the board before the event
 unfoldable pub AreChosen : BoardValue → List Event → Type 0
 AreChosen b [] = Unit {0}
 AreChosen b (e ∷ es) = (chosen b.build b.state ≡ Some e) × ChosenThen (answered b e) (λ c. AreChosen c es)
 
--- Stepper t is s after a `go`: chosen events were done, up to a stop. If no breakpoint was met, no event can be chosen on the board after these events.
+-- Stepper t is s after a `go`: chosen events (`AreChosen`) were done, up to a stop. If no breakpoint was met, there is no chosen event on the board of t.
 pub record IsGo (s t : Stepping) (p : Stop) : Type 0 where
   pub events : List Event
   pub are : AreChosen s.board events
