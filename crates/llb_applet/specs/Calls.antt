@@ -73,7 +73,7 @@ form Listing ws = two_words ws (λ path out. Some (command.Listing path out))
 form Envfile ws = one_word ws (λ out. command.Envfile out)
 form Sha256 ws = two_words ws (λ path out. Some (command.Sha256 path out))
 
--- the list has `count` words, and `word` is its first word, or is empty if the list is empty
+-- the list has `count` words, and `word` is the first of these words, or an empty word if the list is empty
 pub record IsFront (words : List Word) (count : ℕ) (word : Word) : Type 0 where
   pub counted : count ≡ length words
   pub first : word ≡ slice_index_or words 0 []

@@ -79,7 +79,7 @@ call_by join words = record { join = join; words = words }
 abbrev pub first_call : List (List ℕ) → Call
 first_call words = call_by Then words
 
--- the current call and the later ones, given the next word: a separator ends the current call and begins a new one; any other word is added to the current call
+-- the current and the later calls, given the next word: a separator ends the current call and begins a new call; any other word is added to the current call
 abbrev pub at_word : Join → List (List ℕ) → List ℕ → Option Join → (Join → List (List ℕ) → List Call) → List Call
 at_word join call word (Some next) rest = call_by join call ∷ rest next []
 at_word join call word None rest = rest join (call ++ word ∷ [])

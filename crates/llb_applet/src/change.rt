@@ -42,8 +42,8 @@ fn settled(change: Result<(), TreeFault>) -> Result<bool, Memory>
     }
 }
 
-/// Puts a file at a spot. Returns false, and leaves the view as it was, if the change is refused, as it always is if the spot
-/// is a mount's dest and no entry is there. Fails with 75 `Memory` alone; then too the view is as it was.
+/// Puts a file at a spot. Returns false, and leaves the view as it was, if the change is refused, or if the spot is a mount's
+/// dest and no entry is there. Fails with 75 `Memory` alone; then too the view is as it was.
 pub fn put_file(
     alloc: Global,
     view: &mut View,
@@ -124,8 +124,9 @@ fn share_there(
     }
 }
 
-/// Sets the mode and the owner of the directory at a spot, or makes a directory with them if nothing is there. Returns false,
-/// and leaves the view as it was, if the change is refused. Fails with 75 `Memory` alone; then too the view is as it was.
+/// Sets the mode and the owner of the directory at a spot; if nothing is there, makes a directory with this mode and owner.
+/// Returns false, and leaves the view as it was, if the change is refused. Fails with 75 `Memory` alone; then too the view is
+/// as it was.
 pub fn put_dir(alloc: Global, view: &mut View, spot: &Spot, meta: Meta) -> Result<bool, Memory>
     requires { spot.now.mount < length view.old }
     ensures { Does result (with_dir view.old spot.now meta) view.old view.new }
@@ -140,7 +141,7 @@ pub fn put_dir(alloc: Global, view: &mut View, spot: &Spot, meta: Meta) -> Resul
     }
 }
 
-/// Removes what is at and below a spot. Returns false, and leaves the view as it was, if the removal is refused, as it always is at a mount's dest. Fails with
+/// Removes what is at and below a spot. Returns false, and leaves the view as it was, if the spot is a mount's dest, or if the removal is refused. Fails with
 /// 75 `Memory` alone; then too the view is as it was.
 pub fn remove(alloc: Global, view: &mut View, spot: &Spot) -> Result<bool, Memory>
     requires { spot.now.mount < length view.old }

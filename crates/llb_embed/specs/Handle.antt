@@ -20,13 +20,13 @@ pub record IsEmpty (h : Held) : Type 0 where
   pub output : h.output.items ≡ []
   pub messages : h.messages.items ≡ []
 
--- a call starts with the value that the handle holds, or with an empty value if the handle holds none
+-- a call starts with the value that the handle holds, or with an empty value if the handle holds no value
 abbrev pub StartsWith : Option Held → Held → Type 0
 StartsWith None start = IsEmpty start
 StartsWith (Some h) start = start ≡ h
 
--- A call changes the value that the handle holds as the relation `Leads` says. Or the handle held none, and memory for an empty value was refused: then the
--- status is 3, and the handle still holds none.
+-- A call changes the value that the handle holds as the relation `Leads` says. Or the handle held no value, and memory for an empty value was refused: then
+-- the status is 3, and the handle still holds no value.
 abbrev pub Calls : (Held → Held → ℕ → Type 0) → Option Held → Option Held → ℕ → Type 0
 Calls Leads old None status = (status ≡ 3) × (old ≡ None)
 Calls Leads old (Some new) status = (start : Held) × StartsWith old start × Leads start new status

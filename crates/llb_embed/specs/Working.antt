@@ -1,4 +1,4 @@
--- What each call does to the value in the handle: a relation of the value before the call, the value after it and the status, by the program's commands.
+-- What each call does to the value in the handle, in terms of the program's commands: how the values before and after the call and the status are related.
 use Rattle.std.specs.Prelude.{◌≡◌, ◌+◌, ◌⊎◌, ℕ, List, [], Option, Some, None, Ok, Err, MatchOption, IsUtf8}
 use Rattle.llb_tree.specs.Tree.{TreeMap}
 use Rattle.llb_loader.specs.Graph.{Numbered}
