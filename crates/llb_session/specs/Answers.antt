@@ -41,7 +41,7 @@ pub record GrantsGo (s : Stepping) (text : List ℕ) (t : Stepping) : Type 0 whe
   pub goes : IsGo s t stop
   pub lines : text ≡ record_lines t (length s.board.events) (length t.board.events - length s.board.events) ++ stop_line stop.at_break
 
--- the request is granted on stepper s: it prints the text, and t is the stepper after it
+-- the request is granted on stepper s and prints the text; t is the stepper after the request
 abbrev pub Grants : Request → Stepping → List ℕ → Stepping → Type 0
 Grants (ask.Break b) s text t = (t ≡ record s { breaks = s.breaks ++ b ∷ [] }) × (text ≡ [])
 Grants ask.Clear s text t = (t ≡ record s { breaks = [] }) × (text ≡ [])
