@@ -130,7 +130,7 @@ abbrev pub FailsAll : ℕ → List Local → Stream → List ℕ → Type 0
 FailsAll workers locals errors bytes = (y : YieldsNone workers locals bytes)
     × IsWritten errors (failed_lines (build_of locals y.graph) y.state (length y.graph.vertices))
 
--- How a run by a number of workers ends. Status 0: the text of the result is written, and nothing else. 1: a vertex failed, so that the result is no tree, and
+-- How a run by a number of workers ends. Status 0: the text of the result is written, and nothing else. 1: a vertex failed, so the result is no tree, and
 -- nothing is written but the lines of the failures. 2: the bytes are refused, a local tree is missing, or the number of workers is not 1 to 64, and nothing is
 -- written but the line with this fault. 3: a device, a thread or memory failed; nothing is written, or a prefix of the text.
 abbrev pub Runs : ℕ → List Local → Io → ℕ → Type 0

@@ -50,7 +50,7 @@ abbrev pub is_memory : OutputFault → Bool
 is_memory Memory = true
 is_memory Write = false
 
--- a call's result is the expected one, a value or a fault; or the call fails for want of memory
+-- a call returns the value or the fault that is expected, or it fails for want of memory
 abbrev pub Gives : {X Y : Type 0} → (X → Y) → Result X OutputFault → Result Y OutputFault → Type 0
 Gives = answer.Gives is_memory
 

@@ -15,7 +15,7 @@ use Rattle.llb_commands.specs.declared.sources.SourceFault.TheVariants.{Read, To
 abbrev pub limit : ℕ
 limit = 67108864
 
--- the most reads that may be made of an input, with the read that meets its end
+-- the most reads that may be made of an input; the read that meets the end counts too
 abbrev pub most_reads : ℕ
 most_reads = 134217728
 

@@ -49,14 +49,14 @@ pub record AreUnchanged (old new : Kinds) : Type 0 where
   pub settles : (v : ℕ) → contains nat_cmp new.settles v ≡ contains nat_cmp old.settles v
   pub failures : new.failures ≡ old.failures
 
--- whether an event meets a breakpoint of the sets by the event alone: it is a claim of a vertex with a breakpoint at its claims
+-- whether an event, whatever the reply to it, meets a breakpoint of the sets: it is a claim of a vertex in the set `claims`
 abbrev pub is_met_by_event : Kinds → Event → Bool
 is_met_by_event kinds (Claim w v) = contains nat_cmp kinds.claims v
 is_met_by_event kinds (Step w) = false
 is_met_by_event kinds (Settle w) = false
 is_met_by_event kinds (Cancel w) = false
 
--- whether an event meets a breakpoint of the sets by its reply: it is a settle of a vertex with a breakpoint at its settles, or of a vertex that failed
+-- whether a reply meets a breakpoint of the sets: it is the reply to a settle of a vertex in the set `settles`, or of a failed vertex if `failures` is true
 abbrev pub is_met_by_reply : Kinds → Reply → Bool
 is_met_by_reply kinds (reply.Settled (settled.Done v)) = contains nat_cmp kinds.settles v
 is_met_by_reply kinds (reply.Settled (settled.Failed v)) = kinds.failures || contains nat_cmp kinds.settles v

@@ -21,7 +21,7 @@ stepper_memory fault.NothingBefore = false
 stepper_memory (fault.BadCommand n) = false
 stepper_memory fault.Memory = true
 
--- a call's result is the expected one, a value or a fault; or the call fails for want of memory
+-- a call returns the value or the fault that is expected, or it fails for want of memory
 abbrev pub GivesEvent : {X Y : Type 0} → (X → Y) → Result X StepperFault → Result Y StepperFault → Type 0
 GivesEvent = answer.Gives stepper_memory
 
