@@ -61,7 +61,8 @@ pub enum ProgramFault {
     /// 123: memory was refused while the board was opened.
     Opening,
     /// 151: memory was refused in the run; 153: a thread could not be started. 152 (the gate stopped a worker) and 154 (the copy
-    /// of the opening board that the lock keeps differs from the board of the run) never end a run of the program.
+    /// of the opening board that is kept under the lock differs from the board that the run was called with) never end a run of
+    /// the program.
     Run(RunFault),
     /// 34 and 35: the result's text was not written, or not all of it.
     Print(PrintFault),

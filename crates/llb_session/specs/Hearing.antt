@@ -12,7 +12,7 @@ use Rattle.llb_session.specs.Conversation.{Talks, Talked, Standing, Answered, Qu
 abbrev pub standing : Stepping → Pending → Standing
 standing s p = record { session = s; number = p.answered + 1; line = p.line.items }
 
--- what is written for the line of state p once its line end is read: the reply (true), nothing if the line ends the session (false), or part of the reply
+-- what is written for the line of state p once its line end is read: the reply, nothing if the line ends the session, or a prefix of the reply on `Write`
 abbrev pub IsSaid : Standing → Stepping → Stream → Result Bool SessionFault → Type 0
 IsSaid p t out (Ok true) = (text : List ℕ) × Answers p.session p.number p.line text t × IsWritten out text
 IsSaid p t out (Ok false) = Quits p.line × (t ≡ p.session) × IsKept out
