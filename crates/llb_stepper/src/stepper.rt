@@ -207,8 +207,8 @@ impl Stepper {
         self.back_by(if count < depth { count } else { depth });
     }
 
-    /// Does the event that `next` returns, again and again, until one meets a breakpoint or the board is complete; does at least one event, unless the board is
-    /// complete at the start. Fails with 171 141 or 174 alone; then all events that the call did are taken back.
+    /// Does the event that `next` returns, again and again, until an event meets a breakpoint or the board is complete. Does at least one event, unless the
+    /// board is complete at the start. Fails with 171 141 or 174 alone; then all events that the call did are taken back.
     pub fn go(&mut self) -> Result<Stop, StepperFault>
         ensures goes { IfOk result (IsGo self.old self.new) }
         ensures refused { IfErr result (λ e. stepper_memory e ≡ true) }
