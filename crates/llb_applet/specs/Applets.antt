@@ -1,4 +1,4 @@
--- The applets, and their names.
+-- The applets (the thirteen small commands that a script can call), and their names.
 use Rattle.std.specs.Prelude.{ℕ, nat_eq, Bool, List, [], ◌∷◌, Option, find, codes}
 use Rattle.std.specs.Cmp.Lexicographic.{pointwise}
 use Rattle.llb_applet.specs.declared.applet.Applet.{Applet}

@@ -1,4 +1,4 @@
--- The command that the words of a call make: the first word is an applet's name, and the others are in one of the applet's forms.
+-- The command that the words of a call make. The first word has to be the name of an applet, and the other words have to fit one of this applet's forms.
 use Rattle.std.specs.Prelude.{◌≡◌, ℕ, true, false, if◌then◌else◌, List, [], ◌∷◌, length, drop, Option, Some, None, option_map}
 use Rattle.std.specs.Prelude.{option_and_then, Result, Err, codes, slice_index_or}
 use Rattle.std.specs.Option.{ok_or, option_or}
@@ -30,7 +30,7 @@ pair (a ∷ []) = None
 pair (a ∷ b ∷ []) = Some (a, b)
 pair (a ∷ b ∷ c ∷ ws) = None
 
--- the command of an applet that takes no words; nothing if there are words
+-- the given command, which takes no words, if the list is empty; nothing if the list has words
 abbrev pub no_words : List Word → Command → Option Command
 no_words [] c = Some c
 no_words (w ∷ ws) c = None
@@ -43,14 +43,14 @@ one_word ws f = option_map f (alone ws)
 abbrev pub two_words : List Word → (Word → Word → Option Command) → Option Command
 two_words ws f = option_and_then (λ p. f p.0 p.1) (pair ws)
 
--- the kind of entry for which an option of `test` asks, if the word is such an option
+-- the kind of entry that `test` asks for by its option: `Something` for `-e`, `File` for `-f`, `Dir` for `-d`; nothing for any other word
 abbrev pub kind_of : Word → Option Kind
 kind_of word =
     if spells (codes "-e") word then Some Something
     else (if spells (codes "-f") word then Some File
     else (if spells (codes "-d") word then Some Dir else None))
 
--- the command `concat` with an output and one or more inputs
+-- the command `concat`, whose first word is its output and whose other words, at least one, are its inputs; nothing if there are fewer than two words
 abbrev pub concat_of : List Word → Option Command
 concat_of [] = None
 concat_of (out ∷ []) = None
@@ -73,16 +73,16 @@ form Listing ws = two_words ws (λ path out. Some (command.Listing path out))
 form Envfile ws = one_word ws (λ out. command.Envfile out)
 form Sha256 ws = two_words ws (λ path out. Some (command.Sha256 path out))
 
--- the list has `count` words, and `word` is its first word, or is empty if the list is empty
+-- the list has `count` words, and `word` is the first of these words, or an empty word if the list is empty
 pub record IsFront (words : List Word) (count : ℕ) (word : Word) : Type 0 where
   pub counted : count ≡ length words
   pub first : word ≡ slice_index_or words 0 []
 
--- the command of a call, given the applet that the first word names; a fault if the word names no applet, or if the other words are in none of its forms
+-- the command of a call, given the applet that the first word names, if any: `NoApplet` without an applet, `Usage` if the other words fit no form of the applet
 abbrev pub command_by : ℕ → List Word → Option Applet → Result Command ScriptFault
 command_by number call None = Err (NoApplet (slice_index_or call 0 []))
 command_by number call (Some applet) = ok_or (form applet (drop 1 call)) (Usage number)
 
--- the command of the call with this number: its first word is an applet's name, and its other words are in one of this applet's forms; else a fault
+-- the command of the call with this number; a fault if the first word is no applet's name, or if the other words fit none of this applet's forms
 abbrev pub command_of : ℕ → List Word → Result Command ScriptFault
 command_of number call = command_by number call (applet_of (slice_index_or call 0 []))

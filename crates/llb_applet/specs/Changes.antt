@@ -1,4 +1,4 @@
--- The results of changes of a view: whether they are done, and the view after them.
+-- What a change of a view may return, and the view after it. A change is done, is refused, or fails for want of memory.
 use Rattle.std.specs.Prelude.{◌≡◌, ℕ, Bool, true, false, Option, Some, None, Result, Ok, Err}
 use Rattle.llb_tree.specs.declared.fault.TreeFault.{TreeFault}
 use Rattle.llb_tree.specs.declared.fault.TreeFault.TheVariants as tree
@@ -13,7 +13,7 @@ PutsAside (Ok (Some t)) old mount new = ((mount_at old mount).readonly ≡ false
 PutsAside (Ok None) old mount new = ((mount_at old mount).readonly ≡ true) × (new ≡ old)
 PutsAside (Err e) old mount new = new ≡ old
 
--- whether a change is done; any fault of the tree but `Memory` means that the change is refused
+-- the result of a change of a tree as a truth value: true if it is done, false if it fails with any fault but `Memory`; `Memory` stays a fault
 abbrev pub settled : Result (Unit {0}) TreeFault → Result Bool Memory
 settled (Ok _) = Ok true
 settled (Err tree.Memory) = Err (record {})

@@ -1,5 +1,5 @@
--- The results of commands, applet by applet: the view after the command, with status 0; or nothing, with status 1,
--- and then the view is unchanged.
+-- The result of each command, applet by applet. If a command succeeds, with status 0, the result is the view after the command. If it fails,
+-- with status 1, the result is nothing, and the view is unchanged.
 use Rattle.std.specs.Prelude.{ℕ, Bool, true, false, if◌then◌else◌, List, [], ◌∷◌, ◌++◌, length, ◌-◌, slice_get, Option, Some, None, is_some}
 use Rattle.std.specs.Prelude.{option_map, option_and_then, unwrap_or, codes}
 use Rattle.std.specs.List.{flat_map}
@@ -22,7 +22,7 @@ infixl 10 ◌>>=◌
 abbrev pub ◌>>=◌ : {A B : Type 0} → Option A → (A → Option B) → Option B
 o >>= f = option_and_then f o
 
--- the path that a word is read as, from the cwd; nothing if the word is no path
+-- the path that a word is read as, relative to the setting's cwd; nothing if the word is no path
 abbrev pub path_by : Setting → List ℕ → Option (List (List ℕ))
 path_by setting word = result_ok (path_from setting.cwd word)
 
@@ -51,11 +51,11 @@ written view spot content = with_file view spot (meta_there (entry_at view spot)
 abbrev pub writes : Setting → Mounts → List ℕ → List ℕ → Option Mounts
 writes setting view word content = spot_by setting view word >>= λ spot. written view spot content
 
--- a word with a line end
+-- a word, followed by a line end
 abbrev pub line : List ℕ → List ℕ
 line word = word ++ 10 ∷ []
 
--- the view after a word and a line end are appended to the file at a spot, or written to a new file there
+-- the view after a line (a word and a line end) is appended to the file at a spot; if there is no file, the line is written to a new one
 abbrev pub appended : Mounts → Spot → List ℕ → Option Mounts
 appended view spot word = written view spot (unwrap_or (option_map (λ f. f.1) (file_in (entry_at view spot))) [] ++ line word)
 
@@ -69,7 +69,7 @@ target_of view source path =
     spot_of view path >>= λ spot.
     if is_dir (entry_at view spot) then (last_name source >>= λ name. result_ok (below path name) >>= spot_of view) else Some spot
 
--- the view after a file is copied with its mode and owner
+-- the view after the file that the first word names is copied, with its mode and owner, to the path that the second word names; nothing if the copy fails
 abbrev pub copied : Setting → Mounts → List ℕ → List ℕ → Option Mounts
 copied setting view from to =
     path_by setting from >>= λ source.
@@ -84,7 +84,7 @@ abbrev pub joined : Setting → Mounts → List (List ℕ) → Option (List ℕ)
 joined setting view [] = Some []
 joined setting view (word ∷ words) = file_by setting view word >>= λ file. joined setting view words >>= λ more. Some (file.1 ++ more)
 
--- the view after the mode of the entry at a spot is changed, but not the entry's owner and content; nothing if there is no entry
+-- the view after the entry at a spot, if there is one, gets this mode and keeps its owner and content; nothing if there is no entry or the change is refused
 abbrev pub with_mode : Mounts → Spot → ℕ → Option Entry → Option Mounts
 with_mode view spot mode None = None
 with_mode view spot mode (Some (tree.Dir m)) = with_dir view spot (record m { mode = mode })
@@ -96,7 +96,7 @@ is_kind Something e = is_some e
 is_kind File e = is_some (file_in e)
 is_kind Dir e = is_dir e
 
--- the line for a name in the directory at path p: the name, then `/` if it is the name of a directory, and a line end
+-- the line for a name in the directory at path p: the name, then `/` if the entry with this name is a directory, and a line end
 abbrev pub line_of : TreeMap → List (List ℕ) → List ℕ → List ℕ
 line_of t p name = name ++ (if is_dir (finite.get t (p ++ name ∷ [])) then codes "/" else []) ++ 10 ∷ []
 
@@ -104,7 +104,7 @@ line_of t p name = name ++ (if is_dir (finite.get t (p ++ name ∷ [])) then cod
 abbrev pub listed : TreeMap → List (List ℕ) → List (List ℕ) → List ℕ
 listed t p names = flat_map (line_of t p) names
 
--- the listing of the directory that a word names: a line for each name in it
+-- the listing of the directory that a word names: a line for each name in the directory; nothing if the word names no directory
 abbrev pub listing_by : Setting → Mounts → List ℕ → Option (List ℕ)
 listing_by setting view word =
     spot_by setting view word >>= λ spot.
@@ -128,11 +128,11 @@ run setting view (command.Listing path out) = listing_by setting view path >>= w
 run setting view (command.Envfile out) = writes setting view out (flat_map line setting.env)
 run setting view (command.Sha256 path out) = file_by setting view path >>= λ file. writes setting view out (line (digits_of file.1))
 
--- the status of a command with this outcome: 0 if the outcome is a view, 1 if it is nothing
+-- the status of a command with this result: 0 if the result is a view, 1 if it is nothing
 abbrev pub status_of : Option Mounts → ℕ
 status_of (Some view) = 0
 status_of None = 1
 
--- the view that a command with this outcome leaves: the outcome, or the unchanged view if the outcome is nothing
+-- the view after a command with this result: the result itself, or the unchanged view if the result is nothing
 abbrev pub left : Mounts → Option Mounts → Mounts
 left view outcome = unwrap_or outcome view

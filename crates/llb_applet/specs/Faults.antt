@@ -17,7 +17,7 @@ is_memory (ShellSyntax place) = false
 abbrev pub Gives : {X Y : Type 0} → (X → Y) → Result X ScriptFault → Result Y ScriptFault → Type 0
 Gives = answer.Gives is_memory
 
--- whether a result is a fault that has a text in it
+-- whether a result is the fault `NoApplet`, the only fault that contains a text (the word that names no applet)
 abbrev pub names_word : {Y : Type 0} → Result Y ScriptFault → Bool
 names_word (Ok y) = false
 names_word (Err (NoApplet word)) = true
@@ -25,7 +25,7 @@ names_word (Err (Usage number)) = false
 names_word (Err (ShellSyntax place)) = false
 names_word (Err Memory) = false
 
--- `Memory` is reported last: a call fails with it only if its rule has no fault, or a fault that has a text in it
+-- `Memory` is reported last: a call fails with `Memory` only if its rule returns a value, or the fault `NoApplet`, whose word needs memory
 abbrev pub MemoryLast : {X Y : Type 0} → Result X ScriptFault → Result Y ScriptFault → Type 0
 MemoryLast (Ok x) rule = Unit {0}
 MemoryLast (Err e) rule = is_memory e ≡ true → (is_ok rule || names_word rule) ≡ true

@@ -1,4 +1,4 @@
--- Two facts about texts. If a text has no bad position, its calls are valid, and the text that is written for these calls is read as the same
+-- Two facts about the texts of scripts. If a text has no bad position, its calls are valid, and the text written for these calls is read as the same
 -- commands. If every separator of a text is `&&`, its calls are the lists of words between the separators.
 use Rattle.std.specs.Prelude.{◌≡◌, ℕ, ◌==◌, Bool, true, false, ◌&&◌, ◌||◌, not, IsTrue, List, [], ◌∷◌, ◌++◌, length, map, codes}
 use Rattle.std.specs.List.{list_all, join_with_byte, slice_split}

@@ -1,4 +1,4 @@
--- Read Scripts first (the script that arguments are read as) with Words, Applets and Calls (what its text means), then Commands (the view after a command)
+-- Read Scripts first (the script that arguments are read as) with Words, Applets and Calls (what a text means), then Commands (the view after a command)
 -- with Spots (what a path means on a view), Faults (what calls return) and Laws. Reading and Changes follow the steps of the code.
 pub mod Faults
 pub mod Words

@@ -19,7 +19,7 @@ some_word part = if length part == 0 then [] else part ∷ []
 abbrev pub behind : List Joined → Result (List Joined) ScriptFault → Result (List Joined) ScriptFault
 behind commands rest = rest >>= λ more. Ok (commands ++ more)
 
--- the commands, or the fault, of a text that is being read, from what was read and from the remaining words
+-- the commands, or the fault, of a whole text, given the state after some of its words are read, and the words that remain
 abbrev pub ahead : Reading → List (List ℕ) → Result (List Joined) ScriptFault
 ahead reading words = behind reading.commands.items (commands_of (length reading.commands.items) (calls_from words reading.join reading.words.items))
 
@@ -37,17 +37,17 @@ abbrev pub verdict : {A : Type 0} → Result A ScriptFault → Result (Unit {0})
 verdict (Ok x) = Ok tt
 verdict (Err e) = Err e
 
--- what is kept of a call: how many words it has, and its first two words
+-- what the check keeps of a call: how many words it has, and its first two words; a word that is missing is kept as an empty one
 pub record IsBegun (call : List (List ℕ)) (begun : Begun) : Type 0 where
   pub counted : begun.count ≡ length call
   pub named : begun.name.now ≡ slice_index_or call 0 []
   pub option : begun.first.now ≡ slice_index_or call 1 []
 
--- success, or the first fault of the current call and the calls after it, given this call's number and words and the words that remain; joins do not matter
+-- success, or the first fault among the current call and the later calls, given the current call's number and words and the words that remain of the text
 abbrev pub judged : ℕ → List (List ℕ) → List (List ℕ) → Result (Unit {0}) ScriptFault
 judged number call words = verdict (commands_of number (calls_from words Then call))
 
--- the fault `e` is the rule's fault; or `e` is `Memory`, and the rule's fault is one that has a text in it
+-- the fault `e` is the rule's fault; or `e` is `Memory`, and the rule's fault is `NoApplet`, whose word needs memory
 pub record Refuses (e : ScriptFault) (rule : Result (Unit {0}) ScriptFault) : Type 0 where
   pub known : is_memory e ≡ false → rule ≡ Err e
   pub last : is_memory e ≡ true → names_word rule ≡ true

@@ -21,7 +21,7 @@ commands_of number [] = Ok []
 commands_of number (call ∷ calls) =
     command_of number call.words >>= λ c. commands_of (number + 1) calls >>= λ cs. Ok (joined call.join c ∷ cs)
 
--- the commands of a text, or the first fault; if there is a bad position, `ShellSyntax` with this position
+-- the commands of a text, given its first bad position, if any: `ShellSyntax` with this position; else the commands of the text's calls, or their first fault
 abbrev pub commands_unless : Option ℕ → List ℕ → Result (List Joined) ScriptFault
 commands_unless (Some place) text = Err (ShellSyntax place)
 commands_unless None text = commands_of 0 (calls_of text)
@@ -34,7 +34,7 @@ commands_in text = commands_unless (bad_place_of text) text
 abbrev pub is_shell : List (List ℕ) → Bool
 is_shell args = (length args == 3) && spells (codes "/bin/sh") (slice_index_or args 0 []) && spells (codes "-c") (slice_index_or args 1 [])
 
--- the commands that arguments are read as: the commands of the text after `/bin/sh -c`; other arguments are the words of one call, and make its command
+-- the commands that arguments are read as: the commands of the text after `/bin/sh -c`; for other arguments, the command of the call with these words
 abbrev pub script_of : List (List ℕ) → Result (List Joined) ScriptFault
 script_of args = if is_shell args then commands_in (slice_index_or args 2 []) else commands_of 0 (first_call args ∷ [])
 

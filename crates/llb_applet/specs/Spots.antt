@@ -15,8 +15,8 @@ use Rattle.llb_applet.specs.declared.spot.Spot.{Spot}
 abbrev pub Mounts : Type 0
 Mounts = List Shown
 
--- the spot that a path names: the mount that the path leads to, and a path in this mount's tree, which is the selector and then the names after the dest;
--- nothing if the path in the tree has more than 128 names
+-- the spot that a path names: the mount that the path leads to, and a path in this mount's tree. This second path is the mount's selector, then the names of
+-- the first path that follow the mount's dest. Nothing if the path in the tree has more than 128 names.
 abbrev pub spot_of : Mounts → List (List ℕ) → Option Spot
 spot_of view path =
     let to = route view path in
@@ -63,7 +63,7 @@ with_file view spot meta content =
 abbrev pub with_dir : Mounts → Spot → MetaValue → Option Mounts
 with_dir view spot meta = with_change view spot.mount (put_dir (tree_at view spot) spot.place meta)
 
--- the view after what is at and below a spot is removed; a removal at a dest is refused
+-- the view after what is at and below a spot is removed; nothing if the spot is a mount's dest, or if the change is refused
 abbrev pub without_spot : Mounts → Spot → Option Mounts
 without_spot view spot = if is_dest spot then None else with_change view spot.mount (remove (tree_at view spot) spot.place)
 
@@ -76,7 +76,7 @@ with_new_dir view spot = if is_dest spot || is_some (entry_at view spot) then
 abbrev pub dir_at : TreeMap → List (List ℕ) → Result TreeMap TreeFault
 dir_at t p = if is_dir (finite.get t p) then Ok t else put_dir t p new_dir_meta
 
--- the tree after a directory, if there is none, is made for each name, the first in p, each later one in the directory of the name before it; or the fault
+-- the tree after the directories p/a, p/a/b, p/a/b/c .. for the names a, b, c .. are made, apart from those that are there already; or the first fault
 abbrev pub dirs_below : TreeMap → List (List ℕ) → List (List ℕ) → Result TreeMap TreeFault
 dirs_below t p [] = Ok t
 dirs_below t p (n ∷ ns) = answer.◌>>=◌ (dir_at t (p ++ n ∷ [])) (λ next. dirs_below next (p ++ n ∷ []) ns)

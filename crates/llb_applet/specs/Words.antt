@@ -30,7 +30,7 @@ is_word w = not (length w.bytes == 0)
 abbrev pub words_of : List ℕ → List Word
 words_of text = filter is_word (placed 0 (parts_of text))
 
--- the join of the call after a separator; nothing for any other word
+-- the join of the call that follows this word, if the word is a separator; nothing for any other word
 abbrev pub join_of : List ℕ → Option Join
 join_of word =
     if spells (codes ";") word then Some Then
@@ -41,7 +41,7 @@ join_of word =
 abbrev pub is_separator : List ℕ → Bool
 is_separator word = is_some (join_of word)
 
--- whether a word may have this byte: digits, letters, `_ - . / , : + @ % =`, and the bytes of characters past ASCII
+-- whether words may contain this byte: a digit, a letter, one of `_ - . / , : + @ % =`, or a byte of a character past ASCII
 abbrev pub is_word_byte : ℕ → Bool
 is_word_byte b =
     (nat_le 48 b && nat_le b 57) || (nat_le 65 b && nat_le b 90) || (nat_le 97 b && nat_le b 122)
@@ -52,7 +52,7 @@ is_word_byte b =
 abbrev pub bad_in : Bool → List ℕ → Option ℕ
 bad_in called word = if is_separator word then (if called then None else Some 0) else position (λ b. not (is_word_byte b)) word
 
--- whether the last word so far belongs to a call, after one more part: a separator does not, any other word does, and after an empty part `called` still holds
+-- whether the last word belongs to a call, after one more part of the text: false after a separator, true after any other word, `called` after an empty part
 abbrev pub called_after : Bool → List ℕ → Bool
 called_after called part = if length part == 0 then called else not (is_separator part)
 
@@ -75,11 +75,11 @@ pub record Call : Type 0 where
 abbrev pub call_by : Join → List (List ℕ) → Call
 call_by join words = record { join = join; words = words }
 
--- the first call of a script, which always runs
+-- the call with these words as the first call of a script; the first call always runs
 abbrev pub first_call : List (List ℕ) → Call
 first_call words = call_by Then words
 
--- the current call and the later ones, given the next word: a separator ends the current call and begins a new one; any other word is added to the current call
+-- the current and the later calls, given the next word: a separator ends the current call and begins a new call; any other word is added to the current call
 abbrev pub at_word : Join → List (List ℕ) → List ℕ → Option Join → (Join → List (List ℕ) → List Call) → List Call
 at_word join call word (Some next) rest = call_by join call ∷ rest next []
 at_word join call word None rest = rest join (call ++ word ∷ [])

@@ -4,7 +4,7 @@ ghost use Rattle.std.specs.Prelude.{◌≡◌, option_map};
 ghost use Rattle.std.specs.List.{find};
 ghost use Rattle.llb_applet.specs.Applets.{name_of, applet_of, spells};
 
-/// One of the thirteen applets; `name` returns the word by which a call asks for the applet.
+/// One of the thirteen applets, the small commands that a script can call. `name` returns the word by which a call asks for the applet.
 #[derive(Clone, Copy)]
 pub enum Applet {
     True,

@@ -24,7 +24,7 @@ pub struct Begun<'a> {
 }
 
 impl<'a> Begun<'a> {
-    /// Checks the call, which has no more words. Fails with 71 `NoApplet` or 72 `Usage`, and with 74 `Memory` only in place of 71.
+    /// Checks the call, once all its words are added. Fails with 71 `NoApplet` or 72 `Usage`, and with 74 `Memory` only in place of 71.
     pub fn judge(&self, alloc: Global) -> Result<(), ScriptFault>
         ensures { (call : List (List ℕ)) → IsBegun call self.now → JudgesCall result self.now.number call }
     {

@@ -26,7 +26,7 @@ fn put_aside(alloc: Global, view: &mut View, mount: u32) -> Result<Option<Tree>,
     Ok(Some(view.swap_tree(mount, empty)))
 }
 
-// Returns whether a change is done; any fault of the tree but `Memory` means that the change is refused.
+// Returns true if a change of a tree is done, and false if the tree refuses it with any fault but `Memory`. Fails with 75 `Memory` if the change does.
 fn settled(change: Result<(), TreeFault>) -> Result<bool, Memory>
     ensures { result ≡ settled change }
 {
@@ -42,8 +42,8 @@ fn settled(change: Result<(), TreeFault>) -> Result<bool, Memory>
     }
 }
 
-/// Puts a file at a spot; if the spot is a mount's dest, only in place of an entry that is there. Returns false, and leaves
-/// the view as it was, if the change is refused. Fails with 75 `Memory` alone; then too the view is as it was.
+/// Puts a file at a spot. Returns false, and leaves the view as it was, if the change is refused, or if the spot is a mount's
+/// dest and no entry is there. Fails with 75 `Memory` alone; then too the view is as it was.
 pub fn put_file(
     alloc: Global,
     view: &mut View,
@@ -124,8 +124,9 @@ fn share_there(
     }
 }
 
-/// Sets the mode and the owner of the directory at a spot, or makes a directory with them if nothing is there. Returns false,
-/// and leaves the view as it was, if the change is refused. Fails with 75 `Memory` alone; then too the view is as it was.
+/// Sets the mode and the owner of the directory at a spot; if nothing is there, makes a directory with this mode and owner.
+/// Returns false, and leaves the view as it was, if the change is refused. Fails with 75 `Memory` alone; then too the view is
+/// as it was.
 pub fn put_dir(alloc: Global, view: &mut View, spot: &Spot, meta: Meta) -> Result<bool, Memory>
     requires { spot.now.mount < length view.old }
     ensures { Does result (with_dir view.old spot.now meta) view.old view.new }
@@ -140,7 +141,7 @@ pub fn put_dir(alloc: Global, view: &mut View, spot: &Spot, meta: Meta) -> Resul
     }
 }
 
-/// Removes what is at and below a spot. Returns false, and leaves the view as it was, if the removal is refused, as it always is at a mount's dest. Fails with
+/// Removes what is at and below a spot. Returns false, and leaves the view as it was, if the spot is a mount's dest, or if the removal is refused. Fails with
 /// 75 `Memory` alone; then too the view is as it was.
 pub fn remove(alloc: Global, view: &mut View, spot: &Spot) -> Result<bool, Memory>
     requires { spot.now.mount < length view.old }
@@ -218,8 +219,8 @@ fn dirs_below(alloc: Global, tree: &mut Tree, at: &Path, names: &[Name]) -> Resu
     }
 }
 
-// Makes a directory at a path at which there is none, and below that directory a directory for each of the names, each in
-// the directory of the name before it. All of them are made in one edit; after a fault the tree is unchanged.
+// Makes a directory at a path that has no directory, and in it a chain of directories, one for each of the names: each in
+// the directory of the name before it. All these directories are made in one edit; after a fault the tree is unchanged.
 fn put_dirs(alloc: Global, tree: &mut Tree, path: &Path, names: &[Name]) -> Result<(), TreeFault>
     requires short { length path.now + length names.now ≤ 128 }
     requires missing { is_dir (finite.get tree.old path.now) ≡ false }
@@ -233,7 +234,7 @@ fn put_dirs(alloc: Global, tree: &mut Tree, path: &Path, names: &[Name]) -> Resu
     tree.graft(path, &made)
 }
 
-// Makes a tree of directories alone, one for each of the names, each in the directory of the name before it.
+// Makes a tree that has only directories, one for each of the names: the first in the root, each later one in the directory of the name before.
 fn chain(alloc: Global, names: &[Name]) -> Result<Tree, AllocError>
     requires { length names.now ≤ 128 }
     ensures { IfOk result (λ t. dirs_below empty_tree [] names.now ≡ Ok t) }

@@ -1,4 +1,4 @@
-//! Commands. A command is a call whose applet exists and whose words are in one of the applet's forms, so running it checks no form again.
+//! Commands. A command is a call whose applet exists and whose words fit one of the applet's forms. When a command runs, its form is not checked again.
 
 ghost use Rattle.std.specs.Prelude.{◌≡◌, List, ℕ, is_some, Ok};
 ghost use Rattle.llb_applet.specs.declared.applet.Applet.TheVariants.{Mkdir, Concat, Chmod, Test};
@@ -25,31 +25,31 @@ pub enum Kind {
 
 /// A call of an applet with its words. Paths are still words: they are read when the command runs.
 pub enum Command {
-    /// `true`.
+    /// `true`: succeeds.
     True,
-    /// `false`.
+    /// `false`: fails.
     False,
-    /// `mkdir P`; or `mkdir -p P`, which also makes missing parents.
+    /// `mkdir P`: makes directory P. `mkdir -p P` also makes missing parents, and succeeds if directory P is there.
     Mkdir { parents: bool, path: Text },
-    /// `rm P`.
+    /// `rm P`: removes what is at and below P.
     Rm { path: Text },
-    /// `write P W`.
+    /// `write P W`: writes the word W and a line end to file P.
     Write { path: Text, word: Text },
-    /// `append P W`.
+    /// `append P W`: appends the word W and a line end to file P.
     Append { path: Text, word: Text },
-    /// `cp A B`.
+    /// `cp A B`: copies file A to path B or, if a directory is there, into this directory.
     Cp { from: Text, to: Text },
-    /// `concat OUT A ..`, with one or more words A.
+    /// `concat OUT A ..`, with one or more words A: writes the joined contents of the files A to file OUT.
     Concat { out: Text, parts: Many<Text> },
-    /// `chmod MODE P`.
+    /// `chmod MODE P`: sets the mode of the entry at P.
     Chmod { mode: Mode, path: Text },
-    /// `test -e P`, `test -f P`, `test -d P`.
+    /// `test -e P`, `test -f P`, `test -d P`: succeeds if something, a file, or a directory is at P.
     Test { kind: Kind, path: Text },
-    /// `listing P OUT`.
+    /// `listing P OUT`: writes a line for each name in directory P to file OUT.
     Listing { path: Text, out: Text },
-    /// `envfile OUT`.
+    /// `envfile OUT`: writes a line for each entry of the environment to file OUT.
     Envfile { out: Text },
-    /// `sha256 P OUT`.
+    /// `sha256 P OUT`: writes the SHA-256 of file P, as a line of hex digits, to file OUT.
     Sha256 { path: Text, out: Text },
 }
 

@@ -1,5 +1,5 @@
 //! Scripts: commands of thirteen small kinds, joined by `;`, `&&` and `||`. `read_script` reads a script, or refuses it; `run_command` runs one
-//! command on a view. The crate is built on `llb_mount`; there is no process and no other shell.
+//! command on a view of `llb_mount`. The crate starts no process, and reads no other shell syntax.
 //!
 //! Types: `Script` (commands, each with its join to the commands before it), `Command`, `Setting` (working directory and environment),
 //! `ScriptFault` (71 to 74).

@@ -272,8 +272,8 @@ fn done(
 
 /// Runs a command on a view. Returns status 0 if the command is done. Otherwise returns status 1, and leaves the view as it was: for example if a path is
 /// invalid, if nothing is at a path that is read, if a file is where a directory is needed or a directory where a file is needed, or if the tree to change is
-/// that of a read-only mount. Paths are read from the setting's cwd and looked up by `View::route`, below the mount's selector. Fails with 75 `Memory` alone;
-/// then the view is as it was. A command changes at most one mount's tree, in place, and copies no tree.
+/// that of a read-only mount. A relative path begins at the setting's cwd; `View::route` finds the mount of a path, and the path is then looked up below this
+/// mount's selector. Fails with 75 `Memory` alone; then the view is as it was. A command changes at most one mount's tree, in place, and copies no tree.
 pub fn run_command(
     alloc: Global,
     command: &Command,

@@ -1,5 +1,5 @@
-//! Scripts. A text is first checked without allocating, so that a refusal can't be hidden by want of memory, and then
-//! its calls are made into commands.
+//! Scripts. A text is first checked, and then its calls are made into commands. The check allocates nothing but the word of
+//! a fault 71 `NoApplet`, so want of memory can hide no other refusal.
 
 ghost use Rattle.std.specs.Prelude.{◌≡◌, ◌+◌, ◌<◌, ◌++◌, ◌∷◌, [], List, ℕ, length, OnOk, IsTrue, slice_index_or, Ok};
 ghost use Rattle.llb_applet.specs.Faults.{Gives, MemoryLast};
@@ -20,7 +20,7 @@ use std::mem;
 use std::sync::Arc;
 
 /// A script: one or more commands in the order in which they run, each with its join. By the type's invariant the first command
-/// always runs. Copies of a script share the commands. Contracts see the list of the commands.
+/// always runs. Copies of a script share the commands. In contracts a script is the list of its commands.
 pub struct Script {
     commands: Arc<Vec<Joined>>,
 }
@@ -60,7 +60,7 @@ impl Script {
         let _ = &self.commands;
     }
 
-    /// Copies the script, which shares the commands. Fails with 74 `Memory` alone.
+    /// Copies the script; the copy shares the commands with the script. Fails with 74 `Memory` alone.
     pub fn copy(&self) -> Result<Script, ScriptFault>
         ensures { Gives (λ s. s) result (Ok self.now) }
     {
@@ -75,7 +75,7 @@ impl Same for Script {
     }
 }
 
-/// The state while calls are read: the commands of the whole calls, the join of the current call, and its words.
+/// The state while calls are read: the commands of the calls before the current one, the join of the current call, and its words so far.
 #[derive(Drop)]
 pub struct Reading {
     commands: Vec<Joined>,
@@ -146,7 +146,7 @@ fn read_shell(alloc: Global, text: &str) -> Result<Vec<Joined>, ScriptFault>
     read_text(alloc, text)
 }
 
-// Reads arguments as one call.
+// Reads arguments as the words of one call, and makes the call's command; or fails with the call's fault.
 fn read_call(alloc: Global, args: &[Text]) -> Result<Vec<Joined>, ScriptFault>
     requires { 0 < length args.now }
     ensures gives { Gives (λ c. c.items) result (commands_of 0 (first_call args.now ∷ [])) }

@@ -7,7 +7,7 @@ use crate::texts::copies;
 use llb_tree::Path;
 use llb_wire::{Many, Same, Text};
 
-/// Where commands run: paths are read from the directory `cwd`, and `envfile` writes the variables `env`.
+/// Where commands run: relative paths begin at the directory `cwd`, and `envfile` writes the variables `env`.
 pub struct Setting {
     pub cwd: Path,
     pub env: Many<Text>,

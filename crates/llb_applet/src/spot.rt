@@ -32,7 +32,7 @@ impl Drop for Spot {
     }
 }
 
-/// Reads a word as a path, from the cwd; `None` if the word is no path. Fails with 75 `Memory` alone.
+/// Reads a word as a path, relative to the setting's cwd; `None` if the word is no path. Fails with 75 `Memory` alone.
 pub fn path_by(alloc: Global, setting: &Setting, word: &Text) -> Result<Option<Path>, Memory>
     ensures { IfOk result (λ p. p ≡ path_by setting.now word.now) }
 {
@@ -60,7 +60,7 @@ pub fn spot_of(view: &View, path: &Path) -> Result<Option<Spot>, Memory>
     Ok(Some(Spot { mount, base, place }))
 }
 
-// Appends names to a path.
+// Returns a copy of a path with these names appended.
 fn extended(path: &Path, names: &[Name]) -> Result<Path, Memory>
     ensures { IfOk result (λ p. p ≡ path.now ++ names.now) }
 {

@@ -40,8 +40,8 @@ pub fn is_separator(word: &str) -> bool
     join_of(word).is_some()
 }
 
-// Returns the index of the first bad byte in a word: 0 in a separator with no call before it; else the first byte that no
-// word may have. `called` says whether the previous word belongs to a call.
+// Returns the index of the first bad byte in a word: 0 in a separator with no call before it; in any other word the index of
+// the first byte that no word may have. `called` says whether the previous word belongs to a call.
 fn bad_in(called: bool, word: &str) -> Option<usize>
     ensures value { result ≡ bad_in called word.now }
     ensures inside { IfSome result (λ k. k < length word.now) }

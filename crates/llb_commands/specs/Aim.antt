@@ -24,8 +24,8 @@ pub record IsAccepted (definition : List ℕ) (graph : Numbered) (board : BoardV
   pub board_over : board.build.graph ≡ graph
   pub stepper_over : stepper.board.build.graph ≡ graph
 
--- The property holds for every board over the graph for which the table leads, by the board's events, from the board's opening state to its state: on all
--- local trees, with any number of workers, and after every interleaving of events.
+-- The property holds for every board over the graph, if the table leads by the board's events from the board's opening state to the board's state. So it
+-- holds for all local trees, any number of workers, and every interleaving of events.
 abbrev pub AfterAll : Numbered → (BoardValue → Type 0) → Type 0
 AfterAll graph Holds = (b : BoardValue) (replies : List Reply) → b.build.graph ≡ graph
     → run b.build (opening b.build b.opening) b.events ≡ Some (b.state, replies) → Holds b
@@ -41,8 +41,8 @@ pub record Aim (text definition : List ℕ) (entries : List (List ℕ)) (graph :
   pub some_workers : 0 < length board.state.workers
   pub few_workers : length board.state.workers ≤ 64
   -- After every interleaving of atomic steps the machine's state and replies are the written table's on the recorded events: the record is a run of the table
-  -- from the opening state to the board's state, with a reply for each event. The reply that a call returns (its clause `gives`) is the last reply of the
-  -- record after the call.
+  -- from the opening state to the board's state, with a reply for each event. The reply that a call returns (its clause `gives`) is the reply, in the run of
+  -- the record after the call, to the last event of this record.
   pub replays : Replays board
   pub replies : RepliesAreRecorded board
   -- no two executions hold one locked cache at once

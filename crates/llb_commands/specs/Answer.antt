@@ -43,8 +43,8 @@ pub record IsAlone (b : Build) (s : State) (events : List Event) : Type 0 where
   pub ends : EndsInClaimOrder b (run_opening 1) events s
   pub only : (es : List Event) (t : State) → EndsInClaimOrder b (run_opening 1) es t → t ≡ s
 
--- A state in which a run of a build by this number of workers ends: granted events lead to the state, and the run is complete. Without caches each vertex has
--- its plain outcome in this state, for any number of workers; with one worker the events are as `IsAlone` says.
+-- A state in which a run of a build by this number of workers ends: granted events lead to it, and every vertex is done, failed or blocked. Without caches each
+-- vertex has its plain outcome in this state, for any number of workers; with one worker the events are as `IsAlone` says.
 pub record IsEnd (workers : ℕ) (b : Build) (s : State) : Type 0 where
   pub events : List Event
   pub replies : List Reply
@@ -62,7 +62,7 @@ abbrev pub plain_result : Build → Option TreeMap
 plain_result b = output_in (ending_in (outcome b b.graph.result.vertex)) b.graph.result.index
 
 -- The bytes are the definition of a graph. A run of the graph on these local trees by this number of workers has ended, and its result is a tree with this
--- text. No vertex has failed then. Without caches the tree is also the result's tree by the plain outcomes.
+-- text. Then no vertex has failed, and without caches the tree is also the result's tree by the plain outcomes.
 pub record Yields (workers : ℕ) (locals : List Local) (bytes text : List ℕ) : Type 0 where
   pub graph : Numbered
   pub loaded : IsGraphIn bytes graph
@@ -90,7 +90,7 @@ pub record YieldsNone (workers : ℕ) (locals : List Local) (bytes : List ℕ) :
   pub result : result_in state graph ≡ None
   pub fails : FailsBy state graph.result.vertex
 
--- bytes that are refused as the definition of a graph, and the fault that says why
+-- the bytes are refused as the definition of a graph, and the fault says why
 abbrev pub IsRefused : ProgramFault → List ℕ → Type 0
 IsRefused p bytes = (e : LoadFault) × IsRefusalIn bytes e × (p ≡ fault.Refused e)
 
@@ -101,15 +101,15 @@ IsUnopened locals g workers (fault.MissingLocal name) = missing_local locals g.v
 IsUnopened locals g workers fault.Workers = (missing_local locals g.vertices ≡ None) × (may_work workers ≡ false)
 IsUnopened locals g workers _ = ⊥
 
--- the fault of bytes on which no run begins: the bytes are refused as a definition, or no board can be opened on their graph
+-- no run begins, and the fault says why: the bytes are refused as a definition, or no board can be opened on the graph that they define
 abbrev pub IsNotRun : ℕ → List Local → ProgramFault → List ℕ → Type 0
 IsNotRun workers locals p bytes = IsRefused p bytes ⊎ ((g : Numbered) × IsGraphIn bytes g × IsUnopened locals g workers p)
 
--- a prefix of the text that the bytes yield is written, and no more
+-- a run of the graph of these bytes yields a text (`Yields`); a prefix of this text is written, and no more
 abbrev pub YieldsPart : ℕ → List Local → Stream → List ℕ → Type 0
 YieldsPart workers locals output bytes = (text : List ℕ) × Yields workers locals bytes text × IsPartWritten output text
 
--- the text that the bytes yield is written, and nothing else
+-- a run of the graph of these bytes yields a text (`Yields`); this text is written, and nothing else
 abbrev pub YieldsAll : ℕ → List Local → Stream → List ℕ → Type 0
 YieldsAll workers locals output bytes = (text : List ℕ) × Yields workers locals bytes text × IsWritten output text
 
@@ -130,9 +130,9 @@ abbrev pub FailsAll : ℕ → List Local → Stream → List ℕ → Type 0
 FailsAll workers locals errors bytes = (y : YieldsNone workers locals bytes)
     × IsWritten errors (failed_lines (build_of locals y.graph) y.state (length y.graph.vertices))
 
--- How a run by a number of workers ends. Status 0: the text of the result is written, and nothing else. 1: a vertex failed, so that the result is no tree, and
+-- How a run by a number of workers ends. Status 0: the text of the result is written, and nothing else. 1: a vertex failed, so the result is no tree, and
 -- nothing is written but the lines of the failures. 2: the bytes are refused, a local tree is missing, or the number of workers is not 1 to 64, and nothing is
--- written but the line that says which. 3: a device, a thread or memory failed; nothing is written, or a prefix of the text.
+-- written but the line with this fault. 3: a device, a thread or memory failed; nothing is written, or a prefix of the text.
 abbrev pub Runs : ℕ → List Local → Io → ℕ → Type 0
 Runs workers locals io status =
     ((status ≡ 0) × IsKept io.errors × IfSome io.input.before (YieldsAll workers locals io.output))
@@ -148,7 +148,7 @@ DrawsAll output bytes = (g : Numbered) × IsGraphIn bytes g × IsWritten output 
 abbrev pub DrawsPart : Stream → List ℕ → Type 0
 DrawsPart output bytes = (g : Numbered) × IsGraphIn bytes g × IsPartWritten output (graph_text g)
 
--- How a show ends. Status 0: the text of the graph is written, and nothing else. 2: the bytes are refused, and nothing is written but the line that says why.
+-- How `show` ends. Status 0: the text of the graph is written, and nothing else. 2: the bytes are refused, and nothing is written but the line that says why.
 -- 3: a device or memory failed; nothing is written, or a prefix of the text.
 abbrev pub Draws : Io → ℕ → Type 0
 Draws io status =

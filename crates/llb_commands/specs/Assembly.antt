@@ -18,7 +18,7 @@ use Rattle.llb_commands.specs.Faults.{TellsWhy}
 use Rattle.llb_commands.specs.Io.{Io, Stream, IsKept, IsPartWritten, IsWritten}
 use Rattle.llb_commands.specs.Sources.{limit}
 
--- the definition that a text is assembled to: the canonical bytes of the entries that the text is read as
+-- the definition that a text is assembled to: the bytes that `llb_ops` writes for the entries that the text is read as
 pub record IsAssembled (text definition : List ℕ) : Type 0 where
   pub entries : List (List ℕ)
   pub stands : SpellsEntries (kept text) entries
@@ -35,7 +35,7 @@ refuses_a_line Write = false
 abbrev pub HasFaultyLine : ProgramFault → List ℕ → Type 0
 HasFaultyLine p text = (e : AsmFault) × (refuses_a_line e ≡ true) × asm.Assembles text (Err e) × (p ≡ fault.Assembling e)
 
--- a text that can't be assembled, and why: it is too long, or one of its lines is refused
+-- the text can't be assembled, and the fault says why: the text is too long, or one of its lines is refused
 abbrev pub IsNoText : ProgramFault → List ℕ → Type 0
 IsNoText p text = ((limit < length text) × (p ≡ fault.TooLong)) ⊎ HasFaultyLine p text
 
@@ -47,7 +47,7 @@ pub record IsDisassembled (definition text : List ℕ) : Type 0 where
   pub are : AreFormed entries forms
   pub same : text ≡ plain_text forms
 
--- bytes that are no definition, and why: the fault of reading them; or 81 13 if they are too long to be read at all
+-- the bytes are no definition, and the fault says why: it is the fault of reading them; or 81 13, if there are more bytes than the program reads
 abbrev pub IsUnread : ProgramFault → List ℕ → Type 0
 IsUnread p definition = ((e : OpFault) × (definition_of definition ≡ Err e) × (p ≡ fault.Unread e))
     ⊎ ((limit < length definition) × (p ≡ fault.Refused (Definition OverLimit)))
@@ -60,8 +60,8 @@ IsOut Comes output input = (text : List ℕ) × Comes input text × IsWritten ou
 abbrev pub IsPartOut : (List ℕ → List ℕ → Type 0) → Stream → List ℕ → Type 0
 IsPartOut Comes output input = (text : List ℕ) × Comes input text × IsPartWritten output text
 
--- How a command ends that makes a text from its input (`Comes`) and writes it. Status 0: the whole text is written, and nothing else. 2: the input is refused
--- (`IsRefused`), and only the line that says why is written. 3: a device or memory failed; nothing is written, or a prefix of the text.
+-- How a command ends that makes a text from its input and writes the text. `Comes` relates the input to the text. Status 0: the whole text is written. 2: the
+-- input is refused (`IsRefused`), and only the line that says why is written. 3: a device or memory failed; nothing is written, or a prefix of the text.
 abbrev pub Ends : (List ℕ → List ℕ → Type 0) → (ProgramFault → List ℕ → Type 0) → Io → ℕ → Type 0
 Ends Comes IsRefused io status =
     ((status ≡ 0) × IsKept io.errors × IfSome io.input.before (IsOut Comes io.output))

@@ -36,17 +36,17 @@ abbrev pub EndsIn : (List ℕ → List ℕ → Type 0) → (ProgramFault → Lis
 EndsIn Comes IsRefused input output (Ok u) = IfSome input (IsOut Comes output)
 EndsIn Comes IsRefused input output (Err e) = (IsKept output × TellsRefusal IsRefused input e) ⊎ ((¬ IsRefusal e) × IfSome input (IsPartOut Comes output))
 
--- the definition that a text is assembled to, or why it can't be assembled
+-- the definition that a text is assembled to; or a fault, and if the fault is a refusal, its cause in the text
 abbrev pub IsDefinitionOf : List ℕ → Result (List ℕ) ProgramFault → Type 0
 IsDefinitionOf text (Ok definition) = IsAssembled text definition
 IsDefinitionOf text (Err e) = IsRefusal e → IsNoText e text
 
--- the definition that the bytes of an input are assembled to, or why they can't be assembled; nothing is said if the bytes are not known
+-- the definition that the bytes of an input are assembled to; or a fault, and if it is a refusal, its cause. If the bytes are not known, this says nothing.
 abbrev pub IsDefinitionIn : Option (List ℕ) → Result (List ℕ) ProgramFault → Type 0
 IsDefinitionIn input (Ok definition) = IfSome input (λ text. IsAssembled text definition)
 IsDefinitionIn input (Err e) = TellsRefusal IsNoText input e
 
--- the entries of an input that is a definition, or why the input can't be read as a definition
+-- the entries of an input that is a definition; or a fault, and if the fault is a refusal, its cause in the input
 abbrev pub AreEntriesIn : Option (List ℕ) → Result (List (List ℕ)) ProgramFault → Type 0
 AreEntriesIn input (Ok entries) = IfSome input (λ bytes. definition_of bytes ≡ Ok entries)
 AreEntriesIn input (Err e) = TellsRefusal IsUnread input e

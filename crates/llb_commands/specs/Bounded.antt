@@ -1,11 +1,11 @@
--- What a read of a whole input within bounds returns.
+-- The result of reading the rest of an input, within a limit on the bytes and a bound on the number of reads.
 use Rattle.std.specs.Prelude.{◌≡◌, ◌≤◌, ◌<◌, ◌+◌, ℕ, List, length, Option, Result, Ok, Err, IfSome, Vec}
 use Rattle.std.specs.Io.KnownBytes.{Consumes, IsAtEnd}
 use Rattle.std.specs.Global.{Global}
 use Rattle.llb_commands.specs.declared.bounded.ReadFault.{ReadFault}
 use Rattle.llb_commands.specs.declared.bounded.ReadFault.TheVariants.{TooLong, Failed, Unending, Memory}
 
--- at most `limit` bytes were read, and the bytes that followed them are the rest of the input
+-- at most `limit` bytes were read from the input, and what remains of the input is the bytes that follow them
 pub record Took (limit : ℕ) (left left' : Option (List ℕ)) : Type 0 where
   pub bytes : List ℕ
   pub few : length bytes ≤ limit

@@ -1,4 +1,4 @@
--- The command line of the program, as it is given to `clap`, and what its words ask for.
+-- The command line of the program, as it is described to `clap`, and what the words of a command line ask for.
 use Rattle.std.specs.Prelude.{◌≡◌, ◌≢◌, ◌⊎◌, ◌==◌, ℕ, nat_lt, pos, Bool, true, not, if◌then◌else◌, List, [], ◌++◌, length, map, find, codes}
 use Rattle.std.specs.Prelude.{Option, Some, None, is_some, option_map, option_and_then, unwrap_or, Result, Ok, Err}
 use Rattle.std.specs.Borrow.{Bor}
@@ -18,22 +18,22 @@ use Rattle.llb_commands.specs.declared.words.Local.{Local}
 use Rattle.llb_commands.specs.declared.words.WordsFault.{WordsFault}
 use Rattle.llb_commands.specs.declared.words.WordsFault.TheVariants.{Words, Memory}
 
--- the program without its commands: the words begin after the program's name, there is no command `help`, and the version can be asked for
+-- `clap`'s description of the program (an app), without commands: it reads the words after the program's name, and has a version but no command `help`
 abbrev pub base_app : App
 base_app = record {
   top = record (new_app (codes "llbm")).top { has_version = true; no_binary_name = true; disable_help_subcommand = true };
   subs = [];
 }
 
--- the words for local sources, any number of them
+-- the rule by which `clap` reads the words for local sources: any number of words
 abbrev pub local_rule : Rule
 local_rule = record (new_rule (codes "local")) { action = Some Append; value_names = 1 }
 
--- the word for the file of the definition, which is required
+-- the rule by which `clap` reads the word that names the file of the definition: exactly one word
 abbrev pub file_rule : Rule
 file_rule = record (new_rule (codes "file")) { action = Some Set; required = true; value_names = 1 }
 
--- the option `--workers` with a number of 32 bits
+-- the rule by which `clap` reads the option `--workers`: a number below 2^32
 abbrev pub workers_rule : Rule
 workers_rule = record (new_rule (codes "workers")) {
   long = Some (codes "workers");
@@ -42,23 +42,23 @@ workers_rule = record (new_rule (codes "workers")) {
   parser = Some (Signed (pos 0) (pos 4294967295));
 }
 
--- the command `run`
+-- `clap`'s description of the command `run`
 abbrev pub run_app : App
 run_app = with_rule (with_rule (new_app (codes "run")) workers_rule) local_rule
 
--- the command `step`, with its file before the local sources
+-- `clap`'s description of the command `step`: the word for the file comes before the words for local sources
 abbrev pub step_app : App
 step_app = with_rule (with_rule (with_rule (new_app (codes "step")) workers_rule) file_rule) local_rule
 
--- the app (what `clap` reads the words by) with one more command, which takes no words
+-- the given app with one more command, which takes no words
 abbrev pub with_plain : App → Text → App
 with_plain app name = with_subcommand app (new_app name).top
 
--- the program with the commands `run`, `show` and `step`
+-- `clap`'s description of the program with the commands `run`, `show` and `step`
 abbrev pub graph_app : App
 graph_app = with_subcommand (with_plain (with_subcommand base_app run_app.top) (codes "show")) step_app.top
 
--- the program with all commands: `run` takes workers and local sources, `step` a file, workers and local sources, and the others take no words
+-- `clap`'s description of the program: `run` takes workers and local sources, `step` takes these and a file, and the other commands take no words
 abbrev pub llbm_app : App
 llbm_app = with_plain (with_plain graph_app (codes "asm")) (codes "dis")
 
@@ -86,7 +86,7 @@ split_word word = if nat_lt (position_or_len is_equals word) (length word) then 
 abbrev pub named_file : Local → Option (Text × Text)
 named_file l = Some (l.name.now, l.file.now)
 
--- the words are split at their first `=` into these local sources, in their order
+-- the local sources are made from the words, in their order: each word, which has a `=`, is split at the first `=` into a name and a file
 abbrev pub AreSplit : List Text → List Local → Type 0
 AreSplit words locals = map split_word words ≡ map named_file locals
 
@@ -112,7 +112,7 @@ abbrev pub named_local_words : Option (Text × List Row) → List Text
 named_local_words None = []
 named_local_words (Some p) = local_words p.1
 
--- the number that a text spells, if it is below 2^32: digits, with or without a plus before them
+-- the number below 2^32 that a text spells in decimal digits, with or without a plus before them; nothing for any other text
 abbrev pub number_of : Text → Option ℕ
 number_of text = if is_unsigned_in 0 4294967295 text then Some (digits_value 10 (without_leading_plus text)) else None
 
@@ -123,12 +123,12 @@ IsWorkers Run rows n = n ≡ unwrap_or (option_and_then number_of (one_of (codes
 IsWorkers Step rows n = n ≡ unwrap_or (option_and_then number_of (one_of (codes "workers") rows)) 2
 IsWorkers _ rows n = n ≡ 1
 
--- the file is the file that the words name; only `step` takes a file
+-- the file is the file that the words of `step` name; for any other command there is no file
 abbrev pub IsFile : Command → List Row → Option (Bor Text) → Type 0
 IsFile Step rows file = option_map (λ w. w.now) file ≡ first_of (codes "file") rows
 IsFile _ rows file = file ≡ None
 
--- the line has the command of this name; its workers, its file and its local sources are those in these matches of `clap`
+-- the line has the command of this name, and the number of workers, the file and the local sources that are in these matches of `clap`
 pub record SaysCommand (name : Text) (rows : List Row) (line : Line) : Type 0 where
   pub command : name_of line.command ≡ name
   pub workers : IsWorkers line.command rows line.workers
@@ -144,37 +144,37 @@ matches_named (Some p) = p.1
 abbrev pub Says : Option (Text × List Row) → Line → Type 0
 Says met line = SaysCommand (named met) (matches_named met) line
 
--- `Words` without a word: `clap` refuses the words. `Words` with a word: `clap` accepts the words, and this word is the first word for a local source that has
--- no `=`.
+-- What a refusal says of the words. The fault `Words` without a word: `clap` refuses the words. `Words` with a word: `clap` accepts the words, but this word is
+-- the first among the words for local sources that has no `=`. `Memory`: nothing.
 abbrev pub Refuses : Kinds → List Text → WordsFault → Type 0
 Refuses kinds words (Words None) = kinds ≢ []
 Refuses kinds words (Words (Some w)) = (kinds ≡ []) × IsUnsplit words w.now
 Refuses kinds words Memory = Unit {0}
 
--- the result of reading the words: a line, and then `clap` does not refuse the words; or a refusal, as `Refuses` says
+-- what the result of reading the words says of them: if it is a line, `clap` accepts the words; if it is a fault, the cause is as `Refuses` says
 abbrev pub IsByWords : Kinds → List Text → Result Line WordsFault → Type 0
 IsByWords kinds words (Ok line) = kinds ≡ []
 IsByWords kinds words (Err e) = Refuses kinds words e
 
--- the refusal is for a word for a local source that has no `=`, or for want of memory
+-- the fault is `Words` with the first word that has no `=`, or `Memory`
 abbrev pub RefusesWord : List Text → WordsFault → Type 0
 RefusesWord words (Words None) = ⊥
 RefusesWord words (Words (Some w)) = IsUnsplit words w.now
 RefusesWord words Memory = Unit {0}
 
--- the program's fault for a refusal by `clap` of this kind
+-- the fault for a refusal by `clap` of this kind: `Memory` if the kind is `OutOfMemory`, else `Words` without a word
 abbrev pub IsFaultOfKind : ErrorKind → WordsFault → Type 0
 IsFaultOfKind kind (Words None) = kind ≢ OutOfMemory
 IsFaultOfKind kind (Words (Some w)) = ⊥
 IsFaultOfKind kind Memory = kind ≡ OutOfMemory
 
--- the text after the word `fault`
+-- the text that follows the word `fault` in the line for refused words
 abbrev pub words_text : WordsFault → List ℕ
 words_text (Words None) = codes "183"
 words_text (Words (Some word)) = codes "183 " ++ word.now
 words_text Memory = codes "184"
 
--- the status of a refusal of the words
+-- the exit status for refused words: 2, or 3 if memory was refused
 abbrev pub words_status : WordsFault → ℕ
 words_status (Words w) = 2
 words_status Memory = 3

@@ -19,7 +19,7 @@ abbrev pub output_text : OutputFault → List ℕ
 output_text output.Write = codes "182"
 output_text output.Memory = codes "184"
 
--- the text of a fault
+-- the text of a fault of the program: the number and the arguments that follow the word `fault`
 abbrev pub program_text : ProgramFault → List ℕ
 program_text (fault.Refused f) = load_text f
 program_text fault.Loading = codes "91"
@@ -45,11 +45,11 @@ source_text (source.Text f) = reading_text f
 source_text source.Reading = codes "184"
 source_text source.Adding = codes "92"
 
--- the line of a fault
+-- the line that reports a fault, given the text of the fault
 abbrev pub fault_line : List ℕ → List ℕ
 fault_line text = codes "fault " ++ (text ++ codes "\n")
 
--- the status for a fault: 2 for a refusal of the input, else 3
+-- the exit status for a fault of the program: 2 for a refusal (`IsRefusal`), else 3
 abbrev pub status_of : ProgramFault → ℕ
 status_of (fault.Refused f) = 2
 status_of (fault.MissingLocal name) = 2
@@ -59,7 +59,7 @@ status_of (fault.Assembling f) = 2
 status_of fault.TooLong = 2
 status_of _ = 3
 
--- the line of a fault is written, and the status is the fault's; or the line could not be written, and the status is 3
+-- the line of a fault with this text is written, and the status is `of_fault`; or the line could not be written, and the status is 3
 abbrev pub TellsLine : Option (List ℕ) → Option (List ℕ) → List ℕ → ℕ → ℕ → Type 0
 TellsLine err err' text of_fault status = ((status ≡ of_fault) × Appends err err' (fault_line text)) ⊎ (status ≡ 3)
 

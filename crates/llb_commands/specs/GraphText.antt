@@ -11,15 +11,15 @@ use Rattle.llb_commands.specs.Output as output
 use Rattle.llb_commands.specs.declared.fault.OutputFault.{OutputFault}
 use Rattle.llb_commands.specs.declared.fault.OutputFault.TheVariants.{Write, Memory}
 
--- the text of an edge: its vertex and its index
+-- the text of an edge: the number of the vertex, a point, and the index of the vertex's output
 abbrev pub edge_text : Edge → List ℕ
 edge_text e = decimal e.vertex ++ (codes "." ++ decimal e.index)
 
--- an input in the graph's text, with a space before it
+-- the text of an input of a vertex: a space, and then the edge
 abbrev pub input_text : Edge → List ℕ
 input_text e = codes " " ++ edge_text e
 
--- the inputs of a vertex in the graph's text; a dash if there are none
+-- the text of the inputs of a vertex: each input with a space before it, or a space and a dash if there are none
 abbrev pub inputs_text : List Edge → List ℕ
 inputs_text [] = codes " -"
 inputs_text (e ∷ es) = flat_map input_text (e ∷ es)
@@ -50,7 +50,7 @@ abbrev pub is_memory : OutputFault → Bool
 is_memory Memory = true
 is_memory Write = false
 
--- a call's result is the expected one, a value or a fault; or the call fails for want of memory
+-- a call returns the value or the fault that is expected, or it fails for want of memory
 abbrev pub Gives : {X Y : Type 0} → (X → Y) → Result X OutputFault → Result Y OutputFault → Type 0
 Gives = answer.Gives is_memory
 

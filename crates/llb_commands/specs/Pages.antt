@@ -1,4 +1,4 @@
--- The page that follows the line of refused words: the help or the version, if the words ask for it; `clap` reports this as a refusal.
+-- The page of help or of the version, which words may ask for. `clap` reports such words as refused, so the page follows the line of the refusal.
 use Rattle.std.specs.Prelude.{◌≡◌, ◌⊎◌, ℕ, if◌then◌else◌, List, [], ◌∷◌, ◌++◌, codes, Option, Some, None, Result, Ok, Err}
 use Rattle.std.specs.Io.KnownBytes.{Appends}
 use Rattle.std.specs.Str.{bytes_eq}
@@ -24,7 +24,7 @@ command_named name =
     else if bytes_eq name (codes "asm") then Some Assemble
     else if bytes_eq name (codes "dis") then Some Disassemble else None
 
--- the command that the first word names, if it names one
+-- the command that the first word names; none if there is no word, or if the first word names no command
 abbrev pub named_first : List Text → Option Command
 named_first [] = None
 named_first (w ∷ ws) = command_named w
@@ -44,12 +44,12 @@ page_for DisplayHelp command = help_page command
 page_for DisplayVersion command = VERSION_PAGE.now
 page_for _ command = []
 
--- what follows the line of a fault: if `clap` refuses the words, the page for one of the kinds of refusal that `clap` may return for them; else nothing
+-- the page that follows the line of a fault: if `clap` refuses the words, the page for one of the kinds of refusal that `clap` may return; else an empty text
 abbrev pub HasPage : Kinds → List Text → WordsFault → Text → Type 0
 HasPage kinds words (Words None) page = (k : ErrorKind) × IsAmong k kinds × (page ≡ page_for k (named_first words))
 HasPage kinds words _ page = page ≡ []
 
--- the result of reading the words, with the page of a refusal
+-- the result of reading the words: a line, and `clap` accepts the words; or a fault as `Refuses` says, with its page
 abbrev pub IsByWordsWithPage : Kinds → List Text → List Text → Result Line Refusal → Type 0
 IsByWordsWithPage kinds locals words (Ok line) = kinds ≡ []
 IsByWordsWithPage kinds locals words (Err r) = Refuses kinds locals r.fault × HasPage kinds words r.fault r.page.now

@@ -34,7 +34,7 @@ unread_as (reading.Failed kind) = Read
 unread_as (reading.Unending interrupted) = Read
 unread_as reading.Memory = Memory
 
--- the fault is a refusal of the input, or of what is asked for
+-- the fault is a refusal: of the input, of the number of workers, or for want of a local source's tree
 abbrev pub IsRefusal : ProgramFault → Type 0
 IsRefusal (Refused e) = ⊤
 IsRefusal (MissingLocal name) = ⊤
@@ -44,16 +44,16 @@ IsRefusal (Assembling e) = ⊤
 IsRefusal TooLong = ⊤
 IsRefusal _ = ⊥
 
--- if the fault is a refusal of the input, the input has the cause that `IsSo` says for this fault
+-- if the fault is a refusal (`IsRefusal`) and the bytes of the input are known, these bytes have the cause that `IsSo` says for this fault
 abbrev pub TellsRefusal : (ProgramFault → List ℕ → Type 0) → Option (List ℕ) → ProgramFault → Type 0
 TellsRefusal IsSo input e = IsRefusal e → IfSome input (IsSo e)
 
--- the graph that the input defines, or why there is none
+-- the graph that the input defines; or a fault, and if the fault is a refusal, its cause in the input
 abbrev pub Loads : Option (List ℕ) → Result Numbered ProgramFault → Type 0
 Loads input (Ok g) = IfSome input (λ bytes. IsGraphIn bytes g)
 Loads input (Err e) = TellsRefusal IsRefused input e
 
--- the board that is opened on the graph of the input, or why no board is opened
+-- the board that is opened on the graph of the input; or a fault, and if the fault is a refusal, its cause
 abbrev pub Opens : ℕ → List Local → Option (List ℕ) → Result BoardValue ProgramFault → Type 0
 Opens workers locals input (Ok b) = (g : Numbered) × IfSome input (λ bytes. IsGraphIn bytes g) × (b ≡ opened (build_of locals g) workers [])
 Opens workers locals input (Err e) = TellsRefusal (IsNotRun workers locals) input e
@@ -64,12 +64,12 @@ pub record IsFinished (workers : ℕ) (locals : List Local) (g : Numbered) (b : 
   pub ended : IsEnd workers (build_of locals g) b.state
   pub here : IsConsistent (build_of locals g) b.state
 
--- the board on which a run of the graph of the input has ended, or why there is no such board
+-- the board on which a run of the graph of the input has ended; or a fault, and if the fault is a refusal, its cause
 abbrev pub Finishes : ℕ → List Local → Option (List ℕ) → Result BoardValue ProgramFault → Type 0
 Finishes workers locals input (Ok b) = (g : Numbered) × IfSome input (λ bytes. IsGraphIn bytes g) × IsFinished workers locals g b
 Finishes workers locals input (Err e) = TellsRefusal (IsNotRun workers locals) input e
 
--- the result is the board, if no fault cut the run short; else it is a fault that is no refusal of the input
+-- if no fault cut the run short, the result is the run's board; else the result is a fault, which is no refusal
 abbrev pub IsWhole : BoardValue → Option RunFault → Result BoardValue ProgramFault → Type 0
 IsWhole board fault (Ok b) = (b ≡ board) × (fault ≡ None)
 IsWhole board fault (Err e) = ¬ IsRefusal e
@@ -80,19 +80,19 @@ Shows board output tree (Ok Printed) = (t : TreeMap) × (tree ≡ Some t) × IsW
 Shows board output tree (Ok (Failed b)) = (b ≡ board) × (tree ≡ None) × IsKept output
 Shows board output tree (Err e) = (¬ IsRefusal e) × ((t : TreeMap) × (tree ≡ Some t) × IsPartWritten output (tree_text t))
 
--- a board on which a run has ended without a tree as its result
+-- b is a board on which a run of the graph of these bytes has ended, and the run's result is no tree
 abbrev pub YieldsNoneOn : ℕ → List Local → BoardValue → List ℕ → Type 0
 YieldsNoneOn workers locals b bytes = (y : YieldsNone workers locals bytes) × (y.state ≡ b.state) × (build_of locals y.graph ≡ b.build)
 
--- the text is written; or the result is no tree, and nothing is written; or there is a fault, and nothing or a prefix of the text is written
+-- the text of the run's result is written; or the result is no tree, and nothing is written; or there is a fault, and at most a prefix of the text is written
 abbrev pub Answers : ℕ → List Local → Option (List ℕ) → Stream → Result Ended ProgramFault → Type 0
 Answers workers locals input output (Ok Printed) = IfSome input (YieldsAll workers locals output)
 Answers workers locals input output (Ok (Failed b)) = IsKept output × IfSome input (YieldsNoneOn workers locals b)
 Answers workers locals input output (Err e) =
     (IsKept output × TellsRefusal (IsNotRun workers locals) input e) ⊎ ((¬ IsRefusal e) × IfSome input (YieldsPart workers locals output))
 
--- The exit status and the lines on standard error: 0 if the text is written, 1 if there is no tree, 2 for a refusal; 3 for any other fault, also one that
--- comes after the text is written.
+-- The exit status and the lines on standard error: status 0 if the text is written, 1 if the result is no tree, 2 for a refusal, 3 for any other fault. A
+-- fault may occur even after the text is written; then the status is 3.
 abbrev pub Ends : Stream → Stream → Result Ended ProgramFault → ℕ → Type 0
 Ends output errors (Ok Printed) status = IsKept output × (((status ≡ 0) × IsKept errors) ⊎ (status ≡ 3))
 Ends output errors (Ok (Failed b)) status =

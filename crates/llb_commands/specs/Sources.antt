@@ -15,7 +15,7 @@ use Rattle.llb_commands.specs.declared.sources.SourceFault.TheVariants.{Read, To
 abbrev pub limit : ℕ
 limit = 67108864
 
--- the most reads that may be made until the end of an input is met
+-- the most reads that may be made of an input; the read that meets the end counts too
 abbrev pub most_reads : ℕ
 most_reads = 134217728
 
@@ -34,7 +34,7 @@ abbrev pub told : Result TreeMap TextFault → Result TreeMap SourceFault
 told (Ok t) = Ok t
 told (Err e) = Err (Text e)
 
--- the result of reading a file as a tree: `ReadsTree` for its bytes, if they are known
+-- the result of reading a file as a tree: if the bytes of the file are known, `ReadsTree` holds for them
 abbrev pub Reads : Option (List ℕ) → Result TreeMap SourceFault → Type 0
 Reads known r = IfSome known (λ bytes. ReadsTree bytes r)
 
@@ -49,7 +49,7 @@ Gathers files [] trees r = r ≡ Ok trees
 Gathers files (l ∷ ls) trees r = ((e : SourceFault) × Reads (files l.file.now) (Err e) × (r ≡ Err e))
     ⊎ ((t : TreeMap) × Reads (files l.file.now) (Ok t) × Gathers files ls (with_local trees l.name.now t) r)
 
--- the status for a fault: 2 if the text is refused, else 3
+-- the exit status for a fault of a local source: 2 if the text of its file is refused, else 3
 abbrev pub source_status : SourceFault → ℕ
 source_status Read = 3
 source_status TooLong = 2

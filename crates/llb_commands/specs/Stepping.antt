@@ -17,11 +17,11 @@ use Rattle.llb_commands.specs.declared.fault.OutputFault.TheVariants as output
 use Rattle.llb_commands.specs.declared.fault.ProgramFault.{ProgramFault}
 use Rattle.llb_commands.specs.declared.fault.ProgramFault.TheVariants as fault
 
--- a stepper over a graph, on a board with this number of workers and caches without instances
+-- a new stepper on the board that is opened over a graph, with this number of workers and with caches without instances
 abbrev pub begun : List Local → Numbered → ℕ → Stepping
 begun locals g workers = record { board = opened (build_of locals g) workers []; past = []; breaks = [] }
 
--- a conversation on a stepper over a graph, with the program's bounds on the bytes of the commands and on the reads
+-- a session's conversation from a new stepper over a graph to the stepper `end`, with the program's bounds on the bytes of the commands and on the reads
 abbrev pub conversation : List Local → Numbered → ℕ → Stepping → Stream → Stream → Conversation
 conversation locals graph workers end commands output = record {
   limit = limit;
@@ -32,7 +32,7 @@ conversation locals graph workers end commands output = record {
   replies = output;
 }
 
--- a session over the graph of these bytes has ended with this result, and the replies to its commands are written
+-- The bytes are the definition of a graph. A session over this graph has ended with this result, and its replies are written as `Converses` says.
 pub record IsSession (workers : ℕ) (locals : List Local) (commands output : Stream) (result : Result (Unit {0}) SessionFault) (bytes : List ℕ) : Type 0 where
   pub graph : Numbered
   pub loaded : IsGraphIn bytes graph
@@ -47,7 +47,7 @@ session_fault session.Write = fault.Output output.Write
 session_fault session.Memory = fault.Memory
 session_fault session.TooLong = fault.TooLong
 
--- a session has gone on to its end; or no session began, and nothing is written; or a session has ended with a fault
+-- Without a fault, a session went on to its end. With a fault, either no session began and nothing is written, or a session ended with this fault.
 abbrev pub StepsIn : ℕ → List Local → Option (List ℕ) → Stream → Stream → Result (Unit {0}) ProgramFault → Type 0
 StepsIn workers locals file commands output (Ok u) = IfSome file (IsSession workers locals commands output (Ok u))
 StepsIn workers locals file commands output (Err e) =
@@ -59,8 +59,8 @@ abbrev pub IsBroken : ℕ → List Local → Stream → Stream → List ℕ → 
 IsBroken workers locals commands output bytes = (f : SessionFault) × IsSession workers locals commands output (Err f) bytes
 
 -- How `step` ends. It reads the definition from a file, and the commands from its input. Status 0: the session went on to its end. 2: the bytes are
--- refused, a local tree is missing, or the number of workers is not 1 to 64, and nothing is written but the line that says which; or there were too many
--- bytes of commands, which a line says. 3: a device or memory failed; nothing is written, or the replies up to the failure.
+-- refused, a local tree is missing, or the number of workers is not 1 to 64, and nothing is written but the line with this fault; or there were too many
+-- bytes of commands, and a line says so. 3: a device or memory failed; nothing is written, or the replies up to the failure.
 abbrev pub Steps : ℕ → List Local → Option (List ℕ) → Io → ℕ → Type 0
 Steps workers locals file io status =
     ((status ≡ 0) × IsKept io.errors × IfSome file (IsSession workers locals io.input io.output (Ok tt)))

@@ -29,8 +29,8 @@ pub enum ReadFault {
     Memory,
 }
 
-/// Reads the rest of an input, if it has no more than `limit` bytes and its end is met in `reads` reads. An interrupted read is
-/// done again, and counts as a read.
+/// Reads the rest of an input. Fails with `TooLong` past `limit` bytes, with `Failed` if a read fails, with `Unending` if `reads`
+/// reads do not meet the end, and with `Memory` if memory is refused. An interrupted read is done again, and counts as a read.
 pub fn read_bounded<R: Read>(
     alloc: Global,
     input: &mut R,

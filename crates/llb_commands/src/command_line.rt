@@ -72,7 +72,7 @@ fn workers_arg<'a>(alloc: Global, help: &'a str) -> Arg<'a>
         .value_parser(value_parser!(u32))
 }
 
-// Returns the command `run`.
+// Returns `clap`'s description of the command `run`.
 fn run_command<'a>(alloc: Global) -> Result<clap::Command<'a>, AllocError>
     ensures app { IfOk result (λ c. app_of c ≡ run_app) }
     ensures plain { IfOk result (λ c. (fields_of c).has_globals ≡ false) }
@@ -83,7 +83,7 @@ fn run_command<'a>(alloc: Global) -> Result<clap::Command<'a>, AllocError>
         .arg(local_arg(alloc))
 }
 
-// Returns the command `step`.
+// Returns `clap`'s description of the command `step`.
 fn step_command<'a>(alloc: Global) -> Result<clap::Command<'a>, AllocError>
     ensures app { IfOk result (λ c. app_of c ≡ step_app) }
     ensures plain { IfOk result (λ c. (fields_of c).has_globals ≡ false) }
@@ -95,7 +95,7 @@ fn step_command<'a>(alloc: Global) -> Result<clap::Command<'a>, AllocError>
         .arg(local_arg(alloc))
 }
 
-// Returns a command that takes no words.
+// Returns `clap`'s description of a command that takes no words.
 fn plain_command<'a>(alloc: Global, name: &'a str, about: &'a str) -> clap::Command<'a>
     ensures app { app_of result ≡ new_app name.now }
     ensures plain { (fields_of result).has_globals ≡ false }
@@ -103,7 +103,7 @@ fn plain_command<'a>(alloc: Global, name: &'a str, about: &'a str) -> clap::Comm
     clap::Command::new(alloc, name).about(about)
 }
 
-// Returns the program's command line without its commands.
+// Returns `clap`'s description of the program without its commands.
 fn base_command<'a>(alloc: Global) -> Result<clap::Command<'a>, AllocError>
     ensures app { IfOk result (λ c. app_of c ≡ base_app) }
     ensures plain { IfOk result (λ c. (fields_of c).has_globals ≡ false) }
@@ -117,7 +117,7 @@ fn base_command<'a>(alloc: Global) -> Result<clap::Command<'a>, AllocError>
         .bin_name("llbm")
 }
 
-// Returns the program's command line with the commands `run`, `show` and `step`.
+// Returns `clap`'s description of the program with the commands `run`, `show` and `step`.
 fn graph_commands<'a>(alloc: Global) -> Result<clap::Command<'a>, AllocError>
     ensures { IfOk result (λ c. app_of c ≡ graph_app) }
 {
@@ -132,7 +132,7 @@ fn graph_commands<'a>(alloc: Global) -> Result<clap::Command<'a>, AllocError>
         .subcommand(step_command(alloc)?)
 }
 
-/// Returns the command line as it is given to `clap`, with all commands.
+/// Returns `clap`'s description of the program with all its commands.
 pub fn llbm_command<'a>(alloc: Global) -> Result<clap::Command<'a>, AllocError>
     ensures { IfOk result (λ c. app_of c ≡ llbm_app) }
 {
@@ -149,7 +149,7 @@ pub fn llbm_command<'a>(alloc: Global) -> Result<clap::Command<'a>, AllocError>
     graph_commands(alloc)?.subcommand(asm)?.subcommand(dis)
 }
 
-// Returns the command with this name; the caller promises that the name is a command's.
+// Returns the command with this name; the caller promises that a command has the name.
 fn command_named(name: &str) -> Command
     requires { IsName name.now }
     ensures { name_of result ≡ name.now }
@@ -183,7 +183,7 @@ fn locals_in<'a>(alloc: Global, matches: &ArgMatches<'a>) -> Result<Many<Local<'
     }
 }
 
-// Returns the number of workers that the matches of a command have.
+// Returns the number of workers in the matches of a command; if they have none, 2 for `step` and 1 for any other command.
 fn workers_in(command: Command, matches: &ArgMatches<'_>) -> u32
     ensures { IsWorkers command (rows_of (found_of matches.now)) result }
 {
@@ -194,7 +194,7 @@ fn workers_in(command: Command, matches: &ArgMatches<'_>) -> u32
     }
 }
 
-// Returns the file that the matches of a command have.
+// Returns the file that the matches of `step` name; `None` for any other command.
 fn file_in<'a>(command: Command, matches: &ArgMatches<'a>) -> Option<&'a str>
     ensures { IsFile command (rows_of (found_of matches.now)) result }
 {
@@ -204,7 +204,7 @@ fn file_in<'a>(command: Command, matches: &ArgMatches<'a>) -> Option<&'a str>
     }
 }
 
-// Returns the `Line` that a command and its matches make.
+// Returns the `Line` with this command, and with the workers, the file and the local sources in its matches.
 fn line_of<'a>(
     alloc: Global,
     command: Command,
@@ -234,7 +234,7 @@ fn bare_run<'a>(alloc: Global) -> Line<'a>
     }
 }
 
-// Returns the fault for a refusal by `clap`.
+// Returns the fault for a refusal by `clap`: 184 if memory was refused to `clap`, else 183 without a word.
 fn refused_by<'a>(error: Error) -> WordsFault<'a>
     ensures { IsFaultOfKind (kind_of error) result }
 {
@@ -245,7 +245,7 @@ fn refused_by<'a>(error: Error) -> WordsFault<'a>
     }
 }
 
-/// Returns what `command_of` returns, and for words that are refused also the page that they ask for.
+/// Returns what `command_of` returns; if the words are refused, the fault is returned with the page that the words ask for.
 pub(crate) fn line_or_page<'a, S: AsStr>(
     alloc: Global,
     words: &'a [S],

@@ -60,8 +60,9 @@ pub enum ProgramFault {
     Workers,
     /// 123: memory was refused while the board was opened.
     Opening,
-    /// 151: memory was refused in the run; 153: a thread could not be started. 152 (the gate stopped a worker) and 154 (the
-    /// board is not the given one) never end a run of the program.
+    /// 151: memory was refused in the run; 153: a thread could not be started. 152 (the gate stopped a worker) and 154 (the copy
+    /// of the opening board that is kept under the lock differs from the board that the run was called with) never end a run of
+    /// the program.
     Run(RunFault),
     /// 34 and 35: the result's text was not written, or not all of it.
     Print(PrintFault),
@@ -126,7 +127,7 @@ impl ProgramFault {
     }
 }
 
-/// Writes the fault's line, and returns its status; 3 if the line can't be written.
+/// Writes the line of a fault, and returns the exit status for this fault; 3 if the line can't be written.
 pub fn refusal<E: Write>(fault: &ProgramFault, err: &mut E) -> u8
     ensures { Tells (E.contents err.old) (E.contents err.new) fault.now result }
 {

@@ -1,5 +1,5 @@
-//! The text of a graph: a line for each vertex by number, and a line for the result. It is written to a sink, a line at a
-//! time.
+//! The text of a graph: a line for each vertex by number, and a line for the result. The text is written to a sink, a line
+//! at a time.
 
 ghost use Rattle.std.specs.Prelude.{◌≡◌, ◌++◌, Ok, string_bytes};
 ghost use Rattle.llb_commands.specs.GraphText.{Gives, inputs_text, input_text, vertex_line, vertex_lines, result_line, graph_text, Writes};

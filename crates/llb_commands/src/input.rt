@@ -31,7 +31,8 @@ pub(crate) fn unread(fault: ReadFault) -> ProgramFault
     }
 }
 
-/// Reads the definition and loads it.
+/// Reads the definition to its end and loads its graph. Fails with 81 to 90 if the definition is refused, with 181 if a read fails or the bound on reads is
+/// met, and with 91 or 184 if memory is refused.
 pub(crate) fn loaded<R: Read>(alloc: Global, input: &mut R) -> Result<Graph, ProgramFault>
     ensures { Loads (R.remaining input.old) result }
 {

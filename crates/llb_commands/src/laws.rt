@@ -18,8 +18,8 @@ use llb_stepper::{
 use llb_wire::Bytes;
 use std::alloc::Global;
 
-/// Proves that the definition that a text is assembled to, and any bytes that have the entries of the text, run to the same text of the result: by one worker,
-/// on the same local trees.
+/// Proves that two definitions with the same entries, each run by one worker on the same local trees, yield the same text of their result if both yield a
+/// text. The first is the definition that a text is assembled to; the second is any bytes whose entries are those of the text.
 pub fn assembled_runs_alike(text: &[u8], entries: &Entries, bytes: &Bytes)
     ensures { RunsAlike text.now entries.now bytes.now }
 {
@@ -66,7 +66,7 @@ pub struct BoardOptions {
     pub workers: u32,
 }
 
-/// Meets the premises of `aim`: loads a definition, opens boards over its graph, makes a stepper, and calls `aim` on them.
+/// Shows that the premises of `aim` can be met: loads a definition, opens boards over its graph, makes a stepper, and calls `aim` on them.
 pub fn aim_is_met(
     alloc: Global,
     text: &[u8],

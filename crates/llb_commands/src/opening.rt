@@ -13,7 +13,7 @@ use llb_loader::{Graph, Locals};
 use std::alloc::Global;
 use std::io::Read;
 
-/// Opens a board with this number of workers and no caches; fails with the reason if no board can be opened.
+/// Opens a board with this number of workers and with caches without instances; fails with the reason if no board can be opened.
 pub(crate) fn opened(
     alloc: Global,
     graph: Graph,
@@ -31,9 +31,9 @@ pub(crate) fn opened(
     }
 }
 
-/// Reads a definition from `input`, and opens a board on its graph and the local trees, with this number of workers and no caches. Fails if
-/// the definition is refused (81 to 90; 81 13 past 67,108,864 bytes), a local source has no tree (121), the number of workers is not 1 to 64
-/// (122), a read failed (181), or memory is refused (91, 123, 184).
+/// Reads a definition from `input`, and opens a board on its graph and the local trees, with this number of workers and with caches without
+/// instances. Fails if the definition is refused (81 to 90; 81 13 past 67,108,864 bytes), a local source has no tree (121), the number of
+/// workers is not 1 to 64 (122), a read fails (181), or memory is refused (91, 123, 184).
 pub fn open_over<R: Read>(
     alloc: Global,
     input: &mut R,

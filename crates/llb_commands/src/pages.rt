@@ -1,5 +1,5 @@
-//! The pages of help and of the version. If words ask for a page, it is written below the line of their fault. The pages are the texts that `clap` renders for
-//! the command line. No contract says what `clap` renders, so the pages are constants here, and a test of the program compares them with `clap`'s.
+//! The pages of help and of the version. If words ask for a page, the page is written below the line that refuses the words. `clap` can render these pages, but
+//! no contract says what `clap` renders. So the pages are constants here, and a test of the program compares them with the pages that `clap` renders.
 
 ghost use Rattle.std.specs.Prelude.{◌≡◌, map};
 ghost use Rattle.llb_commands.specs.Pages.{command_named, help_page, named_first, page_for};
@@ -99,7 +99,7 @@ pub(crate) fn named(name: &str) -> Option<Command>
     }
 }
 
-/// Returns the command that the first word names, if it names one.
+/// Returns the command that the first word names; `None` if there is no word, or if the first word names no command.
 pub(crate) fn named_first<S: AsStr>(words: &[S]) -> Option<Command>
     ensures { result ≡ named_first (map S.text words.now) }
 {

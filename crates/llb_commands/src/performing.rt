@@ -1,4 +1,4 @@
-//! Does the command that a command line asks for, on the program's streams and the local trees; `program` is the whole program.
+//! Does the command that a command line asks for, on the program's streams and the local trees. `program` also reads the words and the local sources.
 
 ghost use Rattle.std.specs.Prelude.{map};
 ghost use Rattle.llb_commands.specs.Commands.{IsProgram, Performs};

@@ -44,11 +44,11 @@ impl Gate for Open {
 enum Ended {
     // The text of the run's result is written.
     Printed,
-    // A vertex failed, so the result is no tree; the board has all vertices that failed.
+    // A vertex failed, so the result is no tree; the board says which vertices failed.
     Failed(Board),
 }
 
-// Returns the board of a run, if the run was not cut short by a fault.
+// Returns the board of a run if no fault cut the run short; else fails with the program's fault for that fault.
 fn whole(board: Board, fault: Option<RunFault>) -> Result<Board, ProgramFault>
     ensures { IsWhole board fault result }
 {
@@ -97,7 +97,7 @@ fn print_over<W: Write>(alloc: Global, tree: &Tree, out: &mut W) -> Result<(), P
     print_tree(alloc, tree, &mut sink)
 }
 
-// Writes the text of the tree of an output; returns the board if the vertex is not done, and so has no such tree.
+// Writes the text of the tree that an edge leads to, an output of a vertex; returns the board if the vertex is not done, since there is no such tree then.
 fn print_output<W: Write>(
     alloc: Global,
     board: Board,

@@ -80,9 +80,9 @@ fn told(read: Result<Tree, TextFault>) -> Result<Tree, SourceFault>
     }
 }
 
-/// Reads a text to its end as a tree, and adds it as the local tree of this name; a tree that the name had before is replaced. Fails with 181 if a read fails,
-/// or the end is not met in 2^27 reads; with 185 past 67,108,864 bytes; with 31 to 33 if the text is no tree's; and with 34, 92 or 184 if memory is refused (92
-/// only if the text is a tree's). After a fault no tree is added.
+/// Reads a text to its end as a tree, and adds the tree as the local tree of this name; a tree that the name had before is replaced. Fails with 181 if a read
+/// fails, or the end is not met in 2^27 reads; with 185 past 67,108,864 bytes; with 31 to 33 if the text can't be read as a tree; and with 34, 92 or 184 if
+/// memory is refused (92 only if the text can be read as a tree). After a fault no tree is added.
 pub fn add_local<R: Read>(
     alloc: Global,
     name: &str,
@@ -149,7 +149,7 @@ impl SourceFault {
     }
 }
 
-/// Writes the line of a local source that has no tree, and returns its fault's status; 3 if the line can't be written.
+/// Writes the line of the fault of a local source, and returns the exit status for this fault; 3 if the line can't be written.
 pub fn source_refusal<E: Write>(fault: &SourceFault, err: &mut E) -> u8
     ensures { TellsSource (E.contents err.old) (E.contents err.new) fault.now result }
 {

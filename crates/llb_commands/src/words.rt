@@ -24,7 +24,7 @@ pub enum Command {
     Disassemble,
 }
 
-/// A local source: its name, and the file that has its tree's text.
+/// A local source: the name of the source, and the file with the text of its tree.
 #[derive(Clone, Copy, Debug)]
 pub struct Local<'a> {
     pub name: &'a str,
@@ -99,7 +99,7 @@ impl WordsFault<'_> {
     }
 }
 
-/// Writes the line of refused words, and returns their fault's status; 3 if the line can't be written.
+/// Writes the line for refused words, and returns the exit status for their fault; 3 if the line can't be written.
 pub fn words_refusal<E: Write>(fault: &WordsFault<'_>, err: &mut E) -> u8
     ensures { TellsWords (E.contents err.old) (E.contents err.new) fault.now result }
 {

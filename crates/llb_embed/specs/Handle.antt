@@ -1,4 +1,4 @@
--- What a handle holds, as its owner sees it, and what it holds after a call.
+-- What a handle holds, and how a call changes what the handle holds.
 use Rattle.std.specs.Prelude.{◌≡◌, ℕ, true, if◌then◌else◌, List, [], Option, None, Some}
 use Rattle.llb_embed.specs.declared.held.Held.{Held}
 use Rattle.llb_embed.specs.declared.handle.Llb.{Llb}
@@ -8,7 +8,7 @@ use Rattle.llb_embed.specs.Kept.{IsKept}
 abbrev pub held_in : Llb → Option Held
 held_in h = if h.is_set then h.kept.value else None
 
--- a handle whose flag `is_set` is true has a value
+-- if the flag `is_set` of the handle is true, the handle's pointer has a value
 abbrev pub IsSound : Llb → Type 0
 IsSound h = h.is_set ≡ true → IsKept h.kept.value
 
@@ -20,13 +20,13 @@ pub record IsEmpty (h : Held) : Type 0 where
   pub output : h.output.items ≡ []
   pub messages : h.messages.items ≡ []
 
--- a call starts with what the handle holds, or with an empty value if it holds nothing
+-- a call starts with the value that the handle holds, or with an empty value if the handle holds no value
 abbrev pub StartsWith : Option Held → Held → Type 0
 StartsWith None start = IsEmpty start
 StartsWith (Some h) start = start ≡ h
 
--- A call changes what the handle holds as the relation `Leads` says; or memory for the handle itself was refused: the status is 3, and the handle holds
--- nothing, before and after.
+-- A call changes the value that the handle holds as the relation `Leads` says. Or the handle held no value, and memory for an empty value was refused: then
+-- the status is 3, and the handle still holds no value.
 abbrev pub Calls : (Held → Held → ℕ → Type 0) → Option Held → Option Held → ℕ → Type 0
 Calls Leads old None status = (status ≡ 3) × (old ≡ None)
 Calls Leads old (Some new) status = (start : Held) × StartsWith old start × Leads start new status

@@ -1,4 +1,4 @@
--- What each call does to the value in the handle, in terms of the definition of the program's command: the value before and after the call, and the status.
+-- What each call does to the value in the handle, in terms of the program's commands: how the values before and after the call and the status are related.
 use Rattle.std.specs.Prelude.{◌≡◌, ◌+◌, ◌⊎◌, ℕ, List, [], Option, Some, None, Ok, Err, MatchOption, IsUtf8}
 use Rattle.llb_tree.specs.Tree.{TreeMap}
 use Rattle.llb_loader.specs.Graph.{Numbered}
@@ -59,7 +59,7 @@ Disassembled = EndsBy Disassembles
 
 -- ---- local trees
 
--- why no tree is added, which the messages and the status say: the name is not UTF-8, or the text could not be read as a tree
+-- no tree is added, and the messages and the status say why: the name is not UTF-8, or the text could not be read as a tree
 abbrev pub TellsWhyNot : List ℕ → List ℕ → Held → ℕ → Type 0
 TellsWhyNot name text new status =
     ((¬ (IsUtf8 name)) × TellsWords (Some []) (Some new.messages.items) (Words None) status)
@@ -74,7 +74,7 @@ Added name text old new status = (new.session ≡ old.session) × (new.lines ≡
 
 -- ---- sessions
 
--- a session is begun on the graph of the definition, with the local trees and this number of workers, and no line was sent to it yet
+-- a session is begun on the graph of the definition, with the local trees and this number of workers; no line was sent to the session yet
 abbrev pub IsBegun : List ℕ → ℕ → Held → Held → Type 0
 IsBegun definition workers old new = (g : Numbered) × IsGraphIn definition g × (new.session ≡ Some (begun old.locals g workers)) × (new.lines ≡ 0)
 

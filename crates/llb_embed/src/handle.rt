@@ -31,7 +31,7 @@ pub(crate) fn take(it: &mut Llb, alloc: Global) -> Option<Box<Held>>
     Some(kept.into_box(alloc))
 }
 
-/// Puts a value into the handle, whose value was taken out before.
+/// Puts a value into the handle. The handle's former value, if there was one, has to be taken out before.
 pub(crate) fn put(it: &mut Llb, held: Box<Held>)
     ensures sound { IsSound it.new }
     ensures holds { held_in it.new ≡ Some held.value }
@@ -40,8 +40,8 @@ pub(crate) fn put(it: &mut Llb, held: Box<Held>)
     it.is_set = true;
 }
 
-/// Takes out the value that the handle holds, or makes an empty value if it holds none; returns `None` if memory for an empty value
-/// is refused.
+/// Takes out and returns the value that the handle holds; if the handle holds none, makes and returns an empty value. Returns `None` if
+/// memory for an empty value is refused.
 pub(crate) fn start(it: &mut Llb, alloc: Global) -> Option<Box<Held>>
     requires { IsSound it.old }
     ensures sound { IsSound it.new }

@@ -6,7 +6,7 @@ use llb_loader::Locals;
 use llb_stepper::Stepper;
 use std::alloc::Global;
 
-/// Local trees, a session if one is open, how many lines were sent to it, and what the last call wrote.
+/// Local trees, a session if one is open, how many lines were sent to the session, and the output and the messages of the last call.
 pub struct Held {
     pub locals: Locals,
     pub session: Option<Stepper>,
@@ -29,7 +29,7 @@ impl Drop for Held {
 }
 
 impl Held {
-    /// Returns an empty value: no trees, no session, no output. Does not allocate.
+    /// Returns an empty value: no local trees, no session, no output and no messages. Does not allocate.
     pub fn new(alloc: Global) -> Held
         ensures { IsEmpty result }
     {

@@ -11,7 +11,7 @@ use crate::held::Held;
 use std::alloc::Global;
 use std::marker::Model;
 
-/// No value, or a value whose memory is at the pointer. Contracts see the value.
+/// A pointer with no value, or with a value whose memory is at the pointer. In contracts the ghost field `value` is that value.
 #[repr(C)]
 #[derive(Drop)]
 pub struct Kept {
@@ -33,7 +33,7 @@ impl Kept {
         Kept { at: at as *mut u8 }
     }
 
-    /// Makes the box again from the pointer.
+    /// Returns the box that was turned into this pointer.
     pub fn into_box(self, alloc: Global) -> Box<Held>
         requires { IsKept self.value }
         ensures { self.value ≡ Some result.value }

@@ -1,9 +1,9 @@
-//! The library for C: a handle holds local trees, a session and what the last call wrote, and each call has the contract of the program's
-//! command. It is built on `llb_commands`, and is linked as a static library; what its caller has to promise is in bindings/llbm.h.
+//! The library for C: a handle holds local trees, a session and what the last call wrote. The contracts of the calls use the definitions of the
+//! program's commands. The crate is built on `llb_commands`, and is linked as a static library. bindings/llbm.h says what a caller has to promise.
 //!
 //! Types: `Llb`, a handle: a struct of zeroes until a call puts a value into it.
-//! Promise: each exported call does what the program's command does, on the bytes handed in and what the handle holds (clauses `ran`, `opened`, `replied` and
-//! the like); as much of the output and of the messages as fits is copied, and the whole length is returned (`copied`, `all`).
+//! Promise: each exported call does what the program's command does, on the bytes that it is given and the value in the handle (clauses `ran`, `opened`,
+//! `replied` and others). The calls that copy the output or the messages copy as many bytes as fit, and return the whole length (`copied`, `all`).
 //!
 //! A caller:
 //!
@@ -31,9 +31,9 @@ use working::{assemble, copy_out, disassemble, local, open, reply, run, show};
 /// The status if memory for what the handle holds was refused.
 const NO_MEMORY: u8 = 3;
 
-/// Adds the tree that a text spells as the local tree of a name; a tree that the name had before is replaced. Returns 0 if the tree is added; 2 if the text is
-/// refused (31 to 33, 185) or the name is not UTF-8 (183); 3 if memory is refused (34, 92, 184). With 2 or 3 no tree is added, and the messages have a line
-/// (with 3 they have none if memory for the line is refused).
+/// Reads a text as a tree, and adds the tree as the local tree of a name; a tree that the name had before is replaced. Returns 0 if the tree is added; 2 if the
+/// text is refused (31 to 33, 185) or the name is not UTF-8 (183); 3 if memory is refused (34, 92, 184). With 2 or 3 no tree is added, and the messages have a
+/// line (with 3 they have none if memory for the line is refused).
 #[unsafe(no_mangle)]
 pub extern "C" fn llb_local(alloc: Global, it: &mut Llb, name: &[u8], text: &[u8]) -> u8
     requires { IsSound it.old }

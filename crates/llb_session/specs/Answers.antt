@@ -26,22 +26,22 @@ use Rattle.llb_session.specs.Texts.{status_lines, record_line, record_lines, tre
 abbrev pub GrantsEvent : Event → Stepping → List ℕ → Stepping → Type 0
 GrantsEvent e s text t = (done_of s e ≡ Ok t) × (text ≡ record_line t (length t.board.events))
 
--- the chosen event (`chosen` of llb_model) is done, if there is one; else `end` is printed
+-- the chosen event (the event that `chosen` of llb_model returns) is done as `GrantsEvent` says; if there is none, `end` is printed
 abbrev pub GrantsNext : Option Event → Stepping → List ℕ → Stepping → Type 0
 GrantsNext None s text t = (t ≡ s) × (text ≡ codes "end\n")
 GrantsNext (Some e) s text t = GrantsEvent e s text t
 
--- the last line of a `go`: `stop` after a breakpoint, `end` if no chosen event is left
+-- the last line that a `go` prints: `stop` if its last event met a breakpoint, and `end` if there was no further event to do
 abbrev pub stop_line : Bool → List ℕ
 stop_line at_break = if at_break then codes "stop\n" else codes "end\n"
 
--- a granted `go` changes stepper s to stepper t, and prints the lines of the events that the `go` did, and then the line that says how it ended
+-- a granted `go` changes stepper s to stepper t, and prints the lines of the events that the `go` did, and then the line `stop` or `end`
 pub record GrantsGo (s : Stepping) (text : List ℕ) (t : Stepping) : Type 0 where
   pub stop : Stop
   pub goes : IsGo s t stop
   pub lines : text ≡ record_lines t (length s.board.events) (length t.board.events - length s.board.events) ++ stop_line stop.at_break
 
--- the request is granted on stepper s: it prints the text, and t is the stepper after it
+-- the request is granted on stepper s and prints the text; t is the stepper after the request
 abbrev pub Grants : Request → Stepping → List ℕ → Stepping → Type 0
 Grants (ask.Break b) s text t = (t ≡ record s { breaks = s.breaks ++ b ∷ [] }) × (text ≡ [])
 Grants ask.Clear s text t = (t ≡ record s { breaks = [] }) × (text ≡ [])
@@ -58,9 +58,9 @@ Grants ask.Caches s text t = (t ≡ s) × (text ≡ key_lines s.board.rows (leng
 Grants (ask.Cache k i) s text t = (t ≡ s) × (text ≡ tree_lines (cached_at s.board.rows s.board.state.store k i))
 Grants ask.Quit s text t = (t ≡ s) × (text ≡ [])
 
--- ---- a request that is refused for another cause than memory
+-- ---- a request that is refused, but not for want of memory
 
--- the request is refused with this fault, for another cause than refused memory
+-- the request is refused with this fault, but not for want of memory; this happens only to events and to `back`
 abbrev pub Refuses : Request → Stepping → StepperFault → Type 0
 Refuses (ask.Event e) s fault = done_of s e ≡ Err fault
 Refuses ask.Back s fault = (s.past ≡ []) × (fault ≡ NothingBefore)
@@ -104,7 +104,7 @@ IsPerformed r s t (Err fault) = (t ≡ s) × FailsWith r s fault
 
 -- ---- a line
 
--- a refusal prints its line and changes nothing
+-- the request is refused: the line that reports the refusal is printed, and the stepper is unchanged
 pub record PrintsRefusal (r : Request) (s : Stepping) (text : List ℕ) (t : Stepping) : Type 0 where
   pub fault : StepperFault
   pub fails : FailsWith r s fault
@@ -116,19 +116,19 @@ pub record PrintsNumber (s : Stepping) (n : ℕ) (text : List ℕ) (t : Stepping
   pub printed : (text ≡ fault_line (BadCommand n)) ⊎ (text ≡ fault_line Memory)
   pub same : t ≡ s
 
--- The reply to line n. A request that is granted prints its text, and one that is refused prints the line that reports its refusal. Any other line prints
--- fault 173 with n, or fault 174.
+-- The reply to line n. A granted request prints its text. A refused request prints the line that reports the refusal. A line that is no request prints fault
+-- 173 with n, or fault 174.
 abbrev pub AnswersAs : Option Request → Stepping → ℕ → List ℕ → Stepping → Type 0
 AnswersAs None s n text t = PrintsNumber s n text t
 AnswersAs (Some r) s n text t = Grants r s text t ⊎ PrintsRefusal r s text t
 
--- whether a line may fail for want of memory: it is neither `clear` nor `quit`
+-- a line may fail for want of memory, unless it asks for `clear` or `quit`; a line that is no request may fail too
 abbrev pub MayFail : Option Request → Type 0
 MayFail None = ⊤
 MayFail (Some r) = Wants r Memory
 
--- The reply to line n, given that memory for the line that reports a refusal was granted. A request that is granted prints its text, and one that is
--- refused prints the line that reports its refusal. A line that is no request prints fault 173 with n, and changes nothing.
+-- The reply to line n, if memory is granted for any line that reports a refusal. A granted request prints its text. A refused request prints the line that
+-- reports the refusal. A line that is no request prints fault 173 with n, and changes nothing.
 abbrev pub RespondsAs : Option Request → Stepping → ℕ → List ℕ → Stepping → Type 0
 RespondsAs None s n text t = (text ≡ fault_line (BadCommand n)) × (t ≡ s)
 RespondsAs (Some r) s n text t = Grants r s text t ⊎ PrintsRefusal r s text t
@@ -144,7 +144,7 @@ Responds s n line t (Ok (Some text)) = (¬ Quits line) × RespondsAs (request_in
 Responds s n line t (Ok None) = Quits line × (t ≡ s)
 Responds s n line t (Err e) = MayFail (request_in line) × (t ≡ s)
 
--- line n of a session, counted from 1, does not end the session: the text is its reply, and t is the stepper after it
+-- line n of a session, counted from 1, does not end the session; the text is the reply to the line, and t is the stepper after the line
 pub record Answers (s : Stepping) (n : ℕ) (line text : List ℕ) (t : Stepping) : Type 0 where
   pub goes_on : ¬ Quits line
   pub answers : AnswersAs (request_in line) s n text t
@@ -155,7 +155,7 @@ IsReplyWritten bytes out (Ok true) = IsWritten out bytes
 IsReplyWritten bytes out (Ok false) = ⊥
 IsReplyWritten bytes out (Err e) = IsPartWritten out bytes
 
--- what is written after a line: its reply, a prefix of it if the writer failed, or nothing if the line ends the session
+-- what is written for a line: the reply to the line, a prefix of the reply if the writer failed, or nothing if the line ends the session
 abbrev pub Says : Stepping → ℕ → List ℕ → Stepping → Stream → Result Bool Failed → Type 0
 Says s n line t out (Ok true) = (text : List ℕ) × Answers s n line text t × IsWritten out text
 Says s n line t out (Ok false) = Quits line × (t ≡ s) × IsKept out

@@ -1,4 +1,4 @@
--- A session as a conversation: which lines some bytes spell, the replies to them one after another, and how it ends.
+-- A session as a conversation: which lines some bytes spell, the replies to these lines one after another, and how the conversation ends.
 use Rattle.std.specs.Prelude.{◌≡◌, ◌≢◌, ◌≤◌, ◌<◌, ◌+◌, ◌⊎◌, ℕ, List, [], ◌∷◌, ◌++◌, length, All, Result, Ok, Err}
 use Rattle.std.specs.Io.KnownBytes.{Consumes, IsAtEnd}
 use Rattle.std.specs.declared.io.ErrorKind.TheVariants.{Interrupted}
@@ -10,7 +10,7 @@ use Rattle.llb_session.specs.Answers.{Answers, Quits}
 
 -- ---- lines
 
--- a line has no line end (byte 10) in it
+-- a line does not contain a line end (byte 10)
 abbrev pub IsLine : List ℕ → Type 0
 IsLine line = All (λ b. b ≢ 10) line
 
@@ -25,14 +25,14 @@ pub record Spelled (lines : List (List ℕ)) (rest bytes : List ℕ) : Type 0 wh
   pub each : All IsLine lines
   pub begun : IsLine rest
 
--- the last line if it has no line end; none if nothing follows the last line end
+-- what follows the last line end, as a list with one line; the empty list if nothing follows
 abbrev pub last_line : List ℕ → List (List ℕ)
 last_line [] = []
 last_line (b ∷ rest) = (b ∷ rest) ∷ []
 
 -- ---- the replies to lines
 
--- the replies to some lines, counted from n, are this text; s is the stepper before them, and t the stepper after them
+-- the text is the replies to these lines, whose numbers begin with n; s is the stepper before the lines, and t the stepper after the lines
 abbrev pub Talks : Stepping → ℕ → List (List ℕ) → List ℕ → Stepping → Type 0
 Talks s n [] text t = (text ≡ []) × (t ≡ s)
 Talks s n (line ∷ lines) text t =
@@ -48,8 +48,8 @@ pub record Standing : Type 0 where
 abbrev pub opening : Stepping → Standing
 opening s = record { session = s; number = 1; line = [] }
 
--- State p becomes state q by some bytes: the text is the replies to the lines that the bytes complete, and the bytes after the last line end belong to the
--- line that is being read.
+-- The bytes lead from state p to state q. The text is the replies to the lines whose line ends are among these bytes, and the bytes after the last line end
+-- belong to the line that is being read.
 pub record Talked (p : Standing) (bytes text : List ℕ) (q : Standing) : Type 0 where
   pub lines : List (List ℕ)
   pub spelled : Spelled lines q.line (p.line ++ bytes)
@@ -58,7 +58,7 @@ pub record Talked (p : Standing) (bytes text : List ℕ) (q : Standing) : Type 0
 
 -- ---- what is written when a conversation ends
 
--- the replies to the lines that the bytes complete are written, and nothing else
+-- the replies to the lines whose line ends are among these bytes are written, and nothing else
 pub record Answered (p : Standing) (bytes : List ℕ) (t : Stepping) (out : Stream) : Type 0 where
   pub text : List ℕ
   pub at : Standing
@@ -66,12 +66,12 @@ pub record Answered (p : Standing) (bytes : List ℕ) (t : Stepping) (out : Stre
   pub same : t ≡ at.session
   pub printed : IsWritten out text
 
--- the replies to the lines that the bytes complete are written, and the line that is being read ends the session, without a reply
+-- the replies to the lines whose line ends are among these bytes are written; the line that is being read ends the session, and has no reply
 pub record Quit (p : Standing) (bytes : List ℕ) (t : Stepping) (out : Stream) : Type 0 where
   pub before : Answered p bytes t out
   pub quits : Quits before.at.line
 
--- the replies to the lines that the bytes complete are written, and then a prefix of the reply to the line that is being read
+-- the replies to the lines whose line ends are among these bytes are written, and then a prefix of the reply to the line that is being read
 pub record CutShort (p : Standing) (bytes : List ℕ) (t : Stepping) (out : Stream) : Type 0 where
   pub text : List ℕ
   pub at : Standing
@@ -87,7 +87,7 @@ pub record CutShort (p : Standing) (bytes : List ℕ) (t : Stepping) (out : Stre
 abbrev pub AtLineEnd : List ℕ → (List ℕ → Type 0) → Type 0
 AtLineEnd heard P = (before : List ℕ) × (heard ≡ before ++ 10 ∷ []) × P before
 
--- all lines of an input have got their replies, and so has a last line without a line end
+-- the replies to all lines of an input are written, also the reply to what follows the last line end, if anything does
 pub record Concluded (s : Stepping) (input : List ℕ) (t : Stepping) (out : Stream) : Type 0 where
   pub lines : List (List ℕ)
   pub rest : List ℕ
@@ -98,7 +98,7 @@ pub record Concluded (s : Stepping) (input : List ℕ) (t : Stepping) (out : Str
 
 -- ---- how a conversation ends
 
--- a conversation: the most bytes that it may use, the most reads that it may make, the stepper before and after it, and its two streams
+-- a conversation: the most bytes that it may use, the most reads that it may make, the stepper before and after the conversation, and its two streams
 pub record Conversation : Type 0 where
   pub limit : ℕ
   pub reads : ℕ
@@ -111,8 +111,8 @@ pub record Conversation : Type 0 where
 abbrev pub AllHeard : Stream → List ℕ → Type 0
 AllHeard commands unheard = (unheard ≡ []) × IsAtEnd commands.after
 
--- How a conversation ends, by the bytes that it used and the bytes that it read but did not use. A last line without a line end counts if it is not empty.
--- If the bound on reads was met, each read returned at least one byte or was interrupted.
+-- How a conversation ends, given the bytes that it used and the bytes that it read but did not use. What follows the last line end counts as a line if it is
+-- not empty. If the bound on reads was met, each read returned at least one byte or was interrupted.
 abbrev pub EndsSo : Conversation → List ℕ → List ℕ → Result (Unit {0}) SessionFault → Type 0
 EndsSo c heard unheard (Ok u) =
     (AllHeard c.commands unheard × Concluded c.before heard c.after c.replies)

@@ -1,4 +1,4 @@
--- How a conversation uses bytes one by one, from one state to the next.
+-- How a conversation uses the bytes that it has read, one by one. Each byte leads from one state of the conversation to the next.
 use Rattle.std.specs.Prelude.{◌≡◌, ◌+◌, ◌<◌, length, ◌⊎◌, ℕ, Bool, true, false, List, [], ◌++◌, Result, Ok, Err}
 use Rattle.llb_stepper.specs.Stepping.{Stepping}
 use Rattle.llb_session.specs.declared.conversation.Pending.{Pending}
@@ -8,11 +8,11 @@ use Rattle.llb_session.specs.Answers.{Answers, Quits}
 use Rattle.llb_session.specs.Streams.{Stream, IsKept, IsWritten, IsPartWritten}
 use Rattle.llb_session.specs.Conversation.{Talks, Talked, Standing, Answered, Quit, CutShort, AtLineEnd, last_line}
 
--- the state of a conversation by its stepper and by what the code keeps: how many lines got a reply, and the bytes of the next line
+-- the state of a conversation, made from its stepper and from what the code keeps: how many lines got a reply, and the bytes of the next line so far
 abbrev pub standing : Stepping → Pending → Standing
 standing s p = record { session = s; number = p.answered + 1; line = p.line.items }
 
--- what is written for the line that was being read, once its line end is read; the result says whether the session goes on, or that writing failed
+-- what is written for the line of state p once its line end is read: the reply, nothing if the line ends the session, or a prefix of the reply on `Write`
 abbrev pub IsSaid : Standing → Stepping → Stream → Result Bool SessionFault → Type 0
 IsSaid p t out (Ok true) = (text : List ℕ) × Answers p.session p.number p.line text t × IsWritten out text
 IsSaid p t out (Ok false) = Quits p.line × (t ≡ p.session) × IsKept out
@@ -22,7 +22,7 @@ IsSaid p t out (Err (Unending interrupted)) = ⊥
 IsSaid p t out (Err Memory) = ⊥
 IsSaid p t out (Err TooLong) = ⊥
 
--- what is written at the end of the input for a last line without a line end
+-- what is written at the end of the input for the last line, which has no line end: its reply or a prefix of it; nothing if the line is empty or ends a session
 abbrev pub IsLast : Standing → Stepping → Stream → Result (Unit {0}) SessionFault → Type 0
 IsLast p t out (Ok u) =
     ((text : List ℕ) × Talks p.session p.number (last_line p.line) text t × IsWritten out text)
@@ -33,13 +33,13 @@ IsLast p t out (Err (Unending interrupted)) = ⊥
 IsLast p t out (Err Memory) = ⊥
 IsLast p t out (Err TooLong) = ⊥
 
--- the replies to the lines that some bytes complete are written; p is the state before these bytes, and q the state after them
+-- the bytes lead from state p to state q, and the replies to the lines whose line ends are among these bytes are written
 pub record Went (p : Standing) (bytes : List ℕ) (q : Standing) (out : Stream) : Type 0 where
   pub text : List ℕ
   pub talked : Talked p bytes text q
   pub printed : IsWritten out text
 
--- how the use of bytes ends: the bytes `heard` were used, and the bytes `unheard`, which follow them, were not used
+-- what is true once no further byte is used: the bytes `heard` were used, and the bytes `unheard`, which follow them, were not used
 abbrev pub IsHeard : Standing → List ℕ → List ℕ → Standing → Stream → Result Bool SessionFault → Type 0
 IsHeard p heard unheard q out (Ok true) = (unheard ≡ []) × Went p heard q out
 IsHeard p heard unheard q out (Ok false) = AtLineEnd heard (λ bytes. Quit p bytes q.session out)

@@ -1,4 +1,4 @@
--- What a line of a session asks for: words with one space between them, and no space at either end.
+-- What a line of a session asks for. The line is one or more words, with one space between each two words and no space at either end.
 use Rattle.std.specs.Prelude.{ℕ, ◌^◌, ◌==◌, nat_lt, Bool, if◌then◌else◌, List, length, codes, Option, Some, None, option_map}
 use Rattle.std.specs.List.{position_or_len, before_first, after_first}
 use Rattle.std.specs.Str.{is_utf8}
@@ -17,11 +17,11 @@ is_space b = b == 32
 abbrev pub parted : List ℕ → Option (List ℕ × List ℕ)
 parted text = if nat_lt (position_or_len is_space text) (length text) then Some (before_first is_space text, after_first is_space text) else None
 
--- the number that decimal digits spell, below 2^32
+-- the number below 2^32 that a text spells in decimal digits; nothing for any other text
 abbrev pub number_in : List ℕ → Option ℕ
 number_in text = then_in (magnitude text) (below (2 ^ 32))
 
--- two numbers with a space between them
+-- the two numbers that a text spells with a space between them; nothing for any other text
 abbrev pub pair_in : List ℕ → Option (ℕ × ℕ)
 pair_in text = then_in (parted text) (λ p. then_in (number_in p.0) (λ a. option_map (λ b. (a, b)) (number_in p.1)))
 
@@ -37,18 +37,18 @@ alone word =
     else if is_text word (codes "quit") then Some ask.Quit
     else None
 
--- the request for a breakpoint at a vertex, by the word `claim` or `settle` and the text after this word
+-- the request of a line `break claim V` or `break settle V`, given the second word and the text after it: a breakpoint at vertex V
 abbrev pub break_at : List ℕ → List ℕ → Option Request
 break_at word rest =
     if is_text word (codes "claim") then option_map (λ v. ask.Break (Claims v)) (number_in rest)
     else if is_text word (codes "settle") then option_map (λ v. ask.Break (Settles v)) (number_in rest)
     else None
 
--- the request for a breakpoint, by the text after `break`
+-- the request of a line `break ..`, given the text after `break`
 abbrev pub break_in : List ℕ → Option Request
 break_in rest = if is_text rest (codes "fail") then Some (ask.Break Fails) else then_in (parted rest) (λ p. break_at p.0 p.1)
 
--- the request by the text after `work`: one number is a worker, and two numbers are a worker and one of its trees
+-- the request of a line `work W` or `work W I`, for worker W and its tree I, given the text after `work` and the number that this text spells, if any
 abbrev pub work_by : List ℕ → Option ℕ → Option Request
 work_by rest (Some w) = Some (ask.Work w)
 work_by rest None = option_map (λ (p : ℕ × ℕ). ask.WorkTree p.0 p.1) (pair_in rest)
@@ -56,7 +56,7 @@ work_by rest None = option_map (λ (p : ℕ × ℕ). ask.WorkTree p.0 p.1) (pair
 abbrev pub work_in : List ℕ → Option Request
 work_in rest = work_by rest (number_in rest)
 
--- the request of a line by its first word and the text after this word
+-- the request that a line of two or more words spells, given its first word and the text after this word
 abbrev pub word_with_rest : List ℕ → List ℕ → Option Request
 word_with_rest word rest =
     if is_text word (codes "break") then break_in rest
@@ -69,7 +69,7 @@ word_with_rest word rest =
     else if is_text word (codes "cache") then option_map (λ (p : ℕ × ℕ). ask.Cache p.0 p.1) (pair_in rest)
     else None
 
--- the request of a line: by the line itself if it is one word, else by its first word and the text after this word
+-- the request that a line spells, given the line and, if the line has more than one word, its first word and the text after this word
 abbrev pub by_words : List ℕ → Option (List ℕ × List ℕ) → Option Request
 by_words line None = alone line
 by_words line (Some p) = word_with_rest p.0 p.1

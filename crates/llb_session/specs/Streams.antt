@@ -1,4 +1,4 @@
--- What the streams of a call hold before it and after it, if that is known.
+-- What the streams of a call hold before and after the call, if that is known.
 use Rattle.std.specs.Prelude.{ℕ, List, Option}
 use Rattle.std.specs.Io.KnownBytes.{Appends, Keeps}
 use Rattle.llb_wire.specs.Sink.{PartOut}

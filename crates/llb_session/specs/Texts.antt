@@ -58,12 +58,12 @@ unfoldable pub record_lines : Stepping → ℕ → ℕ → List ℕ
 record_lines s from zero = []
 record_lines s from (suc k) = record_lines s from k ++ record_line s (from + k + 1)
 
--- the text of a tree; `none` if there is no tree
+-- the text of a tree; the line `none` if there is no tree
 abbrev pub tree_lines : Option TreeMap → List ℕ
 tree_lines None = codes "none\n"
 tree_lines (Some t) = tree_text t
 
--- the words for the role that a tree has in a worker's work on its vertex
+-- the words for the role of a tree in a worker's work: a local tree, an input, an action's result, what a merge has laid so far, or the tree of a mount
 abbrev pub role_text : Role → List ℕ
 role_text Local = codes "local"
 role_text Input = codes "input"
@@ -71,25 +71,25 @@ role_text (ResultOf a) = codes "result " ++ decimal a
 role_text Laid = codes "laid"
 role_text (MountAt dest) = codes "mount " ++ path_text dest
 
--- the line for tree i of a worker
+-- the line for tree i of those that a worker works on
 abbrev pub role_line : ℕ → Role → List ℕ
 role_line i role = decimal i ++ (codes " " ++ (role_text role ++ codes "\n"))
 
--- the line for tree i of a worker; empty if there is no such tree
+-- the line for tree i of those that a worker works on; empty if there is no such tree
 abbrev pub role_line_of : ℕ → Option Role → List ℕ
 role_line_of i None = []
 role_line_of i (Some role) = role_line i role
 
--- the lines of a worker's trees whose numbers are lower than the given number
+-- the lines for the trees that a worker works on, as far as their numbers are lower than the given number
 unfoldable pub role_lines : List Role → ℕ → List ℕ
 role_lines roles zero = []
 role_lines roles (suc i) = role_lines roles i ++ role_line_of i (slice_get roles i)
 
--- a line for each tree of a worker, by the roles of the trees; `none` if there are no trees
+-- the lines for the trees that a worker works on, given the roles of these trees; the line `none` if there are no trees
 abbrev pub part_lines : List Role → List ℕ
 part_lines roles = if length roles == 0 then codes "none\n" else role_lines roles (length roles)
 
--- a line for each tree that a worker works on; `none` if there are none
+-- the lines for the trees that a worker works on, given its workspace; the line `none` if there is no workspace or no tree
 abbrev pub work_lines : Option Workspace → List ℕ
 work_lines None = codes "none\n"
 work_lines (Some own) = part_lines (roles_of own)
@@ -105,7 +105,7 @@ abbrev pub seed_text : Option Seed → List ℕ
 seed_text None = codes "-"
 seed_text (Some s) = s.digest ++ (codes "." ++ decimal s.index)
 
--- the line for key k of the caches, which has n instances
+-- the line for key k of the caches, a key with n instances
 abbrev pub key_line : ℕ → Key → ℕ → List ℕ
 key_line k key n =
     decimal k
@@ -126,6 +126,6 @@ key_lines rows (suc k) = key_lines rows k ++ key_line_of rows k (slice_get (keys
 abbrev pub fault_line : StepperFault → List ℕ
 fault_line e = codes "fault " ++ (stepper_text e ++ codes "\n")
 
--- the line after an event was taken back: how many events the record has then
+-- the line that is printed after an event was taken back: `back` and how many events the record still has
 abbrev pub back_line : ℕ → List ℕ
 back_line left = codes "back " ++ (decimal left ++ codes "\n")

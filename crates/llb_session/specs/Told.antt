@@ -24,6 +24,6 @@ pub record PrintsTheRun (s : Stepping) (text : List ℕ) (t : Stepping) : Type 0
   pub at_break : Bool
   pub printed : text ≡ record_lines t (length s.board.events) (length t.board.events - length s.board.events) ++ stop_line at_break
 
--- Whenever a `go` is granted on stepper s, its text has the lines that the run of the whole record has for the events of the `go`.
+-- Whenever stepper s grants a `go`, the `go` prints a line for each event that it did, with the event's reply in the run of the whole record.
 abbrev pub GoPrintsTheRun : Stepping → Type 0
 GoPrintsTheRun s = (text : List ℕ) (t : Stepping) → GrantsGo s text t → PrintsTheRun s text t

@@ -59,7 +59,7 @@ fn bytes_of(alloc: Global, text: &str) -> Result<Vec<u8>, AllocError>
     Ok(bytes)
 }
 
-// Returns the lines of a `go`, with the last line, which says how the `go` ended.
+// Returns what a `go` prints: the lines of the record after its first `from` events, and then the line `stop` or `end`, which says how the `go` ended.
 fn go_text(
     alloc: Global,
     stepper: &Stepper,
@@ -75,7 +75,7 @@ fn go_text(
     Ok(text)
 }
 
-// Does the chosen events up to a stop, and returns their lines; if memory for the lines is refused, takes the events back.
+// Does chosen events up to a stop (`Stepper::go`), and returns their lines; if memory for the lines is refused, takes the events back.
 fn go(alloc: Global, stepper: &mut Stepper) -> Result<Vec<u8>, StepperFault>
     ensures { IsPerformed ask.Go stepper.old stepper.new result }
 {
@@ -90,7 +90,8 @@ fn go(alloc: Global, stepper: &mut Stepper) -> Result<Vec<u8>, StepperFault>
     }
 }
 
-// Takes the last event back, and returns its line. The line is made first: if memory for it is refused, the event is not taken back.
+// Takes the last event back, and returns the line `back N`, where N is how many events the record still has. If memory for this line is refused, the event is
+// not taken back.
 fn back(alloc: Global, stepper: &mut Stepper) -> Result<Vec<u8>, StepperFault>
     ensures { IsPerformed ask.Back stepper.old stepper.new result }
 {
@@ -100,7 +101,7 @@ fn back(alloc: Global, stepper: &mut Stepper) -> Result<Vec<u8>, StepperFault>
     Ok(text.into_bytes())
 }
 
-// Returns the statuses of the vertices.
+// Returns a line with the status of each vertex.
 fn status(alloc: Global, stepper: &mut Stepper) -> Result<Vec<u8>, StepperFault>
     ensures { IsPerformed ask.Status stepper.old stepper.new result }
 {
@@ -142,7 +143,7 @@ fn cache(alloc: Global, stepper: &mut Stepper, k: u32, i: u32) -> Result<Vec<u8>
     tree_text(alloc, stepper.board().cached(k, i))
 }
 
-// Does what a request asks for, and returns what it prints; `clear` and `quit` never fail.
+// Does what a request asks for, and returns the text that the request prints; `clear` and `quit` never fail.
 fn perform(alloc: Global, stepper: &mut Stepper, request: Request) -> Result<Vec<u8>, StepperFault>
     ensures performed { IsPerformed request stepper.old stepper.new result }
     ensures fails { IfErr result (λ _. Wants request refusal.Memory) }
@@ -167,8 +168,8 @@ fn perform(alloc: Global, stepper: &mut Stepper, request: Request) -> Result<Vec
     }
 }
 
-// Does what a line asks for, and returns what it prints; for a line that is no request, returns `fault 173` and the line's number. If there is no memory for
-// the line that reports a refusal, the call fails and changes nothing; this never happens for `clear` and `quit`.
+// Does what a line asks for, and returns the reply; for a line that is no request, returns `fault 173` and the line's number. Fails, and changes nothing, if
+// there is no memory for the line that reports a refusal; the call never fails for `clear` and `quit`.
 fn respond_to(
     alloc: Global,
     stepper: &mut Stepper,

@@ -88,7 +88,7 @@ fn hear_all<W: Write>(
     Ok(true)
 }
 
-// Replies, at the end of the input, to a last line without a line end.
+// Replies, at the end of the input, to the bytes after the last line end as to a line, if there are any.
 fn conclude<W: Write>(
     alloc: Global,
     session: &mut Stepper,

@@ -4,8 +4,8 @@ ghost use Rattle.llb_session.specs.Told.{GoPrintsTheRun};
 
 use llb_stepper::Stepper;
 
-/// Proves that the events and the replies in the lines that a session's `go` prints are the events of the record and their replies in the run of the whole
-/// record.
+/// Proves that a session's `go` prints a line for each event that it does. The event in the line is an event of the record, and the reply in the line is the
+/// event's reply in the run of the whole record.
 pub fn go_prints_the_run(stepper: &Stepper)
     ensures { GoPrintsTheRun stepper.now }
 {

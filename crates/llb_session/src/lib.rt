@@ -1,5 +1,5 @@
-//! A stepping session: each line of commands gets its reply from a stepper before the next line is waited for. It is built on `llb_stepper` and
-//! `llb_treetext`.
+//! A stepping session: each line of commands gets its reply from a stepper before the next line is waited for. The crate is built on `llb_stepper`
+//! and `llb_treetext`.
 //!
 //! Types: `Request` (what a line asks for), `SessionFault` (181, 182, 184, 185).
 //! Promise: `request_in` returns the request that a line spells, or none. `respond` does what the request asks for and returns the whole reply, and `answer`

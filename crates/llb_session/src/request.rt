@@ -19,7 +19,7 @@ pub enum Request {
     Event(Event),
     /// Does the chosen event, which is the one that `Stepper::next` returns.
     Next,
-    /// Does the chosen events, up to one that meets a breakpoint.
+    /// Does chosen events one after another, until one meets a breakpoint or there is none.
     Go,
     /// Takes the last event back.
     Back,
@@ -39,7 +39,7 @@ pub enum Request {
     Quit,
 }
 
-// Returns the number of 32 bits that a text spells in decimal digits.
+// Returns the number below 2^32 that a text spells in decimal digits; `None` for any other text.
 fn number(text: &str) -> Option<u32>
     ensures { result ≡ number_in text.now }
 {
@@ -51,7 +51,7 @@ fn number(text: &str) -> Option<u32>
     }
 }
 
-// Returns two numbers that have a space between them.
+// Returns the two numbers that a text spells with a space between them; `None` for any other text.
 fn pair(text: &str) -> Option<(u32, u32)>
     ensures { result ≡ pair_in text.now }
 {
@@ -83,7 +83,7 @@ fn alone(word: &str) -> Option<Request>
     }
 }
 
-// Returns the request for a breakpoint at a vertex, by the word `claim` or `settle` and the text after this word.
+// Returns what a line `break claim V` or `break settle V` asks for, given its second word and the text after that word.
 fn break_at(word: &str, rest: &str) -> Option<Request>
     ensures { result ≡ break_at word.now rest.now }
 {
@@ -98,7 +98,7 @@ fn break_at(word: &str, rest: &str) -> Option<Request>
     }
 }
 
-// Returns what a line asks for by the text after `break`.
+// Returns what a line `break ..` asks for, given the text after `break`.
 fn break_in(rest: &str) -> Option<Request>
     ensures { result ≡ break_in rest.now }
 {
@@ -109,7 +109,7 @@ fn break_in(rest: &str) -> Option<Request>
     break_at(word, number)
 }
 
-// Returns what a line asks for by the text after `work`: a worker, or a worker and a tree.
+// Returns what a line `work ..` asks for, given the text after `work`: the number of a worker, or the numbers of a worker and a tree.
 fn work_in(rest: &str) -> Option<Request>
     ensures { result ≡ work_in rest.now }
 {
@@ -120,7 +120,7 @@ fn work_in(rest: &str) -> Option<Request>
     Some(Request::WorkTree(w, i))
 }
 
-// Returns what a line asks for by its first word and the text after this word.
+// Returns what a line of two or more words asks for, given its first word and the text after this word.
 fn word_with_rest(word: &str, rest: &str) -> Option<Request>
     ensures { result ≡ word_with_rest word.now rest.now }
 {

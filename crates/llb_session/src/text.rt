@@ -47,7 +47,7 @@ pub(crate) fn status_text(alloc: Global, board: &Board) -> Result<String, Steppe
     Ok(text)
 }
 
-// Appends the line of an event of the record; appends nothing if `Stepper::record_line` has no line for it.
+// Appends the line of event `number` of the record; appends nothing if `Stepper::record_line` returns no line for this number.
 fn push_record(text: &mut String, stepper: &Stepper, number: u64) -> Result<(), StepperFault>
     ensures line { IfOk result (λ _. string_bytes text.new ≡ string_bytes text.old ++ record_line stepper.now number) }
     ensures memory { IfErr result (λ e. e ≡ refusal.Memory) }
@@ -58,8 +58,8 @@ fn push_record(text: &mut String, stepper: &Stepper, number: u64) -> Result<(), 
     Ok(())
 }
 
-/// Returns the line of an event of the record; an empty text past the end of the record, at 0, and for events that the board had when
-/// the stepper was made.
+/// Returns the line of event `number` of the record, counted from 1. Returns an empty text for 0, for a number past the end of the record,
+/// and for an event that the board had when the stepper was made.
 pub(crate) fn line_text(
     alloc: Global,
     stepper: &Stepper,
@@ -231,7 +231,7 @@ pub(crate) fn fault_line(alloc: Global, fault: &StepperFault) -> Result<String, 
     format!(in alloc; "fault {fault}\n")
 }
 
-/// Returns the line after an event was taken back: how many events the record has then.
+/// Returns the line that is printed after an event was taken back: `back` and how many events the record still has.
 pub(crate) fn back_line(alloc: Global, left: usize) -> Result<String, AllocError>
     ensures { IfOk result (λ s. string_bytes s ≡ back_line left) }
 {

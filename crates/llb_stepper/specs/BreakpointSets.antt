@@ -1,5 +1,5 @@
--- The breakpoints of a stepper as sets, one for each kind of breakpoint at a vertex. The vertex of an event is looked up
--- in these sets, so breakpoints are not tried one by one.
+-- The breakpoints of a stepper as two sets of vertices, for breakpoints at claims and at settles, and a flag for the one at
+-- failures. The vertex of an event is looked up in these sets, so breakpoints are not tried one by one.
 use Rattle.std.specs.Prelude.{◌≡◌, ℕ, ◌==◌, ◌||◌, Bool, true, false, List}
 use Rattle.std.specs.List.{list_any}
 use Rattle.std.specs.Ordering.{nat_cmp}
@@ -37,7 +37,7 @@ pub record AreKinds (breaks : List Break) (kinds : Kinds) : Type 0 where
   pub settles : (v : ℕ) → contains nat_cmp kinds.settles v ≡ list_any (is_at_settles v) breaks
   pub failures : kinds.failures ≡ list_any is_at_failures breaks
 
--- the new sets have the breakpoints of the old ones, and also breakpoint b
+-- the new sets have the breakpoints of the old sets, and also breakpoint b
 pub record AreKindsOfOneMore (old : Kinds) (b : Break) (new : Kinds) : Type 0 where
   pub claims : (v : ℕ) → contains nat_cmp new.claims v ≡ (contains nat_cmp old.claims v || is_at_claims v b)
   pub settles : (v : ℕ) → contains nat_cmp new.settles v ≡ (contains nat_cmp old.settles v || is_at_settles v b)
@@ -49,14 +49,14 @@ pub record AreUnchanged (old new : Kinds) : Type 0 where
   pub settles : (v : ℕ) → contains nat_cmp new.settles v ≡ contains nat_cmp old.settles v
   pub failures : new.failures ≡ old.failures
 
--- whether an event meets a breakpoint of the sets, whatever its reply
+-- whether an event, whatever the reply to it, meets a breakpoint of the sets: it is a claim of a vertex in the set `claims`
 abbrev pub is_met_by_event : Kinds → Event → Bool
 is_met_by_event kinds (Claim w v) = contains nat_cmp kinds.claims v
 is_met_by_event kinds (Step w) = false
 is_met_by_event kinds (Settle w) = false
 is_met_by_event kinds (Cancel w) = false
 
--- whether a reply meets a breakpoint of the sets
+-- whether a reply meets a breakpoint of the sets: it is the reply to a settle of a vertex in the set `settles`, or of a failed vertex if `failures` is true
 abbrev pub is_met_by_reply : Kinds → Reply → Bool
 is_met_by_reply kinds (reply.Settled (settled.Done v)) = contains nat_cmp kinds.settles v
 is_met_by_reply kinds (reply.Settled (settled.Failed v)) = kinds.failures || contains nat_cmp kinds.settles v

@@ -5,7 +5,7 @@ use Rattle.llb_board.specs.Faults.{walk_text}
 use Rattle.llb_stepper.specs.declared.fault.StepperFault.{StepperFault}
 use Rattle.llb_stepper.specs.declared.fault.StepperFault.TheVariants.{Board, NothingBefore, BadCommand, Memory}
 
--- a fault as it is printed
+-- the text that is printed for a fault
 abbrev pub stepper_text : StepperFault → List ℕ
 stepper_text (Board e) = codes "171 " ++ walk_text e
 stepper_text NothingBefore = codes "172"

@@ -1,4 +1,4 @@
--- The invariant of a stepper: each event that it did can be taken back, and the kept reply to the event is the table's reply on the board before the event.
+-- The invariant of a stepper: each event that the stepper did can be taken back, and the stepper keeps the reply that the table gave to this event.
 use Rattle.std.specs.Prelude.{◌≡◌, List, [], ◌∷◌, reverse, Some}
 use Rattle.llb_events.specs.declared.event.Event.{Event}
 use Rattle.llb_model.specs.Table.{Reply}
@@ -9,12 +9,12 @@ use Rattle.llb_board.specs.declared.board.walk.Walked.{Walked}
 use Rattle.llb_stepper.specs.declared.stop.Break.{Break}
 use Rattle.llb_stepper.specs.Stepping.{Stepping, answered}
 
--- the boards that are reached by taking back the events one after another, the last event first
+-- the boards that result from board b when these events, which were done last, are taken back one after another, the last event first
 abbrev pub past_of : BoardValue → List Walked → List BoardValue
 past_of b [] = []
 past_of b (w ∷ ws) = undone w.undo b ∷ past_of (undone w.undo b) ws
 
--- a stepper as contracts see it, by its board, the list of what undoes each event that it did, and its breakpoints
+-- the value of a stepper in contracts, given its board, the list of what undoes each event that the stepper did, and its breakpoints
 abbrev pub stepping : BoardValue → List Walked → List Break → Stepping
 stepping b walked breaks = record { board = b; past = past_of b (reverse walked); breaks = breaks }
 
@@ -25,8 +25,8 @@ pub record Follows (before b : BoardValue) (r : short.Reply) : Type 0 where
   pub given : answered before event ≡ Some (b, reply)
   pub same : r ≡ told reply
 
--- For each event that was done, the last one first: the event can be taken back on the board after it, and on the board before it the event leads to the
--- board after it, with the kept reply.
+-- This holds for each event that was done, the last one first: what is kept of the event takes it back from the board after the event, and the table leads
+-- by this event from the board before it to the board after it, with the kept reply.
 abbrev pub AreWalked : BoardValue → List Walked → Type 0
 AreWalked b [] = Unit {0}
 AreWalked b (w ∷ ws) = CanUndo w.undo b × Follows (undone w.undo b) b w.reply × AreWalked (undone w.undo b) ws

@@ -18,31 +18,31 @@ use Rattle.llb_board.specs.Seen.{BoardValue, replies_in}
 use Rattle.llb_stepper.specs.declared.stop.Stop.{Stop}
 use Rattle.llb_stepper.specs.Stepping.{Stepping, IsStop, answered, at_first}
 
--- an event as it is printed
+-- the text that is printed for an event
 abbrev pub event_text : Event → List ℕ
 event_text (Claim w v) = codes "claim " ++ (decimal w ++ (codes " " ++ decimal v))
 event_text (Step w) = codes "step " ++ decimal w
 event_text (Settle w) = codes "settle " ++ decimal w
 event_text (Cancel w) = codes "cancel " ++ decimal w
 
--- the reply to a settle of a vertex that is done, as it is printed
+-- the text that is printed for the reply to a settle of a vertex that is done
 abbrev pub done_text : ℕ → List ℕ
 done_text v = decimal v ++ codes " done"
 
--- the reply to a settle of a vertex that failed, as it is printed
+-- the text that is printed for the reply to a settle of a vertex that failed
 abbrev pub failed_text : ℕ → List ℕ
 failed_text v = decimal v ++ codes " failed"
 
--- two numbers with a space between them
+-- the text of two numbers with a space between them
 abbrev pub pair_text : ℕ → ℕ → List ℕ
 pair_text a b = decimal a ++ (codes " " ++ decimal b)
 
--- the text for a micro-step that failed: for an action `fault`, the action's number and the fault's; for a command `ran`, the command's number and its status
+-- the text for a micro-step that failed: `fault`, the action's number and the number of its fault; or `ran`, the command's number and its status
 abbrev pub fault_text : VertexFault → List ℕ
 fault_text (vertex.Action a n) = codes "fault " ++ pair_text a n
 fault_text (vertex.Exit c s) = codes "ran " ++ pair_text c s
 
--- the text for a claimed vertex: the kind of its op, and how many micro-steps it has
+-- the text for a claimed vertex: the kind of the vertex's op, and how many micro-steps the vertex has; `none` if there is no vertex
 abbrev pub claimed_text : Option Vertex → List ℕ
 claimed_text (Some v) = kind_text v.op.kind ++ (codes " " ++ decimal v.steps)
 claimed_text None = codes "none"
@@ -54,7 +54,7 @@ vertex_of (Step w) = 0
 vertex_of (Settle w) = 0
 vertex_of (Cancel w) = 0
 
--- the reply to a micro-step as it is printed
+-- the text that is printed for the reply to a step
 abbrev pub step_text : Stepped → List ℕ
 step_text Read = codes "read"
 step_text (Acted a) = codes "acted " ++ decimal a
@@ -63,12 +63,12 @@ step_text (Ran c status) = codes "ran " ++ pair_text c status
 step_text (Skipped c) = codes "skipped " ++ decimal c
 step_text (Fault f) = fault_text f
 
--- the reply to a settle as it is printed
+-- the text that is printed for the reply to a settle
 abbrev pub settle_text : Settled → List ℕ
 settle_text (ended.Done v) = done_text v
 settle_text (ended.Failed v) = failed_text v
 
--- the reply to an event as it is printed; for a claim, the kind and the count of micro-steps of the claimed vertex
+-- the text that is printed for the reply to an event; for a claim, the kind of the claimed vertex's op and the vertex's number of micro-steps
 abbrev pub reply_text : List Vertex → Event → Reply → List ℕ
 reply_text vertices e (Claimed job) = claimed_text (slice_get vertices (vertex_of e))
 reply_text vertices e (HasStepped s) = step_text s
@@ -79,7 +79,7 @@ reply_text vertices e (HasCancelled c) = pair_text c.vertex c.done
 abbrev pub record_text : List Vertex → ℕ → Event × Reply → List ℕ
 record_text vertices number p = decimal number ++ (codes " " ++ (event_text p.0 ++ (codes " -> " ++ reply_text vertices p.0 p.1)))
 
--- an event on a board, with its reply; none if the board or the event is missing, or the event is refused
+-- an event, with the table's reply to it on a board; none if there is no board or no event, or if the event is refused
 abbrev pub replied : Option BoardValue → Option Event → Option (Event × Reply)
 replied None e = None
 replied (Some b) None = None
@@ -90,8 +90,8 @@ abbrev pub record_at : Stepping → ℕ → Option (Event × Reply)
 record_at s i =
     if nat_le 1 i && nat_le i (length s.board.events) then replied (slice_get s.past (length s.board.events - i)) (slice_get s.board.events (i - 1)) else None
 
--- Each event and reply that `record_at` returns is the event and reply at that place in the run of the whole record from the board's opening; and `record_at`
--- returns an event and a reply for each event that the stepper did.
+-- If `record_at` returns an event and a reply for number i, they are event i of the record, and the reply to it in the run of the whole record from the board's
+-- opening. And `record_at` returns an event and a reply for the number of each event that the stepper did.
 pub record RecordIsTheRun (s : Stepping) : Type 0 where
   pub sound : (i : ℕ) (e : Event) (r : Reply) (t : State) (replies : List Reply)
       → run s.board.build (opening s.board.build s.board.opening) s.board.events ≡ Some (t, replies) → record_at s i ≡ Some (e, r)

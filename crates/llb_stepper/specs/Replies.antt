@@ -1,4 +1,4 @@
--- The replies that calls on a board return, and the replies of the board's record.
+-- The replies that calls on a board return, and the replies to the events of the board's record.
 use Rattle.std.specs.Prelude.{◌≡◌, ℕ, List, [], ◌∷◌, ◌++◌, Some, Ok}
 use Rattle.llb_model.specs.Table.{Reply}
 use Rattle.llb_model.specs.Landing.{landing}
@@ -6,9 +6,9 @@ use Rattle.llb_model.specs.Run.{run}
 use Rattle.llb_board.specs.Seen.{BoardValue, replies_in}
 use Rattle.llb_board.specs.Rules.{claim_of, step_of, settle_of, cancel_of}
 
--- For each call that does an event on board b: the reply that the call returns is the last of the replies of the record after the call. A call that lands an
--- outcome appends n steps of worker w, and the worker's settle, to the record: the replies to these events are the last replies of the record of t, the
--- board after the call.
+-- For each call that does an event on board b: the replies to the record's events are those before the call, followed by the reply that the call returns. A
+-- call that lands an outcome appends n steps of worker w, and the worker's settle, to the record; the replies to these events then follow instead. Board t is
+-- the board after the call.
 pub record RepliesAreRecorded (b : BoardValue) : Type 0 where
   pub claim : (w v : ℕ) (t : BoardValue) (r : Reply) → claim_of b w v ≡ Ok (t, r) → replies_in t ≡ replies_in b ++ r ∷ []
   pub step : (w : ℕ) (t : BoardValue) (r : Reply) → step_of b w ≡ Ok (t, r) → replies_in t ≡ replies_in b ++ r ∷ []

@@ -14,18 +14,18 @@ use Rattle.llb_stepper.specs.declared.fault.StepperFault.{StepperFault}
 use Rattle.llb_stepper.specs.declared.fault.StepperFault.TheVariants as fault
 use Rattle.llb_stepper.specs.Stepping.{Stepping, GoesBack, answered, onward, meets, meets_at, run_on}
 
--- whether a fault says that memory was refused, to the board or to the stepper itself
+-- whether this fault says that memory was refused, to the board or to the stepper itself
 abbrev pub stepper_memory : StepperFault → Bool
 stepper_memory (fault.Board e) = walk_memory e
 stepper_memory fault.NothingBefore = false
 stepper_memory (fault.BadCommand n) = false
 stepper_memory fault.Memory = true
 
--- a call's result is the expected one, a value or a fault; or the call fails for want of memory
+-- a call returns the value or the fault that is expected, or it fails for want of memory
 abbrev pub GivesEvent : {X Y : Type 0} → (X → Y) → Result X StepperFault → Result Y StepperFault → Type 0
 GivesEvent = answer.Gives stepper_memory
 
--- the stepper after one event, or the board's refusal of the event
+-- the stepper after one event, or the fault of the refused event, given what the board's call `walk` returns
 abbrev pub done_by : Stepping → Result (BoardValue × short.Reply) WalkFault → Result Stepping StepperFault
 done_by s (Ok p) = Ok (onward s p.0)
 done_by s (Err e) = Err (fault.Board e)
@@ -34,7 +34,7 @@ done_by s (Err e) = Err (fault.Board e)
 abbrev pub done_of : Stepping → Event → Result Stepping StepperFault
 done_of s e = done_by s (walk_of s.board e)
 
--- the chosen event is refused only for want of memory
+-- the chosen event (the event that `chosen` of llb_model returns) is refused only for want of memory
 abbrev pub ChosenIsDone : Stepping → Type 0
 ChosenIsDone s = (e : Event) (fault : StepperFault) → chosen s.board.build s.board.state ≡ Some e → done_of s e ≡ Err fault → stepper_memory fault ≡ true
 
@@ -42,7 +42,7 @@ ChosenIsDone s = (e : Event) (fault : StepperFault) → chosen s.board.build s.b
 abbrev pub ThereAndBack : Stepping → Type 0
 ThereAndBack s = (e : Event) (t u : Stepping) → done_of s e ≡ Ok t → GoesBack t u → u ≡ s
 
--- one event was granted, and `met` says whether it meets a breakpoint
+-- event e is granted on s, t is the stepper after the event, and `met` says whether the event meets a breakpoint
 abbrev pub MeetsOn : Stepping → Event → Stepping → Bool → Type 0
 MeetsOn s e t met = (b : BoardValue) × (r : Reply) × (answered s.board e ≡ Some (b, r)) × (t ≡ onward s b) × (met ≡ list_any (meets e r) s.breaks)
 

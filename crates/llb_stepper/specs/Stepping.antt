@@ -1,4 +1,4 @@
--- A stepper as contracts see it, and what its calls do: one event is done, one event is taken back, and events are done up to a stop.
+-- The value of a stepper in contracts, and what the stepper's calls do: do one event, take one event back, or do events up to a stop.
 use Rattle.std.specs.Prelude.{◌≡◌, ℕ, zero, suc, ◌+◌, ◌-◌, slice_get, ◌<◌, ◌==◌, nat_lt, if◌then◌else◌, Bool, true, false, List, []}
 use Rattle.std.specs.Prelude.{◌∷◌, length, take, drop, Option, Some, None, option_map}
 use Rattle.std.specs.List.{list_any}
@@ -21,7 +21,7 @@ pub record Stepping : Type 0 where
 
 -- ---- one event
 
--- the board after an event, and the reply, if the table grants the event
+-- the board after an event, and the table's reply to the event; nothing if the table refuses the event
 abbrev pub answered : BoardValue → Event → Option (BoardValue × Reply)
 answered b e = option_map (λ (a : State × Reply). (after_event b e a.0, a.1)) (table b.build b.state e)
 
@@ -71,7 +71,7 @@ meets e r (stop.Claims v) = claims v e
 meets e r (stop.Settles v) = settles v r
 meets e r stop.Fails = has_failed r
 
--- whether an event meets one of the breakpoints, by the board and the reply to which the event leads; a refused event meets none
+-- whether an event meets one of the breakpoints, given the board and the reply to which it leads; false if the event is refused, which is given as nothing
 abbrev pub meets_by : List Break → Event → Option (BoardValue × Reply) → Bool
 meets_by breaks e None = false
 meets_by breaks e (Some p) = list_any (meets e p.1) breaks
@@ -87,7 +87,7 @@ abbrev pub then_on : Option (BoardValue × Reply) → (BoardValue → Option Boa
 then_on None go = None
 then_on (Some p) go = go p.0
 
--- the board after a list of events, if each of them is granted
+-- the board after a list of events; nothing if one of the events is refused
 unfoldable pub run_on : BoardValue → List Event → Option BoardValue
 run_on b [] = Some b
 run_on b (e ∷ es) = then_on (answered b e) (λ c. run_on c es)
@@ -112,7 +112,7 @@ at_first b = record b { state = opening b.build b.opening; rows = b.first; event
 abbrev pub IsReplayed : BoardValue → Type 0
 IsReplayed b = run_on (at_first b) b.events ≡ Some b
 
--- Board k of the past is the board after all events of the record but the last k + 1.
+-- Board k of the past, counted from 0, is the board after all events of the record but the last k + 1.
 abbrev pub PastIsTheRecords : Stepping → Type 0
 PastIsTheRecords s = (k : ℕ) (c : BoardValue) → slice_get s.past k ≡ Some c
     → run_on (at_first s.board) (take (length s.board.events - (k + 1)) s.board.events) ≡ Some c
@@ -137,17 +137,17 @@ pub record IsStop (s : Stepping) (es : List Event) (t : Stepping) (p : Stop) : T
   pub shortest : (k : ℕ) → k + 1 < p.events → meets_at s.breaks s.board es k ≡ false
   pub ends : EndsAt p.at_break s.breaks s.board es p.events
 
--- the event was granted, and the board after it has the property
+-- the event was granted, and the board after the event has the property `Are`
 abbrev pub ChosenThen : Option (BoardValue × Reply) → (BoardValue → Type 0) → Type 0
 ChosenThen None Are = ⊥
 ChosenThen (Some p) Are = Are p.0
 
--- each event is granted, and is the chosen event of the board before it
+-- each event of the list is granted, and is the event that `chosen` of llb_model returns for the board before the event
 unfoldable pub AreChosen : BoardValue → List Event → Type 0
 AreChosen b [] = Unit {0}
 AreChosen b (e ∷ es) = (chosen b.build b.state ≡ Some e) × ChosenThen (answered b e) (λ c. AreChosen c es)
 
--- Stepper t is s after a `go`: chosen events were done, up to a stop. If none of these events meets a breakpoint, the board after them has no chosen event.
+-- Stepper t is s after a `go`: chosen events (`AreChosen`) were done, up to a stop. If no breakpoint was met, there is no chosen event on the board of t.
 pub record IsGo (s t : Stepping) (p : Stop) : Type 0 where
   pub events : List Event
   pub are : AreChosen s.board events

@@ -36,17 +36,17 @@ meets_told e r (stop.Claims v) = claims v e
 meets_told e r (stop.Settles v) = settles_told v r
 meets_told e r stop.Fails = failed_told r
 
--- the reply to an event as it is printed; for a claim, the kind and the count of micro-steps of the claimed vertex
+-- the text that is printed for a reply of `walk`; for a claim, the kind of the claimed vertex's op and the vertex's number of micro-steps
 abbrev pub told_text : List Vertex → Event → Reply → List ℕ
 told_text vertices e reply.Claimed = claimed_text (slice_get vertices (vertex_of e))
 told_text vertices e (reply.Stepped s) = step_text s
 told_text vertices e (reply.Settled s) = settle_text s
 told_text vertices e (reply.Cancelled c) = pair_text c.vertex c.done
 
--- the line of an event without its line end
+-- the line for an event and the reply of `walk` to it, without a line end
 abbrev pub line_text : List Vertex → ℕ → Event → Reply → List ℕ
 line_text vertices number e r = decimal number ++ (codes " " ++ (event_text e ++ (codes " -> " ++ told_text vertices e r)))
 
--- an event with the table's reply turned into a reply of `walk`
+-- an event with a reply of `walk`, made from the event and the table's reply
 abbrev pub told_pair : Event × table.Reply → Event × Reply
 told_pair p = (p.0, told p.1)

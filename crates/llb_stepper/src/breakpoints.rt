@@ -12,7 +12,7 @@ use std::alloc::{AllocError, Global};
 use std::collections::BTreeSet;
 use std::marker::Model;
 
-// The breakpoints of a list as sets, one for each kind.
+// The breakpoints of a list as sets of vertices, and a flag for the breakpoint at failures.
 #[derive(Drop)]
 struct Kinds {
     /// The vertices with a breakpoint at their claims.
@@ -23,10 +23,10 @@ struct Kinds {
     failures: bool,
 }
 
-/// Breakpoints, in the order in which they were added. Contracts see the list of them.
+/// Breakpoints, in the order in which they were added. In contracts they are a list.
 #[derive(Drop)]
 pub(crate) struct Breakpoints {
-    /// The list that contracts see; code searches `kinds`.
+    /// The list that is the value in contracts; the code searches `kinds` instead.
     list: Vec<Break>,
     kinds: Kinds,
 }

@@ -1,5 +1,5 @@
 //! Steps through a run, forwards and back: event by event, up to breakpoints, or over a given record. Each event that the stepper did can be taken back without
-//! allocating. It is built on `llb_board`, and changes the board only by its calls.
+//! allocating. The crate is built on `llb_board`, and changes a board only by calls of that crate.
 //!
 //! Types: `Stepper` (a board, what undoes each event that the stepper did on it, and breakpoints), `Break`, `Stop`, `StepperFault` (171 to 174).
 //! Promise: `Stepper::back` (`ok`, `fewer`, `none`) restores exactly the board before the last event. `Stepper::go` (`goes`, `err`) and

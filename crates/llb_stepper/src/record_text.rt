@@ -21,7 +21,7 @@ fn event_text(alloc: Global, event: Event) -> Result<String, AllocError>
     }
 }
 
-// Returns the text for a claim: the kind of the vertex's op, and how many micro-steps it has.
+// Returns the text for a claim: the kind of the vertex's op, and how many micro-steps the vertex has; `none` if there is no vertex.
 fn claimed_text(alloc: Global, vertex: Option<&Vertex>) -> Result<String, AllocError>
     ensures { IfOk result (λ s. string_bytes s ≡ claimed_text (option_map (λ v. v.now) vertex.entry)) }
 {
@@ -66,7 +66,7 @@ fn settle_text(alloc: Global, settled: Settled) -> Result<String, AllocError>
     }
 }
 
-// Returns the text for a cancel: the vertex, and how many of its micro-steps were done.
+// Returns the text for a cancel: the number of the vertex, and how many of its micro-steps were done.
 fn cancel_text(alloc: Global, cancelled: Cancelled) -> Result<String, AllocError>
     ensures { IfOk result (λ s. string_bytes s ≡ pair_text cancelled.vertex cancelled.done) }
 {
@@ -100,7 +100,7 @@ fn reply_text(
     }
 }
 
-/// Returns the line of an event with its number and its reply, without a line end.
+/// Returns the line for an event, made from its number, the event and the reply to it, without a line end.
 pub(crate) fn line_text(
     alloc: Global,
     vertices: &[Vertex],

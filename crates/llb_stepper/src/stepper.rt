@@ -20,8 +20,8 @@ use llb_wire::Text;
 use std::alloc::Global;
 use std::marker::Model;
 
-/// A board, what undoes each event that the stepper did on it, and breakpoints. Contracts see the board, the breakpoints, and the board before each of these
-/// events (the board before the last event comes first).
+/// A board, what undoes each event that the stepper did on it, and breakpoints. In contracts a stepper is the board, the breakpoints, and the board before each
+/// of these events (the board before the last event comes first).
 pub struct Stepper {
     alloc: Global,
     board: Board,
@@ -207,8 +207,8 @@ impl Stepper {
         self.back_by(if count < depth { count } else { depth });
     }
 
-    /// Does the chosen events, up to the first that meets a breakpoint, or until the board is complete; does at least one event, unless the board is complete
-    /// at the start. Fails with 171 141 or 174 alone; then all events that the call did are taken back.
+    /// Does the event that `next` returns, again and again, until an event meets a breakpoint or the board is complete. Does at least one event, unless the
+    /// board is complete at the start. Fails with 171 141 or 174 alone; then all events that the call did are taken back.
     pub fn go(&mut self) -> Result<Stop, StepperFault>
         ensures goes { IfOk result (IsGo self.old self.new) }
         ensures refused { IfErr result (λ e. stepper_memory e ≡ true) }
@@ -270,7 +270,7 @@ impl Stepper {
     }
 }
 
-/// Proves that the chosen event is refused only for want of memory.
+/// Proves that the chosen event, which `Stepper::next` returns, is refused only for want of memory.
 pub fn chosen_is_done(stepper: &Stepper)
     ensures { ChosenIsDone stepper.now }
 {
@@ -284,7 +284,8 @@ pub fn there_and_back(stepper: &Stepper)
     let _ = &stepper.board;
 }
 
-/// Proves that the board before the last `n` events is the board to which the record without its last `n` events leads, however these events were done.
+/// Proves for each `n`: the board before the last `n` events, if the stepper did them, is the board to which the record without these events leads, in whatever
+/// way they were done.
 pub fn past_is_the_records(stepper: &Stepper)
     ensures { PastIsTheRecords stepper.now }
 {
@@ -298,9 +299,9 @@ pub fn record_is_the_run(stepper: &Stepper)
     let _ = &stepper.board;
 }
 
-/// Proves that the record of a board, done again event by event on the board as it was opened, leads to the board, however the events were first done. So a
-/// stepper without breakpoints that begins with the board as it was opened and replays the record ends on the board, with a line for each event of the record
-/// and its reply.
+/// Proves that the record of a board, done again event by event on the board as it was opened, leads to the board, however the events were first done. If a
+/// stepper without breakpoints begins with the board as it was opened, and replays the record, it ends on the board, and its lines are the events of the
+/// record and their replies.
 pub fn replay_is_the_run(board: &Board)
     ensures leads { IsReplayed board.now }
     ensures lines { ReplaysOnAStepper board.now }
@@ -308,8 +309,8 @@ pub fn replay_is_the_run(board: &Board)
     board.replays();
 }
 
-/// Proves that the reply that a call on a board returns is the last reply in the record of the board after the call. The calls are `claim`, `step`, `settle`,
-/// `cancel` and `land`; after `land` the last replies are those to the steps, and then the reply to the settle.
+/// Proves that the reply that a call on a board returns is the reply to the last event of the record after the call. This holds for `claim`, `step`, `settle`
+/// and `cancel`. For `land`, which appends steps and a settle to the record, the replies to all these events are the last replies of the record's run.
 pub fn replies_are_recorded(board: &Board)
     ensures { RepliesAreRecorded board.now }
 {
