@@ -50,12 +50,12 @@ abbrev pub if_locked : Option Key → Option Key
 if_locked None = None
 if_locked (Some k) = if is_locked k.mode then Some k else None
 
--- the look-up of a wanted cache has found the number of the instance that a lease would take, and the tree of that instance if it exists
+-- what was looked up for a wanted cache is right: the number of the instance that a lease would take, and the tree of this instance if the instance exists
 pub record IsFound (c : cache.CachesValue) (w : Wanted) : Type 0 where
   pub number : w.found.number ≡ cache.number_for c.out w.key w.key.mode
   pub tree : option_map (λ t. t.now) w.found.tree ≡ slice_get (cache.trees_of c.rows w.key) w.found.number
 
--- the instance that a lease would take for a wanted cache, as the look-up found it
+-- the instance that a lease would take for a wanted cache, by the number that was looked up
 abbrev pub place_found : Wanted → Instance
 place_found w = place w.key w.found.number
 

@@ -18,20 +18,20 @@ abbrev pub IsOutIf : Leases → Option ℕ → Type 0
 IsOutIf out (Some l) = cache.IsOut out l
 IsOutIf out None = Unit {0}
 
--- the current leases after lease l is given back; unchanged if there is no l
+-- the current leases after lease l is given back; the same leases if there is no l
 abbrev pub out_without : Leases → Option ℕ → Leases
 out_without out (Some l) = cache.trimmed (slice_set out l None)
 out_without out None = out
 
--- the caches after lease l is given back; unchanged if there is no l
+-- the caches after lease l is given back; the same caches if there is no l
 abbrev pub given_back : cache.CachesValue → Option ℕ → cache.CachesValue
 given_back c l = record c { out = out_without c.out l }
 
--- the caches after lease l is given back and the instances that this lease added are removed; unchanged if there is no l
+-- the caches after lease l is given back and what it added to the caches is removed; the same caches if there is no l
 abbrev pub taken_back : cache.CachesValue → Option ℕ → List Growth → cache.CachesValue
 taken_back c l gs = record (given_back c l) { rows = unmade c.rows (leased_places c.out l) gs }
 
--- a prepared lease of these instances (a lease that can be granted later without memory); none if there are no instances
+-- a prepared lease of these instances (granting it later needs no memory); none if there are no instances
 abbrev pub lent_of : List Instance → ℕ → Option LentValue
 lent_of [] room = None
 lent_of (p ∷ ps) room = Some (record { places = p ∷ ps; room = room })

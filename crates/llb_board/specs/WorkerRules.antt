@@ -1,4 +1,4 @@
--- What a claim, a step, a settle and a cancel return for the workers: the result, or the first cause of a refusal as a fault.
+-- The results of a claim, a step, a settle and a cancel, for the worker of the event and the caches; or, as a fault, the first cause why the event is refused.
 use Rattle.std.specs.Prelude.{ℕ, List, Option, Some, None, Result, Ok, Err, if◌then◌else◌}
 use Rattle.llb_loader.specs.declared.graph.Vertex.{Vertex}
 use Rattle.llb_tree.specs.Tree.{TreeMap}
@@ -62,7 +62,7 @@ worked_by x trees (Some m) = Ok (worked_to x m (step_on x.done (Some m) (work_wi
 abbrev pub worked : List MicroStep → Execution → List TreeMap → Result Worked StepFault
 worked steps x trees = worked_by x trees (next_step steps x)
 
--- the result of a micro-step: the execution, the rows of the caches, and the reply
+-- the result of a micro-step, with the rows of the caches in place of the trees of its instances: the execution, the rows, and the reply
 abbrev pub Written : Type 0
 Written = Execution × List Row × Reply
 
