@@ -12,7 +12,7 @@ pub record IsConserved (v : Hand) (present : List ℕ) : Type 0 where
   pub each : (x : ℕ) → times x v.put ≡ times x v.taken + times x present
   pub all : length v.put ≡ length v.taken + length present
 
--- If the pass is the whole one, `IsConserved` holds of its numbers and those in the queue, and the queue holds no more numbers than it has room for.
+-- If the pass is the whole one, `IsConserved` holds of the pass and the numbers in the queue, and the queue holds no more numbers than it has room for.
 abbrev pub Knows : Hand → List ℕ → Type 0
 Knows v present = HasAll v → IsConserved v present × (length present ≤ v.room)
 
