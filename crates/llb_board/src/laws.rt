@@ -24,8 +24,8 @@ pub fn headline(board: &Board)
     board.replays();
 }
 
-/// Proves that vertices and workers agree on what runs, that a vertex that is done has all its outputs, and that a vertex that does not wait has all its
-/// inputs.
+/// Proves that vertices and workers agree on which worker runs which vertex, that a vertex that is done has all its outputs, and that the inputs of a vertex
+/// that does not wait all exist.
 pub fn is_consistent(board: &Board)
     ensures { IsConsistent board.now.build board.now.state }
 {
@@ -40,7 +40,7 @@ pub fn settled_are_plain(board: &Board)
     board.replays();
 }
 
-/// Proves that on a complete board of a graph without cache mounts every vertex has ended with its plain outcome, or is Blocked if that outcome is blocked.
+/// Proves that on a complete board of a graph without cache mounts every vertex ended with its plain outcome, or is Blocked if its plain outcome is blocked.
 pub fn complete_is_plain(board: &Board)
     ensures { machine.HasNoCaches board.now.build → is_complete board.now.build board.now.state ≡ true → (v : ℕ) → v < length board.now.build.graph.vertices
         → StandsPlainly (slice_get board.now.state.statuses v) (outcome board.now.build v) }
@@ -97,7 +97,7 @@ pub fn claims_least(board: &Board)
     let _ = board;
 }
 
-/// Proves that the instances of a key are numbered from 0 without gaps: on this board, and after any list of events of a run that begins without gaps.
+/// Proves that the instances of a key are numbered from 0 without gaps: on this board, and after any list of granted events if the opening has no gaps.
 pub fn stays_dense(board: &Board)
     ensures here { machine.IsDense board.now.state.store }
     ensures after { machine.StaysDense board.now.build }
@@ -105,9 +105,9 @@ pub fn stays_dense(board: &Board)
     let _ = board.caches();
 }
 
-/// Proves a law for builds without shared caches. After any list of granted events, the settled vertices and the free cache instances are as if the claimed
-/// vertices had been run one after another, in the order of their claims: each vertex as a whole, or up to the micro-step at which it was cancelled. The same
-/// holds for this board, in the order of the claims of its record.
+/// Proves a law for builds without shared caches. After any list of granted events, the settled vertices, and the cache instances that no worker holds, are as
+/// if the claimed vertices had been run one after another, in the order of their claims: each vertex as a whole, or up to the micro-step at which it was
+/// cancelled. The same holds for this board, in the order of the claims of its record.
 pub fn runs_in_claim_order(board: &Board)
     ensures after { machine.NoShared board.now.build → machine.RunsInClaimOrder board.now.build }
     ensures here { machine.NoShared board.now.build → StandsInClaimOrder board.now }
@@ -124,7 +124,7 @@ pub fn alone_in_claim_order(board: &Board)
     board.is_graph();
 }
 
-/// Proves a law for work that was done off the board, on the worker's view and on the trees of its instances as they are now: landing the work has the same
+/// Proves a law for work that was done off the board, on the worker's workspace and the trees of its instances as they are now: landing the work has the same
 /// effect as doing its micro-steps and its settle on the board, with no other event between them.
 pub fn lands_as_block(board: &Board)
     ensures { LandsAsBlock board.now.build }
@@ -133,8 +133,8 @@ pub fn lands_as_block(board: &Board)
 }
 
 /// Proves that an exec is finished after its last command, or as soon as the last status is not 0 and every later command is joined by `&&`. If the last status
-/// is then not 0, the fault of the exec is the exit of the last command that ran; else it has no fault. This holds for a script that runs alone, and for every
-/// worker on this board and after any list of granted events, whatever others do to shared caches meanwhile.
+/// is then not 0, the fault of the exec is the exit of the last command that ran; else the exec has no fault. This holds for a script that runs alone, and for
+/// every worker that runs an exec after any list of granted events, whatever other workers do to shared caches meanwhile.
 pub fn execs_end_by_last_status(board: &Board)
     ensures alone { machine.FailsByLastStatus }
     ensures among_others { machine.ExecsEndByLastStatus board.now.build }
@@ -172,7 +172,7 @@ pub fn blocked_behind_a_failure(board: &Board)
     board.replays();
 }
 
-/// Proves that the plain outcome of a vertex is what its whole program makes of the outcomes of its inputs.
+/// Proves that the plain outcome of a vertex is what its whole program makes of the plain outcomes of its inputs.
 pub fn outcome_by_inputs(board: &Board)
     ensures { OutcomeByInputs board.now }
 {

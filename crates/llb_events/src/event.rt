@@ -6,22 +6,22 @@ use llb_wire::Same;
 /// An event: what a worker does on the board.
 #[derive(Clone, Copy, Debug, PartialEq, Eq)]
 pub enum Event {
-    /// Worker and vertex: an idle worker takes a Ready vertex.
+    /// The idle worker with the first number takes the Ready vertex with the second.
     Claim(u32, u32),
-    /// The worker does the next micro-step of the vertex that it runs.
+    /// The worker of this number does the next micro-step of the vertex that it runs.
     Step(u32),
-    /// The worker ends the finished vertex that it runs, and is idle again.
+    /// The worker of this number ends the finished vertex that it runs, and is idle again.
     Settle(u32),
-    /// The worker gives up the vertex that it runs, and the vertex waits again.
+    /// The worker of this number gives up the vertex that it runs, and the vertex waits again.
     Cancel(u32),
 }
 
 /// The reply to a micro-step.
 #[derive(Clone, Copy, Debug, PartialEq, Eq)]
 pub enum Stepped {
-    /// The local tree is read.
+    /// The local tree of the source is read.
     Read,
-    /// The action with this number is done.
+    /// The file op's action with this number is done.
     Acted(u32),
     /// The merge's input with this number is laid over the inputs before it.
     Merged(u32),
@@ -36,9 +36,9 @@ pub enum Stepped {
 /// The result of a settle: how the vertex with this number ended.
 #[derive(Clone, Copy, Debug, PartialEq, Eq)]
 pub enum Settled {
-    /// The vertex is done: its execution had no fault, and it has its outputs.
+    /// The vertex is done: none of its micro-steps faulted, and it has its outputs.
     Done(u32),
-    /// The vertex has failed: its execution had a fault.
+    /// The vertex has failed: one of its micro-steps faulted.
     Failed(u32),
 }
 

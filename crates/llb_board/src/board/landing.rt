@@ -1,5 +1,6 @@
 //! The landing of an outcome: all remaining micro-steps of a worker and its settle at once, for work that was done away from the board. A landing settles the
-//! vertex and repeats no micro-step. `land` compares the trees of the outcome's job with the worker's, by value; `land_known` compares nothing.
+//! vertex and repeats no micro-step. `land` compares the outcome's job with the job that remains for the worker on the board, its trees by value; `land_known`
+//! compares nothing.
 
 ghost use Rattle.std.specs.Prelude.{◌≡◌, option_map, slice_get, IfOk, IfErr, OnOk, OnErr};
 ghost use Rattle.std.specs.List.{list_any};
@@ -63,14 +64,14 @@ impl Board {
         has_shared(self.workers.places(w))
     }
 
-    /// Returns the cache instances that a worker holds; none if it runs nothing, or there is no such worker. Does not allocate.
+    /// Returns the cache instances that a worker holds; none if the worker runs nothing, or there is no such worker. Does not allocate.
     pub fn places(&self, w: u32) -> &[Instance]
         ensures { result.now ≡ places_at (slice_get self.now.state.workers w) }
     {
         self.workers.places(w)
     }
 
-    /// Returns the workspace of what a worker runs; `None` if it runs nothing, or there is no such worker. Does not allocate.
+    /// Returns the workspace of what a worker runs; `None` if the worker runs nothing, or there is no such worker. Does not allocate.
     pub fn workspace(&self, w: u32) -> Option<&Workspace>
         ensures { option_map (λ v. v.now) result ≡ option_map (λ (x : Execution). x.own) (runs (slice_get self.now.state.workers w)) }
     {
@@ -97,7 +98,7 @@ impl Board {
         }
     }
 
-    // Puts the result of an outcome's micro-steps into the worker's execution and the caches, and records these micro-steps.
+    // Puts the result of an outcome's micro-steps into what the worker runs and into the caches, and records these micro-steps.
     fn go_through(&mut self, w: u32, outcome: Outcome)
         requires { CanLand self.old w outcome.job }
         ensures { IsThrough self.old w outcome.count self.new }
