@@ -35,7 +35,7 @@ impl Build {
         Build { graph, locals }
     }
 
-    /// Copies the build, which shares the graph and the trees. Fails with 92 `Memory` alone.
+    /// Copies the build; the copy shares the graph and the trees. Fails with 92 `Memory` alone.
     pub(crate) fn copy(&self) -> Result<Build, Memory>
         ensures { IfOk result (λ b. b ≡ self.now) }
     {

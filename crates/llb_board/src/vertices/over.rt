@@ -35,7 +35,8 @@ pub(crate) fn is_ended(stages: &[Stage], stop_marks: &[bool], v: u32) -> bool
     }
 }
 
-/// Returns a number `n` at or after `from`, such that no vertex below `n` can be claimed now or later. The caller knows this of the vertices below `from`.
+/// Returns a number `n` at or after `from`, such that no vertex whose number is below `n` can be claimed now or later. The caller has to know that no vertex
+/// whose number is below `from` can be claimed now or later.
 pub(crate) fn first_open(
     build: &Build,
     stages: &[Stage],

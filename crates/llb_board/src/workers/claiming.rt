@@ -1,5 +1,5 @@
-//! A claim in two parts. The first does all tests that can refuse the claim, and prepares what the worker will run. The second makes the lease of the cache
-//! instances, and fails only for want of memory.
+//! Does a claim in two parts. The first part does all tests that can refuse the claim, and prepares what the worker will run. The second part leases the cache
+//! instances and makes the worker run the vertex; it fails only for want of memory.
 
 ghost use Rattle.std.specs.Prelude.{◌≡◌, ◌<◌, ◌^◌, length, map, true, Ok, Some, OnErr, OnOk, IfErr, IfOk};
 ghost use Rattle.std.specs.List.{All};
@@ -74,7 +74,7 @@ impl Model for Begun {
 }
 
 impl Begun {
-    // Returns the fields, from which `start` makes the claim.
+    // Returns the fields of a prepared claim, for `start`.
     fn into_parts(self) -> (Job, Execution, Vec<Need>, Vec<Option<usize>>)
         ensures job { result.0 ≡ self.job }
         ensures execution { execution_of result.1 ≡ self.execution }

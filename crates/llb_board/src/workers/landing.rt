@@ -39,8 +39,8 @@ impl Workers {
         }
     }
 
-    /// Replaces the state of a worker's execution by the result of the outcome's micro-steps, and writes the trees of the
-    /// worker's instances. Does not allocate.
+    /// Puts the result of the outcome's micro-steps in place of the worker's count, fault and workspace, and writes the outcome's trees to the worker's
+    /// instances. Does not allocate.
     pub(crate) fn land(&mut self, vertices: &Vertices, w: u32, outcome: Outcome)
         requires runs { RunsJob vertices.now self.old w outcome.job }
         requires fits { Fits vertices.now.build self.old }
@@ -56,7 +56,7 @@ impl Workers {
     }
 }
 
-// Returns whether a job is the one that remains for worker `w`, which has this execution, with the caches as they are now.
+// Returns whether a job is the one that remains for worker `w`, which runs this execution, with the caches as they are now.
 fn is_left(vertices: &Vertices, caches: &Caches, w: u32, execution: &Execution, job: &Job) -> bool
     requires vertex { is_some (slice_get vertices.now.build.graph.vertices execution.now.vertex) ≡ true }
     requires supplies { supplies_of execution.now ≡ supplies_for (slice_get vertices.now.build.graph.vertices execution.now.vertex) }

@@ -21,8 +21,8 @@ use llb_ops::Mount;
 use llb_tree::Tree;
 use std::alloc::Global;
 
-/// A cache that an exec mounts: the number of the mount, the key, the number of the input whose tree a new instance begins with (-1 for none), and what the
-/// caches have for the key.
+/// A cache that an exec mounts: the number of the mount, the key, the number of the input with whose tree a new instance begins (-1 for none), and what was
+/// found in the caches for the key.
 #[derive(Drop)]
 pub(crate) struct Wanted<'a> {
     pub mount: u32,
@@ -82,7 +82,8 @@ pub(crate) fn growths_of(
     Ok(growths)
 }
 
-// Returns the row of the last locked key that a vertex mounts. Fails with the first locked key of the vertex whose instance a lease has. Does not allocate.
+// Returns the number of the row of the last locked key that a vertex mounts; `None` if no such row exists. Fails with the first locked key of the vertex whose
+// instance a lease has. Does not allocate.
 fn last_locked<'a>(caches: &Caches, vertex: &'a Vertex) -> Result<Option<usize>, KeyRef<'a>>
     requires { HasEdges vertex.now }
     ensures { MatchResult result (λ _. first_held_key caches.now.out (needs_of vertex.now) ≡ None)
@@ -102,7 +103,7 @@ fn last_locked<'a>(caches: &Caches, vertex: &'a Vertex) -> Result<Option<usize>,
     Ok(row)
 }
 
-// Looks up the caches that a vertex mounts. For each key, the row of number `near` is tried first.
+// Looks up the caches that a vertex mounts. For each key, row number `near` is tried first. Fails with 141 `Memory` alone.
 fn wants<'a>(
     alloc: Global,
     caches: &'a Caches,
@@ -152,8 +153,8 @@ fn key_shown<'a>(vertex: &'a Vertex, mount: &'a Mount) -> Option<KeyRef<'a>>
     Some(KeyRef::new(options.id.as_str(), seed, mode_of(options.sharing)))
 }
 
-// Returns the seed of a cache (the output that a new instance begins with): the digest text and the index that input number `input` of the vertex names;
-// `None` if `input` is negative.
+// Returns the seed of a cache (the output with whose tree a new instance begins): the digest text and the index that input number `input` of the vertex names;
+// `None` if `input` is negative or there is no such input.
 fn seed_shown(vertex: &Vertex, input: i64) -> Option<(&str, u32)>
     requires { HasEdges vertex.now }
     ensures { option_map (λ s. seed_by s.0.now s.1) result ≡ option_map seed_as (seed_of vertex.now.op.inputs input) }
@@ -210,7 +211,7 @@ pub(crate) fn taking_for(
     })
 }
 
-// Returns the instances that a lease of these caches would take.
+// Returns the instances that a lease of these caches would take. Fails with 141 `Memory` alone, as do the functions below.
 fn places_found(alloc: Global, wanted: &[Wanted<'_>]) -> Result<Vec<Instance>, ClaimFault>
     ensures { GivesClaim (λ ps. ps.items) result (Ok (map place_found wanted.now)) }
 {

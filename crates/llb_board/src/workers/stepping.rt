@@ -25,8 +25,8 @@ use llb_execution::MicroStep;
 use std::alloc::Global;
 
 impl Workers {
-    /// Does the next micro-step of what a worker runs, on its cache instances as they are now, and writes their new trees at once. Fails with
-    /// 131 `NoWorker`, 136 `NotRunning`, 137 `NothingLeft` or 141 `Memory`; then nothing has changed.
+    /// Does the next micro-step of what a worker runs, on the worker's cache instances as they are now, and writes the new trees of these instances at once.
+    /// Fails with 131 `NoWorker`, 136 `NotRunning`, 137 `NothingLeft` or 141 `Memory`; then nothing has changed.
     pub(crate) fn step(
         &mut self,
         alloc: Global,
@@ -54,7 +54,7 @@ impl Workers {
     }
 }
 
-// Does the next micro-step of an execution on the instances of its lease as they are now, and writes them back.
+// Does the next micro-step of an execution on the instances of its lease as they are now, and writes the new trees to these instances.
 fn micro_step(
     alloc: Global,
     vertices: &Vertices,

@@ -1,4 +1,4 @@
-//! What an event displaces (changes) in the workers and the caches is kept before the event, and is put back when the event is taken back. One item is
+//! Keeps before an event what the event will displace (change) in the workers and the caches, and puts it back when the event is taken back. One item is
 //! kept for each cache that the vertex of the event mounts, and none for any other cache.
 
 ghost use Rattle.std.specs.Prelude.{◌≡◌, ◌<◌, false, length, map, option_map, slice_get, IfOk, IfErr, Err};
@@ -42,7 +42,7 @@ impl Drop for Undo {
 pub(crate) enum Back {
     /// For a claim: the worker, the vertex, and what the claim's lease added to the caches.
     Unclaim(u32, u32, Vec<Growth>),
-    /// For a step: the worker, what the micro-step could change of its view, and the trees of its cache instances.
+    /// For a step: the worker, what the micro-step could change in the workspace, and the trees of the worker's cache instances.
     Unstep(u32, Mark, Vec<Tree>),
     /// For a settle or a cancel: which of the two it was, the worker, what it ran, and a prepared lease of its cache instances, if it had any.
     Resume(End, u32, Execution, Option<Lent>),
