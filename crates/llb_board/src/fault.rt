@@ -45,7 +45,7 @@ impl fmt::Debug for LandFault {
 /// Why a board is not opened. The graph, the local trees and the caches are in the fault.
 #[derive(Drop, Error)]
 pub enum OpenFault {
-    /// 121: a local source has no tree; the name of the first such source, by vertex, follows.
+    /// 121: a local source has no tree; the name of the first such source, by vertex.
     #[error("121 {0}")]
     MissingLocal(Text, Graph, Locals, Caches),
     /// 122: the number of workers is 0 or more than 64.
