@@ -31,7 +31,7 @@ OthersLeave b = (w : ℕ) (p : Instance) → HoldsInstance b w p → IsExclusive
     → table b.build b.state e ≡ Some (t, r)
     → content t.store p ≡ content b.state.store p
 
--- if the tree of such an instance is replaced by another tree, each event of another worker still has the same reply, and the same effect on all else
+-- if the tree of a locked or private instance that a worker holds is replaced, each event of another worker has the same reply, and the same effect on all else
 abbrev pub OthersIgnore : BoardValue → Type 0
 OthersIgnore b = (w : ℕ) (p : Instance) → HoldsInstance b w p → IsExclusive p.key.mode → (e : Event) (tree : TreeMap) → worker_of e ≢ w
     → table b.build (with_content p tree b.state) e ≡ option_map (with_content_after p tree) (table b.build b.state e)

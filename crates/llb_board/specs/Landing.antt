@@ -47,7 +47,7 @@ StandsInWay b w job cause.NotRunning = slice_get b.state.workers w ≡ Some Idle
 StandsInWay b w job cause.HasShared = RunsShared b w
 StandsInWay b w job cause.Stranger = RunsAlone b w job
 
--- the fault for a cause; it returns the outcome to the caller
+-- the fault for a cause; the fault holds the outcome
 abbrev pub land_fault : LandCause → OutcomeValue → LandFault
 land_fault cause.NoWorker o = fault.NoWorker o
 land_fault cause.NotRunning o = fault.NotRunning o

@@ -17,7 +17,7 @@ use Rattle.llb_board.specs.Supplies.{Supplies, supplies_for, needed}
 use Rattle.llb_board.specs.WorkerRules.{Begun}
 use Rattle.llb_board.specs.Vertices.{VerticesValue}
 
--- what contracts see of the workers: what each worker does, the rows of the caches, and what each worker has from its claim on (its supplies)
+-- what contracts see of the workers: what each worker does, the rows of the caches, and the supplies of each worker (what it has from its claim to its settle)
 pub record WorkersValue : Type 0 where
   pub workers : List WorkerStatus
   pub rows : List Row
@@ -56,7 +56,7 @@ pub record RunsJob (vs : VerticesValue) (ws : WorkersValue) (w : ℕ) (job : Job
   pub runs : slice_get ws.workers w ≡ Some (Runs x)
   pub own : IsRunOf vs.build (store_of ws.rows) w x job
 
--- the status after outcome o of a worker that ran a vertex: its count grows by the micro-steps of o, and it has the fault and the workspace of o; else idle
+-- a worker's status after the micro-steps of outcome o: o's micro-steps are added to the count, and the fault and the workspace are o's; idle if nothing ran
 abbrev pub steps_left : OutcomeValue → Option WorkerStatus → WorkerStatus
 steps_left o (Some (Runs x)) = Runs (record x { done = x.done + o.count; fault = o.left.fault; own = o.left.work.own })
 steps_left o (Some Idle) = Idle

@@ -14,9 +14,9 @@ ghost use Rattle.llb_board.specs.Headline.{Headline, StandsInClaimOrder};
 use crate::board::Board;
 
 /// Proves the promise of the whole machine. The table replays the record, with a reply for each event, from the opening state to the board's state. No two
-/// workers hold the same locked cache at once, nor the same instance of a private cache; another worker's event neither changes nor reads an instance that a
-/// worker holds exclusively. A settled vertex with no cache mount at or before it has its plain outcome. This holds at every moment, for any workers and any
-/// order of events.
+/// workers hold the same locked cache at once, nor the same instance of a private cache. No event of another worker changes or reads an instance of a locked or
+/// private cache that a worker holds. A settled vertex with no cache mount at or before it has its plain outcome. All this holds at every moment, for any
+/// workers and any order of events.
 pub fn headline(board: &Board)
     ensures { Headline board.now }
 {
@@ -65,8 +65,8 @@ pub fn chosen_is_granted(board: &Board)
 }
 
 /// Proves that a granted event of one worker does not change the state of any other worker. From a worker's claim to its settle or cancel, other workers'
-/// events do not change the cache instances that the worker holds exclusively. Whatever trees these instances had, an event of another worker would have the
-/// same reply, and the same effect on everything else.
+/// events do not change the instances of locked and private caches that the worker holds. Whatever trees these instances had, an event of another worker would
+/// have the same reply, and the same effect on everything else.
 pub fn others_keep(board: &Board)
     ensures workers { OthersKeep board.now }
     ensures instances { machine.OthersKeep board.now.build }

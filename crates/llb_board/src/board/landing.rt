@@ -1,6 +1,6 @@
-//! The landing of an outcome: all remaining micro-steps of a worker and its settle at once, for work that was done away from the board. A landing settles the
-//! vertex and repeats no micro-step. `land` compares the outcome's job with the job that remains for the worker on the board, its trees by value; `land_known`
-//! compares nothing.
+//! Lands an outcome: after the work was done away from the board, puts the effect of all remaining micro-steps of a worker and of its settle on the board at
+//! once. No micro-step is done again. `land` compares the outcome's job with the job that remains for the worker on the board, with their trees by value;
+//! `land_known` compares nothing.
 
 ghost use Rattle.std.specs.Prelude.{◌≡◌, option_map, slice_get, IfOk, IfErr, OnOk, OnErr};
 ghost use Rattle.std.specs.List.{list_any};

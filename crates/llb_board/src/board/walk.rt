@@ -1,4 +1,4 @@
-//! Does an event and keeps what is needed to undo it, for callers that step through a run forwards and back.
+//! Does an event and returns what is needed to undo it, for callers that step through a run forwards and back.
 
 ghost use Rattle.std.specs.Prelude.{◌≡◌, OnErr, IfOk};
 ghost use Rattle.llb_board.specs.Undo.{GivesWalk, walk_of, undone, CanUndo};
@@ -17,7 +17,7 @@ pub enum Reply {
     Cancelled(Cancelled),
 }
 
-/// The result of an event: its reply, and what is needed to undo it.
+/// The result of `walk`: the reply to the event, and what is needed to undo the event.
 #[derive(Drop)]
 pub struct Walked {
     pub reply: Reply,

@@ -1,4 +1,4 @@
-//! Marks on the vertices that have failed and on all that are downstream of them.
+//! Keeps marks on the vertices that have failed and on all vertices downstream of them.
 
 ghost use Rattle.std.specs.Prelude.{◌≡◌, ◌<◌, [], map, length, slice_get, slice_set, false, unwrap_or};
 ghost use Rattle.std.specs.List.{list_any};

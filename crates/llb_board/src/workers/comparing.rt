@@ -26,7 +26,7 @@ pub(crate) fn is_begun(w: u32, execution: &Execution, job: &Job) -> bool
         && execution.fault.is_none()
 }
 
-/// Returns whether both lists are equally long, and the tree of each instance is equal to the tree at the same position of `trees`. All the instances exist.
+/// Returns whether both lists are equally long, and the tree of each instance equals the tree at the same position of `trees`. All the instances must exist.
 pub(crate) fn has_trees(caches: &Caches, places: &[Instance], trees: &[Tree]) -> bool
     requires { (p : model.Instance) → Has places.now p → p.number < length (trees_of caches.now.rows p.key) }
     ensures { IsTrue result ↔ (trees.now ≡ trees_at (store_of caches.now.rows) places.now) }
@@ -42,7 +42,7 @@ pub(crate) fn has_trees(caches: &Caches, places: &[Instance], trees: &[Tree]) ->
     true
 }
 
-// Returns whether an instance, which exists, has this tree.
+// Returns whether an instance has this tree. The instance must exist.
 fn has_tree(caches: &Caches, place: &Instance, tree: &Tree) -> bool
     requires { place.now.number < length (trees_of caches.now.rows place.now.key) }
     ensures { IsTrue result ↔ (tree.now ≡ tree_of (store_of caches.now.rows) place.now) }

@@ -45,7 +45,7 @@ pub(crate) struct Taking {
 }
 
 // Returns the caches that a vertex mounts, in the order of the mounts. Fails with 135 `Held` and the first locked key whose instance a lease has; in that
-// case, allocates only the copy of that key, and fails with 141 `Memory` if this copy is refused. If no key is held, fails with 141 alone.
+// case the call allocates only a copy of the key, and fails with 141 `Memory` if memory for the copy is refused. If no key is held, fails with 141 alone.
 pub(crate) fn wanted_by<'a>(
     alloc: Global,
     caches: &'a Caches,

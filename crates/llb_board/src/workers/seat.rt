@@ -25,8 +25,8 @@ pub(crate) enum Seat {
     Runs(Option<Lease>, Execution),
 }
 
-/// What a running worker holds: in `places` the cache instances that it has leased, in `outputs` an empty tree for each
-/// output of its vertex; `steps` are the vertex's micro-steps.
+/// The execution of a vertex, which is what a running worker holds: in `places` the cache instances that the worker has leased, in `outputs` an empty tree for
+/// each output of the vertex, and in `steps` the vertex's micro-steps.
 #[derive(Drop)]
 pub(crate) struct Execution {
     pub vertex: u32,
@@ -133,7 +133,7 @@ pub(crate) fn put_left(
     lease
 }
 
-/// Returns whether each worker runs the same in both lists, by value; the numbers of leases are not compared. Does not allocate.
+/// Returns whether both lists are equally long and each worker runs the same in both, by value; the numbers of leases are not compared. Does not allocate.
 pub(crate) fn same_seats(seats: &[Seat], others: &[Seat]) -> bool
     ensures { IsTrue result ↔ (map at_of seats.now ≡ map at_of others.now) }
 {

@@ -87,8 +87,8 @@ impl Undo {
 }
 
 impl Workers {
-    /// Returns what is needed to take back an event that is about to be done. Fails with 131 `NoWorker` or 136 `NotRunning` if the event itself would fail
-    /// so, or with 141 `Memory`.
+    /// Returns what is needed to take back an event, before the event is done. Fails with 131 `NoWorker` or 136 `NotRunning` if the event is no claim and would
+    /// fail so itself, or with 141 `Memory`.
     pub(crate) fn before(
         &self,
         alloc: Global,
