@@ -97,7 +97,8 @@ pub fn claims_least(board: &Board)
     let _ = board;
 }
 
-/// Proves that the instances of a key are numbered from 0 without gaps: on this board, and after any list of granted events if the opening has no gaps.
+/// Proves that the instances of a key are numbered from 0 without gaps: on this board, and after any list of granted events if there were no gaps at the
+/// opening.
 pub fn stays_dense(board: &Board)
     ensures here { machine.IsDense board.now.state.store }
     ensures after { machine.StaysDense board.now.build }
@@ -105,7 +106,7 @@ pub fn stays_dense(board: &Board)
     let _ = board.caches();
 }
 
-/// Proves a law for builds without shared caches. After any list of granted events, the settled vertices, and the cache instances that no worker holds, are as
+/// Proves a law for graphs without shared caches. After any list of granted events, the settled vertices, and the cache instances that no worker holds, are as
 /// if the claimed vertices had been run one after another, in the order of their claims: each vertex as a whole, or up to the micro-step at which it was
 /// cancelled. The same holds for this board, in the order of the claims of its record.
 pub fn runs_in_claim_order(board: &Board)
@@ -124,8 +125,8 @@ pub fn alone_in_claim_order(board: &Board)
     board.is_graph();
 }
 
-/// Proves a law for work that was done off the board, on the worker's workspace and the trees of its instances as they are now: landing the work has the same
-/// effect as doing its micro-steps and its settle on the board, with no other event between them.
+/// Proves a law for work that was done off the board, on the worker's workspace and the trees of the worker's instances as they are now: landing the work has
+/// the same effect as doing the same micro-steps and the settle on the board, with no other event between them.
 pub fn lands_as_block(board: &Board)
     ensures { LandsAsBlock board.now.build }
 {
@@ -133,8 +134,8 @@ pub fn lands_as_block(board: &Board)
 }
 
 /// Proves that an exec is finished after its last command, or as soon as the last status is not 0 and every later command is joined by `&&`. If the last status
-/// is then not 0, the fault of the exec is the exit of the last command that ran; else the exec has no fault. This holds for a script that runs alone, and for
-/// every worker that runs an exec after any list of granted events, whatever other workers do to shared caches meanwhile.
+/// is then not 0, the fault of the exec names the last command that ran and its status; else the exec has no fault. This holds for a script that runs alone,
+/// and for every worker that runs an exec after any list of granted events, whatever other workers do to shared caches meanwhile.
 pub fn execs_end_by_last_status(board: &Board)
     ensures alone { machine.FailsByLastStatus }
     ensures among_others { machine.ExecsEndByLastStatus board.now.build }
@@ -164,7 +165,7 @@ pub fn ready_behind_done(board: &Board)
     board.replays();
 }
 
-/// Proves that a vertex is Blocked exactly if it waits and an input of it has failed or is Blocked.
+/// Proves that a vertex is Blocked exactly if it waits and the vertex of one of its inputs has failed or is Blocked.
 pub fn blocked_behind_a_failure(board: &Board)
     ensures { BlockedBehindAFailure board.now }
 {
@@ -179,8 +180,9 @@ pub fn outcome_by_inputs(board: &Board)
     board.is_graph();
 }
 
-/// Proves a law for a vertex with no cache mount at or before it: the build, the worker and the vertex determine the job that a claim hands out. As long as the
-/// worker has done no micro-step of the vertex, this job is what remains for the worker, so the job's outcome can be landed without comparing trees.
+/// Proves a law for a vertex with no cache mount at or before it: the graph, the local trees, the worker and the vertex determine the job that a claim hands
+/// out. As long as the worker has done no micro-step of the vertex, this job is what remains for the worker, so the outcome of the job can be landed without
+/// comparing trees.
 pub fn begun_are_plain(board: &Board)
     ensures begun { BegunArePlain board.now }
     ensures claims { ClaimsArePlain board.now }

@@ -1,5 +1,5 @@
-//! The workers of a board: what each of them runs, on which cache instances, and the caches themselves. By the invariant of `Workers` there are 1 to 64
-//! workers, and each worker that runs a vertex with cache instances has a lease of exactly these instances.
+//! The workers of a board: what each worker runs, which cache instances each worker holds, and the caches. By the invariant of `Workers` there are 1 to 64
+//! workers, and each worker that holds cache instances has a lease of exactly these instances.
 
 ghost use Rattle.std.specs.Prelude.{◌≡◌, ◌↔◌, ◌<◌, ◌≤◌, [], IsTrue, length, option_map, replicate, slice_get, IfOk, IfErr};
 ghost use Rattle.llb_cache.specs.Caches.{leases};

@@ -81,8 +81,7 @@ impl ReadyQueue {
         ensures ok { OnOk result (hand_of pass.new ≡ with_put (hand_of pass.old) v) }
         ensures full { IfErr result (λ e. (e.0 ≡ v) × (hand_of pass.new ≡ hand_of pass.old)) }
 
-        // With the whole pass the call fails exactly if the queue is full: as many numbers were put as the sum of the numbers taken and the room of the
-        // queue.
+        // With the whole pass the call fails exactly if the queue is full: the count of puts is then the count of takes plus the room of the queue.
         ensures whole { let before = hand_of pass.old in IsWhole pass.old → MatchResult result (λ _. HasRoom before) (λ _. HasNoRoom before) }
     {
         let ReadyPass { pass } = pass;

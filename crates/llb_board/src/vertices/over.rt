@@ -21,7 +21,7 @@ pub(crate) fn is_ready(stages: &[Stage], links: &Links, v: u32) -> bool
     }
 }
 
-/// Returns whether a vertex is done or failed, or waits and is marked (is downstream of a failed vertex).
+/// Returns whether a vertex is done or failed, or waits and is marked, which means that it is downstream of a failed vertex.
 pub(crate) fn is_ended(stages: &[Stage], stop_marks: &[bool], v: u32) -> bool
     ensures { result ≡ (is_settled (slice_get (map status_of stages.now) v)
         || (is_waiting (slice_get (map status_of stages.now) v) && unwrap_or (slice_get stop_marks.now v) false)) }

@@ -118,8 +118,8 @@ impl Workers {
         begun_with(alloc, vertices, (w, v), vertex, &wanted)
     }
 
-    /// Makes a worker run the vertex of a claim that was prepared on this state, and leases the cache instances. Fails with 141 alone; then nothing has
-    /// changed.
+    /// Does a claim that was prepared on this state: leases the cache instances, and makes the worker run the vertex. Returns the job. Fails with 141 `Memory`
+    /// alone; then nothing has changed.
     pub(crate) fn start(&mut self, vertices: &Vertices, begun: Begun) -> Result<Job, ClaimFault>
         requires { IsBegunOn vertices.now self.old begun }
         ensures job { IfOk result (λ job. job ≡ begun.job) }
@@ -146,9 +146,9 @@ impl Workers {
     }
 }
 
-// Makes the job and the execution of a vertex, before its first micro-step, given what was looked up for each cache that the vertex mounts. Both have the
-// trees of the inputs and the cache instances that a lease will take; the execution also has an empty tree for each output, and the micro-steps. Fails with
-// 134 `NotReady` if an input is not done, or with 141 `Memory`.
+// Prepares the claim of a vertex, given what was looked up for each cache that the vertex mounts. The job and the execution both have the trees of the inputs
+// and the cache instances that the lease will take; the execution also has an empty tree for each output, and the micro-steps. Fails with 134 `NotReady` if an
+// input is not done, or with 141 `Memory`.
 fn begun_with(
     alloc: Global,
     vertices: &Vertices,

@@ -111,7 +111,7 @@ pub(crate) fn lend_again(caches: &mut Caches, lent: Option<Lent>) -> Option<Leas
     }
 }
 
-/// Replaces the trees of a lease's instances by these trees. If there is no lease, `trees` must be empty.
+/// Replaces the trees of a lease's instances by `trees`, in order. If there is no lease, `trees` must be empty.
 pub(crate) fn write_back(caches: &mut Caches, lease: Option<Lease>, trees: Vec<Tree>)
     requires count { length trees.items ≡ length (leased_places caches.old.out lease) }
     requires few { length trees.items < 2 ^ 32 }
@@ -123,7 +123,7 @@ pub(crate) fn write_back(caches: &mut Caches, lease: Option<Lease>, trees: Vec<T
     }
 }
 
-// Replaces the trees of a lease's instances by these trees.
+// Replaces the trees of a lease's instances by `trees`, in order.
 fn write_all(caches: &mut Caches, lease: Lease, trees: Vec<Tree>)
     requires count { length trees.items ≡ length (places_of caches.old.out lease) }
     requires few { length trees.items < 2 ^ 32 }

@@ -1,5 +1,5 @@
-//! The caches that a vertex mounts, and what its claim takes of them: the instances, the trees that they begin with, and the needs of a lease. This module
-//! reads the mounts of a vertex and the caches, and changes neither.
+//! Finds the caches that a vertex mounts, and what a claim takes of them: the instances, the trees with which the instances begin, and the needs for a lease.
+//! Nothing here changes the caches.
 
 ghost use Rattle.std.specs.Prelude.{◌≡◌, ◌<◌, ◌^◌, Ok, IfErr, IfOk, MatchResult, Some, None, true, map, length, option_map};
 ghost use Rattle.std.specs.List.{All};

@@ -21,7 +21,7 @@ use std::mem;
 pub(crate) enum Seat {
     /// The worker runs no vertex.
     Idle,
-    /// The worker runs a vertex: the lease of its cache instances, if it has one, and everything else that it holds.
+    /// The worker runs a vertex: the lease of the worker's cache instances, if there is one, and everything else that the worker holds.
     Runs(Option<Lease>, Execution),
 }
 
@@ -65,7 +65,7 @@ pub(crate) fn is_finished(execution: &Execution, steps: u32) -> bool
     execution.fault.is_some() || steps <= execution.done
 }
 
-/// Makes a worker idle, and returns the lease that it had, if any.
+/// Makes a worker idle, and returns the lease that the worker had, if any.
 pub(crate) fn make_idle(seats: &mut Vec<Seat>, w: u32) -> Option<Lease>
     requires { w < length seats.old.items }
     ensures idle { seats.new.items ≡ slice_set seats.old.items w seat.Idle }
@@ -76,7 +76,7 @@ pub(crate) fn make_idle(seats: &mut Vec<Seat>, w: u32) -> Option<Lease>
     lease
 }
 
-/// Makes a running worker idle, and returns the lease that it had, if any, and what it ran.
+/// Makes a running worker idle, and returns the lease that the worker had, if any, and its execution.
 pub(crate) fn vacate(seats: &mut Vec<Seat>, w: u32) -> (Option<Lease>, Execution)
     requires low { w < length seats.old.items }
     requires runs { IsRunning (slice_get seats.old.items w) }

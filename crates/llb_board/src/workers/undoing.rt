@@ -48,7 +48,7 @@ pub(crate) enum Back {
     Resume(End, u32, Execution, Option<Lent>),
 }
 
-/// The event by which a worker ends what it runs.
+/// Which of two kinds of events ended the execution.
 #[derive(Clone, Copy)]
 pub(crate) enum End {
     /// A settle: the execution was finished.
