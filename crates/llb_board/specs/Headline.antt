@@ -50,5 +50,5 @@ pub record Headline (b : BoardValue) : Type 0 where
   -- if a running worker holds an instance of a locked or a private key, no event of another worker changes or reads the tree of this instance
   pub others_leave : OthersLeave b
   pub others_ignore : OthersIgnore b
-  -- every settled vertex with no cache mount at or before it has the graph's plain outcome
+  -- every settled vertex with no cache mount at or before it has its plain outcome
   pub plain : SettledArePlain b

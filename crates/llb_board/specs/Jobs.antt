@@ -18,7 +18,7 @@ is_shared Shared = true
 is_shared Private = false
 is_shared Locked = false
 
--- whether an execution holds an instance that other executions may hold too
+-- whether an execution holds an instance of a shared cache, which other executions may hold at the same time
 abbrev pub has_shared : Execution → Bool
 has_shared x = list_any (λ (p : Instance). is_shared p.key.mode) x.places
 

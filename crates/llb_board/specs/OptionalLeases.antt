@@ -36,7 +36,7 @@ abbrev pub lent_of : List Instance → ℕ → Option LentValue
 lent_of [] room = None
 lent_of (p ∷ ps) room = Some (record { places = p ∷ ps; room = room })
 
--- the number that a prepared lease gets, and the caches after the lease is granted; if there is no prepared lease, no number, and the caches unchanged
+-- the number of the lease when a prepared lease is granted, and the caches after the grant; if no lease was prepared, no number and the same caches
 abbrev pub lent_if : cache.CachesValue → Option LentValue → Option ℕ × cache.CachesValue
 lent_if c None = (None, c)
 lent_if c (Some l) = (Some (cache.free_lease c.out), lent_again c l.places)

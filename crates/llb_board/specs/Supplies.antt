@@ -22,7 +22,7 @@ pub record Supplies : Type 0 where
   pub shown : List ℕ
   pub keys : List Key
 
--- the supplies that an execution has
+-- the supplies in an execution of the code
 abbrev pub supplies_of : own.Execution → Supplies
 supplies_of x = record {
   outputs = x.outputs.items;
@@ -42,7 +42,7 @@ abbrev pub needs_at : Option Vertex → List Need
 needs_at (Some v) = needs_of v
 needs_at None = []
 
--- the supplies that an execution of a vertex begins with
+-- the supplies for an execution of this vertex; nothing if there is no vertex
 abbrev pub supplies_for : Option Vertex → Supplies
 supplies_for o = record {
   outputs = replicate (program_at o).outputs empty_tree;

@@ -79,7 +79,7 @@ event_before (Unclaim w v growths) = event.Claim w v
 event_before (Unstep w mark trees) = event.Step w
 event_before (Resume e w left lent) = end_of e w
 
--- the event that is taken back is the last one of the record; the table grants it on the board before the event, with board b as the result
+-- the event that is taken back is the last event of b's record; the table grants this event on the board before the event, and the result is the state of b
 pub record IsLast (u : Displaced) (b : BoardValue) : Type 0 where
   pub reply : table.Reply
   pub gives : table.table b.build (undone u b).state (event_before u.back) ≡ Some (b.state, reply)
@@ -111,7 +111,7 @@ StandsBehind (Unclaim w v growths) b = IsBegun b w v
 StandsBehind (Unstep w mark trees) b = IsStepped b w mark trees
 StandsBehind (Resume e w left lent) b = IsLeft b w left lent
 
--- the table replays the record of the board before the event; the event is the last one of board b; and `StandsBehind` holds of b
+-- the table replays the record of the board before the event; the event is the last event of b's record; and `StandsBehind` holds of b
 pub record CanUndo (u : Displaced) (b : BoardValue) : Type 0 where
   pub replays : Replays (undone u b)
   pub last : IsLast u b

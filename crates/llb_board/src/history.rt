@@ -1,4 +1,4 @@
-//! The history of a board: the record of its events, for which memory is reserved in advance, and how often each vertex was cancelled.
+//! Keeps the record of a board's events, for which memory is reserved in advance, and how often each vertex was cancelled.
 
 ghost use Rattle.std.specs.Prelude.{◌≡◌, ◌+◌, ◌<◌, ◌≤◌, ◌∷◌, ◌++◌, [], length, replicate, get_or, IfOk, OnOk, OnErr};
 ghost use Rattle.llb_model.specs.Landing.{steps_by};

@@ -32,7 +32,7 @@ pub fn is_consistent(board: &Board)
     board.replays();
 }
 
-/// Proves that a settled vertex with no cache mount at or before it has its plain outcome, failures included, whatever caches are shared elsewhere.
+/// Proves that a settled vertex with no cache mount at or before it has its plain outcome, whether it is done or has failed, and whatever other vertices mount.
 pub fn settled_are_plain(board: &Board)
     ensures { SettledArePlain board.now }
 {

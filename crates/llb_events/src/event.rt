@@ -25,9 +25,9 @@ pub enum Stepped {
     Acted(u32),
     /// The merge's input with this number is laid over the inputs before it.
     Merged(u32),
-    /// The command with this number has ended with this status.
+    /// The command with the first number ran, and ended with the status that is the second number.
     Ran(u32, u32),
-    /// The command with this number was skipped, because of the `&&` or `||` before it and the last status.
+    /// The command with the first number did not run, because of the last status and the `&&` or `||` before the command.
     Skipped(u32),
     /// The micro-step faulted.
     Fault(VertexFault),
@@ -36,9 +36,9 @@ pub enum Stepped {
 /// The result of a settle: how the vertex with this number ended.
 #[derive(Clone, Copy, Debug, PartialEq, Eq)]
 pub enum Settled {
-    /// The vertex is done: none of its micro-steps faulted, and it has its outputs.
+    /// The vertex is done: it has its outputs, and no fault.
     Done(u32),
-    /// The vertex has failed: one of its micro-steps faulted.
+    /// The vertex has failed: it has a fault (`VertexFault`), and no outputs.
     Failed(u32),
 }
 

@@ -151,7 +151,7 @@ impl From<TreeFault> for ClaimFault {
     }
 }
 
-/// Converts the fault of copying a text or the parts of an execution.
+/// Converts the fault of making or copying a program, a workspace or a text.
 impl From<llb_wire::Memory> for ClaimFault {
     ghost use Rattle.std.specs.Prelude.{◌≡◌};
     ghost use Rattle.llb_events.specs.declared.refusal.ClaimFault.TheVariants.{Memory};

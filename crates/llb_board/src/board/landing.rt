@@ -45,8 +45,8 @@ impl Board {
         Ok(self.settle(w).unwrap())
     }
 
-    /// Lands an outcome as `land` does, but compares nothing. The caller has to know that the outcome's job is what the worker runs, that no cache mount is at
-    /// or before the vertex, and that the worker has done no micro-step of the vertex. Does not allocate.
+    /// Lands an outcome as `land` does, but compares nothing. The caller has to know that the outcome's job is the one that the worker's claim handed out, that
+    /// no cache mount is at or before the vertex, and that the worker has done no micro-step of the vertex on the board. Does not allocate.
     pub fn land_known(&mut self, w: u32, outcome: Outcome) -> Settled
         requires known { IsKnown self.old w outcome.job }
         ensures gives { Lands self.old w outcome self.new (HasSettled result) }
@@ -56,8 +56,8 @@ impl Board {
         self.settle(w).unwrap()
     }
 
-    /// Returns whether a worker holds an instance of a shared cache; if so, no outcome of its vertex can be landed. False if the worker runs nothing or there
-    /// is no such worker. Does not allocate.
+    /// Returns whether a worker holds an instance of a shared cache; if so, no outcome of the worker's vertex can be landed. Returns false if the worker runs
+    /// nothing or there is no such worker. Does not allocate.
     pub fn has_shared(&self, w: u32) -> bool
         ensures { result ≡ runs_shared (slice_get self.now.state.workers w) }
     {
@@ -111,7 +111,7 @@ impl Board {
     }
 }
 
-// Returns the fault for a cause, with the outcome in it.
+// Returns the fault for a cause; the fault holds the outcome.
 fn refused(cause: LandCause, outcome: Outcome) -> LandFault
     ensures { result ≡ land_fault cause outcome }
 {

@@ -31,7 +31,7 @@ pub(crate) struct Wanted<'a> {
     pub found: Found<'a>,
 }
 
-/// What a claim takes of the caches, computed before anything changes.
+/// What a claim takes of the caches, found before the claim changes anything.
 #[derive(Drop)]
 pub(crate) struct Taking {
     pub places: Vec<Instance>,
@@ -103,7 +103,7 @@ fn last_locked<'a>(caches: &Caches, vertex: &'a Vertex) -> Result<Option<usize>,
     Ok(row)
 }
 
-// Looks up the caches that a vertex mounts. For each key, row number `near` is tried first. Fails with 141 `Memory` alone.
+// Looks up the caches that a vertex mounts. For each key, the row with the number `near` is tried first. Fails with 141 `Memory` alone.
 fn wants<'a>(
     alloc: Global,
     caches: &'a Caches,
@@ -234,7 +234,7 @@ fn instance_numbers(alloc: Global, places: &[Instance]) -> Result<Vec<u32>, Clai
     Ok(numbers)
 }
 
-// Copies the trees that the instances begin with.
+// Copies the trees with which the instances begin.
 fn first_trees(
     alloc: Global,
     inputs: &[Tree],

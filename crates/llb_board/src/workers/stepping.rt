@@ -93,7 +93,7 @@ fn micro_step(
     Ok(told(next, done, execution.view.last(), fault))
 }
 
-// Returns the reply to the micro-step with the number `done`, which was not skipped, given the last status and the fault after that micro-step.
+// Returns the reply to micro-step number `done`, which was not skipped, given the last status and the fault after this micro-step.
 fn told(step: MicroStep<'_>, done: u32, last: u32, fault: Option<VertexFault>) -> Stepped
     ensures { (before : model.Workspace) (left : Left) → is_skipped (parts.step_in step.entry) before ≡ false → last_of left.work.own ≡ last
         → left.fault ≡ fault → HasStepped result ≡ table.step_reply done (parts.step_in step.entry) before left }

@@ -87,8 +87,8 @@ impl Undo {
 }
 
 impl Workers {
-    /// Returns what is needed to take back an event, before the event is done. Fails with 131 `NoWorker` or 136 `NotRunning` if the event is no claim and would
-    /// fail so itself, or with 141 `Memory`.
+    /// Returns what is needed to take back an event, before the event is done. Fails with 141 `Memory`; for an event that is not a claim, fails also with 131
+    /// `NoWorker` or 136 `NotRunning`, if the event itself would fail with this number.
     pub(crate) fn before(
         &self,
         alloc: Global,
@@ -178,7 +178,7 @@ impl Workers {
     }
 }
 
-// Puts back what an event displaced.
+// Puts back what an event displaced. Returns the vertex whose status changes, with its status before the event; `None` for a step.
 fn displace(seats: &mut Vec<Seat>, caches: &mut Caches, back: Back) -> Option<Change>
     requires can { CanPutBack (record { back = back_in back })
         (record { workers = map at_of seats.old.items; rows = caches.old.rows; supplies = map ready_made seats.old.items }) }
