@@ -23,7 +23,7 @@ use Rattle.llb_board.specs.declared.workers.needs.Wanted.{Wanted}
 abbrev pub is_locked_and_held : Leases → Key → Bool
 is_locked_and_held out k = is_locked k.mode && is_held out (place k 0)
 
--- the first key among the needs that is locked and whose instance a lease holds
+-- the key of the first need whose key is locked and whose instance a lease holds
 abbrev pub first_held_key : Leases → List Need → Option Key
 first_held_key out [] = None
 first_held_key out (n ∷ needs) = if is_locked_and_held out n.key then Some n.key else first_held_key out needs
@@ -59,7 +59,7 @@ pub record IsFound (c : cache.CachesValue) (w : Wanted) : Type 0 where
 abbrev pub place_found : Wanted → Instance
 place_found w = place w.key w.found.number
 
--- the tree that an instance begins with: its own tree if the instance exists, else the tree of the mount's input, or the empty tree if there is no input
+-- the tree with which an instance begins: the instance's tree if it exists, else the tree of the mount's input, or the empty tree if there is no input
 abbrev pub first_tree : List TreeMap → Wanted → TreeMap
 first_tree inputs w = unwrap_or (option_map (λ t. t.now) w.found.tree) (base_in w.input inputs)
 
@@ -67,7 +67,7 @@ first_tree inputs w = unwrap_or (option_map (λ t. t.now) w.found.tree) (base_in
 abbrev pub row_found : Wanted → Option ℕ
 row_found w = w.found.row
 
--- what a claim takes: instances, their numbers, the trees that they begin with, and the needs of the lease
+-- what a claim takes: instances, their numbers, the trees with which they begin, and the needs for the lease (a key, and the tree of a new instance)
 abbrev pub Taking : Type 0
 Taking = List Instance × List ℕ × List TreeMap × List cache_need.Need
 

@@ -62,7 +62,7 @@ steps_left o (Some (Runs x)) = Runs (record x { done = x.done + o.count; fault =
 steps_left o (Some Idle) = Idle
 steps_left o None = Idle
 
--- what a claim prepares: the job, the worker's execution with its supplies, and the needs to be leased
+-- what a claim prepares: the job, the worker's execution and supplies, and the needs for which instances are to be leased
 pub record BegunValue : Type 0 where
   pub job : Job
   pub execution : Execution
@@ -88,7 +88,7 @@ pub record IsBegunAt (vs : VerticesValue) (ws : WorkersValue) (w v : ℕ) (b : B
   pub supplied : b.supplies ≡ supplies_for (Some vertex)
   pub asks : b.needs ≡ asked inputs (needs_of vertex)
 
--- b is a prepared claim of the vertex of its job by the worker of its job, on this state
+-- b is a prepared claim on this state, of the vertex and by the worker that b's job names
 abbrev pub IsBegunOn : VerticesValue → WorkersValue → BegunValue → Type 0
 IsBegunOn vs ws b = IsBegunAt vs ws b.job.worker b.job.vertex b
 

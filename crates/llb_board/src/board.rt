@@ -166,10 +166,10 @@ impl Board {
         }
     }
 
-    /// Makes an idle worker claim a vertex that waits and has all its inputs, with an instance of each cache that the vertex mounts. Fails with 131 `NoWorker`,
-    /// 132 `Busy`, 133 `NoVertex`, 134 `NotReady`, 135 `Held` and the first locked key whose instance a running worker has, or 141 `Memory`. If memory for the
-    /// text of that key is refused, the call fails with 141 in place of 135; 141 for other memory is reported only if 135 does not apply. The claim of a vertex
-    /// that was cancelled before reserves room for its events once more.
+    /// Makes an idle worker claim a Ready vertex, with an instance of each cache that the vertex mounts. Fails with 131 `NoWorker`, 132 `Busy`, 133 `NoVertex`,
+    /// 134 `NotReady`, 135 `Held` (with the first of the vertex's locked keys whose instance a running worker holds), or 141 `Memory`. If memory for a copy of
+    /// that key is refused, the call fails with 141 in place of 135; 141 for other memory is reported only if no other fault applies. If the vertex was
+    /// cancelled before, the claim reserves room in the record for the vertex's events once more.
     pub fn claim(&mut self, w: u32, v: u32) -> Result<Job, ClaimFault>
         ensures gives { GivesClaim (λ job. (self.new, Claimed job)) result (claim_of self.old w v) }
         ensures last { IfErr result (λ e. claim_memory e ≡ true → claim_may_want (claim_of self.old w v) ≡ true) }
@@ -358,8 +358,8 @@ impl Board {
     }
 
     /// Proves that the table replays the record from the opening state to the board's state, and that this replay leads from the lists of instances that were
-    /// handed in to the lists that the board has now. So the opening and the record determine the board: two boards with the same opening and the same record
-    /// are the same.
+    /// handed in to the lists that the board has now. So two boards are the same if they were opened with the same graph, local trees, caches and number of
+    /// workers, and have the same record.
     pub fn replays(&self)
         ensures run { Replays self.now }
         ensures reached { IsReached self.now.build self.now.state }

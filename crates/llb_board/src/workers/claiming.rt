@@ -34,7 +34,8 @@ use llb_wire::Many;
 use std::alloc::Global;
 use std::marker::Model;
 
-/// A claim that is prepared: the job, what the worker will run, the needs of the lease to be made, and the rows in which the keys of the needs were found.
+/// A prepared claim: the job, what the worker will run, the needs for the lease (a key, and the tree with which a new instance begins), and the rows in which
+/// these keys were found.
 pub(crate) struct Begun {
     job: Job,
     execution: Execution,
@@ -92,9 +93,9 @@ impl Begun {
 }
 
 impl Workers {
-    /// Prepares a worker's claim of a vertex, and changes nothing yet. Fails with the first of 131 `NoWorker`, 132 `Busy`, 133 `NoVertex`, 134 `NotReady`
-    /// and 135 `Held` that applies, or with 141 `Memory`: if nothing else refuses the claim, or in place of 135 if memory for the text of the held key is
-    /// refused.
+    /// Prepares a worker's claim of a vertex, and changes nothing yet. Fails with the first of 131 `NoWorker`, 132 `Busy`, 133 `NoVertex`, 134 `NotReady` and
+    /// 135 `Held` that applies. Fails with 141 `Memory` in place of 135 if memory for a copy of the held key is refused, and for other memory only if none of
+    /// these faults applies.
     pub(crate) fn begin(
         &self,
         alloc: Global,
