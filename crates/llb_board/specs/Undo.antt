@@ -26,7 +26,7 @@ use Rattle.llb_board.specs.Rules.{claim_of, step_of, settle_of, cancel_of}
 use Rattle.llb_board.specs.declared.board.walk.Reply.{Reply}
 use Rattle.llb_board.specs.declared.board.walk.Reply.TheVariants as reply
 
--- ---- the result of a walked event
+-- ---- the result of `walk`
 
 -- a reply of the table as a reply of `walk`: the same, except that the reply to a claim has no job
 abbrev pub told : table.Reply → Reply

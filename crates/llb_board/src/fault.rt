@@ -1,5 +1,5 @@
-//! Why an opening, a landing, a call of `walk`, or a call that lacks memory fails; `llb_events` has the faults of single events. A fault prints its
-//! number; 121 then prints the name of the local source without a tree. The fault of an opening or a landing holds what was handed to the call.
+//! Why the opening of a board, a landing, a call of `Board::walk`, or a call that lacks memory fails; `llb_events` has the faults of single events. A fault
+//! prints its number; 121 then prints the name of the local source without a tree. The fault of an opening or a landing holds what was handed to the call.
 
 ghost use Rattle.std.specs.Prelude.{Some};
 ghost use Rattle.llb_board.specs.Faults.{walk_text};
@@ -62,7 +62,7 @@ impl fmt::Debug for OpenFault {
     }
 }
 
-/// Why `walk` refuses an event: the fault of the claim, the step, the settle or the cancel; or `Memory`, if memory was refused at any point.
+/// Why `Board::walk` refuses an event: the fault of the claim, the step, the settle or the cancel; or `Memory`, if memory was refused at any point.
 #[derive(Debug, Drop)]
 pub enum WalkFault {
     /// 131 to 135: a claim is refused.

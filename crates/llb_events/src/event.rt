@@ -25,9 +25,9 @@ pub enum Stepped {
     Acted(u32),
     /// The merge's input with this number is laid over the inputs before it.
     Merged(u32),
-    /// The command with the first number ran, and ended with the status that is the second number.
+    /// The command with the first number ran; the second number is its status.
     Ran(u32, u32),
-    /// The command with the first number did not run, because of the last status and the `&&` or `||` before the command.
+    /// The command with this number did not run, because of the last status and the `&&` or `||` before the command.
     Skipped(u32),
     /// The micro-step faulted.
     Fault(VertexFault),

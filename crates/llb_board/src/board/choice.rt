@@ -1,4 +1,4 @@
-//! Chooses the next event from those of the running workers.
+//! Chooses the next event: a step or a settle of a running worker.
 
 ghost use Rattle.std.specs.Prelude.{◌≡◌};
 ghost use Rattle.llb_model.specs.Run.{next_of};

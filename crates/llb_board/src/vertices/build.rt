@@ -1,4 +1,4 @@
-//! What a board is opened on: the graph, and the trees of local sources by name.
+//! The build that a board is opened with: the graph, and the trees of local sources by name.
 
 ghost use Rattle.std.specs.Prelude.{◌≡◌, ◌<◌, ◌^◌, length, option_map, slice_get, IfOk};
 ghost use Rattle.llb_loader.specs.Graph.{IsGraph};

@@ -44,7 +44,7 @@ pub(crate) enum Back {
     Unclaim(u32, u32, Vec<Growth>),
     /// For a step: the worker, what the micro-step could change in the workspace, and the trees of the worker's cache instances.
     Unstep(u32, Mark, Vec<Tree>),
-    /// For a settle or a cancel: which of the two it was, the worker, what it ran, and a prepared lease of its cache instances, if it had any.
+    /// For a settle or a cancel: which of the two it was, the worker, what the worker ran, and a prepared lease of the worker's cache instances, if any.
     Resume(End, u32, Execution, Option<Lent>),
 }
 
