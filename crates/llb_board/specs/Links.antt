@@ -27,7 +27,7 @@ abbrev pub count_below : (ℕ → Bool) → ℕ → ℕ
 count_below p zero = 0
 count_below p (suc n) = (if p n then 1 else 0) + count_below p n
 
--- whether vertex u is not done and vertex x has an edge to it
+-- whether vertex u is not done and vertex x has an edge to u
 abbrev pub waits_for : (ℕ → Bool) → Vertex → ℕ → Bool
 waits_for done x u = leads x.inputs u && not (done u)
 

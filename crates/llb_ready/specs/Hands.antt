@@ -2,7 +2,7 @@
 use Rattle.std.specs.Prelude.{◌≡◌, ℕ, ◌+◌, ◌*◌, ◌<◌, List, [], ◌∷◌, ◌++◌}
 use Rattle.llb_ready.specs.declared.hand.Hand.{Hand}
 
--- A pass: its fraction num/den of the whole, the queue's room, and the numbers that it has put and taken.
+-- A pass with the fraction num/den of the whole, with this room of its queue, and with the numbers that the pass has put and taken.
 abbrev pub hand : ℕ → ℕ → ℕ → List ℕ → List ℕ → Hand
 hand num den room put taken = record { num = num; den = den; room = room; put = put; taken = taken }
 
