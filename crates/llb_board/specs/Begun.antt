@@ -1,4 +1,4 @@
--- The job of a worker at a vertex with no cache mount at or before it: the build, the worker and the vertex alone determine this job.
+-- The job of a worker at a vertex with no cache mount at or before it. The build (the graph and the local trees), the worker and the vertex determine this job.
 use Rattle.std.specs.Prelude.{◌≡◌, ℕ, true, [], Option, Some, None, option_map, slice_get}
 use Rattle.llb_loader.specs.declared.graph.Vertex.{Vertex}
 use Rattle.llb_model.specs.Program.{Build, Start, start_with, begin}
@@ -15,11 +15,11 @@ abbrev pub plain_start : Build → Option Vertex → Option Start
 plain_start b None = None
 plain_start b (Some vertex) = option_map (start_with vertex) (inputs_from (λ k. ending_in (outcome b k)) vertex.inputs)
 
--- the job of a vertex that mounts no cache
+-- the job of worker w at vertex v with this start, if the vertex mounts no cache
 abbrev pub job_from : Build → ℕ → ℕ → Start → Job
 job_from b w v start = job_on w v start.vertex (begin b start []) []
 
--- the plain job: the job of worker w at vertex v, if no cache mount is at or before v; it depends on the build, w and v alone
+-- the plain job: the job of worker w at vertex v if no cache mount is at or before v; this job depends on the build, w and v alone
 abbrev pub plain_job : Build → ℕ → ℕ → Option Job
 plain_job b w v = option_map (job_from b w v) (plain_start b (slice_get b.graph.vertices v))
 
@@ -29,7 +29,7 @@ pub record IsBegunPlainly (b : BoardValue) (w : ℕ) (x : Execution) : Type 0 wh
   pub bare : x.places ≡ []
   pub job : plain_job b.build w x.vertex ≡ Some (job_now b.build b.state.store w x)
 
--- if worker w runs a vertex with no cache mount at or before it, and has done no micro-step of it yet, `IsBegunPlainly` holds of w and its execution
+-- if worker w runs a vertex with no cache mount at or before it, and no micro-step of the vertex is done yet, `IsBegunPlainly` holds of w and its execution
 abbrev pub BegunArePlain : BoardValue → Type 0
 BegunArePlain b = (w : ℕ) (x : Execution) → is_plain b.build x.vertex ≡ true → slice_get b.state.workers w ≡ Some (Runs x) → x.done ≡ 0 → IsBegunPlainly b w x
 
@@ -38,7 +38,7 @@ abbrev pub ClaimsArePlain : BoardValue → Type 0
 ClaimsArePlain b = (w v : ℕ) (t : State) (job : Job) → is_plain b.build v ≡ true → table b.build b.state (Claim w v) ≡ Some (t, Claimed job)
     → plain_job b.build w v ≡ Some job
 
--- worker w runs a vertex with no cache mount at or before it, and has done no micro-step of it yet; the job is the plain job
+-- worker w runs a vertex with no cache mount at or before it, and no micro-step of the vertex is done yet; the job is the plain job
 pub record IsKnown (b : BoardValue) (w : ℕ) (job : Job) : Type 0 where
   pub x : Execution
   pub plain : is_plain b.build x.vertex ≡ true

@@ -1,4 +1,4 @@
--- What is kept of the workers before an event so that the event can be taken back, and the workers once it is taken back.
+-- What is kept of the workers before an event so that the event can be taken back, and the workers after the event is taken back.
 use Rattle.std.specs.Prelude.{◌≡◌, ℕ, ◌+◌, ◌-◌, ◌^◌, ◌<◌, Bool, true, false, List, length, map, Option, Some, None, Result, slice_get, slice_set}
 use Rattle.llb_cache.specs.declared.growth.Growth.{Growth}
 use Rattle.llb_cache.specs.Caches.{Row, trees_of}
@@ -63,14 +63,14 @@ not_running end.Cancel = walk.Cancel no_cancel.NotRunning
 
 -- ---- what an event displaces: what it changes, and what has to be kept to take the event back
 
--- For a claim: the worker, the vertex, and what the claim's lease added to the caches. For a step: the worker, what the step can change in its workspace, and
--- the trees of its instances. For a settle or a cancel: which of the two, the worker, what it ran, and a prepared lease of its instances, if it held any.
+-- For a claim: the worker, the vertex, and what the claim's lease added to the caches. For a step: the worker, what the step can change in the workspace, and
+-- the trees of the worker's instances. For a settle or a cancel: which of the two, the worker, what it ran, and a prepared lease of its instances, if any.
 pub data Back : Type 0 where
   Unclaim : ℕ → ℕ → List Growth → Back
   Unstep : ℕ → Saved → List TreeMap → Back
   Resume : End → ℕ → Left → Option LentValue → Back
 
--- what an event displaced; this is enough to take the event back
+-- what an event displaced, as one value; these data are enough to take the event back
 pub record Displaced : Type 0 where
   pub back : Back
 
@@ -82,7 +82,7 @@ back_in (back.Resume e w x lent) = Resume e w (left_in x) lent
 
 -- ---- the event taken back
 
--- an execution after its last micro-step is taken back: one micro-step fewer is done, there is no fault, and the workspace is as it was (from `saved`)
+-- an execution after its last micro-step is taken back: one micro-step fewer is done, there is no fault, and the copies in `saved` are back in the workspace
 abbrev pub with_view_back : Saved → Execution → Execution
 with_view_back saved x = record x { done = x.done - 1; fault = None; own = put_back saved x.own }
 
@@ -98,19 +98,19 @@ workers_before (Unclaim w v growths) workers = slice_set workers w Idle
 workers_before (Unstep w saved trees) workers = slice_set workers w (step_before saved (slice_get workers w))
 workers_before (Resume e w left lent) workers = slice_set workers w (Runs left.execution)
 
--- the supplies of each worker (what it has from its claim on) as they were before the event
+-- the supplies of each worker (what a worker has from its claim to its settle) as they were before the event
 abbrev pub supplies_before : Back → List Supplies → List Supplies
 supplies_before (Unclaim w v growths) supplies = slice_set supplies w (supplies_for None)
 supplies_before (Unstep w saved trees) supplies = supplies
 supplies_before (Resume e w left lent) supplies = slice_set supplies w left.supplies
 
--- the rows of the caches before the event, given the workers' statuses and the rows after it: only instances that the event's worker holds differ
+-- the rows of the caches before the event, given the rows and the workers' statuses after the event: only instances that the event's worker holds differ
 abbrev pub rows_before : Back → List WorkerStatus → List Row → List Row
 rows_before (Unclaim w v growths) workers rows = unmade rows (places_at (slice_get workers w)) growths
 rows_before (Unstep w saved trees) workers rows = put_each rows (places_at (slice_get workers w)) trees
 rows_before (Resume e w left lent) workers rows = rows
 
--- the vertex whose status changes when the event is taken back, and its status then; none for a step
+-- the vertex whose status changes when the event is taken back, and the status that it then has again; none for a step
 abbrev pub change_in : Back → Option (ℕ × Status)
 change_in (Unclaim w v growths) = Some (v, Waiting)
 change_in (Unstep w saved trees) = None
@@ -122,7 +122,7 @@ change_of c = (c.vertex, status_of c.stage)
 
 -- ---- when an event can be taken back
 
--- worker w runs a vertex; putting `saved` back keeps the number of mounts of its workspace; and there is a tree for each instance that w holds
+-- worker w runs a vertex; putting `saved` back keeps the number of mounts of w's workspace; and `trees` has a tree for each instance that w holds
 pub record IsStepped (workers : List WorkerStatus) (w : ℕ) (saved : Saved) (trees : List TreeMap) : Type 0 where
   pub x : Execution
   pub runs : slice_get workers w ≡ Some (Runs x)
@@ -130,13 +130,13 @@ pub record IsStepped (workers : List WorkerStatus) (w : ℕ) (saved : Saved) (tr
   pub count : length trees ≡ length x.places
   pub few : length trees < 2 ^ 32
 
--- the worker is idle; the instances that it held have distinct keys; and if it held any, a lease of them is prepared
+-- worker w is idle; the instances that w held have distinct keys; and if w held any, `lent` is a prepared lease of these instances
 pub record IsLeft (workers : List WorkerStatus) (w : ℕ) (left : Left) (lent : Option LentValue) : Type 0 where
   pub idle : slice_get workers w ≡ Some Idle
   pub keys : Distinct (map (λ (p : Instance). p.key) left.execution.places)
   pub ready : lent ≡ lent_of left.execution.places (length workers + 1)
 
--- what must hold of the event's worker to take the event back: for a claim, the worker exists; for a step, `IsStepped`; for a settle or a cancel, `IsLeft`
+-- the condition on the worker for taking the event back: after a claim, the worker exists; after a step, `IsStepped`; after a settle or a cancel, `IsLeft`
 abbrev pub IsBehind : Back → List WorkerStatus → Type 0
 IsBehind (Unclaim w v growths) workers = w < length workers
 IsBehind (Unstep w saved trees) workers = IsStepped workers w saved trees

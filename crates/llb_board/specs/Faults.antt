@@ -1,4 +1,4 @@
--- The refusals of `walk`: the text of each, and which of them `walk` returns if a claim or a step is refused.
+-- The refusals of `Board::walk`: the text of each, and which of them `walk` returns if a claim or a step is refused.
 use Rattle.std.specs.Prelude.{List, ℕ, Result, Ok, Err, codes}
 use Rattle.llb_events.specs.declared.refusal.ClaimFault.{ClaimFault}
 use Rattle.llb_events.specs.declared.refusal.ClaimFault.TheVariants as claim
@@ -16,7 +16,7 @@ walk_text (walk.Settle e) = settle_text e
 walk_text (walk.Cancel e) = cancel_text e
 walk_text walk.Memory = codes "141"
 
--- the refusal of a claim as a refusal of `walk`; refused memory is the same fault of `walk` for every event
+-- what `walk` returns if a claim is refused for this cause; for want of memory, the one fault `Memory`, whatever the event was
 abbrev pub claim_refused : ClaimFault → WalkFault
 claim_refused claim.Memory = walk.Memory
 claim_refused claim.NoWorker = walk.Claim claim.NoWorker
@@ -25,14 +25,14 @@ claim_refused claim.NoVertex = walk.Claim claim.NoVertex
 claim_refused claim.NotReady = walk.Claim claim.NotReady
 claim_refused (claim.Held k) = walk.Claim (claim.Held k)
 
--- the refusal of a step as a refusal of `walk`
+-- what `walk` returns if a step is refused for this cause
 abbrev pub step_refused : StepFault → WalkFault
 step_refused step.Memory = walk.Memory
 step_refused step.NoWorker = walk.Step step.NoWorker
 step_refused step.NotRunning = walk.Step step.NotRunning
 step_refused step.NothingLeft = walk.Step step.NothingLeft
 
--- a result in which a refusal, if there is one, is turned into a fault
+-- the same result, but with the fault `fault cause` in place of a refusal for `cause`
 abbrev pub faulted : {A C F : Type 0} → (C → F) → Result A C → Result A F
 faulted fault (Ok x) = Ok x
 faulted fault (Err cause) = Err (fault cause)

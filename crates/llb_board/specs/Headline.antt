@@ -25,30 +25,30 @@ LockedOnce b = (w u : ℕ) (p q : Instance) → HoldsInstance b w p → HoldsIns
 abbrev pub HeldOnce : BoardValue → Type 0
 HeldOnce b = (w u : ℕ) (p : Instance) → HoldsInstance b w p → HoldsInstance b u p → IsExclusive p.key.mode → w ≡ u
 
--- an event of another worker does not change an instance that a running worker holds exclusively
+-- if a running worker holds an instance of a locked or a private key, no event of another worker changes the tree of this instance
 abbrev pub OthersLeave : BoardValue → Type 0
 OthersLeave b = (w : ℕ) (p : Instance) → HoldsInstance b w p → IsExclusive p.key.mode → (e : Event) (t : State) (r : Reply) → worker_of e ≢ w
     → table b.build b.state e ≡ Some (t, r)
     → content t.store p ≡ content b.state.store p
 
--- if another tree is put in an instance that a running worker holds exclusively, another worker's event still has the same reply, and the same effect elsewhere
+-- if the tree of a locked or private instance that a worker holds is replaced, each event of another worker has the same reply, and the same effect on all else
 abbrev pub OthersIgnore : BoardValue → Type 0
 OthersIgnore b = (w : ℕ) (p : Instance) → HoldsInstance b w p → IsExclusive p.key.mode → (e : Event) (tree : TreeMap) → worker_of e ≢ w
     → table b.build (with_content p tree b.state) e ≡ option_map (with_content_after p tree) (table b.build b.state e)
 
--- each settled vertex, and each instance that no worker holds, is as if the claimed vertices had run in claim order, each as a whole or up to its cancel
+-- settled vertices and instances that no worker holds are as if the claimed vertices had run one after another, in claim order, each whole or up to its cancel
 abbrev pub StandsInClaimOrder : BoardValue → Type 0
 StandsInClaimOrder b = StandsIn b.state (order b.build (at_first b.build b.opening.store) (claims_in (replies_in b)))
 
 -- what holds of every board
 pub record Headline (b : BoardValue) : Type 0 where
-  -- the table replays the record from the opening state to this state, with a reply for each event, whatever the interleaving was
+  -- the table replays the record from the opening state to the board's state, with a reply for each event, in whatever order the workers did the events
   pub replays : Replays b
-  -- no two executions hold the same locked cache at once, nor the same instance of a private cache
+  -- no two running workers hold the same locked cache at once, nor the same instance of a private cache
   pub locked_once : LockedOnce b
   pub held_once : HeldOnce b
-  -- another worker's event neither changes nor reads an instance that an execution holds exclusively
+  -- if a running worker holds an instance of a locked or a private key, no event of another worker changes or reads the tree of this instance
   pub others_leave : OthersLeave b
   pub others_ignore : OthersIgnore b
-  -- every settled vertex with no cache mount at or before it has the graph's plain outcome
+  -- every settled vertex with no cache mount at or before it has its plain outcome
   pub plain : SettledArePlain b

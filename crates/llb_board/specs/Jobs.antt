@@ -18,7 +18,7 @@ is_shared Shared = true
 is_shared Private = false
 is_shared Locked = false
 
--- whether an execution holds an instance that other executions may hold too
+-- whether an execution holds an instance of a shared cache, which other executions may hold at the same time
 abbrev pub has_shared : Execution → Bool
 has_shared x = list_any (λ (p : Instance). is_shared p.key.mode) x.places
 
@@ -33,7 +33,7 @@ job_now b store w x = record {
   instances = map (λ (p : Instance). p.number) x.places;
 }
 
--- the job has the numbers of worker w and of the vertex that w runs, and the count of micro-steps that w has done; and none of these has faulted
+-- the job has the number of worker w, the vertex that w runs, and the count of micro-steps that w has done; and no micro-step that w has done faulted
 pub record IsBegun (w : ℕ) (x : Execution) (job : Job) : Type 0 where
   pub worker : job.worker ≡ w
   pub vertex : job.vertex ≡ x.vertex

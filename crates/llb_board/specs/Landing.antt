@@ -27,7 +27,7 @@ pub record CanLand (b : BoardValue) (w : ℕ) (job : Job) : Type 0 where
   pub alone : has_shared x ≡ false
   pub own : IsRunOf b.build b.state.store w x job
 
--- the worker runs a vertex and holds no instance of a shared cache, but the job is not the one that remains for the worker
+-- worker w runs a vertex and holds no instance of a shared cache, but `job` is not the job that remains for w
 pub record RunsAlone (b : BoardValue) (w : ℕ) (job : Job) : Type 0 where
   pub x : Execution
   pub runs : slice_get b.state.workers w ≡ Some (Runs x)
@@ -40,21 +40,21 @@ pub record RunsShared (b : BoardValue) (w : ℕ) : Type 0 where
   pub runs : slice_get b.state.workers w ≡ Some (Runs x)
   pub shared : has_shared x ≡ true
 
--- this cause refuses the outcome of a job, and no earlier cause applies
+-- worker w can't land the outcome of the job for this cause, and no earlier cause applies
 abbrev pub StandsInWay : BoardValue → ℕ → Job → LandCause → Type 0
 StandsInWay b w job cause.NoWorker = slice_get b.state.workers w ≡ None
 StandsInWay b w job cause.NotRunning = slice_get b.state.workers w ≡ Some Idle
 StandsInWay b w job cause.HasShared = RunsShared b w
 StandsInWay b w job cause.Stranger = RunsAlone b w job
 
--- the fault for a cause; it returns the outcome to the caller
+-- the fault for a cause; the fault holds the outcome
 abbrev pub land_fault : LandCause → OutcomeValue → LandFault
 land_fault cause.NoWorker o = fault.NoWorker o
 land_fault cause.NotRunning o = fault.NotRunning o
 land_fault cause.HasShared o = fault.HasShared o
 land_fault cause.Stranger o = fault.Stranger o
 
--- e is the fault for the first cause that refuses this outcome
+-- e is the fault for the first cause why worker w can't land outcome o
 pub record IsRefused (b : BoardValue) (w : ℕ) (o : OutcomeValue) (e : LandFault) : Type 0 where
   pub cause : LandCause
   pub stands : StandsInWay b w o.job cause
@@ -77,7 +77,7 @@ pub record Lands (b : BoardValue) (w : ℕ) (o : OutcomeValue) (new : BoardValue
   pub rows : kept_along b.build b.state b.rows (landing w o.count) ≡ Some (new.state, new.rows)
   pub recorded : new ≡ record b { state = new.state; rows = new.rows; events = b.events ++ landing w o.count }
 
--- `new` is board b after `count` steps of worker w, and what w runs is then finished
+-- `new` is board b after `count` steps of worker w; after these steps the vertex that w runs is finished
 pub record IsThrough (b : BoardValue) (w : ℕ) (count : ℕ) (new : BoardValue) : Type 0 where
   pub steps : Steps b w count new
   pub finished : is_ok (settle_grant new.build new.state w) ≡ true

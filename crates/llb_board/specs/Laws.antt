@@ -1,4 +1,4 @@
--- What holds of every board in addition to `Headline`; the contracts of the laws use these definitions.
+-- What holds of every board in addition to `Headline`; the contracts of the laws (`src/laws.rt`) use these definitions.
 use Rattle.std.specs.Prelude.{◌≡◌, ◌≢◌, ℕ, true, is_some, Bool, ◌||◌, ◌&&◌, Some, slice_get}
 use Rattle.std.specs.List.{list_any, list_all}
 use Rattle.llb_loader.specs.declared.graph.Edge.{Edge}
@@ -14,7 +14,7 @@ use Rattle.llb_board.specs.Seen.{BoardValue}
 abbrev pub SettledArePlain : BoardValue → Type 0
 SettledArePlain b = (v : ℕ) (e : Ending) → is_plain b.build v ≡ true → slice_get b.state.statuses v ≡ Some (Settled e) → outcome b.build v ≡ Some (Ended e)
 
--- the table grants the chosen event: the next event of the running worker with the lowest number or, if no worker runs, a claim by worker 0
+-- the table grants the chosen event: the next event of the running worker with the lowest number or, if no worker runs, worker 0's claim of a Ready vertex
 abbrev pub ChosenIsGranted : BoardValue → Type 0
 ChosenIsGranted b = (e : Event) → chosen b.build b.state ≡ Some e → is_some (table b.build b.state e) ≡ true
 

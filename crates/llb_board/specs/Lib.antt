@@ -1,12 +1,12 @@
--- Read Headline first (the promise of the whole machine for a board), then Seen (what contracts see of a board), Rules (what each event returns), Opening,
--- Landing (of work done away from the board), Begun (which outcomes land without a comparison) and Undo (an event is done and taken back). Laws has what else
--- holds of every board; Kept and History say what a board keeps.
--- The modules of a board: Links (the users of a vertex, how many of its inputs are open, and where a mark spreads), Vertices (what contracts see of the
--- vertices, and what else is kept) and Workers (what contracts see of the workers), then WorkerRules (the results of a claim, a step, a settle and a cancel),
--- OptionalLeases (leases that may be absent) and Jobs (the job that remains for a worker).
--- Needs has what a claim takes of the caches, Supplies what each worker has from its claim on, Displaced what is kept to take an event back, Looks the trees
--- that a worker works on, Statuses how callers see a vertex and a worker, Faults the refusals of `walk`, and Views what a worker's data represents. Outfits
--- has what a claim prepares, and Undoing what is kept of a worker before an event.
+-- Read Headline first (the promise of the whole machine for a board), then Seen (what contracts see of a board), Rules (what the call for an event returns),
+-- Opening (of a board), Landing (of an outcome), Begun (which outcomes land without a comparison) and Undo (`Board::walk` does an event, `Board::undo` takes it
+-- back). Laws has what else holds of every board; Kept has the invariant of a board, and History its record and the room for more events.
+-- The parts of a board: Links (the users of a vertex, how many inputs of a vertex are open, and where a mark spreads), Vertices (the vertices as contracts see
+-- them, and what is kept besides) and Workers (the workers as contracts see them). Then come WorkerRules (the results of a claim, a step, a settle and a cancel
+-- for a worker), OptionalLeases (leases that may be absent) and Jobs (the job that remains for a worker).
+-- Needs has what a claim takes of the caches, Supplies what a worker has from its claim to its settle, Displaced what is kept to take an event back, Looks the
+-- trees that a worker works on, Statuses how callers see a vertex and a worker, Faults the refusals of `Board::walk`, and Views the model's values for a
+-- worker's data. Outfits has what a claim prepares, and Undoing what is kept of a worker before an event.
 pub mod Links
 pub mod Faults
 pub mod Statuses

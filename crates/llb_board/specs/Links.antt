@@ -1,4 +1,4 @@
--- Which vertices have an edge to which, how many inputs of each vertex are not done, and what is downstream of a vertex.
+-- The users of each vertex (the vertices that have an edge to it), how many inputs of each vertex are not done, and what is downstream of a vertex.
 use Rattle.std.specs.Prelude.{◌≡◌, ℕ, zero, suc, ◌+◌, ◌-◌, ◌<◌, ◌≤◌, ◌==◌, Bool, true, false, ◌&&◌, not, List, [], ◌∷◌, ◌++◌, length, get_or}
 use Rattle.std.specs.Prelude.{◌⊎◌, All, Contains, Some, slice_get, if◌then◌else◌}
 use Rattle.std.specs.List.{list_any}
@@ -11,7 +11,7 @@ use Rattle.llb_loader.specs.declared.graph.Vertex.{Vertex}
 abbrev pub leads : List Edge → ℕ → Bool
 leads edges u = list_any (λ (e : Edge). e.vertex == u) edges
 
--- which vertices of a list have an edge to vertex u, by number; the first vertex of the list has number k
+-- the numbers of the vertices of a list that have an edge to vertex u, if the first vertex of the list has number k
 abbrev pub users_from : ℕ → ℕ → List Vertex → List ℕ
 users_from u k [] = []
 users_from u k (x ∷ xs) = if leads x.inputs u then k ∷ users_from u (k + 1) xs else users_from u (k + 1) xs
@@ -27,7 +27,7 @@ abbrev pub count_below : (ℕ → Bool) → ℕ → ℕ
 count_below p zero = 0
 count_below p (suc n) = (if p n then 1 else 0) + count_below p n
 
--- whether vertex u is not done and vertex x has an edge to it
+-- whether vertex u is not done and vertex x has an edge to u
 abbrev pub waits_for : (ℕ → Bool) → Vertex → ℕ → Bool
 waits_for done x u = leads x.inputs u && not (done u)
 
@@ -50,7 +50,7 @@ pub record Linked : Type 0 where
   pub users : List (List ℕ)
   pub counts : List ℕ
 
--- the list of reached vertices is empty, and has room for `count` numbers
+-- the list of the vertices that a mark has reached while it spreads (`reached`) is empty, and has room for `count` numbers
 pub record HasRoom (count : ℕ) (reached : List ℕ) (room : ℕ) : Type 0 where
   pub none : reached ≡ []
   pub fits : count ≤ room
@@ -98,7 +98,7 @@ abbrev pub unmarked : List Bool → ℕ
 unmarked [] = 0
 unmarked (b ∷ bs) = (if b then 0 else 1) + unmarked bs
 
--- all of these users are marked now; those that were not marked before are appended to the reached vertices; no other vertex is newly marked
+-- all of these users are marked now; the users that were not marked before are appended to the list `reached`; no other vertex is newly marked
 pub record Visits (users : List ℕ) (old new : List Bool) (reached reached_new : List ℕ) : Type 0 where
   pub same : length new ≡ length old
   pub more : List ℕ

@@ -23,7 +23,7 @@ use Rattle.llb_board.specs.declared.workers.needs.Wanted.{Wanted}
 abbrev pub is_locked_and_held : Leases → Key → Bool
 is_locked_and_held out k = is_locked k.mode && is_held out (place k 0)
 
--- the first key among the needs that is locked and whose instance a lease holds
+-- the key of the first need whose key is locked and whose instance a lease holds
 abbrev pub first_held_key : Leases → List Need → Option Key
 first_held_key out [] = None
 first_held_key out (n ∷ needs) = if is_locked_and_held out n.key then Some n.key else first_held_key out needs
@@ -50,16 +50,16 @@ abbrev pub if_locked : Option Key → Option Key
 if_locked None = None
 if_locked (Some k) = if is_locked k.mode then Some k else None
 
--- the look-up of a wanted cache has found the number of the instance that a lease would take, and the tree of that instance if it exists
+-- what was looked up for a wanted cache is right: the number of the instance that a lease would take, and the tree of this instance if the instance exists
 pub record IsFound (c : cache.CachesValue) (w : Wanted) : Type 0 where
   pub number : w.found.number ≡ cache.number_for c.out w.key w.key.mode
   pub tree : option_map (λ t. t.now) w.found.tree ≡ slice_get (cache.trees_of c.rows w.key) w.found.number
 
--- the instance that a lease would take for a wanted cache, as the look-up found it
+-- the instance that a lease would take for a wanted cache, by the number that was looked up
 abbrev pub place_found : Wanted → Instance
 place_found w = place w.key w.found.number
 
--- the tree that an instance begins with: its own tree if the instance exists, else the tree of the mount's input, or the empty tree if there is no input
+-- the tree with which an instance begins: the instance's tree if it exists, else the tree of the mount's input, or the empty tree if there is no input
 abbrev pub first_tree : List TreeMap → Wanted → TreeMap
 first_tree inputs w = unwrap_or (option_map (λ t. t.now) w.found.tree) (base_in w.input inputs)
 
@@ -67,7 +67,7 @@ first_tree inputs w = unwrap_or (option_map (λ t. t.now) w.found.tree) (base_in
 abbrev pub row_found : Wanted → Option ℕ
 row_found w = w.found.row
 
--- what a claim takes: instances, their numbers, the trees that they begin with, and the needs of the lease
+-- what a claim takes: instances, their numbers, the trees with which they begin, and the needs for the lease (a key, and the tree of a new instance)
 abbrev pub Taking : Type 0
 Taking = List Instance × List ℕ × List TreeMap × List cache_need.Need
 

@@ -12,16 +12,16 @@ use Rattle.llb_board.specs.declared.fault.OpenFault.TheVariants as opening
 abbrev pub may_work : ℕ → Bool
 may_work workers = nat_le 1 workers && nat_le workers 64
 
--- a board opened on these caches, or the refusal of the number of workers
+-- a board opened on these caches, or the refusal 122 if a board may not have this number of workers
 abbrev pub open_with : Build → CachesValue → ℕ → Result BoardValue OpenFault
 open_with b c workers = if may_work workers then Ok (opened b workers c.rows) else Err (opening.Workers b.graph b.locals c)
 
--- the refusal if a local tree is missing, which is the first cause; else the result of `open_with`
+-- the refusal 121 if the name of a missing local tree is given; else the result of `open_with`
 abbrev pub open_unless : Option (List ℕ) → Build → CachesValue → ℕ → Result BoardValue OpenFault
 open_unless (Some name) b c workers = Err (opening.MissingLocal name b.graph b.locals c)
 open_unless None b c workers = open_with b c workers
 
--- what opening a board returns if memory suffices; a missing local tree is reported before any other cause
+-- what opening a board returns if memory suffices; a missing local tree is reported before a wrong number of workers
 abbrev pub open_of : Build → CachesValue → ℕ → Result BoardValue OpenFault
 open_of b c workers = open_unless (missing_local b.locals b.graph.vertices) b c workers
 

@@ -18,25 +18,25 @@ abbrev pub IsOutIf : Leases → Option ℕ → Type 0
 IsOutIf out (Some l) = cache.IsOut out l
 IsOutIf out None = Unit {0}
 
--- the current leases after lease l is given back; unchanged if there is no l
+-- the current leases after lease l is given back; the same leases if there is no l
 abbrev pub out_without : Leases → Option ℕ → Leases
 out_without out (Some l) = cache.trimmed (slice_set out l None)
 out_without out None = out
 
--- the caches after lease l is given back; unchanged if there is no l
+-- the caches after lease l is given back; the same caches if there is no l
 abbrev pub given_back : cache.CachesValue → Option ℕ → cache.CachesValue
 given_back c l = record c { out = out_without c.out l }
 
--- the caches after lease l is given back and the instances that this lease added are removed; unchanged if there is no l
+-- the caches after lease l is given back and what it added to the caches is removed; the same caches if there is no l
 abbrev pub taken_back : cache.CachesValue → Option ℕ → List Growth → cache.CachesValue
 taken_back c l gs = record (given_back c l) { rows = unmade c.rows (leased_places c.out l) gs }
 
--- a prepared lease of these instances (a lease that can be granted later without memory); none if there are no instances
+-- a prepared lease of these instances (granting it later needs no memory); none if there are no instances
 abbrev pub lent_of : List Instance → ℕ → Option LentValue
 lent_of [] room = None
 lent_of (p ∷ ps) room = Some (record { places = p ∷ ps; room = room })
 
--- the number that a prepared lease gets, and the caches after the lease is granted; if there is no prepared lease, no number, and the caches unchanged
+-- the number of the lease when a prepared lease is granted, and the caches after the grant; if no lease was prepared, no number and the same caches
 abbrev pub lent_if : cache.CachesValue → Option LentValue → Option ℕ × cache.CachesValue
 lent_if c None = (None, c)
 lent_if c (Some l) = (Some (cache.free_lease c.out), lent_again c l.places)

@@ -1,11 +1,11 @@
--- What the claim of a vertex prepares, in the code's types.
+-- The part of a prepared claim that depends on the vertex alone.
 use Rattle.std.specs.Prelude.{List, replicate}
 use Rattle.llb_loader.specs.declared.graph.Vertex.{Vertex}
 use Rattle.llb_tree.specs.Tree.{TreeMap, empty_tree}
 use Rattle.llb_model.specs.Program as model
 use Rattle.llb_board.specs.declared.workers.outfit.Outfit.{Outfit}
 
--- what an execution has in addition to its view (the trees of its mounts)
+-- what a claim prepares from the vertex alone: the program, an empty tree for each output, and the micro-steps
 pub record Outfitted : Type 0 where
   pub program : model.Program
   pub outputs : List TreeMap
@@ -15,6 +15,6 @@ pub record Outfitted : Type 0 where
 abbrev pub outfit_as : Outfit → Outfitted
 outfit_as o = record { program = o.program; outputs = o.outputs.items; steps = o.steps }
 
--- what an execution of a vertex is made with: its program, an empty tree for each output, and its micro-steps
+-- the outfit for a vertex: its program, an empty tree for each of its outputs, and its micro-steps
 abbrev pub outfit_of : Vertex → Outfitted
 outfit_of v = record { program = model.program_of v; outputs = replicate v.outputs empty_tree; steps = (model.program_of v).steps }

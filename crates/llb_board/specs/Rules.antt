@@ -1,4 +1,4 @@
--- What each event returns: the board with the event appended to the record, and the table's reply; or the first cause of its refusal as a fault.
+-- What the call for an event returns: the board with the event appended to its record, and the table's reply; or, as a fault, why the table refuses the event.
 use Rattle.std.specs.Prelude.{ℕ, Result}
 use Rattle.llb_events.specs.declared.event.Event.TheVariants.{Claim, Step, Settle, Cancel}
 use Rattle.llb_model.specs.Table.{Reply, claim_grant, step_grant, settle_grant, cancel_grant}

@@ -20,7 +20,7 @@ pub record BoardValue : Type 0 where
   pub rows : List Row
   pub events : List Event
 
--- the opening with this number of workers and the caches that were handed in
+-- what a board is opened with: this number of workers, and the trees of the caches that were handed in
 abbrev pub opening_with : ℕ → List Row → Opening
 opening_with workers rows = record { workers = workers; store = store_of rows }
 
@@ -40,12 +40,12 @@ abbrev pub opened : Build → ℕ → List Row → BoardValue
 opened b workers rows =
     record { build = b; opening = opening_with workers rows; first = rows; state = opening b (opening_with workers rows); rows = rows; events = [] }
 
--- the state and the rows after one more event, if it is granted
+-- the state, and the rows of the caches, after one more event, if the table grants this event
 abbrev pub kept_next : Build → Option (State × List Row) → Event → Option (State × List Row)
 kept_next b None e = None
 kept_next b (Some (s, rows)) e = option_map (λ (a : State × Reply). (a.0, rows_after rows a.0 (worker_of e))) (table b s e)
 
--- the state and the rows after a list of events, if each of them is granted
+-- the state, and the rows of the caches, after a list of events, if the table grants each of them
 abbrev pub kept_along : Build → State → List Row → List Event → Option (State × List Row)
 kept_along b s rows es = fold (kept_next b) (Some (s, rows)) es
 

@@ -26,7 +26,7 @@ look_in b statuses v = option_map (look (model.is_ready b statuses v) (model.is_
 abbrev pub look_at : Build → model.State → ℕ → Option Status
 look_at b s v = look_in b s.statuses v
 
--- what callers see of a worker with this status: that it is idle, or its vertex, how many micro-steps are done, and whether it is finished
+-- what callers see of a worker with this status: that the worker is idle; or its vertex, how many micro-steps are done, and whether the vertex is finished
 abbrev pub look_of : Build → model.WorkerStatus → WorkerStatus
 look_of b model.Idle = worker.Idle
 look_of b (model.Runs x) = worker.Runs x.vertex x.done (model.is_finished (model.program_in b x).steps x)

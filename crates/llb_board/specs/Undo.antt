@@ -1,4 +1,4 @@
--- The result of `walk`, what `walk` keeps to take the event back, and the board after the event is taken back.
+-- The result of `Board::walk`, which does an event and returns what is needed to take the event back; and the board after the event is taken back.
 use Rattle.std.specs.Prelude.{◌≡◌, ℕ, ◌+◌, List, [], ◌∷◌, ◌++◌, length, map, Option, Some, Result, Ok, Err, slice_get, slice_set}
 use Rattle.llb_wire.specs.Answer as answer
 use Rattle.llb_cache.specs.Growth.{LentValue}
@@ -26,7 +26,7 @@ use Rattle.llb_board.specs.Rules.{claim_of, step_of, settle_of, cancel_of}
 use Rattle.llb_board.specs.declared.board.walk.Reply.{Reply}
 use Rattle.llb_board.specs.declared.board.walk.Reply.TheVariants as reply
 
--- ---- the result of a walked event
+-- ---- the result of `walk`
 
 -- a reply of the table as a reply of `walk`: the same, except that the reply to a claim has no job
 abbrev pub told : table.Reply → Reply
@@ -40,7 +40,7 @@ abbrev pub told_as : {F : Type 0} → (F → WalkFault) → Result (BoardValue �
 told_as fault (Ok (b, r)) = Ok (b, told r)
 told_as fault (Err e) = Err (fault e)
 
--- what `walk` returns for an event if memory suffices
+-- what `walk` returns for an event if memory suffices: the board and the reply, or the fault of the claim, the step, the settle or the cancel
 abbrev pub walk_of : BoardValue → own_event.Event → Result (BoardValue × Reply) WalkFault
 walk_of b (event.Claim w v) = told_as walk.Claim (claim_of b w v)
 walk_of b (event.Step w) = told_as walk.Step (step_of b w)
@@ -59,7 +59,7 @@ statuses_before (Unclaim w v growths) statuses = slice_set statuses v Waiting
 statuses_before (Unstep w saved trees) statuses = statuses
 statuses_before (Resume e w left lent) statuses = slice_set statuses left.execution.vertex (Running w)
 
--- board b before its last event; `u` holds what has to be put back
+-- board b before its last event, if `u` holds what this event displaced
 abbrev pub undone : Displaced → BoardValue → BoardValue
 undone u b = record b {
   state = record {
@@ -79,18 +79,18 @@ event_before (Unclaim w v growths) = event.Claim w v
 event_before (Unstep w saved trees) = event.Step w
 event_before (Resume e w left lent) = end_of e w
 
--- the event that is taken back is the last one of the record; the table grants it on the board before the event, with board b as the result
+-- the event that is taken back is the last event of b's record; the table grants this event on the board before the event, and the result is the state of b
 pub record IsLast (u : Displaced) (b : BoardValue) : Type 0 where
   pub reply : table.Reply
   pub gives : table.table b.build (undone u b).state (event_before u.back) ≡ Some (b.state, reply)
   pub events : b.events ≡ (undone u b).events ++ event_before u.back ∷ []
 
--- The next three definitions say that the worker and its vertex are in the condition in which the event left them, and that what is put back fits. After a
--- claim: worker w runs the vertex.
+-- The next three definitions say that the worker and its vertex are in the condition in which the event left them, and that what is put back fits the vertex.
+-- After a claim: worker w runs vertex v.
 pub record IsBegun (b : BoardValue) (w v : ℕ) : Type 0 where
   pub runs : slice_get b.state.statuses v ≡ Some (Running w)
 
--- after a step: worker w runs a vertex, and the saved copy and the trees that are put back fit what w runs
+-- after a step: worker w runs a vertex, and `saved` and `trees`, which are put back, fit what w runs
 pub record IsStepped (b : BoardValue) (w : ℕ) (saved : Saved) (trees : List TreeMap) : Type 0 where
   pub x : Execution
   pub runs : slice_get b.state.workers w ≡ Some (Runs x)
@@ -105,13 +105,13 @@ pub record IsLeft (b : BoardValue) (w : ℕ) (left : Left) (lent : Option LentVa
   pub keys : map (λ (p : Instance). p.key) left.execution.places ≡ left.supplies.keys
   pub ready : lent ≡ lent_of left.execution.places (length b.state.workers + 1)
 
--- the worker and the vertex of the event are in the condition in which the event left them
+-- one of the three definitions above, by the kind of the event
 abbrev pub StandsBehind : Back → BoardValue → Type 0
 StandsBehind (Unclaim w v growths) b = IsBegun b w v
 StandsBehind (Unstep w saved trees) b = IsStepped b w saved trees
 StandsBehind (Resume e w left lent) b = IsLeft b w left lent
 
--- the table replays the record of the board before the event; the event is the last one of board b; and `StandsBehind` holds of b
+-- the table replays the record of the board before the event; the event is the last event of b's record; and `StandsBehind` holds of b
 pub record CanUndo (u : Displaced) (b : BoardValue) : Type 0 where
   pub replays : Replays (undone u b)
   pub last : IsLast u b

@@ -1,4 +1,4 @@
--- What contracts see of the vertices, and what else is kept of them; all that is kept follows from what contracts see.
+-- The vertices as contracts see them (the build and the statuses), and what the code keeps besides, all of which follows from the build and the statuses.
 use Rattle.std.specs.Prelude.{◌≡◌, ℕ, ◌<◌, Bool, true, false, ◌||◌, ◌&&◌, not, List, length, replicate, Option, Some, None, is_some, slice_get, slice_set}
 use Rattle.llb_loader.specs.Graph.{IsGraph}
 use Rattle.llb_loader.specs.declared.graph.Vertex.{Vertex}
@@ -17,11 +17,11 @@ pub record VerticesValue : Type 0 where
   pub build : Build
   pub statuses : List Status
 
--- the value in which every vertex waits
+-- the vertices of a build when each of them waits
 abbrev pub all_waiting : Build → VerticesValue
 all_waiting b = record { build = b; statuses = replicate (length b.graph.vertices) Waiting }
 
--- the value after the status of vertex v is replaced by this status
+-- the vertices after the status of vertex v is set to s
 abbrev pub with_status : ℕ → Status → VerticesValue → VerticesValue
 with_status v s vs = record vs { statuses = slice_set vs.statuses v s }
 
@@ -34,7 +34,7 @@ status_of (stage.Failed f) = Settled (Failed f)
 
 -- ---- what else is kept
 
--- a vertex that is done has as many trees as outputs
+-- if the status of a vertex is done, the vertex has a tree for each of its outputs
 abbrev pub IsWhole : Option Vertex → Status → Type 0
 IsWhole (Some x) (Settled (Done trees)) = length trees ≡ x.outputs
 IsWhole (Some x) (Settled (Failed f)) = Unit {0}
@@ -58,15 +58,15 @@ AreOver b statuses n = (v : ℕ) → v < n → is_over b statuses v ≡ true
 abbrev pub TellsInputs : Build → List Status → Linked → Type 0
 TellsInputs b statuses l = (v : ℕ) (x : Vertex) → slice_get b.graph.vertices v ≡ Some x → has_inputs l v ≡ is_some (inputs_from (ending_at statuses) x.inputs)
 
--- each user of a vertex has one open input fewer if the vertex is done now and was not, one more if it was done and is not, else as many as before
+-- the new counts of open inputs of a vertex's users: lower by one if the vertex is done now and was not, higher by one if it was done and is not, else the same
 abbrev pub AreCounted : (was_done is_done : Bool) → List ℕ → List ℕ → List ℕ → Type 0
 AreCounted false true users old new = AreLowered users old new
 AreCounted true false users old new = AreRaised users old new
 AreCounted false false users old new = new ≡ old
 AreCounted true true users old new = new ≡ old
 
--- What else is kept follows from the build and the statuses. A vertex is marked if it has failed or is downstream of one that has. The links count the inputs
--- that are not done. No vertex below `first_open` can be claimed now or later. Each vertex has a status, and each vertex that is done has all its outputs.
+-- What the code keeps besides agrees with the build and the statuses. A vertex is marked if it has failed or is downstream of one that has. The links count the
+-- inputs that are not done. No vertex whose number is below `first_open` can be claimed now or later. Each vertex has a status, and all outputs if it is done.
 pub record IsInStep (b : Build) (statuses : List Status) (stop_marks : List Bool) (links : Linked) (first_open : ℕ) : Type 0 where
   pub graph : IsGraph b.graph
   pub count : length statuses ≡ length b.graph.vertices

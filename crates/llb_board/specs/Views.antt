@@ -1,11 +1,11 @@
--- What the code's data of a worker represents in the model.
+-- The values in the model that the code's data of a worker represent.
 use Rattle.std.specs.Prelude.{ℕ, Option, Some, None}
 use Rattle.llb_model.specs.State as model
 use Rattle.llb_board.specs.declared.workers.seat.Seat.{Seat}
 use Rattle.llb_board.specs.declared.workers.seat.Seat.TheVariants as seat
 use Rattle.llb_board.specs.declared.workers.seat.Execution.{Execution}
 
--- the model's execution for an execution of the code
+-- the execution in the model that an execution in the code represents
 abbrev pub execution_of : Execution → model.Execution
 execution_of x = record { vertex = x.vertex; done = x.done; fault = x.fault; own = x.view; places = x.places.items }
 

@@ -1,4 +1,4 @@
--- What a claim, a step, a settle and a cancel return for the workers: the result, or the first cause of a refusal as a fault.
+-- The results of a claim, a step, a settle and a cancel, for the worker of the event and the caches; or, as a fault, the first cause why the event is refused.
 use Rattle.std.specs.Prelude.{ℕ, List, Option, Some, None, Result, Ok, Err, if◌then◌else◌}
 use Rattle.llb_loader.specs.declared.graph.Vertex.{Vertex}
 use Rattle.llb_tree.specs.Tree.{TreeMap}
@@ -62,7 +62,7 @@ worked_by x trees (Some m) = Ok (worked_to x m (step_on x.done (Some m) (work_wi
 abbrev pub worked : List MicroStep → Execution → List TreeMap → Result Worked StepFault
 worked steps x trees = worked_by x trees (next_step steps x)
 
--- the result of a micro-step: the execution, the rows of the caches, and the reply
+-- the result of a micro-step, with the rows of all caches in place of the trees of the execution's instances
 abbrev pub Written : Type 0
 Written = Execution × List Row × Reply
 
@@ -71,7 +71,7 @@ abbrev pub written_by : List Row → List Instance → Result Worked StepFault �
 written_by rows ps (Ok w) = Ok (w.execution, put_each rows ps w.trees, w.reply)
 written_by rows ps (Err e) = Err e
 
--- the result of the next micro-step of an execution on its instances as they are in the rows
+-- the result of the next micro-step of an execution, whose instances have the trees that the rows of the caches have
 abbrev pub worked_in : Build → List Row → Execution → Result Written StepFault
 worked_in b rows x = written_by rows x.places (worked (program_in b x).steps x (trees_at (store_of rows) x.places))
 

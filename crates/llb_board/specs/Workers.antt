@@ -1,4 +1,4 @@
--- The workers, as contracts see them, and what holds of them.
+-- The workers, as contracts see them, and what holds of the workers.
 use Rattle.std.specs.Prelude.{◌≡◌, ℕ, ◌+◌, ◌<◌, ◌≤◌, List, map, length, Option, Some, None, slice_get, slice_set, Result, Ok, Err}
 use Rattle.llb_cache.specs.declared.need.Need as cache_need
 use Rattle.llb_cache.specs.Caches.{Row, Leases}
@@ -17,7 +17,7 @@ use Rattle.llb_board.specs.Supplies.{Supplies, supplies_for, needed}
 use Rattle.llb_board.specs.WorkerRules.{Begun}
 use Rattle.llb_board.specs.Vertices.{VerticesValue}
 
--- what contracts see of the workers: what each worker does, the rows of the caches, and what each worker has from its claim on (its supplies)
+-- what contracts see of the workers: what each worker does, the rows of the caches, and the supplies of each worker (what it has from its claim to its settle)
 pub record WorkersValue : Type 0 where
   pub workers : List WorkerStatus
   pub rows : List Row
@@ -29,7 +29,7 @@ pub record IsCrew (workers : List WorkerStatus) (out : Leases) (leases : List (O
   pub few : length workers ≤ 64
   pub leased : AreLeased out workers leases
 
--- each worker has the supplies of its vertex
+-- each worker has the supplies that are needed for what it runs
 abbrev pub Fits : Build → WorkersValue → Type 0
 Fits b ws = ws.supplies ≡ map (needed b) ws.workers
 
@@ -50,26 +50,26 @@ abbrev pub reply_of : {S E : Type 0} → Result (S × Reply) E → Result Reply 
 reply_of (Ok p) = Ok p.1
 reply_of (Err e) = Err e
 
--- this job is the one that remains for worker w
+-- worker w runs a vertex, and this job is the work that remains for w
 pub record RunsJob (vs : VerticesValue) (ws : WorkersValue) (w : ℕ) (job : Job) : Type 0 where
   pub x : Execution
   pub runs : slice_get ws.workers w ≡ Some (Runs x)
   pub own : IsRunOf vs.build (store_of ws.rows) w x job
 
--- a worker's status after an outcome's micro-steps: its count grows by their number, and it has the fault and workspace that they left; idle if it ran nothing
+-- a worker's status after the micro-steps of outcome o: o's micro-steps are added to the count, and the fault and the workspace are o's; idle if nothing ran
 abbrev pub steps_left : OutcomeValue → Option WorkerStatus → WorkerStatus
 steps_left o (Some (Runs x)) = Runs (record x { done = x.done + o.count; fault = o.left.fault; own = o.left.work.own })
 steps_left o (Some Idle) = Idle
 steps_left o None = Idle
 
--- what a claim prepares: the job, the worker's execution with its supplies, and the needs to be leased
+-- what a claim prepares: the job, the worker's execution and supplies, and the needs for which instances are to be leased
 pub record BegunValue : Type 0 where
   pub job : Job
   pub execution : Execution
   pub supplies : Supplies
   pub needs : List cache_need.Need
 
--- a claim of vertex v by worker w was prepared on this state: the table grants the claim, and what is prepared is what the table says
+-- b is a prepared claim of vertex v by worker w: on this state the table grants the claim, with the execution, the job and the needs that b has
 pub record IsBegunAt (vs : VerticesValue) (ws : WorkersValue) (w v : ℕ) (b : BegunValue) : Type 0 where
   pub vertex : Vertex
   pub inputs : List TreeMap
@@ -88,7 +88,7 @@ pub record IsBegunAt (vs : VerticesValue) (ws : WorkersValue) (w v : ℕ) (b : B
   pub supplied : b.supplies ≡ supplies_for (Some vertex)
   pub asks : b.needs ≡ asked inputs (needs_of vertex)
 
--- the claim of this job was prepared on this state
+-- b is a prepared claim on this state, of the vertex and by the worker that b's job names
 abbrev pub IsBegunOn : VerticesValue → WorkersValue → BegunValue → Type 0
 IsBegunOn vs ws b = IsBegunAt vs ws b.job.worker b.job.vertex b
 

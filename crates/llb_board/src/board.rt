@@ -166,10 +166,10 @@ impl Board {
         }
     }
 
-    /// Makes an idle worker claim a vertex that waits and has all its inputs, with an instance of each cache that the vertex mounts. Fails with 131 `NoWorker`,
-    /// 132 `Busy`, 133 `NoVertex`, 134 `NotReady`, 135 `Held` and the first locked key whose instance a running worker has, or 141 `Memory`. If memory for the
-    /// text of that key is refused, the call fails with 141 in place of 135; 141 for other memory is reported only if 135 does not apply. The claim of a vertex
-    /// that was cancelled before reserves room for its events once more.
+    /// Makes an idle worker claim a Ready vertex, with an instance of each cache that the vertex mounts. Fails with 131 `NoWorker`, 132 `Busy`, 133 `NoVertex`,
+    /// 134 `NotReady`, 135 `Held` (with the first of the vertex's locked keys whose instance a running worker holds), or 141 `Memory`. If memory for a copy of
+    /// that key is refused, the call fails with 141 in place of 135; 141 for other memory is reported only if no other fault applies. If the vertex was
+    /// cancelled before, the claim reserves room in the record for the vertex's events once more.
     pub fn claim(&mut self, w: u32, v: u32) -> Result<Job, ClaimFault>
         ensures gives { GivesClaim (λ job. (self.new, Claimed job)) result (claim_of self.old w v) }
         ensures last { IfErr result (λ e. claim_memory e ≡ true → claim_may_want (claim_of self.old w v) ≡ true) }
@@ -200,8 +200,8 @@ impl Board {
         Ok(stepped)
     }
 
-    /// Settles the finished vertex that a worker runs; the worker's cache instances are free again. Fails with 131 `NoWorker`, 136 `NotRunning` or 138
-    /// `NotFinished`. Does not allocate.
+    /// Settles the finished vertex that a worker runs: its micro-steps are all done, or one faulted. The worker's cache instances are free again. Fails with
+    /// 131 `NoWorker`, 136 `NotRunning` or 138 `NotFinished`. Does not allocate.
     pub fn settle(&mut self, w: u32) -> Result<Settled, SettleFault>
         ensures gives { GivesSettle (λ r. (self.new, HasSettled r)) result (settle_of self.old w) }
         ensures err { OnErr result (self.new ≡ self.old) }
@@ -262,7 +262,7 @@ impl Board {
         self.vertices.output(v, i)
     }
 
-    /// Returns the users of a vertex, which are those with an edge to it: ascending, each once; empty past the last vertex. Does not allocate.
+    /// Returns the users of a vertex (the vertices that have an edge to it), ascending and each once; none past the last vertex. Does not allocate.
     pub fn users(&self, v: u32) -> &[u32]
         ensures { result.now ≡ users_of self.now.build.graph.vertices v }
     {
@@ -270,8 +270,8 @@ impl Board {
     }
 
     /// Returns the record of events since the board was opened. For each vertex the record has at most one claim, one settle and its micro-steps, and as many
-    /// again for each time that the vertex was cancelled. It has room for all events still to come, except those of vertices that wait after a cancel: their
-    /// next claim reserves the room. Does not allocate.
+    /// again for each time that the vertex was cancelled. The record has room for all events still to come, except those of vertices that wait after a cancel:
+    /// the next claim of such a vertex reserves the room. Does not allocate.
     pub fn events(&self) -> &Events
         ensures all { result.now.list ≡ self.now.events }
         ensures bound { still_to_come self.now.build self.now.state + length result.now.list ≤ most_events self.now.build (replies_in self.now) }
@@ -294,7 +294,7 @@ impl Board {
         }
     }
 
-    /// Returns whether every vertex is done, failed or blocked, so that nothing runs. Does not allocate.
+    /// Returns whether every vertex is done, failed or blocked, so that no worker runs one. Does not allocate.
     pub fn is_complete(&self) -> bool
         ensures { result ≡ is_complete self.now.build self.now.state }
     {
@@ -342,7 +342,7 @@ impl Board {
         (graph, locals, workers.into_caches())
     }
 
-    /// Proves that the board's graph meets the invariant of graphs.
+    /// Proves that the board's graph meets `IsGraph`, the invariant of graphs.
     pub fn is_graph(&self)
         ensures { IsGraph self.now.build.graph }
     {
@@ -358,8 +358,8 @@ impl Board {
     }
 
     /// Proves that the table replays the record from the opening state to the board's state, and that this replay leads from the lists of instances that were
-    /// handed in to the lists that the board has now. So the opening and the record determine the board: two boards with the same opening and the same record
-    /// are the same.
+    /// handed in to the lists that the board has now. So two boards are the same if they were opened with the same graph, local trees, caches and number of
+    /// workers, and have the same record.
     pub fn replays(&self)
         ensures run { Replays self.now }
         ensures reached { IsReached self.now.build self.now.state }
@@ -368,7 +368,7 @@ impl Board {
     }
 }
 
-// Returns the tree of instance `i` of a key.
+// Returns the tree of instance `i` of a key; `None` if there is no such instance.
 fn cached_in<'a>(caches: &'a Caches, key: &Key, i: u32) -> Option<&'a Tree>
     ensures { option_map (λ t. t.now) result ≡ content (store_of caches.now.rows) (place key.now i) }
 {
@@ -382,7 +382,7 @@ fn may_work(workers: u32) -> bool
     1 <= workers && workers <= 64
 }
 
-// Returns a copy of the name of the first local source, by vertex, that has no tree.
+// Returns a copy of the name of the first local source, by vertex, that has no tree; `None` if each has one. Fails with 141 `Memory` alone.
 fn missing(alloc: Global, graph: &Graph, locals: &Locals) -> Result<Option<Text>, Memory>
     ensures first { IfOk result (λ o. o ≡ missing_local locals.now graph.now.vertices) }
     ensures some { IfErr result (λ _. is_some (missing_local locals.now graph.now.vertices) ≡ true) }
@@ -393,7 +393,7 @@ fn missing(alloc: Global, graph: &Graph, locals: &Locals) -> Result<Option<Text>
     }
 }
 
-// Returns a copy of the caches, and an empty record with room for every event of a run without cancels.
+// Returns a copy of the caches, and an empty record with room for every event of a run without cancels. Fails with 141 `Memory` alone.
 fn fresh(alloc: Global, vertices: &Vertices, caches: &Caches) -> Result<(Caches, History), Memory>
     ensures start { IfOk result (λ r. r.0 ≡ caches.now) }
     ensures events { IfOk result (λ r. r.1.list ≡ []) }
@@ -418,7 +418,7 @@ fn room(vertices: &Vertices) -> usize
     all
 }
 
-// Returns the fault for want of memory, with all that was handed in.
+// Returns the fault 123 `Memory`, with the graph, the local trees and the caches that were handed in.
 fn refused(vertices: Vertices, caches: Caches) -> OpenFault
     ensures { result ≡ opening.Memory vertices.build.graph vertices.build.locals caches }
 {

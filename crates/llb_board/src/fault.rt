@@ -1,5 +1,5 @@
-//! Why an opening, a landing, a call of `walk`, or a call that lacks memory fails; `llb_events` has the faults of single events. A fault prints its
-//! number; 121 then prints the name of the missing tree. The fault of an opening or a landing holds what was handed to the call.
+//! Why the opening of a board, a landing, a call of `Board::walk`, or a call that lacks memory fails; `llb_events` has the faults of single events. A fault
+//! prints its number; 121 then prints the name of the local source without a tree. The fault of an opening or a landing holds what was handed to the call.
 
 ghost use Rattle.std.specs.Prelude.{Some};
 ghost use Rattle.llb_board.specs.Faults.{walk_text};
@@ -42,10 +42,10 @@ impl fmt::Debug for LandFault {
     }
 }
 
-/// Why a graph is not opened. The graph, the local trees and the caches are in the fault.
+/// Why a board is not opened. The graph, the local trees and the caches are in the fault.
 #[derive(Drop, Error)]
 pub enum OpenFault {
-    /// 121: no tree is given for a local source; the first such name, by vertex, follows.
+    /// 121: a local source has no tree; the name of the first such source, by vertex.
     #[error("121 {0}")]
     MissingLocal(Text, Graph, Locals, Caches),
     /// 122: the number of workers is 0 or more than 64.
@@ -62,7 +62,7 @@ impl fmt::Debug for OpenFault {
     }
 }
 
-/// Why `walk` refuses an event: the fault of the claim, the step, the settle or the cancel; or `Memory`, if memory was refused at any point.
+/// Why `Board::walk` refuses an event: the fault of the claim, the step, the settle or the cancel; or `Memory`, if memory was refused at any point.
 #[derive(Debug, Drop)]
 pub enum WalkFault {
     /// 131 to 135: a claim is refused.
@@ -119,7 +119,7 @@ impl From<TreeFault> for Memory {
     }
 }
 
-/// Converts the fault of copying a view.
+/// Converts the fault of copying a workspace.
 impl From<llb_wire::Memory> for Memory {
     fn from(_: llb_wire::Memory) -> Memory {
         Memory
@@ -151,7 +151,7 @@ impl From<Memory> for WalkFault {
     }
 }
 
-/// Converts the fault of copying the parts of a view that a step can change.
+/// Converts the fault of copying the parts of a workspace that a step can change.
 impl From<llb_wire::Memory> for WalkFault {
     ghost use Rattle.std.specs.Prelude.{◌≡◌};
     ghost use Rattle.llb_board.specs.declared.fault.WalkFault.TheVariants as walk;

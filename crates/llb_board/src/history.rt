@@ -1,4 +1,4 @@
-//! The history of a board: the record of its events, for which memory is reserved in advance, and how often each vertex was cancelled.
+//! Keeps the record of a board's events, for which memory is reserved in advance, and how often each vertex was cancelled.
 
 ghost use Rattle.std.specs.Prelude.{◌≡◌, ◌+◌, ◌<◌, ◌≤◌, ◌∷◌, ◌++◌, [], length, replicate, get_or, IfOk, OnOk, OnErr};
 ghost use Rattle.llb_model.specs.Landing.{steps_by};
@@ -13,7 +13,8 @@ use llb_events::Event;
 use std::alloc::{AllocError, Global};
 use std::marker::Model;
 
-/// Events, and for each vertex, by number, how often it was cancelled. Contracts see the list of events, the room for them, and the counts.
+/// The record of events, and for each vertex, by number, how often it was cancelled. Contracts see the list of events, for how many events there is room, and
+/// the counts of cancels.
 pub(crate) struct History {
     events: Events,
     cancels: Vec<usize>,
@@ -38,7 +39,7 @@ impl Model for History {
 }
 
 impl History {
-    /// Makes a history without events, with room for `room` events and a count of 0 for each of `vertices` vertices. Fails only for want of memory.
+    /// Makes a history without events, with room for `room` events and with 0 cancels for each of `vertices` vertices. Fails only for want of memory.
     pub(crate) fn new(alloc: Global, room: usize, vertices: usize) -> Result<History, AllocError>
         ensures none { IfOk result (λ h. h.list ≡ []) }
         ensures room { IfOk result (λ h. h.space.room ≡ room) }
@@ -67,7 +68,8 @@ impl History {
         self.events.push_reserved(event);
     }
 
-    /// Appends a cancel, and adds one to the count of vertex `v`. There has to be room for the event, and the count so far is at most the number of events.
+    /// Appends a cancel by worker `w`, and adds one to the count of cancels of vertex `v`. There has to be room for the event, and the count so far is at most
+    /// the number of events.
     pub(crate) fn record_cancel(&mut self, w: u32, v: u32)
         requires room { length self.old.list < self.old.space.room }
         requires low { v < length self.old.space.cancels }
@@ -92,8 +94,8 @@ impl History {
         }
     }
 
-    /// Removes the last event, which is an event of vertex `v`. If the event is a claim, the room that the claim reserved is released (room for `events`
-    /// events, if the vertex was cancelled before). If it is a cancel, the vertex's count of cancels is lowered by one.
+    /// Removes the last event, which is an event of vertex `v`. If the event is a claim, releases the room that the claim reserved (room for `events` events if
+    /// the vertex was cancelled before, else none). If the event is a cancel, lowers the vertex's count of cancels by one.
     pub(crate) fn take_back(&mut self, v: u32, events: usize)
         ensures list { self.new.list ≡ front self.old.list }
         ensures space { self.new.space ≡ space_back (last_of self.old.list) v events self.old.space }
@@ -119,8 +121,8 @@ impl History {
         }
     }
 
-    /// Reserves room for `events` events of a vertex that is claimed, if the vertex was cancelled before. Fails with 141 `Memory` alone; then the room is
-    /// as it was.
+    /// Reserves room for `events` more events before a claim of vertex `v`, if the vertex was cancelled before. Fails with 141 `Memory` alone; then the room
+    /// is as it was.
     pub(crate) fn reserve(&mut self, v: u32, events: usize) -> Result<(), Memory>
         ensures list { self.new.list ≡ self.old.list }
         ensures ok { OnOk result (self.new.space ≡ claimed v events self.old.space) }
@@ -130,7 +132,7 @@ impl History {
         self.events.take_room(more)
     }
 
-    /// Releases the room that `reserve` reserved for the vertex.
+    /// Releases the room that `reserve` reserved for vertex `v`.
     pub(crate) fn release(&mut self, v: u32, events: usize)
         ensures list { self.new.list ≡ self.old.list }
         ensures space { self.new.space ≡ unclaimed v events self.old.space }

@@ -14,9 +14,9 @@ ghost use Rattle.llb_board.specs.Headline.{Headline, StandsInClaimOrder};
 use crate::board::Board;
 
 /// Proves the promise of the whole machine. The table replays the record, with a reply for each event, from the opening state to the board's state. No two
-/// workers hold the same locked cache at once, nor the same instance of a private cache; another worker's event neither changes nor reads an instance that a
-/// worker holds exclusively. A settled vertex with no cache mount at or before it has its plain outcome. This holds at every moment, for any workers and any
-/// order of events.
+/// workers hold the same locked cache at once, nor the same instance of a private cache. No event of another worker changes or reads an instance of a locked or
+/// private cache that a worker holds. A settled vertex with no cache mount at or before it has its plain outcome. All this holds at every moment, for any
+/// workers and any order of events.
 pub fn headline(board: &Board)
     ensures { Headline board.now }
 {
@@ -24,15 +24,15 @@ pub fn headline(board: &Board)
     board.replays();
 }
 
-/// Proves that vertices and workers agree on what runs, that a vertex that is done has all its outputs, and that a vertex that does not wait has all its
-/// inputs.
+/// Proves that vertices and workers agree on which worker runs which vertex, that a vertex that is done has all its outputs, and that the inputs of a vertex
+/// that does not wait all exist.
 pub fn is_consistent(board: &Board)
     ensures { IsConsistent board.now.build board.now.state }
 {
     board.replays();
 }
 
-/// Proves that a settled vertex with no cache mount at or before it has its plain outcome, failures included, whatever caches are shared elsewhere.
+/// Proves that a settled vertex with no cache mount at or before it has its plain outcome, whether it is done or has failed, and whatever other vertices mount.
 pub fn settled_are_plain(board: &Board)
     ensures { SettledArePlain board.now }
 {
@@ -40,7 +40,7 @@ pub fn settled_are_plain(board: &Board)
     board.replays();
 }
 
-/// Proves that on a complete board of a graph without cache mounts every vertex has ended with its plain outcome, or is Blocked if that outcome is blocked.
+/// Proves that on a complete board of a graph without cache mounts every vertex ended with its plain outcome, or is Blocked if its plain outcome is blocked.
 pub fn complete_is_plain(board: &Board)
     ensures { machine.HasNoCaches board.now.build → is_complete board.now.build board.now.state ≡ true → (v : ℕ) → v < length board.now.build.graph.vertices
         → StandsPlainly (slice_get board.now.state.statuses v) (outcome board.now.build v) }
@@ -65,8 +65,8 @@ pub fn chosen_is_granted(board: &Board)
 }
 
 /// Proves that a granted event of one worker does not change the state of any other worker. From a worker's claim to its settle or cancel, other workers'
-/// events do not change the cache instances that the worker holds exclusively. Whatever trees these instances had, an event of another worker would have the
-/// same reply, and the same effect on everything else.
+/// events do not change the instances of locked and private caches that the worker holds. Whatever trees these instances had, an event of another worker would
+/// have the same reply, and the same effect on everything else.
 pub fn others_keep(board: &Board)
     ensures workers { OthersKeep board.now }
     ensures instances { machine.OthersKeep board.now.build }
@@ -97,7 +97,8 @@ pub fn claims_least(board: &Board)
     let _ = board;
 }
 
-/// Proves that the instances of a key are numbered from 0 without gaps: on this board, and after any list of events of a run that begins without gaps.
+/// Proves that the instances of a key are numbered from 0 without gaps: on this board, and after any list of granted events if there were no gaps at the
+/// opening.
 pub fn stays_dense(board: &Board)
     ensures here { machine.IsDense board.now.state.store }
     ensures after { machine.StaysDense board.now.build }
@@ -105,9 +106,9 @@ pub fn stays_dense(board: &Board)
     let _ = board.caches();
 }
 
-/// Proves a law for builds without shared caches. After any list of granted events, the settled vertices and the free cache instances are as if the claimed
-/// vertices had been run one after another, in the order of their claims: each vertex as a whole, or up to the micro-step at which it was cancelled. The same
-/// holds for this board, in the order of the claims of its record.
+/// Proves a law for graphs without shared caches. After any list of granted events, the settled vertices, and the cache instances that no worker holds, are as
+/// if the claimed vertices had been run one after another, in the order of their claims: each vertex as a whole, or up to the micro-step at which it was
+/// cancelled. The same holds for this board, in the order of the claims of its record.
 pub fn runs_in_claim_order(board: &Board)
     ensures after { machine.NoShared board.now.build → machine.RunsInClaimOrder board.now.build }
     ensures here { machine.NoShared board.now.build → StandsInClaimOrder board.now }
@@ -124,8 +125,8 @@ pub fn alone_in_claim_order(board: &Board)
     board.is_graph();
 }
 
-/// Proves a law for work that was done off the board, on the worker's view and on the trees of its instances as they are now: landing the work has the same
-/// effect as doing its micro-steps and its settle on the board, with no other event between them.
+/// Proves a law for work that was done off the board, on the worker's workspace and the trees of the worker's instances as they are now: landing the work has
+/// the same effect as doing the same micro-steps and the settle on the board, with no other event between them.
 pub fn lands_as_block(board: &Board)
     ensures { LandsAsBlock board.now.build }
 {
@@ -133,8 +134,8 @@ pub fn lands_as_block(board: &Board)
 }
 
 /// Proves that an exec is finished after its last command, or as soon as the last status is not 0 and every later command is joined by `&&`. If the last status
-/// is then not 0, the fault of the exec is the exit of the last command that ran; else it has no fault. This holds for a script that runs alone, and for every
-/// worker on this board and after any list of granted events, whatever others do to shared caches meanwhile.
+/// is then not 0, the fault of the exec names the last command that ran and its status; else the exec has no fault. This holds for a script that runs alone,
+/// and for every worker that runs an exec after any list of granted events, whatever other workers do to shared caches meanwhile.
 pub fn execs_end_by_last_status(board: &Board)
     ensures alone { machine.FailsByLastStatus }
     ensures among_others { machine.ExecsEndByLastStatus board.now.build }
@@ -164,7 +165,7 @@ pub fn ready_behind_done(board: &Board)
     board.replays();
 }
 
-/// Proves that a vertex is Blocked exactly if it waits and an input of it has failed or is Blocked.
+/// Proves that a vertex is Blocked exactly if it waits and the vertex of one of its inputs has failed or is Blocked.
 pub fn blocked_behind_a_failure(board: &Board)
     ensures { BlockedBehindAFailure board.now }
 {
@@ -172,15 +173,16 @@ pub fn blocked_behind_a_failure(board: &Board)
     board.replays();
 }
 
-/// Proves that the plain outcome of a vertex is what its whole program makes of the outcomes of its inputs.
+/// Proves that the plain outcome of a vertex is what its whole program makes of the plain outcomes of its inputs.
 pub fn outcome_by_inputs(board: &Board)
     ensures { OutcomeByInputs board.now }
 {
     board.is_graph();
 }
 
-/// Proves a law for a vertex with no cache mount at or before it: the build, the worker and the vertex determine the job that a claim hands out. As long as the
-/// worker has done no micro-step of the vertex, this job is what remains for the worker, so the job's outcome can be landed without comparing trees.
+/// Proves a law for a vertex with no cache mount at or before it: the graph, the local trees, the worker and the vertex determine the job that a claim hands
+/// out. As long as the worker has done no micro-step of the vertex, this job is what remains for the worker, so the outcome of the job can be landed without
+/// comparing trees.
 pub fn begun_are_plain(board: &Board)
     ensures begun { BegunArePlain board.now }
     ensures claims { ClaimsArePlain board.now }

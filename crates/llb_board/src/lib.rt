@@ -37,5 +37,5 @@ pub use llb_wire::{Bytes, Text};
 pub use status::{Status, WorkerStatus};
 pub use workers::Undo;
 
-/// `WorkerStatus` under a shorter name.
+/// A shorter name for `WorkerStatus`.
 pub type At = WorkerStatus;

@@ -1,4 +1,4 @@
-//! For each vertex, which vertices have an edge to it, and how many of its inputs are not done.
+//! Keeps the users of each vertex (the vertices that have an edge to it), and how many inputs of each vertex are not done.
 
 ghost use Rattle.std.specs.Prelude.{◌≡◌, ◌<◌, ◌≤◌, ◌+◌, ◌^◌, ℕ, List, false, [], ◌∷◌, ◌++◌, length, map, replicate, get_or};
 ghost use Rattle.std.specs.Prelude.{IfOk, vec_capacity};
@@ -47,8 +47,8 @@ impl Model for Links {
 }
 
 impl Links {
-    /// Makes the links of a graph in which no vertex is done; every edge of a vertex leads to a vertex with a lower number. The memory needed grows with the
-    /// number of edges; fails for want of memory alone.
+    /// Makes the links of a graph in which no vertex is done. Every edge of a vertex must lead to a vertex with a lower number. The memory that the links take
+    /// grows with the number of edges; the call fails for want of memory alone.
     pub(crate) fn new(alloc: Global, vertices: &[Vertex]) -> Result<Links, AllocError>
         requires below { AreBelow vertices.now }
         requires few { length vertices.now < 2 ^ 32 }
@@ -130,7 +130,7 @@ impl Links {
         raise(counts, &users[v as usize]);
     }
 
-    /// Marks a vertex and everything downstream of it, if everything downstream of the marked vertices is marked already. Does not allocate.
+    /// Marks a vertex and everything downstream of it. The caller has to know that everything downstream of a marked vertex is marked. Does not allocate.
     pub(crate) fn spread(&mut self, marks: &mut [bool], v: u32)
         requires count { (length self.old.users ≡ length marks.old) × (length self.old.counts ≡ length marks.old) }
         requires low { v < length marks.old }
@@ -157,8 +157,8 @@ fn empty(alloc: Global, count: usize) -> Result<Vec<Vec<u32>>, AllocError>
     Ok(lists)
 }
 
-// Appends vertex `v`, whose number is above all numbers in the lists, to the list of each vertex that one of the edges leads to, and returns how many vertices
-// the edges lead to.
+// Appends vertex `v` to the list of each vertex that one of the edges leads to, and returns how many such vertices there are. The number `v` is above all
+// numbers in the lists.
 fn enter(users: &mut Vec<Vec<u32>>, v: u32, edges: &[Edge]) -> Result<u32, AllocError>
     requires below { All (λ (e : edge.Edge). e.vertex < length users.old.items) edges.now }
     requires few { length users.old.items < 2 ^ 32 }

@@ -24,6 +24,6 @@ pub enum Status {
 pub enum WorkerStatus {
     /// The worker runs no vertex.
     Idle,
-    /// The worker runs a vertex: the vertex's number, how many of its micro-steps are done, and whether it is finished.
+    /// The worker runs a vertex: the vertex's number, how many of its micro-steps are done, and whether the vertex is finished.
     Runs(u32, u32, bool),
 }

@@ -1,4 +1,4 @@
-//! Copies lists of trees; a copy shares the memory of the trees.
+//! Copies lists of trees; the trees of a copy share their memory with the originals.
 
 ghost use Rattle.std.specs.Prelude.{◌≡◌, IfOk};
 

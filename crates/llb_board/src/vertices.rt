@@ -1,5 +1,6 @@
-//! The vertices: the graph with its local trees, and the state of each vertex. What follows from these is kept too, so that no call computes it again:
-//! which vertices have failed or are downstream of one that has, the open inputs of each vertex, and where the search for a Ready vertex begins.
+//! The vertices: the graph with its local trees, and the state of each vertex. Some things that follow from these are kept too, so that they are not computed
+//! at each call: which vertices have failed or are downstream of one that has, the number of open inputs of each vertex, and where the search for a Ready
+//! vertex begins.
 
 ghost use Rattle.std.specs.Prelude.{◌≡◌, ◌<◌, ◌^◌, ◌||◌, IfOk, IfErr, length, option_map, replicate, slice_get, false, is_ok, true, Some, Err};
 ghost use Rattle.std.specs.Prelude.{MatchResult, map, ℕ, ◌+◌, All, get_or};
@@ -76,7 +77,7 @@ impl Model for Vertices {
 }
 
 impl Vertices {
-    /// Makes the vertices of a graph; all of them wait. If memory is refused, returns what was handed in.
+    /// Makes the vertices of a graph; all of them wait. If memory is refused, fails with the graph and the local trees that were handed in.
     pub(crate) fn open(
         alloc: Global,
         graph: Graph,
@@ -144,7 +145,7 @@ impl Vertices {
         output_at(&self.stages, v, i)
     }
 
-    /// Returns the users of a vertex, which are those with an edge to it: ascending, each once; empty past the last vertex. Does not allocate.
+    /// Returns the users of a vertex (the vertices that have an edge to it), ascending and each once; none past the last vertex. Does not allocate.
     pub(crate) fn users(&self, v: u32) -> &[u32]
         ensures { result.now ≡ users_of self.now.build.graph.vertices v }
     {
@@ -202,7 +203,7 @@ impl Vertices {
         );
     }
 
-    /// Copies the vertices, which share the graph and all trees. Fails with 141 `Memory` alone.
+    /// Copies the vertices; the copy shares the graph and all trees. Fails with 141 `Memory` alone.
     pub(crate) fn copy(&self, alloc: Global) -> Result<Vertices, Memory>
         ensures { IfOk result (λ s. s ≡ self.now) }
     {
@@ -278,7 +279,7 @@ impl Same for Vertices {
     }
 }
 
-// Returns what is kept in addition to a build when every vertex waits: the states, the marks and the links.
+// Makes what `Vertices` keeps besides the build when every vertex waits: the states, the marks and the links. Fails for want of memory alone.
 fn at_first(alloc: Global, build: &Build) -> Result<(Vec<Stage>, Vec<bool>, Links), AllocError>
     ensures stages { IfOk result (λ r. r.0.items ≡ replicate (length build.now.graph.vertices) stage.Waiting) }
     ensures marks { IfOk result (λ r. r.1.items ≡ replicate (length build.now.graph.vertices) false) }
@@ -337,7 +338,7 @@ fn count(links: &mut Links, v: u32, was_done: bool, is_done: bool)
     }
 }
 
-// Returns the status of a vertex as callers see it, given its state, whether it has no open input, and whether it is marked.
+// Returns the status of a vertex as callers see it, given the vertex's state, whether the vertex has no open input, and whether it is marked.
 fn look(stage: &Stage, ready: bool, marked: bool) -> Status
     ensures { result ≡ look ready marked (status_of stage.now) }
 {

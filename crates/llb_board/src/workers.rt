@@ -1,5 +1,5 @@
-//! The workers of a board: what each of them runs, on which cache instances, and the caches themselves. By the invariant of `Workers` there are 1 to 64
-//! workers, and each worker that runs a vertex with cache instances has a lease of exactly these instances.
+//! The workers of a board: what each worker runs, which cache instances each worker holds, and the caches. By the invariant of `Workers` there are 1 to 64
+//! workers, and each worker that holds cache instances has a lease of exactly these instances.
 
 ghost use Rattle.std.specs.Prelude.{◌≡◌, ◌↔◌, ◌<◌, ◌≤◌, [], IsTrue, length, option_map, replicate, slice_get, IfOk, IfErr};
 ghost use Rattle.llb_cache.specs.Caches.{leases};
@@ -69,7 +69,7 @@ impl Model for Workers {
 }
 
 impl Workers {
-    /// Makes `count` idle workers, 1 to 64, on caches without current leases. If memory is refused, returns the caches.
+    /// Makes `count` idle workers, 1 to 64, on caches without current leases. If memory is refused, fails with the caches that were handed in.
     pub(crate) fn open(alloc: Global, caches: Caches, count: u32) -> Result<Workers, Caches>
         requires count { (0 < count) × (count ≤ 64) }
         requires free { leases caches.out ≡ 0 }
@@ -86,7 +86,7 @@ impl Workers {
         }
     }
 
-    /// Returns the caches; the current leases have the instances of the running workers. Does not allocate.
+    /// Returns the caches; the current leases hold the instances of the running workers. Does not allocate.
     pub(crate) fn caches(&self) -> &Caches
         ensures rows { result.now.rows ≡ self.now.rows }
         ensures leased { HoldsAs result.now.out self.now.workers }
@@ -120,7 +120,7 @@ impl Workers {
         }
     }
 
-    /// Returns the instances that a worker holds; none if it is idle, or past the last worker. Does not allocate.
+    /// Returns the instances that a worker holds; none if the worker is idle, or past the last worker. Does not allocate.
     pub(crate) fn places(&self, w: u32) -> &[Instance]
         ensures { result.now ≡ places_at (slice_get self.now.workers w) }
     {
@@ -130,7 +130,7 @@ impl Workers {
         }
     }
 
-    /// Returns the workspace of what a worker runs; `None` if it is idle, or past the last worker. Does not allocate.
+    /// Returns the workspace of what a worker runs; `None` if the worker is idle, or past the last worker. Does not allocate.
     pub(crate) fn workspace(&self, w: u32) -> Option<&Workspace>
         ensures { option_map (λ v. v.now) result ≡ option_map (λ (x : Execution). x.own) (runs (slice_get self.now.workers w)) }
     {
@@ -150,7 +150,7 @@ impl Workers {
         })
     }
 
-    /// Returns whether the workers do the same and the caches have the same trees as in `other`, compared by value. Does not allocate.
+    /// Returns whether each worker runs the same as in `other`, and each cache has the same trees, compared by value. Does not allocate.
     pub(crate) fn same(&self, other: &Workers) -> bool
         ensures { IsTrue result ↔ ((self.now.workers ≡ other.now.workers) × (self.now.rows ≡ other.now.rows)) }
     {

@@ -1,5 +1,5 @@
--- The text after the word `fault` when a board refuses an event: the number of the fault, and for 135 the ID of the held key. The other definitions say what
--- contracts state of the result of an event: the call returns what the table returns, or it fails for want of memory.
+-- The text after the word `fault` when a board refuses an event: the number of the fault, and for 135 the ID of the held key. The `Gives..` definitions say
+-- what contracts promise of the call for an event: the call returns what the table returns, or it fails for want of memory.
 use Rattle.std.specs.Prelude.{ℕ, Bool, true, false, List, ◌++◌, Result, Ok, Err, codes}
 use Rattle.llb_wire.specs.Answer as answer
 use Rattle.llb_cache.specs.Key.{has_text}
@@ -41,7 +41,7 @@ cancel_text cancel.NotRunning = codes "136"
 
 -- ---- memory that a claim may need
 
--- whether a claim with this result in the table may need memory: the table grants the claim, or refuses it for a held key that has a text to copy
+-- whether a claim with this result in the table may need memory: the table grants the claim, or refuses it because a key is held that has a text to copy
 abbrev pub claim_may_want : {A : Type 0} → Result A ClaimFault → Bool
 claim_may_want (Ok a) = true
 claim_may_want (Err (claim.Held k)) = has_text k

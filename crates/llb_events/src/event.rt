@@ -6,28 +6,28 @@ use llb_wire::Same;
 /// An event: what a worker does on the board.
 #[derive(Clone, Copy, Debug, PartialEq, Eq)]
 pub enum Event {
-    /// Worker and vertex: an idle worker takes a Ready vertex.
+    /// The idle worker with the first number takes the Ready vertex with the second.
     Claim(u32, u32),
-    /// The worker does the next micro-step of the vertex that it runs.
+    /// The worker of this number does the next micro-step of the vertex that it runs.
     Step(u32),
-    /// The worker ends the finished vertex that it runs, and is idle again.
+    /// The worker of this number ends the finished vertex that it runs, and is idle again.
     Settle(u32),
-    /// The worker gives up the vertex that it runs, and the vertex waits again.
+    /// The worker of this number gives up the vertex that it runs, and the vertex waits again.
     Cancel(u32),
 }
 
 /// The reply to a micro-step.
 #[derive(Clone, Copy, Debug, PartialEq, Eq)]
 pub enum Stepped {
-    /// The local tree is read.
+    /// The local tree of the source is read.
     Read,
-    /// The action with this number is done.
+    /// The file op's action with this number is done.
     Acted(u32),
     /// The merge's input with this number is laid over the inputs before it.
     Merged(u32),
-    /// The command with this number has ended with this status.
+    /// The command with the first number ran; the second number is its status.
     Ran(u32, u32),
-    /// The command with this number was skipped, because of the `&&` or `||` before it and the last status.
+    /// The command with this number did not run, because of the last status and the `&&` or `||` before the command.
     Skipped(u32),
     /// The micro-step faulted.
     Fault(VertexFault),
@@ -36,9 +36,9 @@ pub enum Stepped {
 /// The result of a settle: how the vertex with this number ended.
 #[derive(Clone, Copy, Debug, PartialEq, Eq)]
 pub enum Settled {
-    /// The vertex is done: its execution had no fault, and it has its outputs.
+    /// The vertex is done: it has its outputs, and no fault.
     Done(u32),
-    /// The vertex has failed: its execution had a fault.
+    /// The vertex has failed: it has a fault (`VertexFault`), and no outputs.
     Failed(u32),
 }
 

@@ -7,7 +7,7 @@ use llb_wire::Same;
 use std::error::Error;
 use std::fmt;
 
-/// Why a vertex fails: an action that could not be done, or the status with which its commands ended.
+/// Why a vertex fails: an action of a file op failed, or the last command that an exec ran ended with a status other than 0.
 #[derive(Clone, Copy, Debug, PartialEq, Eq)]
 pub enum VertexFault {
     /// An action failed: its number, and the number of its fault (21 to 26, or 52 for a text that is not a pattern).

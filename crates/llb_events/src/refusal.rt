@@ -1,4 +1,4 @@
-//! Why an event is refused. A fault prints its number; 135 `Held` then prints the ID of its key.
+//! Why an event is refused. A fault prints its number; 135 `Held` then prints the ID of the held key.
 
 ghost use Rattle.std.specs.Prelude.{Some};
 ghost use Rattle.llb_events.specs.Faults.{claim_text, step_text, settle_text, cancel_text};
@@ -151,7 +151,7 @@ impl From<TreeFault> for ClaimFault {
     }
 }
 
-/// Converts the fault of copying a text or the parts of an execution.
+/// Converts the fault of making or copying a program, a workspace or a text.
 impl From<llb_wire::Memory> for ClaimFault {
     ghost use Rattle.std.specs.Prelude.{◌≡◌};
     ghost use Rattle.llb_events.specs.declared.refusal.ClaimFault.TheVariants.{Memory};
@@ -175,7 +175,7 @@ impl From<llb_cache::Memory> for ClaimFault {
     }
 }
 
-/// Converts the fault of a lease of which the caller knows that no key is held; such a lease fails only for want of memory.
+/// Converts the fault of making a lease. The caller knows that no key is held, so the lease fails only for want of memory.
 impl From<llb_cache::LeaseFault> for ClaimFault {
     ghost use Rattle.std.specs.Prelude.{◌≡◌};
     ghost use Rattle.llb_events.specs.declared.refusal.ClaimFault.TheVariants.{Memory};
@@ -199,7 +199,7 @@ impl From<TreeFault> for StepFault {
     }
 }
 
-/// Converts the fault of a micro-step on a view; such a micro-step fails only for want of memory.
+/// Converts the fault of the call that does a micro-step. The call fails only for want of memory; if the micro-step itself faults, the call returns that fault.
 impl From<llb_wire::Memory> for StepFault {
     ghost use Rattle.std.specs.Prelude.{◌≡◌};
     ghost use Rattle.llb_events.specs.declared.refusal.StepFault.TheVariants.{Memory};

@@ -1,4 +1,4 @@
--- The rule of the queue: it relates what the queue holds, oldest first, and what the passes have put and taken.
+-- The rule of the queue. The rule relates the numbers in the queue (oldest first) to the numbers that the passes have put and taken.
 use Rattle.std.specs.Prelude.{◌≡◌, ℕ, ◌+◌, ◌*◌, ◌<◌, ◌≤◌, List, [], length, slice_index, sum, sum_by}
 use mathlib.Core.Option.{some}
 use lib.ListN.{get_elem?}
@@ -11,8 +11,8 @@ pub record IsPart (unit room weight : ℕ) (v : Hand) : Type 0 where
   pub idle : v.num ≡ 0 → (v.put ≡ []) × (v.taken ≡ [])
   pub same_room : 0 < v.num → v.room ≡ room
 
--- The fractions of the passes add up to the whole. For every function h from numbers to weights: the weights of the numbers that were put have the same sum
--- as the weights of the numbers that were taken and of those in the queue. The queue holds no more numbers than it has room for.
+-- The fractions of the passes add up to the whole. For every function h: the sum of h over all numbers that were put is the sum of h over all numbers that were
+-- taken, plus the sum of h over the numbers in the queue. The queue holds no more numbers than it has room for.
 pub record IsBalanced (items : List ℕ) (views : List Hand) : Type 0 where
   pub unit : ℕ
   pub room : ℕ

@@ -1,8 +1,8 @@
--- What contracts know of a pass, and how each call changes that. A pass is the right to put and take; it can be split into fractions.
+-- What contracts know of a pass, and how each call changes what they know. A pass is the right to put and take numbers; it can be split into fractions.
 use Rattle.std.specs.Prelude.{◌≡◌, ℕ, ◌+◌, ◌*◌, ◌<◌, List, [], ◌∷◌, ◌++◌}
 use Rattle.llb_ready.specs.declared.hand.Hand.{Hand}
 
--- A pass: its fraction num/den of the whole, the queue's room, and the numbers that it has put and taken.
+-- A pass with the fraction num/den of the whole, with this room of its queue, and with the numbers that the pass has put and taken.
 abbrev pub hand : ℕ → ℕ → ℕ → List ℕ → List ℕ → Hand
 hand num den room put taken = record { num = num; den = den; room = room; put = put; taken = taken }
 
@@ -14,7 +14,7 @@ HasPart v = (0 < v.num) × (0 < v.den)
 abbrev pub HasAll : Hand → Type 0
 HasAll v = v.num ≡ v.den
 
--- The two passes have the same fraction, as one pass has before and after it puts or takes.
+-- Two values of a pass, before and after a put or a take, have the same fraction.
 abbrev pub SamePart : Hand → Hand → Type 0
 SamePart old new = (new.num ≡ old.num) × (new.den ≡ old.den)
 
@@ -22,7 +22,7 @@ SamePart old new = (new.num ≡ old.num) × (new.den ≡ old.den)
 abbrev pub first_hand : ℕ → Hand
 first_hand room = hand 1 1 room [] []
 
--- While a queue is made, its pass gains room for one more number.
+-- The pass after the room of its queue grows by one number, which happens only while the queue is made.
 abbrev pub widened : Hand → Hand
 widened v = hand v.num v.den (v.room + 1) v.put v.taken
 

@@ -1,4 +1,4 @@
--- What clauses say of a queue and its passes.
+-- The definitions that clauses use for a queue and its passes.
 use Rattle.std.specs.Prelude.{◌≡◌, ℕ}
 use Rattle.crossbeam_queue.specs.Passes.{view, IsPassOf, ruled_capacity}
 use Rattle.llb_ready.specs.declared.hand.Hand.{Hand}

@@ -11,7 +11,7 @@ pub enum ReadyFault {
     Memory,
 }
 
-/// 146: the queue was full. The fault holds the number.
+/// 146: the queue was full. The fault holds the number that did not fit.
 #[derive(Clone, Copy, Debug, PartialEq, Eq, Error)]
 #[error("146 {0}")]
 pub struct Full(pub u32);

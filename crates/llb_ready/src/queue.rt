@@ -1,5 +1,5 @@
-//! The queue and its passes. A new queue has one pass, the whole. A fraction of this pass is split off for each thread, and the fractions are joined again
-//! before the queue is closed.
+//! The queue and its passes. A new queue has one pass, the whole one. The caller splits off a fraction of this pass for each thread, and joins the fractions
+//! again before it closes the queue.
 
 ghost use Rattle.std.specs.Prelude.{◌≡◌, ◌≤◌, ◌+◌, ℕ, List, length, IfOk, IfErr, IfSome, IfNone, OnOk, MatchResult, MatchOption};
 ghost use Rattle.crossbeam_queue.specs.Passes.{view};
@@ -40,7 +40,7 @@ impl ReadyQueue {
     {
         let (queue, whole) = RuledArrayQueue::ruled(alloc, n as usize)?;
         let mut pass = whole;
-        // In the rule of a new queue the room is 0; each of the `n` rounds makes this room larger by one. The numbers in the queue stay the same.
+        // By the rule, the pass of a new queue has room 0. Each of the `n` rounds adds 1 to this room, in contracts alone: the queue has all its room already.
         for _i in 0..n {
             drop(queue.another::<Widens>(&mut pass));
         }
@@ -81,8 +81,7 @@ impl ReadyQueue {
         ensures ok { OnOk result (hand_of pass.new ≡ with_put (hand_of pass.old) v) }
         ensures full { IfErr result (λ e. (e.0 ≡ v) × (hand_of pass.new ≡ hand_of pass.old)) }
 
-        // With the whole pass the call fails exactly if the queue is full: as many numbers were put as the sum of the numbers taken and the room of the
-        // queue.
+        // With the whole pass the call fails exactly if the queue is full: the count of puts is then the count of takes plus the room of the queue.
         ensures whole { let before = hand_of pass.old in IsWhole pass.old → MatchResult result (λ _. HasRoom before) (λ _. HasNoRoom before) }
     {
         let ReadyPass { pass } = pass;
@@ -100,7 +99,8 @@ impl ReadyQueue {
         ensures some { IfSome result (λ v. hand_of pass.new ≡ with_taken (hand_of pass.old) v) }
         ensures none { IfNone result (hand_of pass.new ≡ hand_of pass.old) }
 
-        // With the whole pass `None` is returned exactly if all numbers that were put were taken; and a number that is returned was put more often than taken.
+        // With the whole pass, `None` is returned exactly if all numbers that were put were taken; and a number that is returned was put more often than it was
+        // taken before this call.
         ensures whole { let before = hand_of pass.old in IsWhole pass.old → MatchOption result (HasTakenAll before) (HasLeft before) }
     {
         let ReadyPass { pass } = pass;

@@ -1,4 +1,4 @@
-//! The rule of the queue, and how each kind of step changes a pass. Nothing here runs.
+//! The rule of the queue, and how each kind of step changes a pass. These types are for contracts; no code here runs.
 
 use crate::hand::Hand;
 use crossbeam_queue::protocol::{Join, Lesson, Outcome, Protocol, Split};

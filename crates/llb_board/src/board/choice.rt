@@ -1,4 +1,4 @@
-//! Chooses the next event among the workers that run.
+//! Chooses the next event: a step or a settle of a running worker.
 
 ghost use Rattle.std.specs.Prelude.{◌≡◌};
 ghost use Rattle.llb_model.specs.Run.{next_of};
@@ -8,7 +8,7 @@ use crate::vertices::Vertices;
 use crate::workers::Workers;
 use llb_events::Event;
 
-/// Returns the next event of the running worker with the lowest number: a settle if its vertex is finished, else a step. `None` if no worker runs.
+/// Returns the next event of the running worker with the lowest number: a settle if the worker's vertex is finished, else a step. `None` if no worker runs.
 pub(crate) fn next_event(vertices: &Vertices, workers: &Workers) -> Option<Event>
     ensures { result ≡ next_of vertices.now.build 0 workers.now.workers }
 {

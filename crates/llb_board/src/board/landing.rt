@@ -1,5 +1,6 @@
-//! The landing of an outcome: all remaining micro-steps of a worker and its settle at once, for work that was done away from the board. A landing settles the
-//! vertex and repeats no micro-step. `land` compares the trees of the outcome's job with the worker's, by value; `land_known` compares nothing.
+//! Lands an outcome: after the work was done away from the board, puts the effect of all remaining micro-steps of a worker and of its settle on the board at
+//! once. No micro-step is done again. `land` compares the outcome's job with the job that remains for the worker on the board, with their trees by value;
+//! `land_known` compares nothing.
 
 ghost use Rattle.std.specs.Prelude.{◌≡◌, option_map, slice_get, IfOk, IfErr, OnOk, OnErr};
 ghost use Rattle.std.specs.List.{list_any};
@@ -44,8 +45,8 @@ impl Board {
         Ok(self.settle(w).unwrap())
     }
 
-    /// Lands an outcome as `land` does, but compares nothing. The caller has to know that the outcome's job is what the worker runs, that no cache mount is at
-    /// or before the vertex, and that the worker has done no micro-step of the vertex. Does not allocate.
+    /// Lands an outcome as `land` does, but compares nothing. The caller has to know that the outcome's job is the one that the worker's claim handed out, that
+    /// no cache mount is at or before the vertex, and that the worker has done no micro-step of the vertex on the board. Does not allocate.
     pub fn land_known(&mut self, w: u32, outcome: Outcome) -> Settled
         requires known { IsKnown self.old w outcome.job }
         ensures gives { Lands self.old w outcome self.new (HasSettled result) }
@@ -55,22 +56,22 @@ impl Board {
         self.settle(w).unwrap()
     }
 
-    /// Returns whether a worker holds an instance of a shared cache; if so, no outcome of its vertex can be landed. False if the worker runs nothing or there
-    /// is no such worker. Does not allocate.
+    /// Returns whether a worker holds an instance of a shared cache; if so, no outcome of the worker's vertex can be landed. Returns false if the worker runs
+    /// nothing or there is no such worker. Does not allocate.
     pub fn has_shared(&self, w: u32) -> bool
         ensures { result ≡ runs_shared (slice_get self.now.state.workers w) }
     {
         has_shared(self.workers.places(w))
     }
 
-    /// Returns the cache instances that a worker holds; none if it runs nothing, or there is no such worker. Does not allocate.
+    /// Returns the cache instances that a worker holds; none if the worker runs nothing, or there is no such worker. Does not allocate.
     pub fn places(&self, w: u32) -> &[Instance]
         ensures { result.now ≡ places_at (slice_get self.now.state.workers w) }
     {
         self.workers.places(w)
     }
 
-    /// Returns the workspace of what a worker runs; `None` if it runs nothing, or there is no such worker. Does not allocate.
+    /// Returns the workspace of what a worker runs; `None` if the worker runs nothing, or there is no such worker. Does not allocate.
     pub fn workspace(&self, w: u32) -> Option<&Workspace>
         ensures { option_map (λ v. v.now) result ≡ option_map (λ (x : Execution). x.own) (runs (slice_get self.now.state.workers w)) }
     {
@@ -97,7 +98,7 @@ impl Board {
         }
     }
 
-    // Puts the result of an outcome's micro-steps into the worker's execution and the caches, and records these micro-steps.
+    // Puts the result of an outcome's micro-steps into what the worker runs and into the caches, and records these micro-steps.
     fn go_through(&mut self, w: u32, outcome: Outcome)
         requires { CanLand self.old w outcome.job }
         ensures { IsThrough self.old w outcome.count self.new }
@@ -110,7 +111,7 @@ impl Board {
     }
 }
 
-// Returns the fault for a cause, with the outcome in it.
+// Returns the fault for a cause; the fault holds the outcome.
 fn refused(cause: LandCause, outcome: Outcome) -> LandFault
     ensures { result ≡ land_fault cause outcome }
 {

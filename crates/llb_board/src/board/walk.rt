@@ -1,4 +1,4 @@
-//! Does an event and keeps what is needed to undo it, for callers that step through a run forwards and back.
+//! Does an event and returns what is needed to undo it, for callers that step through a run forwards and back.
 
 ghost use Rattle.std.specs.Prelude.{◌≡◌, OnErr, IfOk};
 ghost use Rattle.llb_board.specs.Undo.{GivesWalk, walk_of, undone, CanUndo};
@@ -8,7 +8,7 @@ use crate::fault::WalkFault;
 use crate::workers::Undo;
 use llb_events::{Cancelled, Event, Settled, Stepped};
 
-/// The reply to an event; unlike the table's reply, the reply to a claim has no job.
+/// The reply to an event. It is the table's reply, except that the reply to a claim has no job.
 #[derive(Clone, Copy, Debug, PartialEq, Eq)]
 pub enum Reply {
     Claimed,
@@ -17,7 +17,7 @@ pub enum Reply {
     Cancelled(Cancelled),
 }
 
-/// The result of an event: its reply, and what is needed to undo it.
+/// The result of `walk`: the reply to the event, and what is needed to undo the event.
 #[derive(Drop)]
 pub struct Walked {
     pub reply: Reply,
@@ -26,7 +26,7 @@ pub struct Walked {
 
 impl Board {
     /// Does an event, and returns its reply together with an `Undo` that takes the event back. The memory for the `Undo` grows with what the event changes.
-    /// Fails with the fault of the claim, the step, the settle or the cancel, or with 141 `Memory`, which may come in place of another fault.
+    /// Fails with the fault of the claim, the step, the settle or the cancel, or with 141 `Memory`, which may be reported even if another fault applies.
     pub fn walk(&mut self, event: Event) -> Result<Walked, WalkFault>
         ensures gives { GivesWalk (λ r. (self.new, r.reply)) result (walk_of self.old event) }
         ensures undo { IfOk result (λ r. undone r.undo self.new ≡ self.old) }

@@ -11,7 +11,7 @@ use std::marker::Model;
 /// Events in their order. Contracts see the list of events, and for how many events memory is reserved.
 pub struct Events {
     items: Vec<Event>,
-    // Memory is reserved for at least this number of events.
+    // Memory is reserved for at least this number of events, those in `items` included.
     room: usize,
 }
 
@@ -63,7 +63,7 @@ impl Events {
         self.items.pop()
     }
 
-    /// Reserves room for `more` further events. Fails with 141 `Memory` alone; then the room is as it was.
+    /// Adds `more` to the number of events for which memory is reserved. Fails with 141 `Memory` alone; then the room is as it was.
     pub(crate) fn take_room(&mut self, more: usize) -> Result<(), Memory>
         ensures list { self.new.list ≡ self.old.list }
         ensures room { OnOk result (self.new.room ≡ self.old.room + more) }
@@ -77,7 +77,7 @@ impl Events {
         Ok(())
     }
 
-    /// Releases room for `more` events.
+    /// Subtracts `more` from the number of events for which memory is reserved, down to 0 at the least. Does not free memory.
     pub(crate) fn give_room(&mut self, more: usize)
         ensures list { self.new.list ≡ self.old.list }
         ensures room { self.new.room ≡ self.old.room - more }
@@ -85,7 +85,7 @@ impl Events {
         self.room = self.room.saturating_sub(more);
     }
 
-    /// Returns a copy of the events with as much room. Fails with 141 `Memory` alone.
+    /// Returns a copy of the events, with room for as many events. Fails with 141 `Memory` alone.
     pub(crate) fn with_same(&self, alloc: Global) -> Result<Events, Memory>
         ensures list { IfOk result (λ e. e.list ≡ self.now.list) }
         ensures room { IfOk result (λ e. e.room ≡ self.now.room) }
@@ -119,7 +119,7 @@ impl Events {
         self.items.is_empty()
     }
 
-    /// Returns a copy of the events, with no room for further ones. Fails with 141 `Memory` alone.
+    /// Returns a copy of the events, with no room for further events. Fails with 141 `Memory` alone.
     pub fn copy(&self) -> Result<Events, Memory>
         ensures { IfOk result (λ e. e.list ≡ self.now.list) }
     {

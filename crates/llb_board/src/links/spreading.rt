@@ -1,11 +1,11 @@
-//! Marks that spread from a vertex to all that are downstream of it.
+//! Spreads a mark from a vertex to everything downstream of the vertex.
 
 ghost use Rattle.std.specs.Prelude.{◌≡◌, ◌<◌, ◌≤◌, ◌+◌, [], ◌∷◌, length, map, vec_capacity};
 ghost use Rattle.std.specs.List.{All};
 ghost use Rattle.llb_board.specs.Links.{Spreads, Visits, unmarked};
 
-/// Marks a vertex and everything downstream of it, if everything downstream of the marked vertices is marked already. The list `reached` is empty before and
-/// after, and has room for all vertices.
+/// Marks a vertex and everything downstream of it. The caller has to know that everything downstream of a marked vertex is marked. The list `reached` is
+/// empty before and after the call, and has room for all vertices.
 pub(crate) fn spread(users: &[Vec<u32>], reached: &mut Vec<u32>, marks: &mut [bool], v: u32)
     requires count { length users.now ≡ length marks.old }
     requires low { v < length marks.old }

@@ -1,4 +1,4 @@
-//! What a board is opened on: the graph, and the trees of local sources by name.
+//! The build that a board is opened with: the graph, and the trees of local sources by name.
 
 ghost use Rattle.std.specs.Prelude.{◌≡◌, ◌<◌, ◌^◌, length, option_map, slice_get, IfOk};
 ghost use Rattle.llb_loader.specs.Graph.{IsGraph};
@@ -35,7 +35,7 @@ impl Build {
         Build { graph, locals }
     }
 
-    /// Copies the build, which shares the graph and the trees. Fails with 92 `Memory` alone.
+    /// Copies the build; the copy shares the graph and the trees. Fails with 92 `Memory` alone.
     pub(crate) fn copy(&self) -> Result<Build, Memory>
         ensures { IfOk result (λ b. b ≡ self.now) }
     {

@@ -1,4 +1,4 @@
-//! Marks on the vertices that have failed and on all that are downstream of them.
+//! Keeps marks on the vertices that have failed and on all vertices downstream of them.
 
 ghost use Rattle.std.specs.Prelude.{◌≡◌, ◌<◌, [], map, length, slice_get, slice_set, false, unwrap_or};
 ghost use Rattle.std.specs.List.{list_any};
@@ -21,7 +21,7 @@ pub(crate) fn is_marked(stop_marks: &[bool], v: u32) -> bool
     stop_marks.get(v as usize).copied().unwrap_or(false)
 }
 
-/// Updates the marks after the state of vertex `v` alone has changed; `had` is its state before the change.
+/// Updates the marks after a change of the state of vertex `v` alone; `had` is the state of `v` before the change.
 pub(crate) fn mark(
     stop_marks: &mut [bool],
     links: &mut Links,

@@ -21,7 +21,7 @@ pub(crate) fn is_ready(stages: &[Stage], links: &Links, v: u32) -> bool
     }
 }
 
-/// Returns whether a vertex is done or failed, or waits and is marked (is downstream of a failed vertex).
+/// Returns whether a vertex is done or failed, or waits and is marked, which means that it is downstream of a failed vertex.
 pub(crate) fn is_ended(stages: &[Stage], stop_marks: &[bool], v: u32) -> bool
     ensures { result ≡ (is_settled (slice_get (map status_of stages.now) v)
         || (is_waiting (slice_get (map status_of stages.now) v) && unwrap_or (slice_get stop_marks.now v) false)) }
@@ -35,7 +35,8 @@ pub(crate) fn is_ended(stages: &[Stage], stop_marks: &[bool], v: u32) -> bool
     }
 }
 
-/// Returns a number `n` at or after `from`, such that no vertex below `n` can be claimed now or later. The caller knows this of the vertices below `from`.
+/// Returns a number `n` at or after `from`, such that no vertex whose number is below `n` can be claimed now or later. The caller has to know that no vertex
+/// whose number is below `from` can be claimed now or later.
 pub(crate) fn first_open(
     build: &Build,
     stages: &[Stage],

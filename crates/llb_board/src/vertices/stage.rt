@@ -11,7 +11,7 @@ use llb_tree::Tree;
 use llb_wire::{Many, Same};
 use std::alloc::Global;
 
-/// The state of a vertex: it waits, a worker runs it, or it ended with its trees or its fault.
+/// The state of a vertex: the vertex waits, a worker runs it, or it ended with its outputs or a fault.
 #[derive(Drop)]
 pub(crate) enum Stage {
     /// No worker runs the vertex, and it has not ended.
@@ -45,7 +45,7 @@ impl Stage {
         }
     }
 
-    /// Returns a copy, which shares the trees. Fails with 141 `Memory` alone.
+    /// Returns a copy of the state; the copy shares the trees. Fails with 141 `Memory` alone.
     pub(crate) fn copy(&self, alloc: Global) -> Result<Stage, Memory>
         ensures { IfOk result (λ s. s ≡ self.now) }
     {

@@ -1,5 +1,5 @@
-//! A claim in two parts. The first does all tests that can refuse the claim, and prepares what the worker will run. The second makes the lease of the cache
-//! instances, and fails only for want of memory.
+//! Does a claim in two parts. The first part does all tests that can refuse the claim, and prepares what the worker will run. The second part leases the cache
+//! instances and makes the worker run the vertex; it fails only for want of memory.
 
 ghost use Rattle.std.specs.Prelude.{◌≡◌, ◌<◌, ◌^◌, length, map, true, Ok, Some, OnErr, OnOk, IfErr, IfOk};
 ghost use Rattle.std.specs.List.{All};
@@ -34,7 +34,8 @@ use llb_wire::Many;
 use std::alloc::Global;
 use std::marker::Model;
 
-/// A claim that is prepared: the job, what the worker will run, the needs of the lease to be made, and the rows in which the keys of the needs were found.
+/// A prepared claim: the job, what the worker will run, the needs for the lease (a key, and the tree with which a new instance begins), and the rows in which
+/// these keys were found.
 pub(crate) struct Begun {
     job: Job,
     execution: Execution,
@@ -74,7 +75,7 @@ impl Model for Begun {
 }
 
 impl Begun {
-    // Returns the fields, from which `start` makes the claim.
+    // Returns the fields of a prepared claim, for `start`.
     fn into_parts(self) -> (Job, Execution, Vec<Need>, Vec<Option<usize>>)
         ensures job { result.0 ≡ self.job }
         ensures execution { execution_of result.1 ≡ self.execution }
@@ -92,9 +93,9 @@ impl Begun {
 }
 
 impl Workers {
-    /// Prepares a worker's claim of a vertex, and changes nothing yet. Fails with the first of 131 `NoWorker`, 132 `Busy`, 133 `NoVertex`, 134 `NotReady`
-    /// and 135 `Held` that applies, or with 141 `Memory`: if nothing else refuses the claim, or in place of 135 if memory for the text of the held key is
-    /// refused.
+    /// Prepares a worker's claim of a vertex, and changes nothing yet. Fails with the first of 131 `NoWorker`, 132 `Busy`, 133 `NoVertex`, 134 `NotReady` and
+    /// 135 `Held` that applies. Fails with 141 `Memory` in place of 135 if memory for a copy of the held key is refused, and for other memory only if none of
+    /// these faults applies.
     pub(crate) fn begin(
         &self,
         alloc: Global,
@@ -118,8 +119,8 @@ impl Workers {
         begun_with(alloc, vertices, (w, v), vertex, &wanted)
     }
 
-    /// Makes a worker run the vertex of a claim that was prepared on this state, and leases the cache instances. Fails with 141 alone; then nothing has
-    /// changed.
+    /// Does a claim that was prepared on this state: leases the cache instances, and makes the worker run the vertex. Returns the job. Fails with 141 `Memory`
+    /// alone; then nothing has changed.
     pub(crate) fn start(&mut self, vertices: &Vertices, begun: Begun) -> Result<Job, ClaimFault>
         requires { IsBegunOn vertices.now self.old begun }
         ensures job { IfOk result (λ job. job ≡ begun.job) }
@@ -146,9 +147,9 @@ impl Workers {
     }
 }
 
-// Makes the job and the execution of a vertex, before its first micro-step, given what was looked up for each cache that the vertex mounts. Both have the
-// trees of the inputs and the cache instances that a lease will take; the execution also has an empty tree for each output, and the micro-steps. Fails with
-// 134 `NotReady` if an input is not done, or with 141 `Memory`.
+// Prepares the claim of a vertex, given what was looked up for each cache that the vertex mounts. The job and the execution both have the trees of the inputs
+// and the cache instances that the lease will take; the execution also has an empty tree for each output, and the micro-steps. Fails with 134 `NotReady` if an
+// input is not done, or with 141 `Memory`.
 fn begun_with(
     alloc: Global,
     vertices: &Vertices,

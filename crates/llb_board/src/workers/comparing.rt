@@ -15,7 +15,8 @@ use llb_execution::Job;
 use llb_tree::Tree;
 use llb_wire::Same;
 
-/// Returns whether a job has this worker's number, and the execution's vertex and count of micro-steps done, and no micro-step of the execution has faulted.
+/// Returns whether the job's worker is `w`, the job's vertex and count of micro-steps done are those of the execution, and no micro-step of the execution has
+/// faulted.
 pub(crate) fn is_begun(w: u32, execution: &Execution, job: &Job) -> bool
     ensures { IsTrue result ↔ IsBegun w (execution_of execution.now) job.now }
 {
@@ -25,7 +26,7 @@ pub(crate) fn is_begun(w: u32, execution: &Execution, job: &Job) -> bool
         && execution.fault.is_none()
 }
 
-/// Returns whether each of these instances, which all exist, has the tree at the same position of `trees`, and both lists are equally long.
+/// Returns whether both lists are equally long, and the tree of each instance equals the tree at the same position of `trees`. All the instances must exist.
 pub(crate) fn has_trees(caches: &Caches, places: &[Instance], trees: &[Tree]) -> bool
     requires { (p : model.Instance) → Has places.now p → p.number < length (trees_of caches.now.rows p.key) }
     ensures { IsTrue result ↔ (trees.now ≡ trees_at (store_of caches.now.rows) places.now) }
@@ -41,7 +42,7 @@ pub(crate) fn has_trees(caches: &Caches, places: &[Instance], trees: &[Tree]) ->
     true
 }
 
-// Returns whether an instance, which exists, has this tree.
+// Returns whether an instance has this tree. The instance must exist.
 fn has_tree(caches: &Caches, place: &Instance, tree: &Tree) -> bool
     requires { place.now.number < length (trees_of caches.now.rows place.now.key) }
     ensures { IsTrue result ↔ (tree.now ≡ tree_of (store_of caches.now.rows) place.now) }
@@ -52,7 +53,7 @@ fn has_tree(caches: &Caches, place: &Instance, tree: &Tree) -> bool
     }
 }
 
-/// Returns whether these instances have these numbers.
+/// Returns whether both lists are equally long, and the number of each instance is the number at the same position of `numbers`.
 pub(crate) fn has_numbers(places: &[Instance], numbers: &[u32]) -> bool
     ensures { IsTrue result ↔ (numbers.now ≡ map number_of places.now) }
 {

@@ -1,4 +1,4 @@
-//! Copies what workers have. A copy shares the trees.
+//! Copies what workers run. A copy shares the trees.
 
 ghost use Rattle.std.specs.Prelude.{◌≡◌, map, IfOk};
 ghost use Rattle.llb_board.specs.Supplies.{ready_made};
@@ -35,7 +35,7 @@ fn copied_seat(alloc: Global, seat: &Seat) -> Result<Seat, Memory>
     }
 }
 
-/// Copies what a running worker has; trees are shared. Fails with 141 `Memory` alone.
+/// Copies what a running worker holds; the copy shares the trees. Fails with 141 `Memory` alone.
 pub(crate) fn copied(alloc: Global, execution: &Execution) -> Result<Execution, Memory>
     ensures { IfOk result (λ x. left_in x ≡ left_in execution.now) }
 {

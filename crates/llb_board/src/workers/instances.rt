@@ -1,4 +1,4 @@
-//! The cache instances of a worker: leasing them, reading their trees for a micro-step, writing the trees after it, and giving the lease back. A
+//! Leases the cache instances of a worker, reads their trees before a micro-step, writes their trees after the micro-step, and gives the lease back. A
 //! worker whose vertex mounts no cache has no lease.
 
 ghost use Rattle.std.specs.Prelude.{◌≡◌, ◌≢◌, ◌<◌, ◌^◌, map, length, AllPairs, IfOk, IfErr, OnErr, Ok, true};
@@ -46,9 +46,9 @@ fn content(alloc: Global, caches: &Caches, place: &Instance) -> Result<Tree, Ste
     }
 }
 
-/// Leases an instance for each of these needs; `None` if there are no needs. The needs must have distinct keys; `rows` has for each key the row
-/// that is tried first. Fails with 111 `Held` and the first locked key that is held, or with 112 `Memory`; then the caches are as they
-/// were.
+/// Leases an instance for each of these needs (a key, and the tree with which a new instance begins), and returns the lease; `None` if there are no needs. The
+/// needs must have distinct keys; `rows` has for each key the row in which the key is looked for first. Fails with 111 `Held` and the first locked key that is
+/// held, or with 112 `Memory`; then the caches are as they were.
 pub(crate) fn lease_for(
     caches: &mut Caches,
     needs: Vec<Need>,
@@ -86,7 +86,7 @@ pub(crate) fn take_back(caches: &mut Caches, lease: Option<Lease>, growths: &[Gr
     }
 }
 
-/// Returns a prepared lease of these instances, with room for this many leases; `None` if there are no instances. Fails with 141 `Memory` alone.
+/// Prepares a lease of these instances, with a list that has room for `room` leases; `None` if there are no instances. Fails with 141 `Memory` alone.
 pub(crate) fn lent_for(
     alloc: Global,
     places: &[Instance],
@@ -100,7 +100,7 @@ pub(crate) fn lent_for(
     Ok(Some(Lent::new(alloc, places, room)?))
 }
 
-/// Makes a lease that was prepared, if there is one, and returns it. Does not allocate.
+/// Makes the prepared lease current, if there is one, and returns it. Does not allocate.
 pub(crate) fn lend_again(caches: &mut Caches, lent: Option<Lent>) -> Option<Lease>
     requires { ForSome lent (CanLend caches.old) }
     ensures { (result, caches.new) ≡ lent_if caches.old lent }
@@ -111,7 +111,7 @@ pub(crate) fn lend_again(caches: &mut Caches, lent: Option<Lent>) -> Option<Leas
     }
 }
 
-/// Replaces the trees of a lease's instances by these trees. If there is no lease, `trees` must be empty.
+/// Replaces the trees of a lease's instances by `trees`, in order. If there is no lease, `trees` must be empty.
 pub(crate) fn write_back(caches: &mut Caches, lease: Option<Lease>, trees: Vec<Tree>)
     requires count { length trees.items ≡ length (leased_places caches.old.out lease) }
     requires few { length trees.items < 2 ^ 32 }
@@ -123,7 +123,7 @@ pub(crate) fn write_back(caches: &mut Caches, lease: Option<Lease>, trees: Vec<T
     }
 }
 
-// Replaces the trees of a lease's instances by these trees.
+// Replaces the trees of a lease's instances by `trees`, in order.
 fn write_all(caches: &mut Caches, lease: Lease, trees: Vec<Tree>)
     requires count { length trees.items ≡ length (places_of caches.old.out lease) }
     requires few { length trees.items < 2 ^ 32 }

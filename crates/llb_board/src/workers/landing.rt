@@ -1,4 +1,4 @@
-//! Compares a job with the job that remains for a worker, by value, and replaces the worker's execution by the result of the job's micro-steps.
+//! Compares a job with the job that remains for a worker, by value, and puts the result of the job's micro-steps into what the worker runs and into the caches.
 
 ghost use Rattle.std.specs.Prelude.{◌≡◌, ◌↔◌, ◌<◌, length, true, Some, slice_get, slice_set, is_some, IsTrue};
 ghost use Rattle.std.specs.Bool.{OnTrue, OnFalse};
@@ -39,8 +39,8 @@ impl Workers {
         }
     }
 
-    /// Replaces the state of a worker's execution by the result of the outcome's micro-steps, and writes the trees of the
-    /// worker's instances. Does not allocate.
+    /// Puts the result of the outcome's micro-steps in place of the worker's count, fault and workspace, and writes the outcome's trees to the worker's
+    /// instances. Does not allocate.
     pub(crate) fn land(&mut self, vertices: &Vertices, w: u32, outcome: Outcome)
         requires runs { RunsJob vertices.now self.old w outcome.job }
         requires fits { Fits vertices.now.build self.old }
@@ -56,7 +56,7 @@ impl Workers {
     }
 }
 
-// Returns whether a job is the one that remains for worker `w`, which has this execution, with the caches as they are now.
+// Returns whether a job is the one that remains for worker `w`, which runs this execution, with the caches as they are now.
 fn is_left(vertices: &Vertices, caches: &Caches, w: u32, execution: &Execution, job: &Job) -> bool
     requires vertex { is_some (slice_get vertices.now.build.graph.vertices execution.now.vertex) ≡ true }
     requires supplies { supplies_of execution.now ≡ supplies_for (slice_get vertices.now.build.graph.vertices execution.now.vertex) }

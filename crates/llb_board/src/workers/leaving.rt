@@ -1,4 +1,4 @@
-//! A worker settles or cancels what it runs; its cache instances are then free again.
+//! Settles or cancels what a worker runs; the worker's cache instances are then free again.
 
 ghost use Rattle.std.specs.Prelude.{◌≡◌, OnErr, OnOk, IfOk, option_map, replicate, slice_get, slice_set};
 ghost use Rattle.llb_tree.specs.Tree.{empty_tree};

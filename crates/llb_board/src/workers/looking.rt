@@ -29,7 +29,7 @@ impl Workers {
     }
 }
 
-// Returns tree `i` of the trees that an execution works on; all its cache instances exist.
+// Returns tree `i` of the trees that an execution works on. All cache instances of the execution must exist.
 fn tree_in<'a>(caches: &'a Caches, execution: &'a Execution, i: u32) -> Option<&'a Tree>
     requires { (p : model.Instance) → Has execution.now.places.items p → p.number < length (trees_of caches.now.rows p.key) }
     ensures { option_map (λ t. t.now) result ≡ slice_get (worked_by (store_of caches.now.rows) (Some (execution_of execution.now))) i }
@@ -43,7 +43,7 @@ fn tree_in<'a>(caches: &'a Caches, execution: &'a Execution, i: u32) -> Option<&
     }
 }
 
-// Returns the tree of the held instance at index `k`; all held instances exist.
+// Returns the tree of the instance at index `k` of `places`; `None` past the last instance. All these instances must exist.
 fn instance_at<'a>(caches: &'a Caches, places: &[Instance], k: usize) -> Option<&'a Tree>
     requires { (p : model.Instance) → Has places.now p → p.number < length (trees_of caches.now.rows p.key) }
     ensures { option_map (λ t. t.now) result ≡ slice_get (trees_at (store_of caches.now.rows) places.now) k }
@@ -54,7 +54,7 @@ fn instance_at<'a>(caches: &'a Caches, places: &[Instance], k: usize) -> Option<
     caches.instance(&place.key, place.number)
 }
 
-// Returns the instance at index `k`.
+// Returns the instance at index `k`; `None` past the last instance.
 fn place_at(places: &[Instance], k: usize) -> Option<&Instance>
     ensures { option_map (λ p. p.now) result ≡ slice_get places.now k }
 {

@@ -1,5 +1,5 @@
-//! The caches that a vertex mounts, and what its claim takes of them: the instances, the trees that they begin with, and the needs of a lease. This module
-//! reads the mounts of a vertex and the caches, and changes neither.
+//! Finds the caches that a vertex mounts, and what a claim takes of them: the instances, the trees with which the instances begin, and the needs for a lease.
+//! Nothing here changes the caches.
 
 ghost use Rattle.std.specs.Prelude.{◌≡◌, ◌<◌, ◌^◌, Ok, IfErr, IfOk, MatchResult, Some, None, true, map, length, option_map};
 ghost use Rattle.std.specs.List.{All};
@@ -21,8 +21,8 @@ use llb_ops::Mount;
 use llb_tree::Tree;
 use std::alloc::Global;
 
-/// A cache that an exec mounts: the number of the mount, the key, the number of the input whose tree a new instance begins with (-1 for none), and what the
-/// caches have for the key.
+/// A cache that an exec mounts: the number of the mount, the key, the number of the input with whose tree a new instance begins (-1 for none), and what was
+/// found in the caches for the key.
 #[derive(Drop)]
 pub(crate) struct Wanted<'a> {
     pub mount: u32,
@@ -31,7 +31,7 @@ pub(crate) struct Wanted<'a> {
     pub found: Found<'a>,
 }
 
-/// What a claim takes of the caches, computed before anything changes.
+/// What a claim takes of the caches, found before the claim changes anything.
 #[derive(Drop)]
 pub(crate) struct Taking {
     pub places: Vec<Instance>,
@@ -45,7 +45,7 @@ pub(crate) struct Taking {
 }
 
 // Returns the caches that a vertex mounts, in the order of the mounts. Fails with 135 `Held` and the first locked key whose instance a lease has; in that
-// case, allocates only the copy of that key, and fails with 141 `Memory` if this copy is refused. If no key is held, fails with 141 alone.
+// case the call allocates only a copy of the key, and fails with 141 `Memory` if memory for the copy is refused. If no key is held, fails with 141 alone.
 pub(crate) fn wanted_by<'a>(
     alloc: Global,
     caches: &'a Caches,
@@ -82,7 +82,8 @@ pub(crate) fn growths_of(
     Ok(growths)
 }
 
-// Returns the row of the last locked key that a vertex mounts. Fails with the first locked key of the vertex whose instance a lease has. Does not allocate.
+// Returns the number of the row of the last locked key that a vertex mounts; `None` if no such row exists. Fails with the first locked key of the vertex whose
+// instance a lease has. Does not allocate.
 fn last_locked<'a>(caches: &Caches, vertex: &'a Vertex) -> Result<Option<usize>, KeyRef<'a>>
     requires { HasEdges vertex.now }
     ensures { MatchResult result (λ _. first_held_key caches.now.out (needs_of vertex.now) ≡ None)
@@ -102,7 +103,7 @@ fn last_locked<'a>(caches: &Caches, vertex: &'a Vertex) -> Result<Option<usize>,
     Ok(row)
 }
 
-// Looks up the caches that a vertex mounts. For each key, the row of number `near` is tried first.
+// Looks up the caches that a vertex mounts. For each key, the row with the number `near` is tried first. Fails with 141 `Memory` alone.
 fn wants<'a>(
     alloc: Global,
     caches: &'a Caches,
@@ -152,8 +153,8 @@ fn key_shown<'a>(vertex: &'a Vertex, mount: &'a Mount) -> Option<KeyRef<'a>>
     Some(KeyRef::new(options.id.as_str(), seed, mode_of(options.sharing)))
 }
 
-// Returns the seed of a cache (the output that a new instance begins with): the digest text and the index that input number `input` of the vertex names;
-// `None` if `input` is negative.
+// Returns the seed of a cache (the output with whose tree a new instance begins): the digest text and the index that input number `input` of the vertex names;
+// `None` if `input` is negative or there is no such input.
 fn seed_shown(vertex: &Vertex, input: i64) -> Option<(&str, u32)>
     requires { HasEdges vertex.now }
     ensures { option_map (λ s. seed_by s.0.now s.1) result ≡ option_map seed_as (seed_of vertex.now.op.inputs input) }
@@ -210,7 +211,7 @@ pub(crate) fn taking_for(
     })
 }
 
-// Returns the instances that a lease of these caches would take.
+// Returns the instances that a lease of these caches would take. Fails with 141 `Memory` alone, as do the functions below.
 fn places_found(alloc: Global, wanted: &[Wanted<'_>]) -> Result<Vec<Instance>, ClaimFault>
     ensures { GivesClaim (λ ps. ps.items) result (Ok (map place_found wanted.now)) }
 {
@@ -233,7 +234,7 @@ fn instance_numbers(alloc: Global, places: &[Instance]) -> Result<Vec<u32>, Clai
     Ok(numbers)
 }
 
-// Copies the trees that the instances begin with.
+// Copies the trees with which the instances begin.
 fn first_trees(
     alloc: Global,
     inputs: &[Tree],

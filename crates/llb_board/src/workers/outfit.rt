@@ -1,4 +1,4 @@
-//! What an execution of a vertex begins with besides its view.
+//! What a claim prepares from the vertex alone.
 
 ghost use Rattle.std.specs.Prelude.{Ok};
 ghost use Rattle.llb_board.specs.Outfits.{outfit_as, outfit_of};
@@ -10,7 +10,7 @@ use llb_loader::Vertex;
 use llb_tree::Tree;
 use std::alloc::Global;
 
-/// What a vertex's execution holds besides its view: the program, an empty tree for each output, and the micro-steps.
+/// What a claim prepares from the vertex alone: the program (for the job), and for the worker an empty tree for each output and the micro-steps.
 #[derive(Drop)]
 pub(crate) struct Outfit {
     pub program: Program,
@@ -18,7 +18,7 @@ pub(crate) struct Outfit {
     pub steps: Steps,
 }
 
-/// Returns what the execution of a vertex begins with besides its view. Fails with 141 `Memory` alone.
+/// Makes the outfit for a vertex. Fails with 141 `Memory` alone.
 pub(crate) fn outfit_for(alloc: Global, vertex: &Vertex) -> Result<Outfit, ClaimFault>
     ensures { GivesClaim outfit_as result (Ok (outfit_of vertex.now)) }
 {

@@ -1,4 +1,4 @@
-//! What each worker runs, and what the execution needs until its end.
+//! What each worker runs, and what a running worker holds until its settle or cancel.
 
 ghost use Rattle.std.specs.Prelude.{◌≡◌, ◌↔◌, ◌<◌, ◌+◌, ◌^◌, ◌||◌, ℕ, IsTrue, IfOk, Option, Some, is_some, length, map, nat_le, option_map};
 ghost use Rattle.std.specs.Prelude.{replicate, slice_get, slice_set};
@@ -21,12 +21,12 @@ use std::mem;
 pub(crate) enum Seat {
     /// The worker runs no vertex.
     Idle,
-    /// The worker runs a vertex: the lease of its cache instances, if it has one, and everything else that it holds.
+    /// The worker runs a vertex: the lease of the worker's cache instances, if there is one, and everything else that the worker holds.
     Runs(Option<Lease>, Execution),
 }
 
-/// What a running worker holds: in `places` the cache instances that it has leased, in `outputs` an empty tree for each
-/// output of its vertex; `steps` are the vertex's micro-steps.
+/// The execution of a vertex, which is what a running worker holds: in `places` the cache instances that the worker has leased, in `outputs` an empty tree for
+/// each output of the vertex, and in `steps` the vertex's micro-steps.
 #[derive(Drop)]
 pub(crate) struct Execution {
     pub vertex: u32,
@@ -58,14 +58,14 @@ pub(crate) fn seat_at(seats: &[Seat], w: u32) -> Option<&Seat>
     seats.get(w as usize)
 }
 
-/// Returns whether all micro-steps of an execution are done, or one has faulted.
+/// Returns whether an execution is finished: `steps` micro-steps are done, or one has faulted.
 pub(crate) fn is_finished(execution: &Execution, steps: u32) -> bool
     ensures { result ≡ (is_some execution.now.fault || nat_le steps execution.now.done) }
 {
     execution.fault.is_some() || steps <= execution.done
 }
 
-/// Makes a worker idle, and returns the lease that it had, if any.
+/// Makes a worker idle, and returns the lease that the worker had, if any.
 pub(crate) fn make_idle(seats: &mut Vec<Seat>, w: u32) -> Option<Lease>
     requires { w < length seats.old.items }
     ensures idle { seats.new.items ≡ slice_set seats.old.items w seat.Idle }
@@ -76,7 +76,7 @@ pub(crate) fn make_idle(seats: &mut Vec<Seat>, w: u32) -> Option<Lease>
     lease
 }
 
-/// Makes a running worker idle, and returns the lease that it had, if any, and what it ran.
+/// Makes a running worker idle, and returns the lease that the worker had, if any, and its execution.
 pub(crate) fn vacate(seats: &mut Vec<Seat>, w: u32) -> (Option<Lease>, Execution)
     requires low { w < length seats.old.items }
     requires runs { IsRunning (slice_get seats.old.items w) }
@@ -89,8 +89,8 @@ pub(crate) fn vacate(seats: &mut Vec<Seat>, w: u32) -> (Option<Lease>, Execution
     }
 }
 
-/// Takes back the last micro-step of a worker: the execution's count, fault and view are again as they were before the micro-step. Returns the worker's lease,
-/// if any.
+/// Takes back the last micro-step of a worker: the worker's count, fault and workspace are again as they were before the micro-step. Returns the worker's
+/// lease, if any.
 pub(crate) fn step_back(seats: &mut Vec<Seat>, w: u32, saved: Saved) -> Option<Lease>
     requires { w < length seats.old.items }
     ensures before { seats.new.items ≡ slice_set seats.old.items w (seat_before saved (slice_get seats.old.items w)) }
@@ -108,8 +108,8 @@ pub(crate) fn step_back(seats: &mut Vec<Seat>, w: u32, saved: Saved) -> Option<L
     lease
 }
 
-/// Adds to a running worker's execution the micro-steps that are done, with the fault and the view that they left, and returns the worker's lease. Does not
-/// allocate.
+/// Adds the number of micro-steps in `done` to a running worker's count, sets the worker's fault and workspace to those after these micro-steps, and returns
+/// the worker's lease, if any. Does not allocate.
 pub(crate) fn put_left(
     seats: &mut Vec<Seat>,
     w: u32,
@@ -133,7 +133,7 @@ pub(crate) fn put_left(
     lease
 }
 
-/// Returns whether each worker runs the same in both lists, by value; the numbers of leases are not compared. Does not allocate.
+/// Returns whether both lists are equally long and each worker runs the same in both, by value; the numbers of leases are not compared. Does not allocate.
 pub(crate) fn same_seats(seats: &[Seat], others: &[Seat]) -> bool
     ensures { IsTrue result ↔ (map at_of seats.now ≡ map at_of others.now) }
 {
@@ -158,7 +158,7 @@ fn same_seat(seat: &Seat, other: &Seat) -> bool
     }
 }
 
-// Returns whether two executions are of the same vertex and have the same view, the same instances, the same count of micro-steps done and the same fault.
+// Returns whether two executions have the same vertex, workspace, instances, count of micro-steps done, and fault.
 fn same_execution(execution: &Execution, other: &Execution) -> bool
     ensures { IsTrue result ↔ (execution_of execution.now ≡ execution_of other.now) }
 {

@@ -25,8 +25,8 @@ use llb_execution::MicroStep;
 use std::alloc::Global;
 
 impl Workers {
-    /// Does the next micro-step of what a worker runs, on its cache instances as they are now, and writes their new trees at once. Fails with
-    /// 131 `NoWorker`, 136 `NotRunning`, 137 `NothingLeft` or 141 `Memory`; then nothing has changed.
+    /// Does the next micro-step of what a worker runs, on the worker's cache instances as they are now, and writes the new trees of these instances at once.
+    /// Fails with 131 `NoWorker`, 136 `NotRunning`, 137 `NothingLeft` or 141 `Memory`; then nothing has changed.
     pub(crate) fn step(
         &mut self,
         alloc: Global,
@@ -54,7 +54,7 @@ impl Workers {
     }
 }
 
-// Does the next micro-step of an execution on the instances of its lease as they are now, and writes them back.
+// Does the next micro-step of an execution on the instances of its lease as they are now, and writes the new trees to these instances.
 fn micro_step(
     alloc: Global,
     vertices: &Vertices,
@@ -93,7 +93,7 @@ fn micro_step(
     Ok(told(next, done, execution.view.last(), fault))
 }
 
-// Returns the reply to the micro-step with the number `done`, which was not skipped, given the last status and the fault after that micro-step.
+// Returns the reply to micro-step number `done`, which was not skipped, given the last status and the fault after this micro-step.
 fn told(step: MicroStep<'_>, done: u32, last: u32, fault: Option<VertexFault>) -> Stepped
     ensures { (before : model.Workspace) (left : Left) → is_skipped (parts.step_in step.entry) before ≡ false → last_of left.work.own ≡ last
         → left.fault ≡ fault → HasStepped result ≡ table.step_reply done (parts.step_in step.entry) before left }

@@ -1,4 +1,4 @@
-//! What an event displaces (changes) in the workers and the caches is kept before the event, and is put back when the event is taken back. One item is
+//! Keeps before an event what the event will displace (change) in the workers and the caches, and puts it back when the event is taken back. One item is
 //! kept for each cache that the vertex of the event mounts, and none for any other cache.
 
 ghost use Rattle.std.specs.Prelude.{◌≡◌, ◌<◌, false, length, map, option_map, slice_get, IfOk, IfErr, Err};
@@ -42,13 +42,13 @@ impl Drop for Undo {
 pub(crate) enum Back {
     /// For a claim: the worker, the vertex, and what the claim's lease added to the caches.
     Unclaim(u32, u32, Vec<Growth>),
-    /// For a step: the worker, what the micro-step could change of its view, and the trees of its cache instances.
+    /// For a step: the worker, what the micro-step could change in the workspace, and the trees of the worker's cache instances.
     Unstep(u32, Saved, Vec<Tree>),
-    /// For a settle or a cancel: which of the two it was, the worker, what it ran, and a prepared lease of its cache instances, if it had any.
+    /// For a settle or a cancel: which of the two it was, the worker, what the worker ran, and a prepared lease of the worker's cache instances, if any.
     Resume(End, u32, Execution, Option<Lent>),
 }
 
-/// The event by which a worker ends what it runs.
+/// Which of two kinds of events ended the execution.
 #[derive(Clone, Copy)]
 pub(crate) enum End {
     /// A settle: the execution was finished.
@@ -87,8 +87,8 @@ impl Undo {
 }
 
 impl Workers {
-    /// Returns what is needed to take back an event that is about to be done. Fails with 131 `NoWorker` or 136 `NotRunning` if the event itself would fail
-    /// so, or with 141 `Memory`.
+    /// Returns what is needed to take back an event, before the event is done. Fails with 141 `Memory`; for an event that is not a claim, fails also with 131
+    /// `NoWorker` or 136 `NotRunning`, if the event itself would fail with this number.
     pub(crate) fn before(
         &self,
         alloc: Global,
@@ -178,7 +178,7 @@ impl Workers {
     }
 }
 
-// Puts back what an event displaced.
+// Puts back what an event displaced. Returns the vertex whose status changes, with its status before the event; `None` for a step.
 fn displace(seats: &mut Vec<Seat>, caches: &mut Caches, back: Back) -> Option<Change>
     requires can { CanPutBack (record { back = back_in back })
         (record { workers = map at_of seats.old.items; rows = caches.old.rows; supplies = map ready_made seats.old.items }) }
