@@ -11,7 +11,7 @@ use Rattle.llb_applet.specs.Applets.{spells}
 use Rattle.llb_applet.specs.Words.{Call, first_call, bad_place_of, calls_of}
 use Rattle.llb_applet.specs.Calls.{command_of}
 
--- a command with its join
+-- a command with its join, which says by the last status whether the command runs
 abbrev pub joined : Join → Command → Joined
 joined join command = record { join = join; command = command }
 

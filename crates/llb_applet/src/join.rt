@@ -1,4 +1,4 @@
-//! How the commands of a script follow each other.
+//! The commands of a script with their joins. A join says by the last status whether a command runs.
 
 ghost use Rattle.std.specs.Prelude.{Ok};
 ghost use Rattle.llb_applet.specs.Faults.{Gives};

@@ -1,4 +1,4 @@
-//! What a script's commands share.
+//! The setting of a script's commands: their working directory and their environment.
 
 ghost use Rattle.std.specs.Prelude.{◌≡◌, IfOk};
 

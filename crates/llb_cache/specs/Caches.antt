@@ -93,7 +93,7 @@ unfoldable pub first_free : Leases → Key → ℕ → ℕ → ℕ
 first_free out key n zero = n
 first_free out key n (suc more) = if is_held out (place key n) then first_free out key (n + 1) more else n
 
--- the number of the instance that a new lease takes: 0 for a shared or locked key; for a private key the least that no lease has, at most the number of leases
+-- the number of the instance that a new lease takes: 0 for a shared or a locked key; for a private key the least number whose instance no current lease has
 abbrev pub number_for : Leases → Key → Mode → ℕ
 number_for out key Shared = 0
 number_for out key Locked = 0
@@ -143,7 +143,7 @@ granted c needs = (
   },
 )
 
--- the result of a lease of these needs, given the first need that cannot be met: the lease is refused with the key of this need, or granted if there is none
+-- the result of a lease of these needs; the last argument is the first need that can't be met, if any: the lease is refused with its key, or else granted
 abbrev pub lease_by : CachesValue → List Need → Option Need → Result (ℕ × CachesValue) LeaseFault
 lease_by c needs None = Ok (granted c needs)
 lease_by c needs (Some n) = Err (Held n.key)
@@ -198,7 +198,7 @@ AreApart out = (a : ℕ) (ps : List Instance) → Has out a ps → AllPairs (λ 
 abbrev pub AreThere : List Row → Leases → Type 0
 AreThere rows out = (a : ℕ) (ps : List Instance) → Has out a ps → All (λ p. p.number < length (trees_of rows p.key)) ps
 
--- no key has more than 65,536 instances; the number of leases has the same limit
+-- no key has more than 65,536 instances, which is also the limit on the number of current leases
 abbrev pub AreFew : List Row → Type 0
 AreFew rows = (key : Key) → length (trees_of rows key) ≤ 65536
 

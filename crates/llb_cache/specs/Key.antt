@@ -38,7 +38,7 @@ abbrev pub has_digest : Option Seed → Bool
 has_digest (Some s) = not (length s.digest == 0)
 has_digest None = false
 
--- whether the ID or the digest text of a key is not empty, so that a copy of the key takes memory
+-- whether the ID of a key, or the digest text of its seed, is not empty, so that a copy of the key takes memory
 abbrev pub has_text : Key → Bool
 has_text k = not (length k.id == 0) || has_digest k.seed
 

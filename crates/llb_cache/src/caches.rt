@@ -38,7 +38,7 @@ impl Model for Lease {
 }
 
 impl Lease {
-    /// Returns the number of the lease: the least that no other lease had when this lease was granted.
+    /// Returns the number of the lease: the least number that no other current lease had when this lease was granted.
     pub fn number(&self) -> u32
         ensures { result ≡ self.now }
     {

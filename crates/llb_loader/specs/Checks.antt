@@ -27,17 +27,17 @@ pub record FirstUnknown (rows : List Row) (t : ℕ) (op : Op) (i : ℕ) : Type 0
   pub unknown : row_named rows t (input_at op i).digest ≡ None
   pub before : NamesAll rows t op i
 
--- of the marked rows with an input that names no row, e names the row with the least number, and the first such input of that row
+-- e is `UnknownDigest` (86) with the first marked row that has an input that names no row, and with the first such input of that row
 abbrev pub RefusesUnknown : List Row → ℕ → List Op → (ℕ → Type 0) → LoadFault → Type 0
 RefusesUnknown rows t ops Marked e = (k : ℕ) × (i : ℕ) × (e ≡ UnknownDigest k i) × Marked k × FirstUnknown rows t (op_at ops k) i
     × ((j : ℕ) → j < k → Marked j → NamesAll rows t (op_at ops j) (length (op_at ops j).inputs))
 
--- of the marked rows whose op has an unsupported feature, e names the row with the least number, and the first such feature of its op
+-- e is `Unsupported` (88) with the first marked row whose op has an unsupported feature, and with the first such feature of that op
 abbrev pub RefusesFeature : List Op → (ℕ → Type 0) → LoadFault → Type 0
 RefusesFeature ops Marked e = (k : ℕ) × (f : Feature) × (e ≡ Unsupported k f) × Marked k × (feature_of (op_at ops k) ≡ Some f)
     × ((j : ℕ) → j < k → Marked j → feature_of (op_at ops j) ≡ None)
 
--- of the marked rows whose op breaks a rule, e names the row with the least number, and the first rule that its op breaks
+-- e is `Invalid` (89) with the first marked row whose op breaks a rule, and with the first rule that this op breaks
 abbrev pub RefusesRule : List Op → (ℕ → Type 0) → LoadFault → Type 0
 RefusesRule ops Marked e = (k : ℕ) × (r : Rule) × (e ≡ Invalid k r) × Marked k × BreaksFirst (op_at ops k) r
     × ((j : ℕ) → j < k → Marked j → MeetsRules (op_at ops j))
@@ -60,7 +60,7 @@ pub record FirstBad (counts named : List ℕ) (op : Op) (n i : ℕ) : Type 0 whe
 abbrev pub asked_of : List Op → List Bool → ℕ → ℕ → ℕ
 asked_of ops seen terminal k = cond (slice_index_or seen k false) (length (op_at ops k).inputs) (cond (k == terminal) 1 0)
 
--- of the rows in which a checked input (`asked_of`) names no output that exists, e names the row with the least number, and the first such input of that row
+-- e is `BadIndex` (90) with the first row that has a checked input (`asked_of`) that names no existing output, and with the first such input of that row
 abbrev pub RefusesIndex : List Op → List (List ℕ) → List ℕ → List Bool → ℕ → LoadFault → Type 0
 RefusesIndex ops links counts seen t e = (k : ℕ) × (i : ℕ) × (e ≡ BadIndex k i) × (k < length ops)
     × FirstBad counts (inputs links k) (op_at ops k) (asked_of ops seen t k) i

@@ -13,12 +13,12 @@ use Rattle.llb_loader.specs.declared.fault.Rule.TheVariants as rule
 use Rattle.llb_loader.specs.declared.fault.LoadFault.{LoadFault}
 use Rattle.llb_loader.specs.declared.fault.LoadFault.TheVariants as fault
 
--- whether a fault is `Memory`: the code fails with this fault if memory is refused; the definitions of results never have it
+-- whether a fault is `Memory`, with which a call fails if memory is refused; no definition of a refusal has this fault
 abbrev pub is_memory : LoadFault → Bool
 is_memory fault.Memory = true
 is_memory _ = false
 
--- a call has the result that its definition has (the function maps the call's value to the definition's value), or the call fails with `Memory`
+-- a call returns or fails as its rule says, or fails with `Memory`; the argument of type `X → Y` turns the call's value into the value that the rule returns
 abbrev pub Gives : {X Y : Type 0} → (X → Y) → Result X LoadFault → Result Y LoadFault → Type 0
 Gives = answer.Gives is_memory
 

@@ -1,4 +1,4 @@
--- The graph that rows make, or the first fault: when each refusal applies, and what holds if neither it nor an earlier refusal applies.
+-- The graph that rows make, or the first fault: for each refusal, when it applies, and what holds if this refusal and all earlier ones do not apply.
 use Rattle.std.specs.Prelude.{◌≡◌, ℕ, ◌<◌, ◌≤◌, pos, nat_abs, List, [], length, map, slice_index_or, Option, Some, None, ◌⊎◌}
 use Rattle.std.specs.Option.{unwrap_or}
 use Rattle.llb_ops.specs.declared.op.Op.{Op}

@@ -1,4 +1,4 @@
--- Where an unnumbered row is put: among the ready rows, or in the list of a row that it waits for. A `Waiter` is the row, and how many inputs were checked.
+-- An unnumbered row is put among the ready rows, or in the list of rows that wait for one row. A `Waiter` is a row, and how many of its inputs were checked.
 use Rattle.std.specs.Prelude.{◌≡◌, ℕ, ◌<◌, ◌≤◌, Bool, true, false, cond, List, [], ◌∷◌, ◌++◌, ◌⊎◌, length, slice_index, slice_index_or, slice_set, ◌==◌}
 use Rattle.std.specs.List.{All}
 use Rattle.llb_loader.specs.declared.numbering.Waiter.{Waiter}
@@ -13,14 +13,14 @@ pub record IsChecked (g : List (List ℕ)) (done : List Bool) (w : Waiter) : Typ
   pub within : w.checked ≤ length (inputs g w.row)
   pub passed : (i : ℕ) → i < w.checked → IsMarked done (slice_index (inputs g w.row) i)
 
--- `done` marks all rows that the waiter's row names, and the waiter's row joins the ready rows
+-- `done` marks all rows that the inputs of the waiter's row name, and the waiter's row joins the ready rows
 pub record GoesToReady (g : List (List ℕ)) (done : List Bool) (w : Waiter) (ready next_ready : ℕ → Bool)
     (waiting next_waiting : List (List Waiter)) : Type 0 where
   pub all : All (IsMarked done) (inputs g w.row)
   pub added : (q : ℕ) → next_ready q ≡ cond (w.row == q) true (ready q)
   pub same : next_waiting ≡ waiting
 
--- the waiter's row names row b, which `done` does not mark, and now waits for row b
+-- an input of the waiter's row names row b, which `done` does not mark, and the waiter's row now waits for row b
 pub record GoesToWaiting (g : List (List ℕ)) (done : List Bool) (w : Waiter) (ready next_ready : ℕ → Bool)
     (waiting next_waiting : List (List Waiter)) (b : ℕ) (next : Waiter) : Type 0 where
   pub edge : HasEdge g w.row b
@@ -31,7 +31,7 @@ pub record GoesToWaiting (g : List (List ℕ)) (done : List Bool) (w : Waiter) (
   pub below : b < length waiting
   pub pushed : next_waiting ≡ slice_set waiting b (slice_index_or waiting b [] ++ next ∷ [])
 
--- the waiter's row joins the ready rows, or waits for a row that it names and that has no number yet
+-- the waiter's row joins the ready rows, or waits for a row that one of its inputs names and that has no number yet
 abbrev pub IsPlacing : List (List ℕ) → List Bool → Waiter → (ℕ → Bool) → (ℕ → Bool) → List (List Waiter) → List (List Waiter) → Type 0
 IsPlacing g done w ready next_ready waiting next_waiting =
     GoesToReady g done w ready next_ready waiting next_waiting

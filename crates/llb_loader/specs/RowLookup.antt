@@ -1,4 +1,4 @@
--- Look-ups in the rows: which are distinct, which one is the terminal, and which one a digest text names.
+-- What is looked up in rows: which rows are distinct, which row is the terminal, and which row a digest text names.
 use Rattle.std.specs.Prelude.{◌≡◌, ◌≢◌, ℕ, ◌-◌, ◌<◌, ◌==◌, cond, List, [], length, map, slice_index_or, position, Option, Some, None}
 use Rattle.std.specs.List.{filter_map}
 use Rattle.std.specs.Option.{unwrap_or}
@@ -42,12 +42,12 @@ first_with rows d = position (λ r. bytes_eq d r.digest) rows
 abbrev pub terminal_in : List Row → ℕ
 terminal_in rows = unwrap_or (first_with rows (row_at rows (length rows - 1)).digest) 0
 
--- row k; none if there is no row k, or if k is t
+-- the number of a row, if there is one and it is not t; else none
 abbrev pub other_than : ℕ → Option ℕ → Option ℕ
 other_than t (Some k) = cond (k == t) None (Some k)
 other_than t None = None
 
--- the row that a digest text names: the first row with this digest text, or none if that row is the terminal, which no input can name
+-- the row that a digest text names: the first row with this digest text; none if there is no such row, or if it is the terminal t, which no input can name
 abbrev pub row_named : List Row → ℕ → List ℕ → Option ℕ
 row_named rows t d = other_than t (first_with rows d)
 

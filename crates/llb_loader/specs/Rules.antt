@@ -234,12 +234,12 @@ abbrev pub Breaks : List Input → Option Kind → List Rule → Rule → Type 0
 Breaks inputs kind [] broken = ⊥
 Breaks inputs kind (r ∷ rs) broken = ((broken ≡ r) × (¬ Meets inputs kind r)) ⊎ (Meets inputs kind r × Breaks inputs kind rs broken)
 
--- the fault of an exec's script, as `script_fault` says; for another kind a fault that is not used
+-- the fault with which the words of an exec are not a script; if they are a script, or for another kind, a fault that is not used
 abbrev pub kind_fault : Option Kind → ScriptFault
 kind_fault (Some (Exec x)) = script_fault x.meta
 kind_fault _ = script_fault None
 
--- the rules in the order in which they are checked; the rule on scripts has the script's fault
+-- the rules in the order in which they are checked; the rule `Script` has the fault of the exec's words as its argument
 abbrev pub rules_on : Option Kind → List Rule
 rules_on kind =
     rule.NoKind ∷ rule.LocalName ∷ rule.NoActions ∷ rule.ActionInput ∷ rule.ActionOutput

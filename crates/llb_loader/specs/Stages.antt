@@ -27,7 +27,7 @@ pub record IsLinked (l : Linked) : Type 0 where
   pub seen : length l.seen.items ≡ length l.rows.items
   pub exact : (k : ℕ) → IsMarked l.seen.items k ↔ ReachedRow (plan_in l) k
 
--- n has what the digest texts in the ops of these rows name. The terminal and the row of the result in n are those of the rows' plan;
+-- n is what the digest texts in the ops of these rows are resolved to. The terminal and the row of the result in n are those of the rows' plan;
 -- `links` has for each row the rows that its inputs name; each input of a reached row names a row; `seen` marks the reached rows.
 pub record AreNames (rows : List Row) (ops : List Op) (n : Names) : Type 0 where
   pub planned : IsPlanOf rows ops (plan rows ops n.terminal n.start)

@@ -104,7 +104,7 @@ fn script_in(alloc: Global, op: &Op) -> Result<Option<Script>, Memory>
     }
 }
 
-// Reads the words of an exec as a script; returns `None` if there are no words.
+// Reads the words of an exec as a script; returns `None` if there is no `meta`, or if its words are no script.
 fn commands_in(alloc: Global, meta: &Option<Meta>) -> Result<Option<Script>, Memory>
     ensures { IfOk result (λ script. script ≡ commands_in meta.now) }
 {
@@ -117,7 +117,7 @@ fn commands_in(alloc: Global, meta: &Option<Meta>) -> Result<Option<Script>, Mem
     match read_script(alloc, meta.args.as_slice()) {
         Ok(script) => Ok(Some(script)),
         Err(ScriptFault::Memory) => Err(Memory),
-        // Unreachable in a graph: the rules refuse words that are no script.
+        // No op of a graph leads here: by the rules, the words of each exec are a script.
         Err(_) => Ok(None),
     }
 }

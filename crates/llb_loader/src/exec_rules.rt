@@ -1,5 +1,5 @@
-//! Finds the first rule on execs that an op breaks. The rules are checked in five groups: an exec has words and mounts; the paths; the types, inputs and
-//! outputs of the mounts; the cache mounts; the script.
+//! Finds the first rule on execs that an op breaks. The rules are checked in five groups: that there are words and mounts; the rules on
+//! paths; those on types, inputs and outputs of mounts; those on cache mounts; and the rule on the script.
 
 ghost use Rattle.std.specs.Prelude.{◌≡◌, ◌↔◌, Some, IsSome, IfOk, IsTrue, List};
 ghost use Rattle.std.specs.List.{All};
@@ -42,7 +42,7 @@ pub(crate) fn broken_in_exec(
     broken_script(alloc, exec)
 }
 
-// Returns the first broken one of three rules: the exec has a `meta`, its `args` has at least one word, and it has at least one mount.
+// Returns the first rule that the exec breaks of these three: it has a `meta`, the `args` have at least one word, and there is at least one mount.
 fn broken_word(exec: &ExecOp) -> Option<Rule>
     ensures { (inputs : List Input) → IsFirstBroken inputs (Some (kind.Exec exec.now)) word_rules result }
 {

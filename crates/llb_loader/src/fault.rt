@@ -1,5 +1,5 @@
 //! The faults of loading. A fault prints what comes after the word `fault` in a refusal: its number, and then its
-//! arguments; a feature or a rule is printed as its name. Refusals of memory of any kind become `Memory` by `?`.
+//! arguments; a feature or a rule is printed as its name. The operator `?` turns each error for refused memory into `Memory`.
 
 ghost use Rattle.std.specs.Prelude.{◌≡◌, Some, codes};
 ghost use Rattle.std.specs.Fmt.{◌++?◌, DisplaysOnOk, decimal};
@@ -12,8 +12,8 @@ use std::alloc::{AllocError, AllocFailed};
 use std::{error, fmt};
 use thiserror::Error;
 
-/// Why a definition is refused. If several faults apply, the one with the least number is reported; of several with that number, the one of the least row; of
-/// several of that row, the one of the least input, or with the first feature or rule.
+/// Why a definition is refused. If several faults apply, the one with the least number is reported; of several with that number, the one with the
+/// least row; and of that row the first faulty input, feature or rule.
 #[derive(Drop)]
 pub enum LoadFault {
     /// 81: the definition is not readable; its fault follows.

@@ -124,8 +124,8 @@ impl Graph {
         })
     }
 
-    /// Proves that every edge leads to an output of a vertex with a lower number, and the result to an output of a
-    /// vertex; that the result depends on every vertex; that every vertex is of a supported kind and the only vertex
+    /// Proves that every edge leads to an output of a vertex with a lower number; that the result is an output of one
+    /// of the vertices, and depends on every vertex; that every vertex is of a supported kind, and is the only vertex
     /// with its digest; and that there are at most 65,536 vertices.
     pub fn is_graph(&self)
         ensures { IsGraph self.now }

@@ -63,8 +63,8 @@ struct Names {
 /// Returns the graph of the rows. The terminal is the first row that equals the last row; the terminal's first input names the result.
 ///
 /// Fails with 82 `Entry`, 83 `TooFew`, 84 `Collision`, 85 `NoResult`, 86 `UnknownDigest`, 87 `Cycle`, 88 `Unsupported`, 89 `Invalid` or 90 `BadIndex`. If
-/// several of these apply, the call fails with the least number; there with the least row (but 86 looks at the terminal's first input before all others), and
-/// there with the least input, or the first feature or rule. Fails with 91 `Memory` if memory is refused.
+/// several of these apply, the call fails with the least number. A fault with a row has the first faulty row (but 86 looks at the terminal's first input before
+/// all others), and with it that row's first faulty input, feature or rule. Fails with 91 `Memory` if memory is refused.
 pub fn link(alloc: Global, rows: &[Row]) -> Result<Graph, LoadFault>
     requires { length rows.now ≤ 65_536 }
     ensures graph { IfOk result (λ g. IsGraphOf rows.now g) }

@@ -6,7 +6,7 @@ ghost use Rattle.llb_loader.specs.MountTypes.{number_of};
 
 use llb_ops::Mount;
 
-/// What a mount shows.
+/// The type of a mount: what the mount shows.
 #[derive(Clone, Copy, Debug, PartialEq, Eq)]
 pub enum MountType {
     /// An input of the op, or the empty tree.

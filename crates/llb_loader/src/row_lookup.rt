@@ -80,7 +80,7 @@ pub(crate) fn terminal_of(rows: &[Row], index: &BTreeMap<&str, usize>) -> usize
 {
     match index.get(rows[rows.len() - 1].digest.as_str()) {
         Some(row) => *row,
-        // Unreachable: the index has the digest of each row.
+        // This case never occurs: the index has the digest text of each row.
         None => 0,
     }
 }

@@ -10,7 +10,7 @@ is_memory Memory = true
 is_memory (MissingLocal name) = false
 is_memory (HasCache v) = false
 
--- a call returns what its rule returns (the function turns the code's value into the rule's value), or the call fails with `Memory`
+-- a call returns or fails as its rule says, or fails with `Memory`; the argument of type `X → Y` turns the call's value into the value that the rule returns
 abbrev pub Gives : {X Y : Type 0} → (X → Y) → Result X PlainFault → Result Y PlainFault → Type 0
 Gives = answer.Gives is_memory
 

@@ -1,5 +1,5 @@
-//! Why a graph is not evaluated. A fault prints its number, and then its argument. Refusals of memory of any kind become
-//! `Memory` by `?`.
+//! Why a graph is not evaluated. A fault prints its number, and then its argument. The operator `?` turns each error for
+//! refused memory into `Memory`.
 
 use llb_tree::TreeFault;
 use llb_wire::Text;

@@ -17,9 +17,9 @@ use std::marker::Model;
 /// How a vertex ends.
 #[derive(Drop)]
 pub enum Outcome {
-    /// The vertex is done; its outputs, in the order of their numbers.
+    /// The vertex is done, with these outputs in the order of their numbers.
     Done(Many<Tree>),
-    /// The vertex failed; its first fault.
+    /// The vertex failed, with this first fault.
     Failed(VertexFault),
     /// The vertex can't run, since one of its inputs is not done.
     Blocked,
