@@ -11,7 +11,7 @@ use Rattle.llb_applet.specs.Words.{calls_from}
 use Rattle.llb_applet.specs.Calls.{command_of}
 use Rattle.llb_applet.specs.Scripts.{joined, commands_of}
 
--- a list with the text between two spaces as its one word; the empty list if that text is empty
+-- a list of one word, the text between two spaces; or the empty list if this text is empty
 abbrev pub some_word : List ℕ → List (List ℕ)
 some_word part = if length part == 0 then [] else part ∷ []
 

@@ -62,7 +62,7 @@ pub fn put_file(
     put_there(alloc, view, spot, meta, content)
 }
 
-// Puts a file at a spot, even if the spot is a mount's dest and no entry is there. Otherwise does as `put_file` does.
+// Puts a file at a spot, as `put_file` does, but even if the spot is a mount's dest and no entry is there.
 fn put_there(
     alloc: Global,
     view: &mut View,
@@ -103,7 +103,7 @@ pub fn put_shared(
     share_there(alloc, view, spot, meta, content)
 }
 
-// Puts a file with the content of another file at a spot, even if the spot is a mount's dest and no entry is there. Otherwise does as `put_shared` does.
+// Puts a file with the content of another file at a spot, as `put_shared` does, but even if the spot is a mount's dest and no entry is there.
 fn share_there(
     alloc: Global,
     view: &mut View,

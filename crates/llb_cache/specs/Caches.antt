@@ -93,7 +93,7 @@ unfoldable pub first_free : Leases → Key → ℕ → ℕ → ℕ
 first_free out key n zero = n
 first_free out key n (suc more) = if is_held out (place key n) then first_free out key (n + 1) more else n
 
--- the number of the instance that a new lease takes: 0 for a shared or a locked key; for a private key the least number whose instance no current lease has
+-- the number of the instance that a new lease takes: 0 if the key is shared or locked; else the least whose instance no lease has, at most the number of leases
 abbrev pub number_for : Leases → Key → Mode → ℕ
 number_for out key Shared = 0
 number_for out key Locked = 0
@@ -143,7 +143,7 @@ granted c needs = (
   },
 )
 
--- the result of a lease of these needs; the last argument is the first need that can't be met, if any: the lease is refused with its key, or else granted
+-- the result of a lease of these needs: refused with the key of n, if n is the first need that can't be met; granted if there is no such need
 abbrev pub lease_by : CachesValue → List Need → Option Need → Result (ℕ × CachesValue) LeaseFault
 lease_by c needs None = Ok (granted c needs)
 lease_by c needs (Some n) = Err (Held n.key)

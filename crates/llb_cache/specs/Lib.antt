@@ -1,6 +1,6 @@
--- Read first Caches (keys with their instances, leases, and what each call does to them), Key (which keys are the same) and Faults (how calls fail). Growing
--- has what is prepared for a lease; Growth what a lease adds to the rows, and how this is removed; Marks the marks of leased instances; KeyOrder and RowOrder
--- the order in which keys are searched; FirstRows the row of a key. LawsOfKeys shows that `same_key` is an equivalence, which the `Eq` of `Key` cites.
+-- Read first Caches (keys with their instances, leases, and what each call does to them), Key (which keys are the same) and Faults (how calls fail). Then
+-- Growing (what is prepared for a lease), Growth (what a lease adds to the rows, and how this is removed), Marks (the marks of leased instances), KeyOrder and
+-- RowOrder (the order in which keys are searched), FirstRows (the row of a key) and LawsOfKeys (`same_key` is an equivalence, as the `Eq` of `Key` requires).
 pub mod Key
 pub mod LawsOfKeys
 pub mod KeyOrder

@@ -1,5 +1,5 @@
-//! Finds the first rule on execs that an op breaks. The rules are checked in five groups: that there are words and mounts; the rules on
-//! paths; those on types, inputs and outputs of mounts; those on cache mounts; and the rule on the script.
+//! Finds the first rule on execs that an op breaks. The rules are checked in five groups: the rules on the presence of words
+//! and mounts; on paths; on the types, inputs and outputs of mounts; on cache mounts; and on the script.
 
 ghost use Rattle.std.specs.Prelude.{◌≡◌, ◌↔◌, Some, IsSome, IfOk, IsTrue, List};
 ghost use Rattle.std.specs.List.{All};

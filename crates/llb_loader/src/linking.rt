@@ -32,7 +32,7 @@ struct Linked {
     terminal: usize,
     // The row that the terminal's first input names.
     start: usize,
-    // `links` has for each row the rows that its inputs name, and `seen` whether the row is reached from `start`.
+    // For each row, `links` has the rows that the row's inputs name, and `seen` has whether the row is reached from `start`.
     links: Vec<Vec<usize>>,
     seen: Vec<bool>,
 }

@@ -30,7 +30,7 @@ impl Row {
         Row { digest, bytes }
     }
 
-    // Returns the digest text of the row, which is moved and not copied.
+    // Returns the digest text of the row; the text is moved, not copied.
     pub(crate) fn into_digest(self) -> Text
         ensures { result ≡ self.digest }
     {

@@ -12,7 +12,7 @@ abbrev pub cache_from : ℕ → List Vertex → Option ℕ
 cache_from k [] = None
 cache_from k (v ∷ vs) = if has_cache v then Some k else cache_from (k + 1) vs
 
--- `MissingLocal` with the name of a source without a tree, if one is passed; else `HasCache` with a vertex that mounts a cache, if one is passed; else `all`
+-- `MissingLocal` with the name of a source without a tree, if there is one; else `HasCache` with a vertex that mounts a cache, if there is one; else `all`
 abbrev pub unless_refused : Option (List ℕ) → Option ℕ → List Outcome → Result (List Outcome) PlainFault
 unless_refused (Some name) cache all = Err (MissingLocal name)
 unless_refused None (Some v) all = Err (HasCache v)
