@@ -229,7 +229,7 @@ fn is_kind(view: &View, spot: &Spot, kind: Kind) -> bool
     }
 }
 
-// Runs a command, and returns whether it is done; if it is not, the view is as it was.
+// Runs a command, and returns whether the command is done; if not, the view is as it was.
 fn done(
     alloc: Global,
     command: &Command,

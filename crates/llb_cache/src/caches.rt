@@ -202,7 +202,7 @@ impl Caches {
         take_back(&mut self.out, lease.number);
     }
 
-    /// Returns whether a lease of this key would be refused: the key is locked, and a lease has its instance. Does not allocate.
+    /// Returns whether a lease of this key would be refused: the key is locked, and a lease has the key's instance. Does not allocate.
     pub fn is_locked_and_held(&self, key: &KeyRef<'_>) -> bool
         ensures { result ≡ (is_locked key.now.mode && is_held self.now.out (place key.now 0)) }
     {

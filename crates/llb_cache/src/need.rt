@@ -26,7 +26,7 @@ pub struct Instance {
 pub struct Found<'a> {
     /// The number of the key's row; `None` if the key has no row. A later look-up may try that row first.
     pub row: Option<usize>,
-    /// Whether a lease of the key would be refused: the key is locked, and a lease has its instance.
+    /// Whether a lease of the key would be refused: the key is locked, and a lease has the key's instance.
     pub is_held: bool,
     /// The number of the instance that a lease of the key would take.
     pub number: u32,

@@ -55,7 +55,7 @@ impl Caches {
         }
     }
 
-    // Returns whether a key is locked and a lease has its instance. The rows are searched only for a locked key.
+    // Returns whether a key is locked and a lease has the key's instance. The rows are searched, row `near` first, only for a locked key.
     pub(crate) fn holds_locked(&self, key: &KeyRef<'_>, near: Option<usize>) -> bool
         ensures { result ≡ (is_locked key.now.mode && is_held self.now.out (place key.now 0)) }
     {
@@ -66,7 +66,7 @@ impl Caches {
         }
     }
 
-    // Returns the number of the instance that a new lease takes for a key. The rows are searched only for a private key.
+    // Returns the number of the instance that a new lease takes for a key. The rows are searched, row `near` first, only for a private key.
     pub(crate) fn number_for(&self, key: &KeyRef<'_>, near: Option<usize>) -> u32
         ensures { result ≡ number_for self.now.out key.now key.now.mode }
     {

@@ -11,16 +11,16 @@ use Rattle.llb_loader.specs.Scripts.{script_in}
 use Rattle.llb_loader.specs.RowLookup.{row_at}
 use Rattle.llb_loader.specs.Linking.{op_at, input_at}
 
--- edge i of a list; past the end the edge to output 0 of vertex 0
+-- edge i of a list; the edge to output 0 of vertex 0 past the end
 abbrev pub edge_at : List Edge → ℕ → Edge
 edge_at edges i = slice_index_or edges i (record { vertex = 0; index = 0 })
 
--- vertex n; past the last vertex an empty one
+-- vertex n; an empty vertex past the end
 abbrev pub vertex_at : List Vertex → ℕ → Vertex
 vertex_at vertices n = slice_index_or vertices n
     (record { digest = []; op = record { inputs = []; kind = None; extra = [] }; script = None; inputs = []; steps = 0; outputs = 0 })
 
--- the edge to the vertex with this number, and there to the output with the input's index
+-- the edge to the vertex with this number, and to this vertex's output with the index that is in the input
 abbrev pub edge_to : ℕ → Input → Edge
 edge_to vertex input = record { vertex = vertex; index = nat_abs input.index }
 

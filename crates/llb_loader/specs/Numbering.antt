@@ -27,7 +27,7 @@ GoesDown g start rank = (a b : ℕ) → Reached g start a → HasEdge g a b → 
 abbrev pub HasCycle : List (List ℕ) → ℕ → Type 0
 HasCycle g start = (rank : ℕ → ℕ) → ¬ GoesDown g start rank
 
--- the first position of row k in the list, or the list's length if k is not in it; in a list for which `IsNumbering` holds this is k's vertex number
+-- the first position of row k in the list, or the list's length if k is not in it; if `IsNumbering` holds of the list, this is k's vertex number
 abbrev pub rank_in : List ℕ → ℕ → ℕ
 rank_in [] k = 0
 rank_in (x ∷ xs) k = cond (x == k) 0 (suc (rank_in xs k))

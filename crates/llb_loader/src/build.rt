@@ -143,7 +143,7 @@ fn edges_of(
     Ok(edges)
 }
 
-// Returns the edge to the vertex with this number, and there to the output with the input's index.
+// Returns the edge to the vertex with this number, and to this vertex's output with the index that is in the input.
 fn edge(vertex: usize, input: &Input) -> Edge
     requires vertex { vertex < 65_536 }
     requires index { IsBelow 1_025 input.now.index }
@@ -155,7 +155,7 @@ fn edge(vertex: usize, input: &Input) -> Edge
     }
 }
 
-/// Returns the edge to the vertex with this number, and there to the output with the index of the op's first input.
+/// Returns the edge to the vertex with this number, and to this vertex's output with the index that is in the op's first input.
 pub(crate) fn first_edge(vertex: usize, op: &Op) -> Edge
     requires some { 0 < length op.now.inputs }
     requires vertex { vertex < 65_536 }
