@@ -26,7 +26,8 @@ fn put_aside(alloc: Global, view: &mut View, mount: u32) -> Result<Option<Tree>,
     Ok(Some(view.swap_tree(mount, empty)))
 }
 
-// Returns true if a change of a tree is done, and false if the tree refuses it with any fault but `Memory`. Fails with 75 `Memory` if the change does.
+// Returns true if a change of a tree is done, and false if the tree refuses the change with any fault but `Memory`. Fails with 75 `Memory` if memory was
+// refused for the change.
 fn settled(change: Result<(), TreeFault>) -> Result<bool, Memory>
     ensures { result ≡ settled change }
 {

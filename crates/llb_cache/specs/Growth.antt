@@ -59,7 +59,7 @@ pub record LentValue : Type 0 where
 abbrev pub lent_again : CachesValue → List Instance → CachesValue
 lent_again c ps = record c { out = with_lease c.out (free_lease c.out) ps }
 
--- a prepared lease can be granted: its instances exist and have distinct keys, no lease has one of a private or locked key, and there is room for one more
+-- a prepared lease can be granted: its instances exist and have distinct keys, those of private or locked keys are in no lease, and one more lease fits
 pub record CanLend (c : CachesValue) (l : LentValue) : Type 0 where
   pub free : All (λ p. IsExclusive p.key.mode → is_held c.out p ≡ false) l.places
   pub apart : AllPairs (λ p q. p.key ≢ q.key) l.places

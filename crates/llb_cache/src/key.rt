@@ -13,7 +13,7 @@ use std::fmt;
 pub enum Mode {
     /// One instance, which any number of leases can have at once.
     Shared,
-    /// An instance for each lease: the instance with the least number that no other lease has.
+    /// One instance for each lease: the lowest-numbered instance that no other lease has.
     Private,
     /// One instance, which one lease can have at a time.
     Locked,

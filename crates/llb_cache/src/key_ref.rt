@@ -106,7 +106,7 @@ impl Key {
     }
 }
 
-// Returns the position of a mode in the order of modes.
+// Returns the position of a mode in the order shared, private, locked.
 fn place_of(mode: Mode) -> u8
     ensures { result ≡ mode_place mode }
 {

@@ -4,7 +4,7 @@
 //! Types: `Caches`, `Key` with `Mode` (shared, private, locked), `Need` (a key, and the tree of a new instance), `Lease`, `Instance`,
 //! `LeaseFault` (111, 112).
 //! Promise: `Caches::lease` (clauses `gives`, `has`, `last`, `err`) is refused (111) with the first locked key whose instance a lease has; otherwise it takes
-//! instance 0 of each shared or locked key, and of each private key the instance with the least number that no lease has. Law: `is_exclusive`: no two leases
+//! instance 0 of each shared or locked key, and of each private key the lowest-numbered instance that no lease has. Law: `is_exclusive`: no two leases
 //! have the same instance of a locked or a private key.
 //!
 //! A caller:

@@ -7,12 +7,12 @@ use Rattle.llb_loader.specs.Missing.{missing_local}
 use Rattle.llb_plain.specs.declared.fault.PlainFault.{PlainFault}
 use Rattle.llb_plain.specs.declared.fault.PlainFault.TheVariants.{MissingLocal, HasCache}
 
--- the number of the first vertex that mounts a cache; the first vertex of the list has number k
+-- the number of the first vertex of a list that mounts a cache; the first vertex of the list has number k; none if no vertex mounts a cache
 abbrev pub cache_from : ℕ → List Vertex → Option ℕ
 cache_from k [] = None
 cache_from k (v ∷ vs) = if has_cache v then Some k else cache_from (k + 1) vs
 
--- `MissingLocal` with the name of a source without a tree, if there is one; else `HasCache` with a vertex that mounts a cache, if there is one; else `all`
+-- the outcomes `all`, unless there is the name of a source without a tree (`MissingLocal`), or else the number of a vertex that mounts a cache (`HasCache`)
 abbrev pub unless_refused : Option (List ℕ) → Option ℕ → List Outcome → Result (List Outcome) PlainFault
 unless_refused (Some name) cache all = Err (MissingLocal name)
 unless_refused None (Some v) all = Err (HasCache v)
