@@ -73,7 +73,7 @@ fn at_row<W: fmt::Write, T: fmt::Display>(
     write!(f, "{number} {row} {what}")
 }
 
-// Written by hand: prints what `Display` does.
+// This `Debug` is written by hand. It prints what `Display` prints.
 impl fmt::Debug for LoadFault {
     fn fmt<W: fmt::Write>(&self, f: &mut fmt::Formatter<W>) -> fmt::Result {
         fmt::Display::fmt(self, f)
@@ -224,7 +224,7 @@ impl fmt::Display for Rule {
     }
 }
 
-// Written by hand: prints what `Display` does.
+// This `Debug` is written by hand. It prints what `Display` prints.
 impl fmt::Debug for Rule {
     fn fmt<W: fmt::Write>(&self, f: &mut fmt::Formatter<W>) -> fmt::Result {
         fmt::Display::fmt(self, f)
