@@ -1,4 +1,4 @@
--- The results of the loader's calls, the loader's fault for a fault of an op, and the text of a fault.
+-- The results of the loader's calls, the loader's faults that report a fault of llb_ops, and the text of a fault.
 use Rattle.std.specs.Prelude.{ℕ, Bool, true, false, List, ◌++◌, Result, codes}
 use Rattle.std.specs.Fmt.{decimal}
 use Rattle.llb_wire.specs.Answer as answer
@@ -22,12 +22,12 @@ is_memory _ = false
 abbrev pub Gives : {X Y : Type 0} → (X → Y) → Result X LoadFault → Result Y LoadFault → Type 0
 Gives = answer.Gives is_memory
 
--- the loader's fault for bytes that can't be read as a definition, from the fault of llb_ops
+-- the loader's fault that reports this fault of llb_ops: bytes can't be read as a definition, or memory is refused
 abbrev pub definition_fault : OpFault → LoadFault
 definition_fault op.Memory = fault.Memory
 definition_fault f = fault.Definition f
 
--- the loader's fault for row k, which can't be read as an op, from the fault of llb_ops
+-- the loader's fault that reports this fault of llb_ops: row k can't be read as an op, or memory is refused
 abbrev pub row_fault : ℕ → OpFault → LoadFault
 row_fault k op.Memory = fault.Memory
 row_fault k f = fault.Entry k f
