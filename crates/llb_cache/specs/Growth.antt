@@ -46,7 +46,7 @@ unmade rows [] gs = rows
 unmade rows (p ∷ ps) [] = rows
 unmade rows (p ∷ ps) (g ∷ gs) = unmade_one (unmade rows ps gs) p g
 
--- the caches after a lease is given back, and what this lease had added to the rows is removed
+-- the caches after a lease is given back and all that this lease had added to the rows is removed
 abbrev pub taken_back : CachesValue → ℕ → List Growth → CachesValue
 taken_back c lease gs = record (given_back c lease) { rows = unmade c.rows (places_of c.out lease) gs }
 

@@ -11,7 +11,7 @@ use Rattle.llb_loader.specs.Scripts.{script_in}
 use Rattle.llb_loader.specs.RowLookup.{row_at}
 use Rattle.llb_loader.specs.Linking.{op_at, input_at}
 
--- edge i of a list; the edge to output 0 of vertex 0 past the end
+-- edge i of a list; past the end, the edge to output 0 of vertex 0
 abbrev pub edge_at : List Edge → ℕ → Edge
 edge_at edges i = slice_index_or edges i (record { vertex = 0; index = 0 })
 

@@ -42,7 +42,7 @@ first_with rows d = position (λ r. bytes_eq d r.digest) rows
 abbrev pub terminal_in : List Row → ℕ
 terminal_in rows = unwrap_or (first_with rows (row_at rows (length rows - 1)).digest) 0
 
--- the number of a row, if there is one and it is not t; else none
+-- the row number k, if there is one and k is not t; else none
 abbrev pub other_than : ℕ → Option ℕ → Option ℕ
 other_than t (Some k) = cond (k == t) None (Some k)
 other_than t None = None

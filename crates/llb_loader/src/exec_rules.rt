@@ -42,7 +42,7 @@ pub(crate) fn broken_in_exec(
     broken_script(alloc, exec)
 }
 
-// Returns the first of three rules that the exec breaks: there is a `meta`, its `args` have at least one word, and there is at least one mount.
+// Returns the first rule that the exec breaks among these three: it has a `meta`, at least one word in `args`, and at least one mount.
 fn broken_word(exec: &ExecOp) -> Option<Rule>
     ensures { (inputs : List Input) → IsFirstBroken inputs (Some (kind.Exec exec.now)) word_rules result }
 {
