@@ -1,5 +1,5 @@
 //! Runs a command on a view. A command that is done changes one mount's tree in place, or nothing; a command that fails, or for which memory is refused, leaves
-//! the view as it was.
+//! the view as it was. Each function for one command returns whether the command is done.
 
 ghost use Rattle.std.specs.Prelude.{◌≡◌, ◌≢◌, IfOk, IfSome, OnOk, OnErr, option_and_then};
 ghost use Rattle.llb_applet.specs.declared.command.Command.TheVariants as command;
@@ -18,7 +18,7 @@ use llb_tree::{Bytes, Entry, Meta, Mode, Path, TreeFault};
 use llb_wire::Text;
 use std::alloc::Global;
 
-// Makes a directory.
+// Makes a directory; with `parents`, its missing parents below the mount's dest too.
 fn mkdir(
     alloc: Global,
     parents: bool,
@@ -90,7 +90,7 @@ fn write_some(
     }
 }
 
-// Appends a line to the file at a path.
+// Appends a word and a line end to the file at a path; if there is no file, writes them to a new one.
 fn append(
     alloc: Global,
     path: &Text,
@@ -109,7 +109,7 @@ fn append(
     }
 }
 
-// Copies a file with its mode and owner.
+// Copies the file at path `from`, with its mode and owner, to path `to` or, if a directory is there, into this directory.
 fn cp(
     alloc: Global,
     from: &Text,

@@ -105,7 +105,7 @@ pub fn spot_by(
 }
 
 impl Spot {
-    /// Returns the entry at the spot.
+    /// Returns the entry at the spot; `None` if nothing is there.
     pub fn entry<'v>(&self, view: &'v View) -> Option<Entry<'v>>
         requires { self.now.mount < length view.now }
         ensures { option_map seen result ≡ entry_at view.now self.now }
