@@ -17,6 +17,6 @@ entry_of p = record { key = p.0; value = p.1.value; extra = p.1.extra }
 abbrev pub put : List Held → AttributeEntry → List Held
 put held e = insert_entry (pointwise nat_eq) held e.key (record { value = e.value; extra = e.extra })
 
--- the attributes of entries: the last entry for each key, at the position of the first entry for this key
+-- the attributes that the entries of a map make: for each key the attribute of its last entry, at the position of its first entry
 unfoldable pub settled : List AttributeEntry → List Held
 settled entries = fold put [] entries

@@ -206,7 +206,7 @@ action_in rs = do
     extra = unnamed action_shape rs;
   })
 
--- the `FileAction` that bytes are read as, or the first fault: of its records, then of what it does
+-- the `FileAction` that bytes are read as, or the first fault: of its records, then of the member of its oneof that is set
 abbrev pub action_of : List ℕ → Result Action OpFault
 action_of = message_of action_shape action_in
 
@@ -411,6 +411,6 @@ op_in rs = do
 abbrev pub op_message_of : List ℕ → Result Op OpFault
 op_message_of = message_of op_shape op_in
 
--- the op that an entry's bytes are read as, or the first fault
+-- the op that an entry's bytes are read as, or the first fault, which is `OverLimit` if there are more than `entry_limit` bytes
 unfoldable pub op_of : List ℕ → Result Op OpFault
 op_of bytes = if nat_lt entry_limit (length bytes) then Err OverLimit else op_message_of bytes

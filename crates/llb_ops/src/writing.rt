@@ -1,5 +1,5 @@
 //! Writes fields in their canonical bytes, one after the other. Each call that appends to `out` fails with 5 `Memory`
-//! alone; some of the call's bytes may be in `out` then.
+//! alone; after a failure `out` may have some of the call's bytes.
 
 ghost use Rattle.std.specs.Prelude.{◌≡◌, ◌<◌, ◌++◌, ◌≤◌, IfOk, OnOk};
 ghost use Rattle.llb_ops.specs.Writing.{set_number, set_bytes, number_field, bytes_field, signed_field, flag_field, message_field};
@@ -176,7 +176,7 @@ pub fn put_one_of<M: Member>(
     Ok(())
 }
 
-/// Writes the extra bytes, unchanged: the records of fields that the message doesn't name.
+/// Writes the extra bytes, unchanged: the records of fields that the table of messages lacks.
 pub fn put_extra(out: &mut Vec<u8>, extra: &Bytes) -> Result<(), Memory>
     ensures { OnOk result (out.new.items ≡ out.old.items ++ extra.now) }
 {
