@@ -132,7 +132,7 @@ bytes_spelled text = if is_hex text then bytes_in text else None
 
 -- ---- the label of an entry: `%` and its number
 
--- the number of the label that a text is; nothing if the text is not `%` and decimal digits
+-- the number in a label, which is `%` and decimal digits; nothing for any other text
 unfoldable pub label_in : List ℕ → Option ℕ
 label_in [] = None
 label_in (b ∷ text) = if b == 37 then magnitude text else None
