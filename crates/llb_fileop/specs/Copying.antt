@@ -95,7 +95,7 @@ landed_on given t e = (e.0, landed given (finite.get t e.0) e.1)
 abbrev pub laid_on : (MetaValue → MetaValue) → TreeMap → List (List (List ℕ) × Entry) → TreeMap
 laid_on given t es = finite.from_entries (map (landed_on given t) es ++ finite.entries t)
 
--- the entries at and below a source, moved to the target, in path order
+-- the entries at and below a source, each with the path to which it is copied at or below the target, in path order
 abbrev pub at_target : TreeMap → List (List ℕ) → List (List ℕ) → List (List (List ℕ) × Entry)
 at_target second s goal = map (moved (length s) goal) (where_key path_cmp (is_within s) (finite.entries second))
 

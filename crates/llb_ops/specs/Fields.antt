@@ -49,7 +49,7 @@ pub record IsNext (m : MessageName) (last : ℕ) (set : Bool) (row : Row) : Type
 abbrev pub may_be_empty : NamedField → Bool
 may_be_empty f = f.member || f.repeated || f.of_entry
 
--- v is the varint that some value of this kind has in canonical bytes (a negative value in two's complement of 64 bits); false if the kind holds no number
+-- canonical bytes may have v in the varint of a field of this kind (a negative value is in two's complement of 64 bits); false if the kind holds no number
 abbrev pub IsNumberOf : FieldKind → ℕ → Type 0
 IsNumberOf Int64 v = cast_unsigned w64 (int64 v) ≡ v
 IsNumberOf Int32 v = cast_unsigned w64 (int32 v) ≡ v

@@ -61,7 +61,7 @@ users = members_of message.UserOpt
 abbrev pub user_of : ℕ → List Record → Result User OpFault
 user_of n rs = if n == 1 then Ok (ByName (joined rs)) else Ok (ById (uint32 (number rs)))
 
--- a `UserOpt` from its records: the member of its oneof that is set, if any
+-- a `UserOpt` from its records; its user is the member of its oneof that is set, or absent if no member is set
 unfoldable pub user_opt_in : List Record → Result UserOpt OpFault
 user_opt_in rs = do
   user ← one_of users user_of rs

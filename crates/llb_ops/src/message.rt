@@ -133,7 +133,7 @@ pub fn each<M: Message>(
     Ok(Many::new(messages))
 }
 
-/// Reads the member of a oneof that is set, if any. Fails with the first fault, or with 14 `Memory`.
+/// Reads the member of a oneof that is set; returns `None` if no member is set. Fails with the first fault, or with 14 `Memory`.
 pub fn one_of<M: Member>(
     alloc: Global,
     records: &[Record<'_>],
