@@ -19,7 +19,7 @@ pub(crate) fn digest_of(alloc: Global, entry: &[u8]) -> Result<Text, Memory>
     text_of_digest(alloc, &Sha256::digest(entry))
 }
 
-// Adds a text to an index, with the number of the texts before it (its position); does nothing if the index has the text already.
+// Adds a text to an index, with the text's position (the number of texts before it); does nothing if the index has the text already.
 fn learn(first: &mut BTreeMap<String, u64>, texts: &[Text], text: &Text) -> Result<(), Memory>
     requires { IsIndex texts.now first.old }
     ensures learnt { OnOk result (IsIndex (texts.now ++ text.now ∷ []) first.new) }
@@ -31,7 +31,7 @@ fn learn(first: &mut BTreeMap<String, u64>, texts: &[Text], text: &Text) -> Resu
     Ok(())
 }
 
-/// The digest texts of the earlier entries, with an index that finds the entry of a text. Contracts see the list of the texts.
+/// The digest texts of the earlier entries, with an index that finds the first entry with a given text. Contracts see the list of the texts.
 pub struct Labels {
     texts: Vec<Text>,
     /// For each digest text, the number of the first entry with this digest.

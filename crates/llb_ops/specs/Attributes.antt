@@ -9,7 +9,7 @@ use Rattle.llb_ops.specs.declared.source.AttributeEntry.{AttributeEntry}
 abbrev pub Held : Type 0
 Held = List ℕ × Attribute
 
--- the entry of the map, as a message, for a key with its attribute
+-- the entry of the map, as a message, that has this key and this attribute
 abbrev pub entry_of : Held → AttributeEntry
 entry_of p = record { key = p.0; value = p.1.value; extra = p.1.extra }
 
