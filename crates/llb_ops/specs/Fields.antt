@@ -1,4 +1,4 @@
--- The fields of a message in the order in which its bytes have them, and the conditions that they meet if the bytes are canonical (as this crate writes them).
+-- The fields of a message in the order of its bytes, and the conditions that these fields meet if the bytes are canonical (as this crate writes them).
 -- Sources: the table of messages (`ops.proto` of BuildKit); the encoding guide of Protocol Buffers ("Message Structure", "Field Presence", "Oneofs", "Maps").
 use Rattle.std.specs.Prelude.{◌≡◌, ℕ, ◌+◌, ◌≤◌, List, ◌++◌, length, Some, Result, Ok, Err, Bool, true, false, is_none, nat_lt}
 use Rattle.std.specs.Prelude.{◌==◌, ◌&&◌, ◌||◌, not, if◌then◌else◌}
