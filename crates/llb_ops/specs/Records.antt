@@ -26,11 +26,11 @@ use Rattle.llb_ops.specs.Limits.{field_limit}
 abbrev pub Shape : Type 0
 Shape = List (ℕ × Form)
 
--- a record of the code, with its payload and its text (all bytes of the record) as lists of bytes
+-- a value of the code's type `Record` as contracts see it: its payload and its text (all bytes of the record) are lists of bytes
 abbrev pub view : Held → Record
 view r = record { number = r.number; wire = r.wire; value = r.value; payload = r.payload.now; text = r.text.now }
 
--- records of the code in their order, each with its payload and its text as lists of bytes
+-- values of the code's type `Record`, in their order, each as contracts see it
 abbrev pub views : List Held → List Record
 views rs = map view rs
 
@@ -195,7 +195,7 @@ is_other members n r = is_member members r && not (r.number == n)
 abbrev pub member : List ℕ → ℕ → List Record → List Record
 member members n rs = all n (since (is_other members n) rs)
 
--- the value of member n of a oneof, read from the records of that member; none if there is no number n; or the first fault
+-- the value of member n of a oneof, read from the records of that member; none if no n is given, as no member is set; or the first fault
 abbrev pub member_of : {A : Type 0} → List ℕ → (ℕ → List Record → Result A OpFault) → Option ℕ → List Record → Result (Option A) OpFault
 member_of members read None rs = Ok None
 member_of members read (Some n) rs = read n (member members n rs) >>= λ a. Ok (Some a)

@@ -82,7 +82,7 @@ pub fn read_message<M: Message>(alloc: Global, bytes: &[u8]) -> Result<M, OpFaul
     M::read(alloc, &records)
 }
 
-/// Reads a message from the payloads of the records of field `number`, joined one after the other. If the field has only one record, its payload is not copied.
+/// Reads a message from the payloads of the records of field `number`, joined one after the other. If there is only one such record, its payload is not copied.
 /// Fails with the first fault, or with 14 `Memory`.
 pub fn joined_message<M: Message>(
     alloc: Global,

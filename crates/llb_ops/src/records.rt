@@ -182,28 +182,29 @@ fn last_number(records: &[Record<'_>], number: u32) -> u64
     }
 }
 
-/// Returns the number of a field as a signed 64-bit number; 0 if the field has no record.
+/// Returns the value of an int64 field: the number in its last record, as a signed number; 0 if the field has no record.
 pub fn last_int64(records: &[Record<'_>], number: u32) -> i64
     ensures { result ≡ int64 (number_of (all_of number (views records.now))) }
 {
     last_number(records, number).cast_signed()
 }
 
-/// Returns the low 32 bits of the number of a field; 0 if the field has no record.
+/// Returns the value of a uint32 field: the low 32 bits of the number in its last record; 0 if the field has no record.
 pub fn last_uint32(records: &[Record<'_>], number: u32) -> u32
     ensures { result ≡ uint32 (number_of (all_of number (views records.now))) }
 {
     (last_number(records, number) % 0x1_0000_0000) as u32
 }
 
-/// Returns the low 32 bits of the number of a field as a signed number; 0 if the field has no record.
+/// Returns the value of an int32 or enum field: the low 32 bits of the number in its last record, as a signed number;
+/// 0 if the field has no record.
 pub fn last_int32(records: &[Record<'_>], number: u32) -> i32
     ensures { result ≡ int32 (number_of (all_of number (views records.now))) }
 {
     last_uint32(records, number).cast_signed()
 }
 
-/// Returns whether the number of a field is not 0.
+/// Returns the value of a bool field: whether the number in its last record is not 0; false if the field has no record.
 pub fn last_flag(records: &[Record<'_>], number: u32) -> bool
     ensures { result ≡ flag (number_of (all_of number (views records.now))) }
 {
@@ -227,7 +228,7 @@ pub fn last_bytes(alloc: Global, records: &[Record<'_>], number: u32) -> Result<
     Bytes::from_slice(alloc, last_payload(records, number))
 }
 
-/// Returns the text of a field; empty if the field has no record. The caller ensures that the payloads of string fields
+/// Returns the value of a string field; empty if the field has no record. The caller ensures that the payloads of string fields
 /// are UTF-8. Fails with 5 `Memory` alone.
 pub fn last_text(
     alloc: Global,
