@@ -126,7 +126,7 @@ follows here f = not here.ended && may_follow here.last here.set f
 
 -- ---- the tests of a line, in their order
 
--- the item of a line `extra`, whose bytes have to be records of fields that the message does not name; or why the line is refused
+-- the item of a line `extra`, whose bytes have to be records of fields that the table lacks for the message; or why the line is refused
 abbrev pub extra_in : Here → List ℕ → Result Item Refusal
 extra_in here text = do
   _ ← guard (Breaks Order) (not here.ended)

@@ -88,7 +88,7 @@ abbrev pub HasForm : List ℕ → Form → Type 0
 HasForm entry (structured op has) = (op_of entry ≡ Ok op) × (op_bytes op ≡ entry)
 HasForm entry raw = ¬ IsStructured entry
 
--- the lines of an entry: `op {`, its fields without empty keys and values of map entries, and `}`; or `raw` and the bytes
+-- the lines of an entry: `op {`, the op's fields without empty keys and values of map entries, and `}`; or `raw` and the entry's bytes
 abbrev pub entry_lines : List (List ℕ) → List ℕ → Form → List PlainLine
 entry_lines labels entry (structured op has) = item_line 0 (codes "op") opening ∷ (field_lines labels 1 (without_empty has.fields) ++ (closing_line 0 ∷ []))
 entry_lines labels entry raw = item_line 0 (codes "raw") (hex_text entry) ∷ []
@@ -112,7 +112,7 @@ abbrev pub plain_lines : List (List ℕ) → List Formed → List PlainLine
 plain_lines labels [] = []
 plain_lines labels (x ∷ xs) = entry_lines labels x.0 x.1 ++ plain_lines (labels ++ digest_text x.0 ∷ []) xs
 
--- ---- the text: two spaces a level, and an end after each line
+-- ---- the text: two spaces for each level before a line, and a line feed after it
 
 -- a line as it is written: two spaces for each level of its depth, its text, and a line feed
 abbrev pub line_text : PlainLine → List ℕ

@@ -25,7 +25,7 @@ Prints taken taken' failed' text (Err (fault.UnknownLabel n)) = ⊥
 abbrev pub found : Field → Result (Option Field) WireFault
 found f = Ok (Some f)
 
--- the front has the field number, the value and the payload of the record at the start of the bytes, and the bytes after it; no front: no record can be read
+-- the front has the field number, value and payload of the first record of the bytes, and the bytes after this record; no front: no record can be read
 abbrev pub Finds : List ℕ → Option Front → Type 0
 Finds bytes None = (f : Field) → next_field bytes 0 ≢ found f
 Finds bytes (Some front) =

@@ -97,7 +97,7 @@ records_of (single line next bytes rest) = bytes ++ records_of rest
 records_of (nested line next number sub inner rest) = set_bytes number (records_of inner) ++ records_of rest
 records_of (unclosed line next number sub inner) = set_bytes number (records_of inner)
 
--- none of these items is a message that is not closed; `AreItems` says the same of the items inside nested messages
+-- no message is left open after these items; `AreItems` says the same of the items inside nested messages
 abbrev pub IsWhole : Items → Type 0
 IsWhole done = Unit {0}
 IsWhole (single line next bytes rest) = IsWhole rest
@@ -118,7 +118,7 @@ AreItems labels hand (nested line next number sub inner rest) =
 AreItems labels hand (unclosed line next number sub inner) = (item_at labels hand line ≡ Ok (item next (Opens number sub)))
     × AreItems labels (within hand number sub) inner
 
--- the current message after these items: the innermost message that the items leave open; if they leave none open, the message before, with the items' bytes
+-- the current message after these items: the innermost one that they leave open; if they leave none open, the message before, with the items' bytes added
 abbrev pub at_hand : Hand → Items → Hand
 at_hand hand done = hand
 at_hand hand (single line next bytes rest) = at_hand (beyond hand next bytes) rest
@@ -152,7 +152,7 @@ abbrev pub canonical_of : Result Op OpFault → Option (List ℕ)
 canonical_of (Err f) = None
 canonical_of (Ok op) = Some (op_bytes op)
 
--- the given canonical bytes, if there are any and an entry of these bytes is within the limits; else a refusal
+-- the canonical bytes of an op, if an op was read and an entry of these bytes is within the limits; else a refusal
 abbrev pub canonical_in : List (List ℕ) → Option (List ℕ) → Result (List ℕ) Refusal
 canonical_in earlier None = Err (Breaks OverLimit)
 canonical_in earlier (Some entry) = if is_within earlier (length entry) then Ok entry else Err (Breaks OverLimit)
@@ -165,7 +165,7 @@ entry_in earlier records = canonical_in earlier (canonical_of (op_of records))
 abbrev pub labels_of : List (List ℕ) → List (List ℕ)
 labels_of earlier = map digest_text earlier
 
--- what the code keeps with the entries: their digest texts, and how many bytes a definition of these entries has
+-- what the code keeps with the entries: their digest texts, and how many bytes a definition of these entries has, at most `definition_limit`
 pub record IsKept (entries labels : List (List ℕ)) (size : ℕ) : Type 0 where
   pub digests : labels ≡ labels_of entries
   pub bytes : size ≡ length (definition_bytes entries)
@@ -257,7 +257,7 @@ pub record EndsOpen (lines : List Line) (n : ℕ) : Type 0 where
   pub text : map (λ l. l.1) lines ≡ text_of parts
   pub not_closed : ¬ AreClosed parts
 
--- Line n is the first that is refused, with e; or the lines end in an op that is not closed: then n is the last line, and e is `Unclosed`.
+-- Line n is the first line that is refused, with e; or the lines end in an op that is not closed: then n is the last line's number, and e is `Unclosed`.
 abbrev pub FaultAt : List Line → ℕ → Refusal → Type 0
 FaultAt lines n e = StopsAt lines n e ⊎ (EndsOpen lines n × (e ≡ Breaks Unclosed))
 

@@ -100,7 +100,7 @@ with_begun earlier Structured = amid earlier at_front
 abbrev pub progress_of : List (List ℕ) → Option Open → Progress
 progress_of earlier current = record { earlier = earlier; current = option_map open_op_of current }
 
--- the progress after a line, made from the result of the code's call; or the refusal of the line
+-- the progress after a line, made from the result of the code's call for this line; or the refusal of the line
 abbrev pub progresses : List (List ℕ) → Result (Option Open) Refusal → Result Progress Refusal
 progresses earlier (Ok current) = Ok (progress_of earlier current)
 progresses earlier (Err e) = Err e
@@ -130,7 +130,7 @@ abbrev pub finish : ℕ → List (List ℕ) → Option OpenOp → Result (List (
 finish n earlier None = Ok earlier
 finish n earlier (Some s) = Err (n, Breaks Unclosed)
 
--- the final result, given the progress after line n or the refusal of line n: what `go` makes of the progress, or the refusal with the number n
+-- the final result, given the progress after line n or its refusal: what `go`, which reads the later lines, makes of the progress; or the refusal with n
 abbrev pub next : ℕ → (Progress → Result (List (List ℕ)) (ℕ × Refusal)) → Result Progress Refusal → Result (List (List ℕ)) (ℕ × Refusal)
 next n go (Ok p) = go p
 next n go (Err e) = Err (n, e)

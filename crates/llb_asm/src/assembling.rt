@@ -47,8 +47,8 @@ fn begin(
 }
 
 #[tactic(auto, using(crate::proofs::Room::entry_room))]
-// Reads the closing line of the current message. Returns the op if the op is still open; otherwise appends the op's entry to the earlier entries,
-// or returns why the entry is refused.
+// Reads the closing line of the current message. Returns the op if it is still open. Otherwise appends the op's entry to the earlier entries and
+// returns `None`, or returns why the entry is refused.
 fn close(
     alloc: Global,
     earlier: &mut Earlier,
@@ -142,7 +142,7 @@ fn run_lines(alloc: Global, text: &[u8]) -> Result<Entries, AsmFault>
 /// has the grammar. The entry of an op is the op's canonical bytes. The call fails at the first faulty line, with the
 /// line's first fault in this order: 161 `Line` with `Syntax`, `UnknownField`, `Order` or `BadValue`, 162 `UnknownLabel`,
 /// 161 `Line` with `OverLimit`. If no line has one of these faults, but an op is left open, the call fails with 161 `Line`
-/// with `Unclosed` and the last line that is not dropped. Fails with 163 `Memory` if memory is refused.
+/// with `Unclosed` and the number of the last line that is not dropped. Fails with 163 `Memory` if memory is refused.
 pub fn assemble(alloc: Global, text: &[u8]) -> Result<Entries, AsmFault>
     ensures { Assembles text.now result }
 {

@@ -33,7 +33,7 @@ pub(crate) fn record_length(number: u32, size: usize) -> usize
     shortest_length(8 * u64::from(number) + 2, 9) + (shortest_length(size as u64, 9) + size)
 }
 
-/// The entries that are complete so far, in order. Contracts see the list of their bytes.
+/// The entries that are complete so far, in order. Contracts see a list with the bytes of each entry.
 pub struct Earlier {
     entries: Vec<Bytes>,
     /// The digest text of each entry.
@@ -96,7 +96,7 @@ impl Earlier {
         size <= ENTRY_LIMIT && self.size + record_length(1, size) <= DEFINITION_LIMIT
     }
 
-    // Appends an entry, whose length is within the limits by `has_room`.
+    // Appends an entry. The caller ensures that `has_room` is true for the entry's length.
     pub(crate) fn push(&mut self, alloc: Global, entry: Bytes) -> Result<(), Memory>
         requires { is_within self.old (length entry) ≡ true }
         ensures { OnOk result (self.new ≡ self.old ++ entry ∷ []) }

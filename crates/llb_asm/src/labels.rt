@@ -1,5 +1,5 @@
-//! The labels of the earlier entries: their digest texts, in an ordered index, so that looking up a text is fast whatever
-//! the entries are.
+//! The digest texts of the earlier entries, with an ordered index: it finds the label (`%` and the entry's number) of a
+//! digest text in logarithmic time, whatever the entries are.
 
 ghost use Rattle.std.specs.Prelude.{◌≡◌, ◌++◌, ◌∷◌, [], IfOk, OnOk, OnErr};
 ghost use Rattle.llb_wire.specs.Digest.{digest_text};
@@ -19,7 +19,7 @@ pub(crate) fn digest_of(alloc: Global, entry: &[u8]) -> Result<Text, Memory>
     text_of_digest(alloc, &Sha256::digest(entry))
 }
 
-// Adds a text to an index, with the number of texts before this text, unless the index has the text already.
+// Adds a text to an index, with the text's position (the number of texts before it); does nothing if the index has the text already.
 fn learn(first: &mut BTreeMap<String, u64>, texts: &[Text], text: &Text) -> Result<(), Memory>
     requires { IsIndex texts.now first.old }
     ensures learnt { OnOk result (IsIndex (texts.now ++ text.now ∷ []) first.new) }
@@ -31,7 +31,7 @@ fn learn(first: &mut BTreeMap<String, u64>, texts: &[Text], text: &Text) -> Resu
     Ok(())
 }
 
-/// The labels of the earlier entries. Contracts see the digest texts of these entries, in order.
+/// The digest texts of the earlier entries, with an index that finds the first entry with a given text. Contracts see the list of the texts.
 pub struct Labels {
     texts: Vec<Text>,
     /// For each digest text, the number of the first entry with this digest.
@@ -74,7 +74,7 @@ impl Labels {
         self.first.get(digest).copied()
     }
 
-    // Appends the label of an entry.
+    // Appends the digest text of an entry.
     pub(crate) fn push(&mut self, alloc: Global, entry: &[u8]) -> Result<(), Memory>
         ensures { OnOk result (self.new ≡ self.old ++ digest_text entry.now ∷ []) }
     {

@@ -5,7 +5,7 @@ ghost use Rattle.llb_asm.specs.Plain.{ReadsBack};
 
 use llb_ops::Entries;
 
-/// Proves that a text is read as at most one list of entries, has at most one first fault, and never has both.
+/// Proves that a text is read as at most one list of entries, that it has at most one first fault, and that a text that is read as a list has no fault.
 pub fn one_answer(text: &[u8])
     ensures { HasOneAnswer text.now }
 {

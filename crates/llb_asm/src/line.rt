@@ -27,7 +27,7 @@ pub enum Refusal {
     UnknownLabel,
 }
 
-/// The context of a line: the message that it is in, and what came before the line in this message.
+/// The context of a line: the message that the line is in, and what came before the line in this message.
 #[derive(Clone, Copy)]
 pub struct Here {
     pub message: MessageName,

@@ -260,7 +260,7 @@ fn entry_text(alloc: Global, labels: &Labels, entry: &[u8]) -> Result<Vec<u8>, M
     Ok(text)
 }
 
-// Returns the text of an entry, and appends the entry's label to the labels of the earlier entries.
+// Returns the text of an entry, and appends the entry's digest text to the digest texts of the earlier entries.
 fn labelled_text(alloc: Global, labels: &mut Labels, entry: &[u8]) -> Result<Vec<u8>, Memory>
     ensures text { (form : Form) → HasForm entry.now form → IfOk result (λ text. text.items ≡ text_of_lines (entry_lines labels.old entry.now form)) }
     ensures labels { OnOk result (labels.new ≡ labels.old ++ digest_text entry.now ∷ []) }

@@ -166,7 +166,7 @@ pub(crate) fn bytes_spelled(alloc: Global, text: &[u8]) -> Result<Option<Bytes>,
     }
 }
 
-/// Reads the number of an entry from a label; a number above 2^64 - 1 is read as 2^64 - 1.
+/// Reads the number of an entry from a label (`%` and the number); a number above 2^64 - 1 is read as 2^64 - 1. `None` for any other text.
 #[tactic(auto, unfolding(crate::specs::Values::label_in))]
 pub(crate) fn label_in(text: &[u8]) -> Option<u64>
     ensures { result ≡ option_map capped (label_in text.now) }

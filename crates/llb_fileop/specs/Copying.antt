@@ -37,7 +37,7 @@ chosen_by c =
     if c.allow_wildcard then (on_pattern (pattern_of c.src) >>= λ pattern. Ok (EachMatch pattern))
     else (on_tree (path_of c.src) >>= λ p. Ok (OnePath p))
 
--- these paths; but the fault `NotFound` if there are no paths and the flag, which allows that there are none, is false
+-- these paths; but if there are none, and the flag (the action's `allowEmptyWildcard`) is false, the fault `NotFound`
 abbrev pub some_match : Bool → List (List (List ℕ)) → Result (List (List (List ℕ))) TreeFault
 some_match true ps = Ok ps
 some_match false [] = Err NotFound
@@ -63,11 +63,11 @@ target c dest second s t =
 
 -- ---- where the entries of a source go
 
--- fails if a path has more than 128 names; else succeeds
+-- fails with `BadName` if a path has more than 128 names; else succeeds
 abbrev pub fits : List (List ℕ) → Result (Unit {0}) TreeFault
 fits p = if nat_lt 128 (length p) then Err BadName else Ok tt
 
--- fails if a file would replace a directory, or a directory would replace a file; else succeeds
+-- fails with `Conflict` if a file would replace a directory, or a directory would replace a file; else succeeds
 abbrev pub meets : Option Entry → Entry → Result (Unit {0}) TreeFault
 meets None e = Ok tt
 meets (Some (Dir m)) (Dir n) = Ok tt
@@ -95,7 +95,7 @@ landed_on given t e = (e.0, landed given (finite.get t e.0) e.1)
 abbrev pub laid_on : (MetaValue → MetaValue) → TreeMap → List (List (List ℕ) × Entry) → TreeMap
 laid_on given t es = finite.from_entries (map (landed_on given t) es ++ finite.entries t)
 
--- the entries at and below a source, moved to the target, in path order
+-- the entries at and below a source, each with the path to which it is copied at or below the target, in path order
 abbrev pub at_target : TreeMap → List (List ℕ) → List (List ℕ) → List (List (List ℕ) × Entry)
 at_target second s goal = map (moved (length s) goal) (where_key path_cmp (is_within s) (finite.entries second))
 

@@ -18,7 +18,7 @@ is_memory BadPattern = false
 abbrev pub Gives : {X Y : Type 0} → (X → Y) → Result X ActFault → Result Y ActFault → Type 0
 Gives = answer.Gives is_memory
 
--- `Memory` is reported last: a call fails with it only if the rule has no fault
+-- `Memory` is reported last: a call fails with `Memory` only if the call's rule returns a value
 abbrev pub MemoryLast : {X Y : Type 0} → Result X ActFault → Result Y ActFault → Type 0
 MemoryLast = answer.MemoryLast is_memory
 

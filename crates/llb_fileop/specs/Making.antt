@@ -26,7 +26,7 @@ abbrev pub make_all : MetaValue → List (List (List ℕ)) → TreeMap → Resul
 make_all m [] t = Ok t
 make_all m (p ∷ ps) t = kept_or_made m p (finite.get t p) t >>= make_all m ps
 
--- the tree after the missing parents of path p are made, or the fault, if the action's `make_parents` is true; else the unchanged tree
+-- if the action's `make_parents` is true, the tree after the missing parents of path p are made, or the fault; if it is false, the unchanged tree
 abbrev pub with_parents : Bool → MetaValue → List (List ℕ) → TreeMap → Result TreeMap TreeFault
 with_parents true m p t = make_all m (parents p) t
 with_parents false m p t = Ok t

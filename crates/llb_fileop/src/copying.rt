@@ -19,15 +19,15 @@ use llb_ops::CopyFile;
 use llb_tree::{Meta, Path, Tree, TreeFault};
 use std::alloc::Global;
 
-// The destination of a copy: the path that the destination's text is read as, and whether the text ends in `/`; if the text does, sources are copied into the
-// directory at the path.
+// The destination of a copy: the path that the destination's text is read as (`path`), and whether the text ends in `/` (`inside`). If it does, sources are
+// copied into the directory at the path.
 #[derive(Drop)]
 struct Dest {
     path: Path,
     inside: bool,
 }
 
-/// Returns the tree after a copy of what the source text names in the second tree. Fails as `act` does.
+/// Returns the base after the copy: what the action's `src` names in the second tree is copied to the action's destination in the base. Fails as `act` does.
 pub fn copy(alloc: Global, action: &CopyFile, base: &Tree, second: &Tree) -> Result<Tree, ActFault>
     ensures { Gives (λ t. t) result (copy action.now base.now second.now) }
 {
@@ -130,7 +130,7 @@ fn target(
     dest.path.copy()
 }
 
-// Returns the path of a source's last name in a directory; for the root, which has no name, the directory itself.
+// Returns the path of a directory with the source's last name after it; if the source is the root, which has no name, the path of the directory itself.
 fn place_in(dest: &Path, source: &Path) -> Result<Path, TreeFault>
     ensures { trees.Gives (λ p. p) result (placed (dest.now ++ last_name source.now)) }
 {

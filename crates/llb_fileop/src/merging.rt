@@ -15,8 +15,8 @@ use llb_ops::CopyFile;
 use llb_tree::{Content, Entry, Path, Tree, TreeFault};
 use std::alloc::Global;
 
-/// Puts a copy of a file at its target. Fails with 24 `Conflict` if a directory is there; else fails as
-/// `Tree::put_content` does.
+/// Puts a copy of a file at its target. Fails with 24 `Conflict` if a directory is at the target; else fails
+/// as `Tree::put_content` does.
 pub fn land_file(
     action: &CopyFile,
     second: &Tree,
@@ -59,7 +59,7 @@ pub fn land_dir(
     merge_at(action, source, goal, tree)
 }
 
-// Puts a copy of an entry of another tree at the target; does nothing if the other tree has no entry at the path.
+// Puts a copy of the entry that the tree `from` has at `path` at the target `goal`; does nothing if `from` has no entry at `path`.
 fn copy_from(
     action: &CopyFile,
     from: &Tree,
@@ -97,7 +97,7 @@ fn put_copy(
     }
 }
 
-// Merges a tree into the directory at a path. Fails with the fault of the first entry that can't be put there.
+// Merges a tree into the directory at a path. Fails with the fault of the tree's first entry that can't be put at its new path.
 fn merge_at(action: &CopyFile, source: &Tree, goal: &Path, tree: &mut Tree) -> Result<(), TreeFault>
     requires dir { IsDirAt (finite.get tree.old) goal.now }
     requires tree { IsTree tree.old }
@@ -109,7 +109,7 @@ fn merge_at(action: &CopyFile, source: &Tree, goal: &Path, tree: &mut Tree) -> R
     tree.graft(goal, &merged)
 }
 
-// Checks whether each entry of a tree can be put below a path, over the tree that is already there. Fails with the first fault.
+// Checks whether each entry of `source` can be put below the path `goal`, over `here`, the subtree that is already there. Fails with the first fault.
 fn may_land(here: &Tree, source: &Tree, goal: &Path) -> Result<(), TreeFault>
     ensures { Gives (λ u. u) result (all_below here.now (length goal.now) (finite.entries source.now)) }
 {
@@ -119,8 +119,8 @@ fn may_land(here: &Tree, source: &Tree, goal: &Path) -> Result<(), TreeFault>
     first_fault(here, source, goal)
 }
 
-// Checks whether each entry of a tree can be put over what another tree has at the same path. If the other tree has nothing at a path, it has nothing below
-// that path either, so the check skips the entries below that path.
+// Checks whether each entry of `source` can be put over what the tree `here` has at the same path. If `here` has nothing at a path, it has nothing below that
+// path either, so the check skips the entries of `source` below that path.
 fn may_meet(here: &Tree, source: &Tree) -> Result<(), TreeFault>
     ensures { Gives (λ u. u) result (all_meet here.now (finite.entries source.now)) }
 {
@@ -136,7 +136,7 @@ fn may_meet(here: &Tree, source: &Tree) -> Result<(), TreeFault>
     Ok(())
 }
 
-// Checks the entries one by one, and fails with the fault of the first entry that can't be put below a path.
+// Checks the entries of `source` one by one, and fails with the fault of the first entry that can't be put below the path `goal`, over the subtree `here`.
 fn first_fault(here: &Tree, source: &Tree, goal: &Path) -> Result<(), TreeFault>
     ensures { Gives (λ u. u) result (all_below here.now (length goal.now) (finite.entries source.now)) }
 {

@@ -10,8 +10,8 @@ use llb_ops::Rm;
 use llb_tree::{Path, Tree, TreeFault};
 use std::alloc::Global;
 
-/// Returns the tree without a path, or without all paths that match a pattern. Fails with 51 `File` and the tree's
-/// fault, with 52 `BadPattern`, or with 53 `Memory`.
+/// Returns the tree without a path, or without all paths that match a pattern, and without what is below them. Fails
+/// with 51 `File` and the tree's fault, with 52 `BadPattern`, or with 53 `Memory`.
 pub fn rm(alloc: Global, remove: &Rm, base: &Tree) -> Result<Tree, ActFault>
     ensures { Gives (λ t. t) result (rm remove.now base.now) }
 {
@@ -41,7 +41,8 @@ fn rm_path(path: &Path, allowed: bool, base: &Tree) -> Result<Tree, TreeFault>
     Ok(tree)
 }
 
-// Returns the tree without all paths that match a pattern, and without what is below them.
+// Returns the tree without all paths that match a pattern, and without what is below them. Fails with 25 `Root` if the
+// pattern has no parts, and with 21 `NotFound` if no path matches and `allowed` is false.
 fn rm_pattern(pattern: &Pattern, allowed: bool, base: &Tree) -> Result<Tree, TreeFault>
     ensures { tree.Gives (λ t. t) result (rm_pattern allowed base.now pattern.now) }
 {

@@ -4,7 +4,7 @@ use Rattle.std.specs.List.{list_any}
 use Rattle.llb_glob.specs.declared.class.Span.{Span}
 use Rattle.llb_glob.specs.ClassValue.{ClassValue}
 
--- a character is in an item, by scalar value; an item whose low end is above its high end has no characters
+-- a character is in an item: its scalar value is from the low end to the high end; an item whose low end is above its high end has no characters
 abbrev pub IsInSpan : Span → ℕ → Type 0
 IsInSpan span c = (span.low ≤ c) × (c ≤ span.high)
 

@@ -129,6 +129,6 @@ items_from [] cursor class = ended (is_whole cursor)
 items_from (c ∷ cs) cursor class =
     cut cursor c >>= λ next. behind (option_to_list (item_by next.1 class)) (items_from cs next.0 (class_by next.1 class))
 
--- the items that the characters of a part are read as
+-- the items that the characters of a part are read as, or the fault
 abbrev pub items_of : List ℕ → Result (List Item) PatternFault
 items_of letters = items_from letters start none_yet

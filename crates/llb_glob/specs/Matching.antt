@@ -28,7 +28,7 @@ Matches [] (name ∷ path) = ⊥
 Matches (part ∷ parts) [] = ⊥
 Matches (part ∷ parts) (name ∷ path) = MatchesName part (chars name) × Matches parts path
 
--- whether a letter matches a character; this and the next tests are true exactly if the relations above hold, and serve to list the paths that match
+-- whether a letter matches a character; this test and the tests below are true exactly if the relations above hold, and serve to list the paths that match
 abbrev pub takes : Letter → ℕ → Bool
 takes Any c = true
 takes (Only only) c = c == only

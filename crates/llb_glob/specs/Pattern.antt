@@ -20,6 +20,6 @@ abbrev pub cut_path : Result (List (List ℕ)) TreeFault → Result (List (List 
 cut_path (Ok names) = each_cut names
 cut_path (Err e) = Err BadPattern
 
--- the pattern that a text reads as
+-- the pattern that a text reads as, or the fault `BadPattern`
 abbrev pub pattern_of : List ℕ → Result (List (List Item)) PatternFault
 pattern_of text = cut_path (path_of text)

@@ -45,7 +45,7 @@ SpellsClass class text = (body : List ℕ) × (text ≡ 91 ∷ (body ++ 93 ∷ [
 
 -- ---- a part
 
--- outside a class, a character matches itself without a `\` before it: the character is none of `[`, `*`, `?` and `\`
+-- c is a character that matches itself outside a class and needs no `\` before it: it is none of `[`, `*`, `?` and `\`
 abbrev pub IsPlain : ℕ → Type 0
 IsPlain c = (c ≢ 91) × (c ≢ 42) × (c ≢ 63) × (c ≢ 92)
 

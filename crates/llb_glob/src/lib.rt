@@ -1,5 +1,5 @@
 //! Patterns: which paths a text with `*`, `?`, classes and `\` matches. The crate is built on `llb_tree`, of which it uses only names, paths and
-//! tests of names. It has no file actions.
+//! tests of names.
 //!
 //! Types: `Pattern` (a list of parts), `Part` (a test of one name, by which `llb_tree` finds and removes paths), `PatternFault`.
 //! Promise: `reads_by_the_grammar` (`spelled`, `refused`, `one`) says that a text is read as the one pattern that it spells, or refused if

@@ -115,8 +115,8 @@ fn is_pattern(text: &str) -> bool
     walk.sound == walk.depth
 }
 
-// The path that a text has led to so far, as two counts: `depth`, how many names the path has; and `sound`, how many of its names are before the first name
-// that spells no part of a pattern.
+// Two counts of the path that the parts of a text spell so far: `depth`, how many names the path has; and `sound`, how many of these names are before the
+// first name that spells no part of a pattern.
 #[derive(Drop)]
 struct Walk {
     depth: usize,
@@ -126,7 +126,7 @@ struct Walk {
 impl Walk {
     ghost use Rattle.llb_glob.specs.Walk.{Stands, Enters};
 
-    // Applies one part of a text to the counts, as the definition `enter` applies it to a path; returns false if `enter` refuses the part.
+    // Applies one part of a text to the counts, as the definition `enter` of `llb_tree` applies a part to a path; returns false if `enter` refuses the part.
     fn enter(&mut self, part: &str) -> bool
         ensures { (path : List (List ℕ)) → Stands path self.old → Enters (enter path part.now) result self.new }
     {

@@ -22,8 +22,8 @@ pub fn matches_letters(items: &[Item], name: &[char]) -> bool
     places[0]
 }
 
-// Replaces the set of positions `places` as one more item is taken: a position is in the new set if this item, followed by the items taken so far, matches
-// the name from this position to the name's end.
+// Changes the set of positions `places` as one more item is taken: afterwards a position is in the set if this item, followed by the items that were taken
+// before, matches the name from this position to the name's end.
 fn step_back(item: &Item, name: &[char], places: &mut [bool])
     requires { length name.now < length places.old }
     ensures { (rest : List Item) → AreStarts rest name.now places.old → AreStarts (item.now ∷ rest) name.now places.new }
@@ -46,7 +46,8 @@ fn widen(last: usize, places: &mut [bool])
     }
 }
 
-// Takes an item for one character: a position is in the new set if the letter matches the character there and the next position is in the old set.
+// Takes an item that matches one character, given as its `letter`: afterwards a position is in the set `places` if `letter` matches the character at this
+// position and the next position was in the set before.
 fn narrow(letter: &Letter, name: &[char], places: &mut [bool])
     requires { length name.now < length places.old }
     ensures before { (i : ℕ) → i < length name.now

@@ -9,7 +9,7 @@ use Rattle.llb_ops.specs.declared.source.AttributeEntry.{AttributeEntry}
 abbrev pub Held : Type 0
 Held = List ℕ × Attribute
 
--- the entry of the map, as a message, for a key with its attribute
+-- the entry of the map, as a message, that has this key and this attribute
 abbrev pub entry_of : Held → AttributeEntry
 entry_of p = record { key = p.0; value = p.1.value; extra = p.1.extra }
 
@@ -17,6 +17,6 @@ entry_of p = record { key = p.0; value = p.1.value; extra = p.1.extra }
 abbrev pub put : List Held → AttributeEntry → List Held
 put held e = insert_entry (pointwise nat_eq) held e.key (record { value = e.value; extra = e.extra })
 
--- the attributes of entries: the last entry for each key, at the position of the first entry for this key
+-- the attributes that the entries of a map make: for each key the attribute of its last entry, at the position of its first entry
 unfoldable pub settled : List AttributeEntry → List Held
 settled entries = fold put [] entries

@@ -41,7 +41,7 @@ admission (Err f) = Err f
 unfoldable pub entries_in : List ℕ → Result (List (List ℕ)) OpFault
 entries_in bytes = records_from definition_shape 0 bytes >>= λ rs. Ok (payloads (all 1 rs))
 
--- how many entries there are, and whether none is too long; or the fault
+-- given the result of reading a definition: how many entries there are, and whether none is too long; or the fault
 abbrev pub counted : Result (List (List ℕ)) OpFault → Result (ℕ × Bool) OpFault
 counted (Ok entries) = Ok (length entries, are_short entries)
 counted (Err f) = Err f

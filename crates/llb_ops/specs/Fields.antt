@@ -1,5 +1,5 @@
--- The fields of a message in the order in which its bytes have them, and the conditions that the fields of canonical bytes (those that this crate writes) meet,
--- by the table of messages (`ops.proto` of BuildKit) and the encoding guide of Protocol Buffers ("Message Structure", "Field Presence", "Oneofs", "Maps").
+-- The fields of a message in the order of its bytes, and the conditions that these fields meet if the bytes are canonical (as this crate writes them).
+-- Sources: the table of messages (`ops.proto` of BuildKit); the encoding guide of Protocol Buffers ("Message Structure", "Field Presence", "Oneofs", "Maps").
 use Rattle.std.specs.Prelude.{◌≡◌, ℕ, ◌+◌, ◌≤◌, List, ◌++◌, length, Some, Result, Ok, Err, Bool, true, false, is_none, nat_lt}
 use Rattle.std.specs.Prelude.{◌==◌, ◌&&◌, ◌||◌, not, if◌then◌else◌}
 use Rattle.std.specs.List.{AllByRecursion, list_all}
@@ -19,7 +19,7 @@ use Rattle.llb_ops.specs.Records.{form_of, parts, int32, int64, uint32, flag}
 use Rattle.llb_ops.specs.Messages.{op_of}
 use Rattle.llb_ops.specs.Writing.{bit, set_number, set_bytes, op_bytes}
 
--- a list of fields, and after them the extra bytes; a field is its row of the table and its value: the number in its varint, bytes, or the fields of a message
+-- a list of fields, then the extra bytes; a field is a row of the table and a value: the number that its varint spells, bytes, or an inner message's fields
 pub data Fields : Type 0 where
   extra : List ℕ → Fields
   number : Row → ℕ → Fields → Fields
@@ -49,7 +49,7 @@ pub record IsNext (m : MessageName) (last : ℕ) (set : Bool) (row : Row) : Type
 abbrev pub may_be_empty : NamedField → Bool
 may_be_empty f = f.member || f.repeated || f.of_entry
 
--- v is the varint that some value of this kind has in canonical bytes (a negative value in two's complement of 64 bits); false if the kind holds no number
+-- canonical bytes may have v in the varint of a field of this kind (a negative value is in two's complement of 64 bits); false if the kind holds no number
 abbrev pub IsNumberOf : FieldKind → ℕ → Type 0
 IsNumberOf Int64 v = cast_unsigned w64 (int64 v) ≡ v
 IsNumberOf Int32 v = cast_unsigned w64 (int32 v) ≡ v
@@ -71,18 +71,18 @@ IsBytesOf String held = is_utf8 held ≡ true
 IsBytesOf Bytes held = Unit {0}
 IsBytesOf (Message m) held = ⊥
 
--- The bytes are read as records, and the message names the field of none of these records.
+-- The bytes can be extra bytes of message m: they are read as records, all of fields that the table lacks for m.
 pub record AreUnnamed (m : MessageName) (more : List ℕ) : Type 0 where
   pub records : List Record
   pub read : parts (shape_of m) more ≡ Ok records
   pub unnamed : AllByRecursion (λ r. is_none (form_of (shape_of m) r.number) ≡ true) records
 
--- whether the records were read, and the message names the field of none of them; false if the read failed
+-- whether the records were read, and all of them are of fields that the table lacks for message m; false if the read failed
 abbrev pub only_unnamed : MessageName → Result (List Record) OpFault → Bool
 only_unnamed m (Ok records) = list_all (λ r. is_none (form_of (shape_of m) r.number)) records
 only_unnamed m (Err f) = false
 
--- whether bytes are read as records, and the message names the field of none of these records
+-- whether bytes can be extra bytes of message m: they are read as records, all of fields that the table lacks for m
 unfoldable pub are_unnamed : MessageName → List ℕ → Bool
 are_unnamed m more = only_unnamed m (parts (shape_of m) more)
 
@@ -123,8 +123,8 @@ AreFew last count (message row inner rest) =
 
 -- ---- the law of canonical bytes
 
--- An op's canonical bytes spell fields of the message Op, and none of them occurs more than `field_limit` times. Without the empty keys and values of maps,
--- no field occurs more often either, the bytes are not longer than the canonical ones, and they are read as the same op if they are within `entry_limit`.
+-- An op's canonical bytes spell fields of the message Op, and no field occurs more than `field_limit` times. If the empty keys and values of map entries are
+-- left out, this limit still holds; the bytes that remain are not longer than the canonical bytes and, if within `entry_limit`, are read as the same op.
 pub record HasFields (op : Op) : Type 0 where
   pub fields : Fields
   pub are : AreFields named.Op 0 false fields

@@ -14,8 +14,8 @@ use Rattle.llb_ops.specs.Definition.{definition_of, definition_bytes}
 abbrev pub IsReadAgain : Op → Type 0
 IsReadAgain op = (entry : List ℕ) → op_of entry ≡ Ok op → length (op_bytes op) ≤ entry_limit → op_of (op_bytes op) ≡ Ok op
 
--- For any message: the records that are read are those that the bytes spell by the grammar, and the bytes are refused if a named field has another
--- wire type than its kind has, or if a text is not UTF-8. An op is read from the records that its entry spells, and from nothing else.
+-- For any message: the records that are read are those that the bytes spell by the grammar (`SpellRecords`); but the bytes are refused if the record of a field
+-- of the table has another wire type than the field, or if a string is not UTF-8. An op is read from the records that its entry spells, and from nothing else.
 pub record IsReadOfRecords (bytes : List ℕ) : Type 0 where
   pub found : (shape : Shape) (rs : List Record) → parts shape bytes ≡ Ok rs → SpellRecords bytes rs
   pub spelled : (shape : Shape) (rs : List Record) → SpellRecords bytes rs → parts shape bytes ≡ fitting shape rs

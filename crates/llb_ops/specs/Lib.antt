@@ -1,6 +1,6 @@
 -- Read first Table (the fields of every message), Records (how a field is read from its records) and Messages (how a message is read from its records), then
--- Definition and Limits (a whole definition, and its limits), Writing (canonical bytes: the one way in which a message is written), Within (which ops are in
--- the limits), Laws and Fields (laws of reading and writing). Attributes is about a source's attributes, Kinds about kinds of ops, Faults about faults.
+-- Definition and Limits (a whole definition, and its limits), Writing (canonical bytes: the one way in which a message is written), Within (which ops are
+-- within the limits), Laws and Fields (laws of reading and writing). Attributes is about a source's attributes, Kinds about kinds of ops, Faults about faults.
 pub mod Faults
 pub mod Limits
 pub mod Table

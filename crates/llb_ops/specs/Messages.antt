@@ -61,7 +61,7 @@ users = members_of message.UserOpt
 abbrev pub user_of : ℕ → List Record → Result User OpFault
 user_of n rs = if n == 1 then Ok (ByName (joined rs)) else Ok (ById (uint32 (number rs)))
 
--- a `UserOpt` from its records: the member of its oneof that is set, if any
+-- a `UserOpt` from its records; its user is the member of its oneof that is set, or absent if no member is set
 unfoldable pub user_opt_in : List Record → Result UserOpt OpFault
 user_opt_in rs = do
   user ← one_of users user_of rs
@@ -206,7 +206,7 @@ action_in rs = do
     extra = unnamed action_shape rs;
   })
 
--- the `FileAction` that bytes are read as, or the first fault: of its records, then of what it does
+-- the `FileAction` that bytes are read as, or the first fault: of its records, then of the member of its oneof that is set
 abbrev pub action_of : List ℕ → Result Action OpFault
 action_of = message_of action_shape action_in
 
@@ -411,6 +411,6 @@ op_in rs = do
 abbrev pub op_message_of : List ℕ → Result Op OpFault
 op_message_of = message_of op_shape op_in
 
--- the op that an entry's bytes are read as, or the first fault
+-- the op that an entry's bytes are read as, or the first fault, which is `OverLimit` if there are more than `entry_limit` bytes
 unfoldable pub op_of : List ℕ → Result Op OpFault
 op_of bytes = if nat_lt entry_limit (length bytes) then Err OverLimit else op_message_of bytes

@@ -22,25 +22,25 @@ use Rattle.llb_ops.specs.declared.records.Record.{Record as Held}
 use Rattle.llb_ops.specs.declared.records.Front.{Front}
 use Rattle.llb_ops.specs.Limits.{field_limit}
 
--- the fields that a message names: for each field, its number, and its form, which says how the field's payload is read
+-- the fields that the table has for a message: for each field its number and its form, which says how the field's payload is read
 abbrev pub Shape : Type 0
 Shape = List (ℕ × Form)
 
--- a record of the code, with its payload and its text (all bytes of the record) as lists of bytes
+-- a value of the code's type `Record` as contracts see it: its payload and its text (all bytes of the record) are lists of bytes
 abbrev pub view : Held → Record
 view r = record { number = r.number; wire = r.wire; value = r.value; payload = r.payload.now; text = r.text.now }
 
--- records of the code in their order, each with its payload and its text as lists of bytes
+-- values of the code's type `Record`, in their order, each as contracts see it
 abbrev pub views : List Held → List Record
 views rs = map view rs
 
--- ---- the records, read from left to right; a record is refused if it can't be read, or if the message names its field and the field has another wire type
+-- ---- the records, read from left to right; a record is refused if it can't be read, or if the table has its field with another wire type
 
--- the form of the field with this number, if the message names it
+-- the form of the field with this number, if the shape has such a field
 abbrev pub form_of : Shape → ℕ → Option Form
 form_of shape number = option_map (λ n. n.1) (find (λ n. n.0 == number) shape)
 
--- whether a field of this form may have this wire type; a field that the message does not name has no form, and may have any wire type
+-- whether a record of a field of this form may have this wire type; a field that the table lacks has no form, and may have any wire type
 abbrev pub wire_fits : Option Form → WireType → Bool
 wire_fits None w = true
 wire_fits (Some Number) wire.Varint = true
@@ -70,7 +70,7 @@ records_from shape zero (b ∷ bytes) = do
   rs ← records_from shape (f.«end» - 1) bytes
   Ok (record_of (b ∷ bytes) f ∷ rs)
 
--- f is the first record of the bytes, with the bytes after it
+-- f has the first record of the bytes, and the bytes after this record
 pub record IsFront (shape : Shape) (bytes : List ℕ) (f : Front) : Type 0 where
   pub reads : records_from shape 0 bytes ≡ (records_from shape 0 f.after.now >>= λ rs. Ok (view f.record ∷ rs))
   pub shorter : length f.after.now < length bytes
@@ -102,11 +102,11 @@ parts shape bytes = records_from shape 0 bytes >>= λ rs. if texts_fit shape rs 
 
 -- ---- the records that bytes spell
 
--- whether each record of a field that the message names has the wire type of this field
+-- whether each record of a field that the table has for the message has this field's wire type
 abbrev pub wires_fit : Shape → List Record → Bool
 wires_fit shape rs = list_all (λ r. wire_fits (form_of shape r.number) r.wire) rs
 
--- these records, if each record of a named field has the field's wire type and all strings are UTF-8; else the fault
+-- these records, if each record of a field of the table has this field's wire type and all strings are UTF-8; else the fault
 abbrev pub fitting : Shape → List Record → Result (List Record) OpFault
 fitting shape rs = if wires_fit shape rs then (if texts_fit shape rs then Ok rs else Err NotUtf8) else Err WrongWireType
 
@@ -165,7 +165,7 @@ unfoldable pub each : {A : Type 0} → (List ℕ → Result A OpFault) → List 
 each read [] = Ok []
 each read (r ∷ rs) = read r.payload >>= λ m. (each read rs >>= λ ms. Ok (m ∷ ms))
 
--- the bytes of the records of fields that the message does not name, in order and unchanged
+-- the extra bytes: the bytes of the records of fields that the table lacks for the message, in order and unchanged
 abbrev pub unnamed : Shape → List Record → List ℕ
 unnamed shape rs = flat_map (λ r. r.text) (filter (λ r. is_none (form_of shape r.number)) rs)
 
@@ -195,7 +195,7 @@ is_other members n r = is_member members r && not (r.number == n)
 abbrev pub member : List ℕ → ℕ → List Record → List Record
 member members n rs = all n (since (is_other members n) rs)
 
--- the value of member n of a oneof, read from the records of that member; none if there is no number n; or the first fault
+-- the value of member n of a oneof, read from the records of that member; none if no n is given, as no member is set; or the first fault
 abbrev pub member_of : {A : Type 0} → List ℕ → (ℕ → List Record → Result A OpFault) → Option ℕ → List Record → Result (Option A) OpFault
 member_of members read None rs = Ok None
 member_of members read (Some n) rs = read n (member members n rs) >>= λ a. Ok (Some a)

@@ -1,4 +1,4 @@
--- The table of messages: the fields that each message names (`ops.proto` of BuildKit), by name, number and kind, in ascending order of
+-- The table of messages: the fields of each message (`ops.proto` of BuildKit) that are read, by name, number and kind, in ascending order of
 -- their numbers. A field of the kind `Bytes` is bytes, or a message that is not looked into; an entry of the map `attrs` is a message too.
 use Rattle.std.specs.Prelude.{◌≡◌, ℕ, List, [], ◌∷◌, map, find, filter, codes, Option, Some, true, false, nat_eq, ◌==◌}
 use Rattle.std.specs.List.{AllByRecursion}
@@ -36,7 +36,7 @@ member name n kind = (name, record { number = n; kind = kind; repeated = false; 
 abbrev pub of_entry : List ℕ → ℕ → FieldKind → Row
 of_entry name n kind = (name, record { number = n; kind = kind; repeated = false; member = false; of_entry = true })
 
--- the rows of a message: its named fields, in ascending order of their numbers; records of other fields are kept as extra bytes
+-- the rows of a message: its fields that are read, in ascending order of their numbers; records of other fields are kept as extra bytes
 abbrev pub rows_of : MessageName → List Row
 rows_of message.Definition =
     each (codes "def") 1 Bytes ∷
@@ -163,11 +163,11 @@ by_number n rows = find (λ r. r.1.number == n) rows
 abbrev pub by_name : List ℕ → List Row → Option Row
 by_name name rows = find (λ r. pointwise nat_eq r.0 name) rows
 
--- the row of message m for the field number n; none if m names no field with this number
+-- the row of message m for the field number n; none if the table has no such row
 unfoldable pub row_numbered : MessageName → ℕ → Option Row
 row_numbered m n = by_number n (rows_of m)
 
--- the row of message m for this field name; none if m has no field with this name
+-- the row of message m for this field name; none if the table has no such row
 unfoldable pub row_named : MessageName → List ℕ → Option Row
 row_named m name = by_name name (rows_of m)
 

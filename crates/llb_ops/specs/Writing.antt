@@ -1,6 +1,6 @@
 -- The canonical bytes of each message: its named fields in ascending order of their numbers, each in its shortest spelling; then its extra
--- bytes. A field that is 0 or empty is left out, but not if it is a message that is there, the set member of a oneof, an item of a repeated
--- field, or the key or the value of a map's entry.
+-- bytes. A field that is 0 or empty is left out, unless it is a message that is there, the set member of a oneof, an item of a repeated field,
+-- or the key or the value of a map's entry.
 use Rattle.std.specs.Prelude.{ℕ, ℤ, List, [], ◌++◌, length, map, Option, Some, None, Bool, true, false, ◌==◌, if◌then◌else◌}
 use Rattle.std.specs.List.{flat_map}
 use Rattle.std.specs.Int.{w64, cast_unsigned}

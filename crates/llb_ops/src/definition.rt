@@ -17,7 +17,7 @@ use llb_wire::{Bytes, Memory};
 use std::alloc::Global;
 use std::marker::Model;
 
-/// The entries of a definition, in order. Contracts see the list of their bytes.
+/// The entries of a definition, in order. Contracts see a list with the bytes of each entry.
 pub struct Entries {
     entries: Vec<Bytes>,
 }
@@ -142,7 +142,7 @@ fn admitted(bytes: &[u8]) -> Result<(), OpFault>
 /// Reads the entries of a definition.
 ///
 /// Fails with the first of these faults that applies: 13 `OverLimit` if the definition has more than 67,108,864 bytes; at the first faulty record from left to
-/// right, 1 to 4 `Wire` if the record can't be read, or 11 `WrongWireType` if its field is one of `Definition`'s and has another wire type; 13 `OverLimit` if
+/// right, 1 to 4 `Wire` if the record can't be read, or 11 `WrongWireType` if the table has the record's field with another wire type; 13 `OverLimit` if
 /// there are more than 65,536 entries, or if an entry has more than 16,777,216 bytes. Fails with 14 `Memory` if memory is refused and there is no other fault.
 pub fn read_definition(alloc: Global, bytes: &[u8]) -> Result<Entries, OpFault>
     ensures gives { Gives (λ e. e) result (definition_of bytes.now) }

@@ -2,9 +2,9 @@
 
 ghost use Rattle.llb_ops.specs.Fields.{EntryHasFields};
 
-/// Proves that the canonical bytes of an op that was read consist of fields of the table, in ascending order of their numbers, and after them of the records of
-/// fields that the message doesn't name. Each value is of its field's kind. A number that is 0, or an empty string or bytes, is there only in a repeated field,
-/// in a member of a oneof, or in an entry of a map. No field occurs more than 1,024 times. The same holds of nested messages.
+/// Proves that the canonical bytes of an op that was read consist of fields of the table, in ascending order of their numbers, and then the extra bytes. Each
+/// value is of its field's kind. The number 0, an empty string and empty bytes are there only in a repeated field, in a member of a oneof, or in an entry of a
+/// map. No field occurs more than 1,024 times. The same holds of the bytes of nested messages.
 pub fn entry_has_fields(bytes: &[u8])
     ensures { EntryHasFields bytes.now }
 {

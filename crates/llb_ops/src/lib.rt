@@ -3,9 +3,9 @@
 //!
 //! Types: `Op` with `Kind` (a source, a file op, a merge, an exec, or a build or a diff, which `llb_loader` refuses), `Entries` (of a definition),
 //! `FieldRow` (a row of the table), `OpFault`.
-//! Promise: `read_op` (`gives`, `within`) returns the op that the definition `op_of` makes of an entry, or the entry's first fault. `read_definition`
-//! (`gives`, `last`) returns the entries that `definition_of` makes of a definition's bytes, or the first fault. Laws say that the canonical bytes of an op
-//! that was read are read as the same op, and which fields these bytes have.
+//! Promise: `read_op` (`gives`, `within`) returns the op that the rule `op_of` makes of an entry, or the entry's first fault. `read_definition`
+//! (`gives`, `last`) returns the entries that the rule `definition_of` makes of a definition's bytes, or the first fault. Laws say that the canonical
+//! bytes of an op that was read are read as the same op, and which fields these bytes have.
 //!
 //! A caller:
 //!

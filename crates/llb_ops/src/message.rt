@@ -24,7 +24,7 @@ pub trait Message: Drop {
 
     ghost reading: { List Read → Result Self OpFault };
 
-    /// Reads the message from its records, whose texts are UTF-8. Fails with the first fault, or with 14 `Memory`.
+    /// Reads the message from its records, whose strings are UTF-8. Fails with the first fault, or with 14 `Memory`.
     fn read(alloc: Global, records: &[Record<'_>]) -> Result<Self, OpFault>
         requires { texts_fit shape (views records.now) ≡ true }
         ensures { Gives (λ m. m) result (reading (views records.now)) };
@@ -82,7 +82,7 @@ pub fn read_message<M: Message>(alloc: Global, bytes: &[u8]) -> Result<M, OpFaul
     M::read(alloc, &records)
 }
 
-/// Reads a message from the payloads of the records of field `number`, joined one after the other. If the field has only one record, its payload is not copied.
+/// Reads a message from the payloads of the records of field `number`, joined one after the other. If there is only one such record, its payload is not copied.
 /// Fails with the first fault, or with 14 `Memory`.
 pub fn joined_message<M: Message>(
     alloc: Global,
@@ -133,7 +133,7 @@ pub fn each<M: Message>(
     Ok(Many::new(messages))
 }
 
-/// Reads the member of a oneof that is set, if any. Fails with the first fault, or with 14 `Memory`.
+/// Reads the member of a oneof that is set; returns `None` if no member is set. Fails with the first fault, or with 14 `Memory`.
 pub fn one_of<M: Member>(
     alloc: Global,
     records: &[Record<'_>],

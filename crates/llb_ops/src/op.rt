@@ -28,7 +28,7 @@ pub struct Op {
     pub inputs: Many<Input>,
     /// The member of the oneof that is set, if any.
     pub kind: Option<Kind>,
-    /// The records of fields that the message doesn't name, as they are.
+    /// The extra bytes: the records of fields that the table of messages lacks, unchanged.
     pub extra: Bytes,
 }
 
@@ -188,9 +188,9 @@ impl Message for Op {
 /// Reads an entry as an op.
 ///
 /// Fails with the first fault: 13 `OverLimit` for an entry of more than 16,777,216 bytes; then the faults of the message Op, in this order: 1 to 4 `Wire` or 11
-/// `WrongWireType` at the first faulty record from left to right (11 only in fields that the message names); 12 `NotUtf8` for a string; the faults of nested
-/// messages, by their field numbers, each message's in this same order; 13 `OverLimit` for a field that is repeated more than 1,024 times. Fails with 14
-/// `Memory` if memory is refused.
+/// `WrongWireType` at the first faulty record from left to right (11 only for a field of the table); 12 `NotUtf8` for a string; the faults of nested messages,
+/// in the order of their field numbers, and within each message in this same order; 13 `OverLimit` for a field that has more than 1,024 records. Fails with
+/// 14 `Memory` if memory is refused.
 #[tactic(auto, unfolding(crate::specs::Messages::op_of))]
 pub fn read_op(alloc: Global, bytes: &[u8]) -> Result<Op, OpFault>
     ensures gives { Gives (λ op. op) result (op_of bytes.now) }
@@ -227,8 +227,8 @@ pub fn kind_name(op: &Op) -> &'static str
     }
 }
 
-/// Proves that the records that are read of a message are the records that its bytes spell by the grammar of the wire, whichever fields the message names; and
-/// that an op is read from the records that its entry spells, and from nothing else.
+/// Proves that the records that are read of any message are the records that its bytes spell by the grammar of the wire, whichever fields the table has for the
+/// message; and that an op is read from the records that its entry spells, and from nothing else.
 pub fn op_is_read_of_records(bytes: &[u8])
     ensures { IsReadOfRecords bytes.now }
 {

@@ -38,7 +38,7 @@ pub struct Front<'a> {
     pub after: &'a [u8],
 }
 
-// Returns the form of the field with this number, if the message names it.
+// Returns the form of the field with this number; `None` if the table lacks such a field of the message.
 fn form(message: MessageName, number: u32) -> Option<Form>
     ensures { result ≡ form_of (shape_of message) number }
 {
@@ -48,7 +48,7 @@ fn form(message: MessageName, number: u32) -> Option<Form>
     }
 }
 
-// Returns whether the record has the wire type of its field; true if the message does not name the field.
+// Returns whether the record has the wire type of its field; true if the table lacks the field.
 fn fits(message: MessageName, field: &Field) -> bool
     ensures { result ≡ wire_fits (form_of (shape_of message) field.now.number) field.now.wire }
 {
@@ -80,7 +80,7 @@ fn front_of<'a>(bytes: &'a [u8], field: &Field) -> Front<'a>
 }
 
 /// Returns the record at the start of a message's bytes, and the bytes after it; `None` at the end. Fails with 1 to 4
-/// `Wire` if the record is not readable, and with 11 `WrongWireType` if the message names the record's field and the
+/// `Wire` if the record is not readable, and with 11 `WrongWireType` if the table has the record's field and the
 /// record has another wire type than the field.
 pub fn next_part<'a>(message: MessageName, bytes: &'a [u8]) -> Result<Option<Front<'a>>, OpFault>
     ensures { Starts (shape_of message) bytes.now result }
@@ -141,8 +141,8 @@ fn texts_are_utf8(message: MessageName, records: &[Record<'_>]) -> bool
     true
 }
 
-/// Splits the bytes of a message into its records, and checks that each record of a field that the message names has the
-/// wire type of the field, and that strings are UTF-8. Fails as `split` does, and then with 12 `NotUtf8`.
+/// Splits the bytes of a message into its records, and checks that each record of a field of the table has the field's
+/// wire type, and that strings are UTF-8. Fails as `split` does, and then with 12 `NotUtf8`.
 #[tactic(auto, unfolding(crate::specs::Records::parts))]
 pub fn parts<'a>(
     alloc: Global,
@@ -182,28 +182,29 @@ fn last_number(records: &[Record<'_>], number: u32) -> u64
     }
 }
 
-/// Returns the number of a field as a signed 64-bit number; 0 if the field has no record.
+/// Returns the value of an int64 field: the number in its last record, as a signed number; 0 if the field has no record.
 pub fn last_int64(records: &[Record<'_>], number: u32) -> i64
     ensures { result ≡ int64 (number_of (all_of number (views records.now))) }
 {
     last_number(records, number).cast_signed()
 }
 
-/// Returns the low 32 bits of the number of a field; 0 if the field has no record.
+/// Returns the value of a uint32 field: the low 32 bits of the number in its last record; 0 if the field has no record.
 pub fn last_uint32(records: &[Record<'_>], number: u32) -> u32
     ensures { result ≡ uint32 (number_of (all_of number (views records.now))) }
 {
     (last_number(records, number) % 0x1_0000_0000) as u32
 }
 
-/// Returns the low 32 bits of the number of a field as a signed number; 0 if the field has no record.
+/// Returns the value of an int32 or enum field: the low 32 bits of the number in its last record, as a signed number;
+/// 0 if the field has no record.
 pub fn last_int32(records: &[Record<'_>], number: u32) -> i32
     ensures { result ≡ int32 (number_of (all_of number (views records.now))) }
 {
     last_uint32(records, number).cast_signed()
 }
 
-/// Returns whether the number of a field is not 0.
+/// Returns the value of a bool field: whether the number in its last record is not 0; false if the field has no record.
 pub fn last_flag(records: &[Record<'_>], number: u32) -> bool
     ensures { result ≡ flag (number_of (all_of number (views records.now))) }
 {
@@ -227,8 +228,8 @@ pub fn last_bytes(alloc: Global, records: &[Record<'_>], number: u32) -> Result<
     Bytes::from_slice(alloc, last_payload(records, number))
 }
 
-/// Returns the text of a field; empty if the field has no record. The caller ensures that the records of text fields are
-/// UTF-8. Fails with 5 `Memory` alone.
+/// Returns the value of a string field; empty if the field has no record. The caller ensures that the payloads of string fields
+/// are UTF-8. Fails with 5 `Memory` alone.
 pub fn last_text(
     alloc: Global,
     message: MessageName,
@@ -373,7 +374,7 @@ fn is_unnamed(message: MessageName, part: &Record<'_>) -> bool
     form(message, part.number).is_none()
 }
 
-/// Returns whether bytes are records of fields that the message doesn't name, and nothing else.
+/// Returns whether bytes can be extra bytes of a message: only records of fields that the table lacks for the message.
 pub fn are_unnamed(message: MessageName, bytes: &[u8]) -> bool
     ensures { result ≡ are_unnamed message bytes.now }
 {
@@ -392,7 +393,7 @@ pub fn are_unnamed(message: MessageName, bytes: &[u8]) -> bool
     }
 }
 
-/// Returns the bytes of the records of fields that the message doesn't name, in order and unchanged. Fails with 5 `Memory` alone.
+/// Returns the extra bytes: the records of fields that the table lacks for the message, in order and unchanged. Fails with 5 `Memory` alone.
 pub fn unnamed(alloc: Global, message: MessageName, records: &[Record<'_>]) -> Result<Bytes, Memory>
     ensures { IfOk result (λ b. b ≡ unnamed_of (shape_of message) (views records.now)) }
 {

@@ -280,7 +280,7 @@ pub fn fields_of(message: MessageName) -> &'static [FieldRow]
     }
 }
 
-/// Returns the field with this number; `None` if the message names no such field.
+/// Returns the field with this number; `None` if the table lacks such a field of the message.
 #[tactic(auto, unfolding(crate::specs::Table::row_numbered))]
 pub fn field_numbered(message: MessageName, number: u32) -> Option<FieldRow>
     ensures { option_map row_seen result ≡ row_numbered message number }
@@ -293,7 +293,7 @@ pub fn field_numbered(message: MessageName, number: u32) -> Option<FieldRow>
     None
 }
 
-/// Returns the field with this name; `None` if the message has no such field.
+/// Returns the field with this name; `None` if the table lacks such a field of the message.
 #[tactic(auto, unfolding(crate::specs::Table::row_named))]
 pub fn field_named(message: MessageName, name: &[u8]) -> Option<FieldRow>
     ensures { option_map row_seen result ≡ row_named message name.now }

@@ -1,5 +1,5 @@
 //! Writes fields in their canonical bytes, one after the other. Each call that appends to `out` fails with 5 `Memory`
-//! alone; some of the call's bytes may be in `out` then.
+//! alone; after a failure `out` may have some of the call's bytes.
 
 ghost use Rattle.std.specs.Prelude.{◌≡◌, ◌<◌, ◌++◌, ◌≤◌, IfOk, OnOk};
 ghost use Rattle.llb_ops.specs.Writing.{set_number, set_bytes, number_field, bytes_field, signed_field, flag_field, message_field};
@@ -9,7 +9,7 @@ use crate::message::{Member, Message};
 use llb_wire::{Bytes, Memory, Text, Wire, write_record};
 use std::alloc::Global;
 
-/// Writes a number, even if it is 0.
+/// Writes the record of field `number` with this value, even if the value is 0.
 #[tactic(auto, unfolding(crate::specs::Writing::set_number))]
 pub fn put_set_number(out: &mut Vec<u8>, number: u32, value: u64) -> Result<(), Memory>
     requires some { 0 < number }
@@ -20,7 +20,7 @@ pub fn put_set_number(out: &mut Vec<u8>, number: u32, value: u64) -> Result<(), 
     Ok(())
 }
 
-/// Writes bytes, even if there are none.
+/// Writes the record of field `number` with these bytes, even if there are none.
 #[tactic(auto, unfolding(crate::specs::Writing::set_bytes))]
 pub fn put_set_bytes(out: &mut Vec<u8>, number: u32, bytes: &[u8]) -> Result<(), Memory>
     requires some { 0 < number }
@@ -56,7 +56,7 @@ pub fn message_record<M: Message>(
     bytes_record(alloc, number, &bytes)
 }
 
-/// Writes a number; writes nothing if the number is 0.
+/// Writes the record of field `number` with this value; writes nothing if the value is 0.
 #[tactic(auto, unfolding(crate::specs::Writing::number_field))]
 fn put_number(out: &mut Vec<u8>, number: u32, value: u64) -> Result<(), Memory>
     requires some { 0 < number }
@@ -69,7 +69,7 @@ fn put_number(out: &mut Vec<u8>, number: u32, value: u64) -> Result<(), Memory>
     Ok(())
 }
 
-/// Writes a signed number; writes nothing if the number is 0.
+/// Writes the record of field `number` with this signed value; writes nothing if the value is 0.
 pub fn put_signed(out: &mut Vec<u8>, number: u32, value: i64) -> Result<(), Memory>
     requires some { 0 < number }
     requires small { number ≤ 536_870_911 }
@@ -78,7 +78,7 @@ pub fn put_signed(out: &mut Vec<u8>, number: u32, value: i64) -> Result<(), Memo
     put_number(out, number, value.cast_unsigned())
 }
 
-/// Writes a flag; writes nothing if the flag is false.
+/// Writes the record of the bool field `number`; writes nothing if the value is false.
 pub fn put_flag(out: &mut Vec<u8>, number: u32, value: bool) -> Result<(), Memory>
     requires some { 0 < number }
     requires small { number ≤ 536_870_911 }
@@ -87,7 +87,7 @@ pub fn put_flag(out: &mut Vec<u8>, number: u32, value: bool) -> Result<(), Memor
     put_number(out, number, u64::from(value))
 }
 
-/// Writes bytes; writes nothing if there are none.
+/// Writes the record of field `number` with these bytes; writes nothing if there are none.
 #[tactic(auto, unfolding(crate::specs::Writing::bytes_field))]
 pub fn put_bytes(out: &mut Vec<u8>, number: u32, bytes: &[u8]) -> Result<(), Memory>
     requires some { 0 < number }
@@ -100,7 +100,7 @@ pub fn put_bytes(out: &mut Vec<u8>, number: u32, bytes: &[u8]) -> Result<(), Mem
     Ok(())
 }
 
-/// Writes a message, even an empty one; writes nothing if there is no message.
+/// Writes the record of field `number` with a message, even with an empty one; writes nothing if there is no message.
 #[tactic(auto, unfolding(crate::specs::Writing::message_field))]
 pub fn put_message<M: Message>(
     alloc: Global,
@@ -176,7 +176,7 @@ pub fn put_one_of<M: Member>(
     Ok(())
 }
 
-/// Writes the extra bytes, unchanged: the records of fields that the message doesn't name.
+/// Writes the extra bytes, unchanged: the records of fields that the table of messages lacks.
 pub fn put_extra(out: &mut Vec<u8>, extra: &Bytes) -> Result<(), Memory>
     ensures { OnOk result (out.new.items ≡ out.old.items ++ extra.now) }
 {
