@@ -169,8 +169,8 @@ pub record IsLiteral (a b : List ℕ) : Type 0 where
   pub same : a ≡ b
   pub plain : has_mark a ≡ false
 
--- a condition on each vertex at or before vertex v that makes a digest: the local sources at or before that vertex have the same contents in both lists of
--- local trees, and none of these contents has the byte that begins tokens
+-- a condition on each vertex at or before vertex v that makes a digest: each local source at or before that vertex has equal trees in both lists of local trees
+-- (or none in both), and no content in these trees has the byte that begins tokens
 abbrev pub DigestsLiterals : Numbered → List Local → List Local → ℕ → Type 0
 DigestsLiterals g ls ms v = (k : ℕ) (x : Vertex) → Reached (links g.vertices) v k → slice_get g.vertices k ≡ Some x
     → (list_any step_digests (program_of x).steps ≡ false) ⊎ HaveAlikeSources IsLiteral g k ls ms
@@ -186,7 +186,7 @@ HandsTokensOn g = (table : ℕ → List ℕ) (ls ms : List Local) (v : ℕ) → 
 abbrev pub MakesNoDigest : Numbered → ℕ → Type 0
 MakesNoDigest g v = (k : ℕ) (x : Vertex) → Reached (links g.vertices) v k → slice_get g.vertices k ≡ Some x → list_any step_digests (program_of x).steps ≡ false
 
--- the same law as `HandsOn`, but with the premise that no digest is made at or before the vertex in place of `RelatesWritten`
+-- the same law as `HandsOn`, but with another premise in place of `RelatesWritten`: no digest is made at or before the vertex
 abbrev pub HandsOnUndigested : (List ℕ → List ℕ → Type 0) → Numbered → Type 0
 HandsOnUndigested R g = (ls ms : List Local) (v : ℕ) → MakesNoDigest g v → HaveAlikeSources R g v ls ms → HasAlikeOutcomes R g ls ms v
 

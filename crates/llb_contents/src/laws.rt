@@ -1,5 +1,5 @@
-//! Laws of contents, for any graph, any local trees and any table of tokens. *Alike* trees differ only in the contents of files, and these contents are
-//! related.
+//! Laws of contents, for any graph, any local trees and any table of tokens (the content of each token). Given a relation between contents, trees are *alike*
+//! if they differ only in the contents of files, and the two contents at each path are related.
 
 ghost use Rattle.llb_contents.specs.Laws.{ActsAlike, LaysAlike, RunsAlike, ExpandsToOne};
 ghost use Rattle.llb_contents.specs.Laws.{HandsContentsOn, HandsExpansionsOn, HandsRelationsOn, HandsTokensOn, HandsUndigestedOn};
@@ -58,7 +58,7 @@ pub fn contents_are_handed_on(graph: &Graph)
     graph.is_graph();
 }
 
-/// Proves that a tree expands to at most one tree, whatever each content expands to.
+/// Proves that a tree expands to at most one tree, by whatever function its contents are expanded.
 pub fn expands_to_one(tree: &Tree)
     ensures { ExpandsToOne tree.now }
 {

@@ -1,4 +1,4 @@
-//! Gathers the trees of a vertex's inputs from the vertices that have ended. The trees are copied; a copy shares the memory of its tree.
+//! Copies the trees of a vertex's inputs from the vertices that are done. A copy shares the memory of its tree.
 
 ghost use Rattle.std.specs.Prelude.{◌≡◌, ℕ, Option, IfOk, option_map};
 ghost use Rattle.llb_model.specs.Outcome.{Ending, inputs_from, output_in};

@@ -1,5 +1,5 @@
-//! Makes what the commands of an exec share: the setting (directory and variables), and the mounts, which at first show the trees of the
-//! inputs. Nothing here runs a command.
+//! Makes what the commands of an exec share: the setting (directory and variables), and the mounts as they are before the first command.
+//! Nothing here runs a command.
 
 ghost use Rattle.std.specs.Prelude.{◌≡◌, IfOk, map, option_map, unwrap_or};
 ghost use Rattle.llb_tree.specs.Tree.{empty_tree};

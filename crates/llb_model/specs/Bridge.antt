@@ -50,7 +50,7 @@ abbrev pub written : Store → List Row → List Instance → List Row
 written s rows [] = rows
 written s rows (p ∷ ps) = written s (showing rows p (tree_of s p)) ps
 
--- the rows after an event of worker w, given the state after the event: the event writes and makes no instances but those that w holds in that state
+-- the rows after an event of worker w, given the state after the event: the event writes or makes only instances that w holds in that state
 abbrev pub rows_after : List Row → State → ℕ → List Row
 rows_after rows s w = written s.store rows (places_at (slice_get s.workers w))
 

@@ -73,7 +73,7 @@ with_content p t s = record s { store = put s.store p t }
 abbrev pub with_content_after : Instance → TreeMap → State × Reply → State × Reply
 with_content_after p t a = (with_content p t a.0, a.1)
 
--- an event of one worker does not read an instance of a private or locked key that another holds: for any tree there, the reply and all else are the same
+-- an event of one worker does not read a private or locked instance that another worker holds: with any tree in it, reply and other effects are the same
 abbrev pub OthersIgnore : Build → Type 0
 OthersIgnore b = (s : State) (e : Event) (t : TreeMap) → IsReached b s → (w : ℕ) (x : Execution) (p : Instance) → slice_get s.workers w ≡ Some (Runs x)
     → Has x.places p → IsExclusive p.key.mode → worker_of e ≢ w → table b (with_content p t s) e ≡ option_map (with_content_after p t) (table b s e)
@@ -131,7 +131,7 @@ HeldAreThere b = (s : State) → IsReached b s → (w : ℕ) (x : Execution) →
 
 -- ---- scripts
 
--- the work of an exec before its first command: its mounts, and which of them show caches
+-- the work of an exec before its first command: its mounts, the numbers of those that show caches, and the trees of its cache instances
 abbrev pub at_start : List Shown → List ℕ → List TreeMap → Work
 at_start mounts caches trees = record { own = Mounted mounts caches 0; trees = trees }
 

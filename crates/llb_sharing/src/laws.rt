@@ -52,7 +52,7 @@ pub fn parts_do_not_collide(definition: &[u8], graph: &Graph)
 }
 
 /// Proves that vertices with the same digest have the same job, except for the numbers of worker and vertex, if the sources at or before them have the same
-/// local trees. The job is the one without cache instances, which a claim hands out if no cache mount is at or before the vertex.
+/// local trees. The law is about jobs without cache instances; a claim hands out such a job if no cache mount is at or before the vertex.
 pub fn one_digest_one_job(first: &[u8], graph: &Graph, second: &[u8], other: &Graph)
     ensures { LoadWithoutCollision first.now graph.now second.now other.now → ShareJobs graph.now other.now }
 {

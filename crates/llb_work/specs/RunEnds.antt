@@ -32,7 +32,7 @@ StopsSomewhere may_stop b = (w : ℕ) × (v : ℕ) × (w < length b.state.worker
 abbrev pub is_of : BoardValue → ℕ → ℕ → Bool
 is_of b w v = nat_lt w (length b.state.workers) && nat_lt v (length b.build.graph.vertices)
 
--- whether a note is possible: for a stop, the gate may stop this worker at this vertex, and both exist on the given board; true for any other note or for none
+-- whether this can be what is noted: a stop only if the gate may stop this worker at this vertex and both exist on the given board; all else always can
 abbrev pub may_be : (ℕ → ℕ → Bool) → BoardValue → Option Noted → Bool
 may_be may_stop b None = true
 may_be may_stop b (Some noted.Memory) = true

@@ -2,8 +2,8 @@
 //!
 //! Before a worker waits it does three things, in this order: it reads the word `wakes`, sees that the run is not over, and finds the queue
 //! empty. It then parks on `wakes`; parking returns at once if `wakes` has changed since the worker read it. So the worker sleeps only if there
-//! was no wake since it read `wakes`, and no later wake misses the worker: a wake first changes `wakes` and then reads `sleepers`, which the
-//! worker has raised before it parks.
+//! was no wake since it read `wakes`, and no later wake misses the worker: a wake first changes `wakes` and then reads `sleepers`, and the
+//! worker adds itself to `sleepers` before it parks.
 //!
 //! A worker that puts numbers into the queue wakes one sleeper for each of them, except for the number that it takes itself right after. So while a worker
 //! sleeps, as many workers are about to take a number as there are numbers in the queue, and no number stays there. A worker that sees the run end wakes all
