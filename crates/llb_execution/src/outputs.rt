@@ -15,7 +15,7 @@ use llb_mount::Shown;
 use llb_ops::{Action, Kind, Mount};
 use llb_tree::Tree;
 
-/// Returns the outputs of a vertex, from the data of its workspace after all micro-steps; they replace the empty trees in `outputs`.
+/// Returns the outputs of a vertex, from the data of its workspace after all micro-steps; the result is `outputs` with its empty trees replaced.
 pub(crate) fn outputs_of(own: WorkState, outputs: Vec<Tree>, vertex: &Vertex) -> Vec<Tree>
     requires { outputs.items ≡ replicate (length outputs.items) empty_tree }
     ensures { result.items ≡ outputs_of (record (program_of vertex.now) { outputs = length outputs.items }) (own_of own) }

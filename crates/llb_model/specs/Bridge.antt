@@ -1,7 +1,7 @@
 -- How the two models of caches are related. llb_cache models caches as rows, in the order in which the keys were first leased; a row is a key with the list of
 -- its trees. llb_cache also numbers the leases. Callers of llb_cache list the keys in the order of the rows, and give a lease back by its number. The machine
 -- models caches as a store, a map from instances to trees. If two workers lease two new keys, the store is the same in either order of the leases, but the rows
--- differ, since a new key is put last. This file says which store rows represent, which rows there are after an event, and which leases the workers have.
+-- differ, since a new key is put last. This file says which store a list of rows represents, the rows after an event, and the leases that workers have.
 use Rattle.std.specs.Prelude.{◌≡◌, ◌⊎◌, ℕ, ◌+◌, true, List, [], ◌∷◌, ◌++◌, length, map, Option, Some, None, slice_get, slice_set, nat_lt}
 use Rattle.std.specs.Prelude.{if◌then◌else◌}
 use Rattle.std.specs.FinMap as finite
@@ -28,7 +28,7 @@ abbrev pub store_from : List Row → List Row → Store
 store_from all [] = finite.empty
 store_from all (r ∷ rows) = put_from (store_from all rows) r.0 0 (trees_of all r.0)
 
--- the store that rows represent
+-- the store that a list of rows represents
 unfoldable pub store_of : List Row → Store
 store_of rows = store_from rows rows
 

@@ -1,4 +1,4 @@
--- What holds over whole runs, also if executions share caches.
+-- What is true of every whole run, even if executions share caches.
 use Rattle.std.specs.Prelude.{◌≡◌, ◌≢◌, ◌<◌, ℕ, zero, suc, ◌+◌, ◌-◌, ◌==◌, nat_le, Bool, true, false, not, ◌&&◌, ◌||◌, List, [], ◌∷◌, length, map, drop}
 use Rattle.std.specs.Prelude.{Option, Some, None, is_some, option_map, unwrap_or, slice_get, if◌then◌else◌}
 use Rattle.llb_cache.specs.declared.key.Key.{Key}

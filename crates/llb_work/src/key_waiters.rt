@@ -108,8 +108,8 @@ impl KeyWaiters {
         row.put
     }
 
-    /// Takes a number that waits for a key, which is about to be free. Returns `None` if no number waits, or if a number was put again for this key and has not
-    /// been claimed since.
+    /// Takes a number that waits for a key, which is about to be free. Returns `None` if no number waits, or if an earlier number that waited for this key was
+    /// put into the queue again and its claim has not been tried since.
     pub(crate) fn next_of(&mut self, key: &Key) -> Option<u32> {
         let at = self.place_of(key)?;
         self.next_at(at)
