@@ -59,7 +59,7 @@ pub record IsSourceOf (g : Numbered) (v : ℕ) (name : List ℕ) : Type 0 where
 abbrev pub HaveAlikeSources : (List ℕ → List ℕ → Type 0) → Numbered → ℕ → List Local → List Local → Type 0
 HaveAlikeSources R g v ls ms = (name : List ℕ) → IsSourceOf g v name → BothOptions (AreAlike R) (tree_of_local ls name) (tree_of_local ms name)
 
--- a vertex has alike plain outcomes with both lists of local trees: it is blocked in both, failed in both with the same fault, or done in both with equally
+-- the plain outcomes of a vertex with the two lists of local trees are alike: both are blocked, both failed with the same fault, or both are done with equally
 -- many outputs, which are alike
 abbrev pub HasAlikeOutcomes : (List ℕ → List ℕ → Type 0) → Numbered → List Local → List Local → ℕ → Type 0
 HasAlikeOutcomes R g ls ms v = BothOptions (AreAlikeOutcomes R) (outcome (record { graph = g; locals = ls }) v) (outcome (record { graph = g; locals = ms }) v)

@@ -58,7 +58,7 @@ pub fn contents_are_handed_on(graph: &Graph)
     graph.is_graph();
 }
 
-/// Proves that a tree expands to at most one tree, by whatever function its contents are expanded.
+/// Proves that a tree expands to at most one tree, for any function that expands the contents of files.
 pub fn expands_to_one(tree: &Tree)
     ensures { ExpandsToOne tree.now }
 {

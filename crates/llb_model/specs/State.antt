@@ -128,7 +128,7 @@ runs None = None
 abbrev pub program_in : Build → Execution → Program
 program_in b x = program_at (slice_get b.graph.vertices x.vertex)
 
--- the work of an execution in state s: its workspace, and the trees that the caches of s have in its instances
+-- the work of an execution in state s: its workspace, and the trees that its cache instances have in s
 abbrev pub work_of : State → Execution → Work
 work_of s x = record { own = x.own; trees = trees_at s.store x.places }
 
@@ -166,7 +166,7 @@ abbrev pub first_free : List Instance → Key → ℕ → ℕ → ℕ
 first_free ps k n zero = n
 first_free ps k n (suc tries) = if is_in ps (place k n) then first_free ps k (n + 1) tries else n
 
--- the number of the key's instance that a claim takes while the instances `ps` are held: 0; for a private key the least number whose instance is not held
+-- the number of the instance of a key that a claim takes while `ps` are held: 0 or, for a private key, the least number whose instance is not held
 abbrev pub number_for : List Instance → Key → Mode → ℕ
 number_for ps k Shared = 0
 number_for ps k Locked = 0

@@ -114,7 +114,7 @@ abbrev pub unless_failed : Option VertexFault → of_step.Stepped → of_step.St
 unless_failed None done = done
 unless_failed (Some f) done = did.Fault f
 
--- what the reply to micro-step k says, given the workspace before it and its result; for a command that ran, the status, also if the exec fails by it
+-- what the reply to micro-step k says, given the workspace before it and its result; for a command that ran: the status, also if the exec fails by it
 abbrev pub step_done : ℕ → MicroStep → Workspace → Left → of_step.Stepped
 step_done k ReadLocal before left = unless_failed left.fault did.Read
 step_done k (Act action) before left = unless_failed left.fault (did.Acted k)

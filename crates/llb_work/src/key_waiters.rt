@@ -7,7 +7,7 @@ use llb_cache::Key;
 use std::alloc::{AllocError, Global};
 
 // The numbers that wait for one key: the first and the last of them in the order in which they came, and the number, if any, that was put into the queue again
-// and whose claim has not been tried since. The field `after` of `KeyWaiters` says which number follows which.
+// and whose claim is still to be tried (`put`). The field `after` of `KeyWaiters` says which number follows which.
 #[derive(Drop)]
 struct Row {
     key: Key,
@@ -17,7 +17,7 @@ struct Row {
 }
 
 impl Row {
-    // Returns whether no number waits for the key, and no number was put into the queue again whose claim has not been tried since.
+    // Returns whether the row has no number: no number waits for the key, and `put` is `None`.
     fn is_empty(&self) -> bool {
         self.put.is_none() && self.first.is_none()
     }
@@ -95,7 +95,7 @@ impl KeyWaiters {
     }
 
     // Takes the next number of a row, to be put into the queue again. Returns `None` if no number waits, or if an earlier number of this row was put into the
-    // queue again and its claim has not been tried since.
+    // queue again and its claim is still to be tried.
     fn next_at(&mut self, at: usize) -> Option<u32> {
         let KeyWaiters { rows, after } = self;
         let row = rows.get_mut(at)?;
@@ -109,7 +109,7 @@ impl KeyWaiters {
     }
 
     /// Takes a number that waits for a key, which is about to be free. Returns `None` if no number waits, or if an earlier number that waited for this key was
-    /// put into the queue again and its claim has not been tried since.
+    /// put into the queue again and its claim is still to be tried.
     pub(crate) fn next_of(&mut self, key: &Key) -> Option<u32> {
         let at = self.place_of(key)?;
         self.next_at(at)
