@@ -18,7 +18,7 @@ use Rattle.llb_model.specs.State.{State, Execution, WorkerStatus, Runs, held, pl
 
 -- ---- the store that rows represent
 
--- the store with these trees put at the instances n, n + 1 and so on of a key
+-- the store after these trees are put in the instances n, n + 1 and so on of a key
 abbrev pub put_from : Store → Key → ℕ → List TreeMap → Store
 put_from s k n [] = s
 put_from s k n (t ∷ ts) = put (put_from s k (n + 1) ts) (place k n) t
@@ -56,7 +56,7 @@ rows_after rows s w = written s.store rows (places_at (slice_get s.workers w))
 
 -- ---- what a lease needs, and which instances it takes
 
--- the needs of a vertex as llb_cache takes them: a key, and the tree that a new instance begins with (the tree of an input, or the empty tree)
+-- the needs of a vertex as llb_cache takes them: for each need its key, and the tree that a new instance begins with (an input's tree, or the empty tree)
 abbrev pub asked : List TreeMap → List Need → List cache_need.Need
 asked inputs needs = map (λ (n : Need). record { key = n.key; tree = base_in n.input inputs }) needs
 

@@ -118,7 +118,7 @@ IsDense store = (k : Key) (n : ℕ) → is_some (content store (place k (n + 1))
 abbrev pub StaysDense : Build → Type 0
 StaysDense b = (o : Opening) (es : List Event) (rs : List Reply) (s : State) → IsDense o.store → run b (opening b o) es ≡ Some (s, rs) → IsDense s.store
 
--- for a private key a claim takes the instance with the least number that no running worker holds
+-- for a private key a claim takes, of the instances that no running worker holds, the one with the least number
 abbrev pub ClaimsLeast : Build → Type 0
 ClaimsLeast b = (s t : State) (w v : ℕ) (vertex : Vertex) (job : Job) → slice_get b.graph.vertices v ≡ Some vertex
     → table b s (Claim w v) ≡ Some (t, Claimed job)

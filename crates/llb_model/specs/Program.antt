@@ -215,7 +215,7 @@ workspace_on locals v None inputs = Files inputs []
 abbrev pub begin : Build → Start → List TreeMap → Work
 begin b start trees = record { own = workspace_on b.locals start.vertex start.vertex.op.kind start.inputs; trees = trees }
 
--- the number of a fault of a tree
+-- the number of a `TreeFault`, the fault of a call on a tree
 abbrev pub tree_fault_number : TreeFault → ℕ
 tree_fault_number NotFound = 21
 tree_fault_number NotDir = 22
@@ -225,7 +225,7 @@ tree_fault_number Root = 25
 tree_fault_number BadName = 26
 tree_fault_number Memory = 27
 
--- the number of the fault of a failed action
+-- the number of a failed action's fault; if the action failed by a call on a tree, the number of that call's fault
 abbrev pub fault_number : ActFault → ℕ
 fault_number (act_fault.File f) = tree_fault_number f
 fault_number act_fault.BadPattern = 52
@@ -254,7 +254,7 @@ with_result a workspace (Err f) = Err (fault.Action a (fault_number f))
 abbrev pub act_among : Action → List TreeMap → Result TreeMap ActFault
 act_among action trees = act action.kind (base_in action.input trees) (base_in action.secondary_input trees)
 
--- the workspace after the action of number `a`, or the action's fault
+-- the workspace after action number `a`, or the action's fault
 abbrev pub act_on : ℕ → Action → Workspace → Result Workspace VertexFault
 act_on a action workspace = with_result a workspace (act_among action (trees_in workspace))
 

@@ -46,7 +46,7 @@ or_else None other = other
 abbrev pub chosen : Build → State → Option Event
 chosen b s = or_else (next_of b 0 s.workers) (next_claim b s)
 
--- whether a status is Settled; false if there is no vertex
+-- whether a status is Settled; false if there is no status
 abbrev pub is_settled : Option Status → Bool
 is_settled (Some (Settled e)) = true
 is_settled (Some (Running w)) = false

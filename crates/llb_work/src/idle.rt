@@ -18,7 +18,7 @@ use std::sync::atomic::{AtomicU64, Ordering};
 /// What idle workers look at to wait: the number of wakes, the number of sleepers, and whether the run is over.
 #[derive(Drop)]
 pub(crate) struct Idle {
-    // How many wakes there were; its low 32 bits are compared when a worker parks.
+    // How many wakes there were; the low 32 bits of this number are compared when a worker parks.
     wakes: AtomicU64,
     // How many workers are about to park, are parked, or were woken just now.
     sleepers: AtomicU64,
