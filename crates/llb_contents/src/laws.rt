@@ -43,7 +43,7 @@ pub fn runs_alike(setting: &Setting, view: &View, command: &Command)
 /// contents of files, and these contents are related, then the plain outcomes of the vertex with the two lists differ only in related contents: both are
 /// blocked, both failed with the same fault, or both are done with equally many outputs. Each clause is for one kind of relation, with further premises.
 /// `relations`: any relation that appending keeps, if each content that the ops themselves write is related to itself, and digests of related contents are
-/// related. `expansions`: the relation that the first content expands to the second, with the same premises. `tokens`: the same relation for contents with
+/// related. `expansions`: the relation that a function expands the first content to the second; same premises. `tokens`: the same relation for contents with
 /// tokens (the byte 255 and a number of four bytes), if no exec at or before the vertex makes a listing, nothing there writes the byte 255, and the sources at
 /// or before each exec that makes a digest have the same trees in both lists, without the byte 255. `undigested`: any relation that appending keeps and that
 /// relates each content to itself, if no exec at or before the vertex makes a digest. `contents`: the relation that the second content is the first with some

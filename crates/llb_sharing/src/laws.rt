@@ -63,8 +63,8 @@ pub fn one_digest_one_job(first: &[u8], graph: &Graph, second: &[u8], other: &Gr
 }
 
 /// Proves that an outcome of a vertex of another graph can be landed on the board for a worker, if the worker has done no micro-step of its vertex, the two
-/// vertices have the same digest, the sources at or before them have the same trees, and no cache mount is at or before them. Once the numbers of this worker
-/// and its vertex are put into the outcome's job, the outcome meets the condition of `Board::land_known`.
+/// vertices have the same digest, the sources at or before them have the same trees, and no cache mount is at or before them; the definitions of the two graphs
+/// must not collide. Once the numbers of this worker and its vertex are put into the outcome's job, the outcome meets the condition of `Board::land_known`.
 pub fn worked_elsewhere_lands(first: &[u8], graph: &Graph, second: &[u8], board: &Board)
     ensures { LoadWithoutCollision first.now graph.now second.now board.now.build.graph → WorkedElsewhereLands graph.now board.now }
 {
