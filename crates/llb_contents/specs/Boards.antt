@@ -6,7 +6,7 @@ use Rattle.llb_board.specs.Seen.{BoardValue}
 use Rattle.llb_contents.specs.Alike.{IsKept, AreAlikeEndings}
 use Rattle.llb_contents.specs.Laws.{By, RelatesWritten, HaveAlikeSources, MakesNoDigest, AreExchanged}
 
--- two boards over one graph have settled vertex v, with the endings d and e, and no cache mount is at or before it
+-- two boards over one graph have settled vertex v, with the endings d and e, and no cache mount is at or before v
 pub record AreSettled (b c : BoardValue) (v : ℕ) (d e : Ending) : Type 0 where
   pub graph : b.build.graph ≡ c.build.graph
   pub plain : is_plain b.build v ≡ true

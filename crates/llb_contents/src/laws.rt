@@ -1,5 +1,5 @@
-//! Laws of contents, for any graph, any local trees and any table of tokens. *Alike* trees differ only in the contents of files, and these contents are
-//! related.
+//! Laws of contents, for any graph, any local trees and any table of tokens (the content of each token). Given a relation between contents, trees are *alike*
+//! if they differ only in the contents of files, and the two contents at each path are related.
 
 ghost use Rattle.llb_contents.specs.Laws.{ActsAlike, LaysAlike, RunsAlike, ExpandsToOne};
 ghost use Rattle.llb_contents.specs.Laws.{HandsContentsOn, HandsExpansionsOn, HandsRelationsOn, HandsTokensOn, HandsUndigestedOn};
@@ -41,9 +41,9 @@ pub fn runs_alike(setting: &Setting, view: &View, command: &Command)
 
 /// Proves a law for a vertex and two lists of local trees. If each local source at or before the vertex has trees in the two lists that differ only in the
 /// contents of files, and these contents are related, then the plain outcomes of the vertex with the two lists differ only in related contents: both are
-/// blocked, both failed with the same fault, or both are done with as many outputs. Each clause is for one kind of relation, with further premises.
+/// blocked, both failed with the same fault, or both are done with equally many outputs. Each clause is for one kind of relation, with further premises.
 /// `relations`: any relation that appending keeps, if each content that the ops themselves write is related to itself, and digests of related contents are
-/// related. `expansions`: the relation that the first content expands to the second, with the same premises. `tokens`: the same relation for contents with
+/// related. `expansions`: the relation that a function expands the first content to the second; same premises. `tokens`: the same relation for contents with
 /// tokens (the byte 255 and a number of four bytes), if no exec at or before the vertex makes a listing, nothing there writes the byte 255, and the sources at
 /// or before each exec that makes a digest have the same trees in both lists, without the byte 255. `undigested`: any relation that appending keeps and that
 /// relates each content to itself, if no exec at or before the vertex makes a digest. `contents`: the relation that the second content is the first with some
@@ -58,7 +58,7 @@ pub fn contents_are_handed_on(graph: &Graph)
     graph.is_graph();
 }
 
-/// Proves that a tree expands to at most one tree, whatever each content expands to.
+/// Proves that a tree expands to at most one tree, for any function that expands the contents of files.
 pub fn expands_to_one(tree: &Tree)
     ensures { ExpandsToOne tree.now }
 {

@@ -3,8 +3,9 @@
 //! token in place of each content. The crate is built on `llb_board`.
 //!
 //! Types: none; `specs/Alike.antt` has the relation on trees, views and outcomes.
-//! Promise: `laws::contents_are_handed_on` (`tokens`, `contents`): tokens in the sources come out as the same tokens in the outcome of a vertex, if no exec at
-//! or before the vertex makes a listing, nothing there writes the byte 255, and the sources at or before each exec that makes a digest have no tokens.
+//! Promise: `laws::contents_are_handed_on` (`tokens`, `contents`): if the sources have tokens in place of contents, the outcome of a vertex has tokens that
+//! expand to the contents of its outcome without tokens. The premises: no exec at or before the vertex makes a listing, nothing there writes the byte 255, and
+//! the sources at or before each exec that makes a digest have no tokens.
 //! `laws::boards_settle_alike`: the outputs of a vertex that two boards have settled differ only in related contents.
 //!
 //! A caller:

@@ -28,8 +28,8 @@ saved_of (Files inputs results) = Results (length results)
 saved_of (Layers inputs t) = Laid t
 saved_of (Mounted mounts caches last) = Mounts mounts last
 
--- a workspace after a saved copy is put back: the first `count` results, or the laid tree, or the mounts and the last status are those of the moment at which
--- the copy was made; a copy of another kind of workspace changes nothing
+-- a workspace after a saved copy is put back: a file op keeps only its first `count` results; a merge gets the saved tree as its result so far; an exec gets
+-- the saved mounts and last status. A copy of another kind of workspace changes nothing
 abbrev pub put_back : Saved → Workspace → Workspace
 put_back Nothing workspace = workspace
 put_back (Results count) (Files inputs results) = Files inputs (take count results)

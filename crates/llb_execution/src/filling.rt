@@ -35,8 +35,8 @@ fn blanks(alloc: Global, count: usize) -> Result<Vec<Tree>, NoMemory>
     Ok(trees)
 }
 
-// Swaps, for each index `i`, tree `trees[i]` with the tree of the mount that has the number `numbers[i]`. While a tree is moved to its mount, the list has the
-// spare tree in its place; returns the spare tree.
+// Swaps, for each index `i`, tree `trees[i]` with the tree of the mount that has the number `numbers[i]`. During a swap, the spare
+// tree is in the list in place of the tree that is moved to the mount. Returns the spare tree.
 fn swap_all(mounts: &mut Mounts, numbers: &[u32], trees: &mut Vec<Tree>, spare: Tree) -> Tree
     requires apart { Distinct numbers.now }
     requires within { All (λ n. n < length mounts.old) numbers.now }

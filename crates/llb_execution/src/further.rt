@@ -21,7 +21,7 @@ pub struct Further {
 }
 
 /// Does the micro-steps from number `done` up, until one has a fault or the last one is done. `trees` has the trees of the cache instances, in the order of the
-/// mounts that show these instances. Fails with 5 `Memory` alone; then some of the micro-steps may be done.
+/// mounts that show these instances. Fails with 5 `Memory` alone; some of the micro-steps may have been done before.
 pub fn do_further(
     alloc: Global,
     steps: &Steps,

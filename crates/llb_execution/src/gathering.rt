@@ -1,4 +1,4 @@
-//! Gathers the trees of a vertex's inputs from the vertices that have ended. The trees are copied; a copy shares the memory of its tree.
+//! Copies the trees of a vertex's inputs from the vertices that are done. A copy shares the memory of its tree.
 
 ghost use Rattle.std.specs.Prelude.{◌≡◌, ℕ, Option, IfOk, option_map};
 ghost use Rattle.llb_model.specs.Outcome.{Ending, inputs_from, output_in};
@@ -19,7 +19,8 @@ pub trait Outputs {
         ensures { option_map (λ t. t.now) result ≡ output_in (ending self.now edge.vertex) edge.index };
 }
 
-/// Returns copies of the trees that edges lead to, in the order of the edges; `None` if one of the trees is not there. Fails with 5 `Memory` alone.
+/// Returns copies of the trees that edges lead to, in the order of the edges; `None` if an edge leads to a vertex that is not done or that lacks the edge's
+/// output. Fails with 5 `Memory` alone.
 pub fn gathered<O: Outputs>(
     alloc: Global,
     outputs: &O,
@@ -30,7 +31,7 @@ pub fn gathered<O: Outputs>(
     Ok(all_at(alloc, outputs, edges)?)
 }
 
-// Returns copies of the trees that edges lead to; `None` if one of the trees is not there.
+// Returns copies of the trees that edges lead to; `None` if an edge leads to a vertex that is not done or that lacks the edge's output.
 fn all_at<O: Outputs>(
     alloc: Global,
     outputs: &O,

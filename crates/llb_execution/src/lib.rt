@@ -5,7 +5,7 @@
 //! (the outputs of vertices, by vertex number, from which the trees of inputs are gathered), `Gate`, `WorkFault`.
 //! Promise: `Workspace::step` (`left`, `err`) changes the workspace and the trees exactly as the machine's micro-step (`step_on`) does; if memory is
 //! refused, the call changes nothing. `work` (`job`, `stopped`) does the remaining micro-steps of a job, up to and with the first that has a fault;
-//! `work` fails with 143 only if the gate's `may_stop` is true for that worker and that vertex.
+//! `work` fails with 143 only if the gate's `may_stop` is true for the worker and the vertex of the job.
 //!
 //! A caller:
 //!

@@ -1,5 +1,5 @@
-//! Makes what the commands of an exec share: the setting (directory and variables), and the mounts, which at first show the trees of the
-//! inputs. Nothing here runs a command.
+//! Makes what the commands of an exec share: the setting (directory and variables), and the mounts as they are before the first command.
+//! Nothing here runs a command.
 
 ghost use Rattle.std.specs.Prelude.{◌≡◌, IfOk, map, option_map, unwrap_or};
 ghost use Rattle.llb_tree.specs.Tree.{empty_tree};
@@ -77,7 +77,7 @@ fn all_shown(alloc: Global, inputs: &[Tree], mounts: &[Mount]) -> Result<Vec<Sho
     Ok(shown)
 }
 
-// Returns a mount as it is before the first command, with its dest and selector read as paths, from the trees of the inputs.
+// Returns a mount as it is before the first command: with its dest and selector as paths, and with its tree (an input's tree, or the empty tree).
 fn shown_of(alloc: Global, inputs: &[Tree], mount: &Mount) -> Result<Shown, NoMemory>
     ensures { IfOk result (λ m. m ≡ shown_of inputs.now mount.now) }
 {

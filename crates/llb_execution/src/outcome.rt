@@ -95,9 +95,9 @@ impl Outcome {
     }
 }
 
-/// Does the remaining micro-steps of a job, up to and with the first that has a fault, and returns the outcome. Before that, the worker passes the gate. Fails
-/// with 143 `Stopped` if the gate stops the worker, or with 142 `Memory`; then the job is dropped. The gate can stop the worker only if `may_stop` of the gate
-/// is true for this worker and vertex. The micro-steps are done on copies of the job's workspace and trees.
+/// Passes the gate, does the remaining micro-steps of a job, up to and with the first that has a fault, and returns the outcome. Fails with 143 `Stopped` if
+/// the gate stops the worker, or with 142 `Memory`; then the job is dropped. The gate can stop the worker only if the gate's `may_stop` is true for the worker
+/// and the vertex of the job. The micro-steps are done on copies of the job's workspace and trees.
 pub fn work<G: Gate>(alloc: Global, job: Job, gate: &G) -> Result<Outcome, WorkFault>
     ensures job { IfOk result (λ o. o.job ≡ job) }
     ensures stopped { result ≡ Err work.Stopped → IsTrue (G.may_stop job.worker job.vertex) }

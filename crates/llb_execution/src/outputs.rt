@@ -15,7 +15,7 @@ use llb_mount::Shown;
 use llb_ops::{Action, Kind, Mount};
 use llb_tree::Tree;
 
-/// Returns the outputs of a vertex, from the data of its workspace after all micro-steps; they replace the empty trees in `outputs`.
+/// Returns the outputs of a vertex, from the data of its workspace after all micro-steps; the result is `outputs` with its empty trees replaced.
 pub(crate) fn outputs_of(own: WorkState, outputs: Vec<Tree>, vertex: &Vertex) -> Vec<Tree>
     requires { outputs.items ≡ replicate (length outputs.items) empty_tree }
     ensures { result.items ≡ outputs_of (record (program_of vertex.now) { outputs = length outputs.items }) (own_of own) }
@@ -51,7 +51,8 @@ fn place_first(mut outputs: Vec<Tree>, tree: Tree) -> Vec<Tree>
     outputs
 }
 
-// Puts each result in place of the output of its action, from the last result to the first. So if two results have one output number, the earlier one stays.
+// Puts each result in place of the output of its action, from the last result to the first. So if two results have the same output number, the earlier result
+// stays.
 fn place_all(mut outputs: Vec<Tree>, mut results: Vec<Tree>, actions: &[Action]) -> Vec<Tree>
     requires { outputs.items ≡ replicate (length outputs.items) empty_tree }
     ensures { result.items ≡ map (λ i. tree_by i (numbers_of actions.now) results.items) (range_with_len 0 (length outputs.items)) }
@@ -62,8 +63,8 @@ fn place_all(mut outputs: Vec<Tree>, mut results: Vec<Tree>, actions: &[Action])
     outputs
 }
 
-// Puts the whole tree of each mount in place of the mount's output, from the last mount to the first. So if two mounts have one output number, the tree of the
-// earlier mount stays.
+// Puts the whole tree of each mount in place of the mount's output, from the last mount to the first. So if two mounts have the same output number, the
+// tree of the earlier mount stays.
 fn place_shown(mut outputs: Vec<Tree>, mut mounts: Vec<Shown>, given: &[Mount]) -> Vec<Tree>
     requires { outputs.items ≡ replicate (length outputs.items) empty_tree }
     ensures { result.items ≡ map (λ i. tree_for i (mount_outputs given.now) mounts.items) (range_with_len 0 (length outputs.items)) }

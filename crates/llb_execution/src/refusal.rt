@@ -1,4 +1,4 @@
-//! The fault of refused memory. The calls whose faults are converted here fail only for want of memory.
+//! The fault of calls inside this crate that are refused memory. Only faults of calls that fail for no other reason are converted to it.
 
 use llb_applet::ScriptFault;
 use llb_tree::TreeFault;

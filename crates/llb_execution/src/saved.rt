@@ -40,8 +40,8 @@ impl Model for Saved {
 }
 
 impl Workspace {
-    /// Copies what the next micro-step can change, and nothing else of the workspace: not the inputs of a file op or of a merge.
-    /// The copy shares its trees. Fails with 5 `Memory` alone.
+    /// Copies what a micro-step can change in the workspace; the inputs of a file op or of a merge are not copied. The copy shares its
+    /// trees with the workspace. Fails with 5 `Memory` alone.
     pub fn save(&self) -> Result<Saved, Memory>
         ensures is { IfOk result (λ m. m ≡ saved_of self.now) }
         ensures back { IfOk result (λ m. PutsBack self.now m) }
@@ -50,7 +50,7 @@ impl Workspace {
         Ok(Saved { was: held })
     }
 
-    /// Restores what was saved of the workspace. Does not allocate.
+    /// Puts back what was saved of the workspace; what was saved of another kind of workspace changes nothing. Does not allocate.
     pub fn put_back(&mut self, saved: Saved)
         ensures { self.new ≡ put_back saved self.old }
     {

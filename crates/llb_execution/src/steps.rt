@@ -62,7 +62,7 @@ impl Steps {
         Ok(Steps { by })
     }
 
-    /// Copies the micro-steps; the copy shares actions and commands. Fails with 5 `Memory` alone.
+    /// Copies the micro-steps; the copy shares actions and commands with the original. Fails with 5 `Memory` alone.
     pub fn copy(&self) -> Result<Steps, Memory>
         ensures { IfOk result (λ s. s ≡ self.now) }
     {

@@ -166,7 +166,7 @@ impl Workspace {
         outputs_of(own, outputs, vertex)
     }
 
-    // Appends the tree that action `k` made to the results; if the action failed, returns its fault with the number `k`.
+    // Appends to the results the tree that action `k` made; if the action failed, returns the action's fault, with the number `k` in it.
     fn put_result(
         &mut self,
         k: u32,

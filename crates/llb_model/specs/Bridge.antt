@@ -1,7 +1,7 @@
 -- How the two models of caches are related. llb_cache models caches as rows, in the order in which the keys were first leased; a row is a key with the list of
 -- its trees. llb_cache also numbers the leases. Callers of llb_cache list the keys in the order of the rows, and give a lease back by its number. The machine
 -- models caches as a store, a map from instances to trees. If two workers lease two new keys, the store is the same in either order of the leases, but the rows
--- differ, since a new key is put last. This file says which store rows represent, which rows there are after an event, and which leases the workers have.
+-- differ, since a new key is put last. This file says which store a list of rows represents, the rows after an event, and the leases that workers have.
 use Rattle.std.specs.Prelude.{◌≡◌, ◌⊎◌, ℕ, ◌+◌, true, List, [], ◌∷◌, ◌++◌, length, map, Option, Some, None, slice_get, slice_set, nat_lt}
 use Rattle.std.specs.Prelude.{if◌then◌else◌}
 use Rattle.std.specs.FinMap as finite
@@ -18,7 +18,7 @@ use Rattle.llb_model.specs.State.{State, Execution, WorkerStatus, Runs, held, pl
 
 -- ---- the store that rows represent
 
--- the store with these trees put at the instances n, n + 1 and so on of a key
+-- the store after these trees are put in the instances n, n + 1 and so on of a key
 abbrev pub put_from : Store → Key → ℕ → List TreeMap → Store
 put_from s k n [] = s
 put_from s k n (t ∷ ts) = put (put_from s k (n + 1) ts) (place k n) t
@@ -28,7 +28,7 @@ abbrev pub store_from : List Row → List Row → Store
 store_from all [] = finite.empty
 store_from all (r ∷ rows) = put_from (store_from all rows) r.0 0 (trees_of all r.0)
 
--- the store that rows represent
+-- the store that a list of rows represents
 unfoldable pub store_of : List Row → Store
 store_of rows = store_from rows rows
 
@@ -50,13 +50,13 @@ abbrev pub written : Store → List Row → List Instance → List Row
 written s rows [] = rows
 written s rows (p ∷ ps) = written s (showing rows p (tree_of s p)) ps
 
--- the rows after an event of worker w, given the state after the event: the event writes and makes no instances but those that w holds in that state
+-- the rows after an event of worker w, given the state after the event: the event writes or makes only instances that w holds in that state
 abbrev pub rows_after : List Row → State → ℕ → List Row
 rows_after rows s w = written s.store rows (places_at (slice_get s.workers w))
 
 -- ---- what a lease needs, and which instances it takes
 
--- the needs of a vertex as llb_cache takes them: a key, and the tree that a new instance begins with (the tree of an input, or the empty tree)
+-- the needs of a vertex as llb_cache takes them: for each need its key, and the tree that a new instance begins with (an input's tree, or the empty tree)
 abbrev pub asked : List TreeMap → List Need → List cache_need.Need
 asked inputs needs = map (λ (n : Need). record { key = n.key; tree = base_in n.input inputs }) needs
 

@@ -1,4 +1,4 @@
--- A landing: all steps that a worker still has to do on its vertex, and then its settle; and the state after them.
+-- A landing consists of all steps that a worker still has to do on its vertex, and then its settle. This file also has the state after a landing.
 use Rattle.std.specs.Prelude.{◌≡◌, ℕ, zero, suc, ◌+◌, ◌||◌, Bool, true, false, List, [], ◌∷◌, ◌++◌, length, Some, is_some, nat_le}
 use Rattle.std.specs.Prelude.{slice_get, slice_set, replicate}
 use Rattle.llb_tree.specs.Tree.{TreeMap}

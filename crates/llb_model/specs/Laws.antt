@@ -1,4 +1,4 @@
--- What holds over whole runs, also if executions share caches.
+-- What is true of every whole run, even if executions share caches.
 use Rattle.std.specs.Prelude.{◌≡◌, ◌≢◌, ◌<◌, ℕ, zero, suc, ◌+◌, ◌-◌, ◌==◌, nat_le, Bool, true, false, not, ◌&&◌, ◌||◌, List, [], ◌∷◌, length, map, drop}
 use Rattle.std.specs.Prelude.{Option, Some, None, is_some, option_map, unwrap_or, slice_get, if◌then◌else◌}
 use Rattle.llb_cache.specs.declared.key.Key.{Key}
@@ -73,7 +73,7 @@ with_content p t s = record s { store = put s.store p t }
 abbrev pub with_content_after : Instance → TreeMap → State × Reply → State × Reply
 with_content_after p t a = (with_content p t a.0, a.1)
 
--- an event of one worker does not read an instance of a private or locked key that another holds: for any tree there, the reply and all else are the same
+-- an event of one worker does not read a private or locked instance that another worker holds: with any tree in it, reply and other effects are the same
 abbrev pub OthersIgnore : Build → Type 0
 OthersIgnore b = (s : State) (e : Event) (t : TreeMap) → IsReached b s → (w : ℕ) (x : Execution) (p : Instance) → slice_get s.workers w ≡ Some (Runs x)
     → Has x.places p → IsExclusive p.key.mode → worker_of e ≢ w → table b (with_content p t s) e ≡ option_map (with_content_after p t) (table b s e)
@@ -118,7 +118,7 @@ IsDense store = (k : Key) (n : ℕ) → is_some (content store (place k (n + 1))
 abbrev pub StaysDense : Build → Type 0
 StaysDense b = (o : Opening) (es : List Event) (rs : List Reply) (s : State) → IsDense o.store → run b (opening b o) es ≡ Some (s, rs) → IsDense s.store
 
--- for a private key a claim takes the instance with the least number that no running worker holds
+-- for a private key a claim takes, of the instances that no running worker holds, the one with the least number
 abbrev pub ClaimsLeast : Build → Type 0
 ClaimsLeast b = (s t : State) (w v : ℕ) (vertex : Vertex) (job : Job) → slice_get b.graph.vertices v ≡ Some vertex
     → table b s (Claim w v) ≡ Some (t, Claimed job)
@@ -131,7 +131,7 @@ HeldAreThere b = (s : State) → IsReached b s → (w : ℕ) (x : Execution) →
 
 -- ---- scripts
 
--- the work of an exec before its first command: its mounts, and which of them show caches
+-- the work of an exec before its first command: its mounts, the numbers of those that show caches, and the trees of its cache instances
 abbrev pub at_start : List Shown → List ℕ → List TreeMap → Work
 at_start mounts caches trees = record { own = Mounted mounts caches 0; trees = trees }
 

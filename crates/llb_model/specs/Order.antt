@@ -73,7 +73,7 @@ abbrev pub order : Build → Order → List Named → Order
 order b o [] = o
 order b o (c ∷ cs) = order b (after_whole b o c) cs
 
--- the claims among some replies, each with how it ends
+-- the claims that these replies report, each with how the claim ends
 abbrev pub claims_in : List Reply → List Named
 claims_in [] = []
 claims_in (Claimed job ∷ rs) = named job.vertex job.instances (cut_in job.vertex rs) ∷ claims_in rs

@@ -10,7 +10,7 @@ use Rattle.llb_model.specs.State.{Settled, Execution, Runs, State}
 abbrev pub left_of : Execution → Left
 left_of x = record { work = record { own = x.own; trees = [] }; fault = x.fault }
 
--- execution x holds no instances; its result so far is that of its vertex's first `x.done` micro-steps on the trees of the inputs' plain outcomes
+-- execution x holds no instances; its result so far is the result of its vertex's first `x.done` micro-steps on the trees of the inputs' plain outcomes
 pub record IsUnderWay (b : Build) (x : Execution) : Type 0 where
   pub vertex : Vertex
   pub trees : List TreeMap

@@ -215,7 +215,7 @@ workspace_on locals v None inputs = Files inputs []
 abbrev pub begin : Build → Start → List TreeMap → Work
 begin b start trees = record { own = workspace_on b.locals start.vertex start.vertex.op.kind start.inputs; trees = trees }
 
--- the number of a fault of a tree
+-- the number of a `TreeFault`, the fault of a call on a tree
 abbrev pub tree_fault_number : TreeFault → ℕ
 tree_fault_number NotFound = 21
 tree_fault_number NotDir = 22
@@ -225,7 +225,7 @@ tree_fault_number Root = 25
 tree_fault_number BadName = 26
 tree_fault_number Memory = 27
 
--- the number of the fault of a failed action
+-- the number of a failed action's fault; if the action failed by a call on a tree, the number of that call's fault
 abbrev pub fault_number : ActFault → ℕ
 fault_number (act_fault.File f) = tree_fault_number f
 fault_number act_fault.BadPattern = 52
@@ -245,7 +245,7 @@ with_tree (LocalTree own) t = LocalTree own
 with_tree (Layers inputs laid) t = Layers inputs laid
 with_tree (Mounted mounts caches last) t = Mounted mounts caches last
 
--- the workspace of a file op after the result of its action `a` is appended, or the action's fault as the fault of the vertex
+-- the workspace of a file op after the result of action number `a` is appended; if the action failed, its fault as a fault of the vertex
 abbrev pub with_result : ℕ → Workspace → Result TreeMap ActFault → Result Workspace VertexFault
 with_result a workspace (Ok t) = Ok (with_tree workspace t)
 with_result a workspace (Err f) = Err (fault.Action a (fault_number f))
@@ -254,7 +254,7 @@ with_result a workspace (Err f) = Err (fault.Action a (fault_number f))
 abbrev pub act_among : Action → List TreeMap → Result TreeMap ActFault
 act_among action trees = act action.kind (base_in action.input trees) (base_in action.secondary_input trees)
 
--- the workspace after the action of number `a`, or the action's fault
+-- the workspace after action number `a`, or the action's fault
 abbrev pub act_on : ℕ → Action → Workspace → Result Workspace VertexFault
 act_on a action workspace = with_result a workspace (act_among action (trees_in workspace))
 
@@ -277,11 +277,11 @@ taken mounts ms [] = []
 taken mounts [] (t ∷ trees) = t ∷ trees
 taken mounts (m ∷ ms) (t ∷ trees) = (mount_at mounts m).tree ∷ taken mounts ms trees
 
--- the mounts with the empty tree in those mounts that have one of these numbers; only as many of the numbers count as there are `trees`
+-- the mounts after the empty tree is put into each mount whose number is in the list `ms`; of `ms`, only the first `length trees` numbers are used
 abbrev pub blanked : List Shown → List ℕ → List TreeMap → List Shown
 blanked mounts ms trees = filled mounts ms (map (λ t. empty_tree) trees)
 
--- the work after a command with status 0: the mounts as the command left them, but with empty trees in the cache mounts, whose trees are in `trees` instead
+-- the work after a command with status 0: the mounts as the command left them; but the trees of cache mounts are moved to the work's field `trees`
 abbrev pub parted : List ℕ → List TreeMap → List Shown → Work
 parted caches trees mounts = record { own = Mounted (blanked mounts caches trees) caches 0; trees = taken mounts caches trees }
 
@@ -315,7 +315,7 @@ exit_of c ends status = if status == 0 then None else (if ends then Some (fault.
 abbrev pub ran : ℕ → Bool → List Shown → List ℕ → List TreeMap → Option (List Shown) → Left
 ran c ends mounts caches trees after = record { work = after_run mounts caches trees after; fault = exit_of c ends (status_of after) }
 
--- the result of command c on the workspace of an exec, with the trees of its caches as they are now; a command that is skipped changes nothing
+-- the result of command c on the workspace of an exec, given the current trees of its cache instances; a command that is skipped changes nothing
 abbrev pub run_on : ℕ → Setting → Joined → Bool → Workspace → List TreeMap → Left
 run_on c setting command ends (Mounted mounts caches last) trees =
     if is_run command.join last then ran c ends mounts caches trees (run setting (filled mounts caches trees) command.command)

@@ -32,7 +32,7 @@ counts_from k (v ∷ vs) rs = cancels_in k rs ∷ counts_from (k + 1) vs rs
 abbrev pub cancel_counts : Build → List Reply → List ℕ
 cancel_counts b rs = counts_from 0 b.graph.vertices rs
 
--- the most events of a run for the vertices from number k up: for each vertex the most events of one claim, once and again for each cancel of the vertex
+-- the most events of a run for the vertices from number k up: for each vertex, the most events of one claim times (1 + the number of the vertex's cancels)
 abbrev pub most_from : ℕ → List Vertex → List Reply → ℕ
 most_from k [] rs = 0
 most_from k (v ∷ vs) rs = events_of v * (1 + cancels_in k rs) + most_from (k + 1) vs rs

@@ -8,7 +8,7 @@ use Rattle.llb_events.specs.declared.event.Event.{Event}
 use Rattle.llb_events.specs.declared.event.Event.TheVariants.{Claim, Step, Settle, Cancel}
 use Rattle.llb_model.specs.Table.{Reply, worker_of, table}
 
--- the state after a run and all its replies, given the result of the first event and a function `go` that runs the other events; `None` if one is refused
+-- the state after a run and all its replies, given the first event's result and a function `go` that runs the other events; `None` if an event is refused
 abbrev pub after : Option (State × Reply) → (State → Option (State × List Reply)) → Option (State × List Reply)
 after None go = None
 after (Some (s, r)) go = option_map (λ (t : State × List Reply). (t.0, r ∷ t.1)) (go s)
@@ -46,7 +46,7 @@ or_else None other = other
 abbrev pub chosen : Build → State → Option Event
 chosen b s = or_else (next_of b 0 s.workers) (next_claim b s)
 
--- whether a status is Settled; false if there is no vertex
+-- whether a status is Settled; false if there is no status
 abbrev pub is_settled : Option Status → Bool
 is_settled (Some (Settled e)) = true
 is_settled (Some (Running w)) = false

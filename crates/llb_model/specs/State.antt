@@ -21,7 +21,7 @@ pub data Status : Type 0 where
   Settled : Ending → Status
 
 -- what a running worker runs: its vertex, how many micro-steps are done (a micro-step that faults is counted too), the vertex's fault if there is one, the
--- workspace, and the instances of caches that the worker holds, in the order of the vertex's needs
+-- workspace, and the cache instances that the worker holds, in the order of the vertex's needs (`Need` of Program: one for each mount that shows a cache)
 pub record Execution : Type 0 where
   pub vertex : ℕ
   pub done : ℕ
@@ -128,7 +128,7 @@ runs None = None
 abbrev pub program_in : Build → Execution → Program
 program_in b x = program_at (slice_get b.graph.vertices x.vertex)
 
--- the work of an execution: its workspace, and the trees of its instances as they are now
+-- the work of an execution in state s: its workspace, and the trees that its cache instances have in s
 abbrev pub work_of : State → Execution → Work
 work_of s x = record { own = x.own; trees = trees_at s.store x.places }
 
@@ -140,7 +140,7 @@ is_finished steps x = is_some x.fault || nat_le (length steps) x.done
 abbrev pub next_step : List MicroStep → Execution → Option MicroStep
 next_step steps x = if is_finished steps x then None else slice_get steps x.done
 
--- how a finished execution ends
+-- how the vertex of a finished execution ends: failed if the execution has a fault, else done with the outputs of its program
 abbrev pub ending_from : Program → Execution → Ending
 ending_from p x = ended p x.own x.fault
 
@@ -166,7 +166,7 @@ abbrev pub first_free : List Instance → Key → ℕ → ℕ → ℕ
 first_free ps k n zero = n
 first_free ps k n (suc tries) = if is_in ps (place k n) then first_free ps k (n + 1) tries else n
 
--- the number of the instance of a key that a claim takes while the instances `ps` are held: for a private key the least one that is not held, else 0
+-- the number of the instance of a key that a claim takes while `ps` are held: 0 or, for a private key, the least number whose instance is not held
 abbrev pub number_for : List Instance → Key → Mode → ℕ
 number_for ps k Shared = 0
 number_for ps k Locked = 0

@@ -1,4 +1,4 @@
--- The transition table: for a state and an event the next state and the reply, or the first cause why the event is refused.
+-- The transition table: for a state and an event the next state and the reply, or the first reason why the event is refused.
 use Rattle.std.specs.Prelude.{ℕ, ◌+◌, List, map, Option, Some, None, slice_get, slice_set, Result, Ok, Err, if◌then◌else◌}
 use Rattle.std.specs.Result.{result_ok}
 use Rattle.llb_cache.specs.declared.key.Key.{Key}
@@ -57,7 +57,7 @@ abbrev pub or_not_ready : {A : Type 0} → Option A → Result A ClaimFault
 or_not_ready (Some x) = Ok x
 or_not_ready None = Err claim.NotReady
 
--- what the work on vertex v begins with, if the worker that claims v is idle and v is Ready; else the first cause why the claim is refused
+-- what the work on vertex v begins with, if the worker that claims v is idle and v is Ready; else the first reason why the claim is refused
 abbrev pub claim_start : List Status → ℕ → Option WorkerStatus → Option Vertex → Result Start ClaimFault
 claim_start statuses v None vertex = Err claim.NoWorker
 claim_start statuses v (Some (Runs x)) vertex = Err claim.Busy
@@ -89,12 +89,12 @@ claim_with s w v vertex work ps = (after_claim s w v work ps, Claimed (job_on w 
 abbrev pub claim_at : Build → State → ℕ → ℕ → Start → List Instance → State × Reply
 claim_at b s w v start ps = claim_with s w v start.vertex (begin_at b s.store start ps) ps
 
--- the result of a claim, which is refused if a key is given: the first locked key that the vertex needs and whose instance a running worker holds
+-- the result of a claim, given the first locked key of the vertex's needs whose instance a running worker holds; if there is one, the claim is refused
 abbrev pub claim_unless : Build → State → ℕ → ℕ → Start → Option Key → Result (State × Reply) ClaimFault
 claim_unless b s w v start (Some k) = Err (claim.Held k)
 claim_unless b s w v start None = Ok (claim_at b s w v start (places_for (held s.workers) (needs_of start.vertex)))
 
--- the result of a claim, given what the work on its vertex begins with, or the cause why the claim is refused
+-- the result of a claim, given what the work on its vertex begins with, or the reason why the claim is refused
 abbrev pub claimed : Build → State → ℕ → ℕ → Result Start ClaimFault → Result (State × Reply) ClaimFault
 claimed b s w v (Ok start) = claim_unless b s w v start (held_key (held s.workers) (needs_of start.vertex))
 claimed b s w v (Err cause) = Err cause
@@ -109,12 +109,12 @@ claim_grant b s w v = claimed b s w v (claim_start s.statuses v (slice_get s.wor
 abbrev pub with_step : Execution → Left → Execution
 with_step x left = record x { done = x.done + 1; fault = left.fault; own = left.work.own }
 
--- what the reply to a micro-step says: the fault of the micro-step if it has one, else what it did
+-- what the reply to a micro-step says: the micro-step's fault if there is one, else what the micro-step did
 abbrev pub unless_failed : Option VertexFault → of_step.Stepped → of_step.Stepped
 unless_failed None done = done
 unless_failed (Some f) done = did.Fault f
 
--- what the reply to micro-step k says, given the workspace before it and its result; for a command that ran: the command's status, even one other than 0
+-- what the reply to micro-step k says, given the workspace before it and its result; for a command that ran: the status, also if the exec fails by it
 abbrev pub step_done : ℕ → MicroStep → Workspace → Left → of_step.Stepped
 step_done k ReadLocal before left = unless_failed left.fault did.Read
 step_done k (Act action) before left = unless_failed left.fault (did.Acted k)

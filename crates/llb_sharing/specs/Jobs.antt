@@ -43,6 +43,6 @@ pub record LandsHere (b : BoardValue) (w : ℕ) (x : Execution) (o : OutcomeValu
   pub whole : IsOutcome (given_to w x.vertex o.job) o.count o.left
   pub only : (p : OutcomeValue) → p.job ≡ given_to w x.vertex o.job → IsOutcome p.job p.count p.left → p ≡ credited_to w x.vertex o
 
--- an outcome that was computed over graph g can be landed on board b, if `IsWorkedElsewhere` holds of it
+-- an outcome that was computed over graph g can be landed on board b (`LandsHere`), if `IsWorkedElsewhere` holds of the outcome
 abbrev pub WorkedElsewhereLands : Numbered → BoardValue → Type 0
 WorkedElsewhereLands g b = (ls : List Local) (v w : ℕ) (x : Execution) (o : OutcomeValue) → IsWorkedElsewhere g ls v b w x o → LandsHere b w x o

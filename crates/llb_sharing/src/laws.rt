@@ -51,8 +51,9 @@ pub fn parts_do_not_collide(definition: &[u8], graph: &Graph)
     let _ = graph;
 }
 
-/// Proves that vertices with the same digest have the same job, except for the numbers of worker and vertex, if the sources at or before them have the same
-/// local trees. The job is the one without cache instances, which a claim hands out if no cache mount is at or before the vertex.
+/// Proves that vertices with the same digest, in the graphs of two definitions that do not collide, have the same job, except for the numbers of worker and
+/// vertex, if the sources at or before them have the same local trees. The law is about jobs without cache instances; a claim hands out such a job if no cache
+/// mount is at or before the vertex.
 pub fn one_digest_one_job(first: &[u8], graph: &Graph, second: &[u8], other: &Graph)
     ensures { LoadWithoutCollision first.now graph.now second.now other.now → ShareJobs graph.now other.now }
 {
@@ -63,8 +64,8 @@ pub fn one_digest_one_job(first: &[u8], graph: &Graph, second: &[u8], other: &Gr
 }
 
 /// Proves that an outcome of a vertex of another graph can be landed on the board for a worker, if the worker has done no micro-step of its vertex, the two
-/// vertices have the same digest, the sources at or before them have the same trees, and no cache mount is at or before them. Once the numbers of this worker
-/// and its vertex are put into the outcome's job, the outcome meets the condition of `Board::land_known`.
+/// vertices have the same digest, the sources at or before them have the same trees, and no cache mount is at or before them. The definitions of the two graphs
+/// must not collide. Once the numbers of this worker and its vertex are put into the outcome's job, the outcome meets the condition of `Board::land_known`.
 pub fn worked_elsewhere_lands(first: &[u8], graph: &Graph, second: &[u8], board: &Board)
     ensures { LoadWithoutCollision first.now graph.now second.now board.now.build.graph → WorkedElsewhereLands graph.now board.now }
 {

@@ -41,7 +41,7 @@ is_cancel (Step w) = false
 is_cancel (Settle w) = false
 is_cancel (Cancel w) = true
 
--- the record of the board `new` has no more cancels than that of `old`
+-- the record of the board `new` has as many cancels as the record of `old`
 abbrev pub CancelsNothing : BoardValue → BoardValue → Type 0
 CancelsNothing old new = count_by is_cancel new.events ≡ count_by is_cancel old.events
 

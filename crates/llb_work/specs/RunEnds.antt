@@ -16,7 +16,7 @@ is_foreign (Some Stopped) = false
 is_foreign (Some Thread) = false
 is_foreign (Some (Foreign b)) = true
 
--- the returned board goes on from the given board by granted events, and the workers' counts add up to the number of these events
+-- granted events lead from the given board to the returned board, and the workers' counts add up to the number of these events
 abbrev pub Leads : BoardValue → List ℕ → BoardValue → Type 0
 Leads given made found = GoesOn given found × Counts made given found
 
@@ -32,19 +32,19 @@ StopsSomewhere may_stop b = (w : ℕ) × (v : ℕ) × (w < length b.state.worker
 abbrev pub is_of : BoardValue → ℕ → ℕ → Bool
 is_of b w v = nat_lt w (length b.state.workers) && nat_lt v (length b.build.graph.vertices)
 
--- whether a note is possible: for a stop, the gate may stop this worker at this vertex, and both exist on the given board; true for any other note or for none
+-- whether this reason for a run's end can be noted: a stop only if the gate may stop this worker at this vertex, and the board has both; any other always
 abbrev pub may_be : (ℕ → ℕ → Bool) → BoardValue → Option Noted → Bool
 may_be may_stop b None = true
 may_be may_stop b (Some noted.Memory) = true
 may_be may_stop b (Some noted.Thread) = true
 may_be may_stop b (Some (noted.Stopped w v)) = may_stop w v && is_of b w v
 
--- a run ends with fault 152 `Stopped` only if a stop was noted that the gate may cause on the given board
+-- if the fault is 152 `Stopped`, and `may_be` holds for what was noted, then the gate may stop some worker of the given board at some vertex
 abbrev pub StopsAsNoted : Option Noted → Option RunFault → Type 0
 StopsAsNoted noted fault = (may_stop : ℕ → ℕ → Bool) (given : BoardValue) → may_be may_stop given noted ≡ true → fault ≡ Some Stopped
     → StopsSomewhere may_stop given
 
--- every stop that the gate may cause may be noted
+-- each stop that the gate may cause (`by_gate`) may be noted (`by_note`)
 abbrev pub AllowsStops : (ℕ → ℕ → Bool) → (ℕ → ℕ → Bool) → Type 0
 AllowsStops by_gate by_note = (w v : ℕ) → IsTrue (by_gate w v) → by_note w v ≡ true
 

@@ -10,7 +10,7 @@ use Rattle.llb_work.specs.declared.shared_board.Task.TheVariants.{Work, Pass, Ag
 use Rattle.llb_work.specs.declared.shared_board.Report.{Report}
 use Rattle.llb_work.specs.declared.shared_board.Report.TheVariants.{Nothing, Number, Outcome, Fault}
 
--- worker w and vertex v exist on the board, and the job has their numbers; if no cache mount is at or before v, the job is the `plain_job` (llb_board)
+-- worker w and vertex v exist on the board, and the job has their numbers; if no cache mount is at or before v, the job is v's `plain_job` (llb_board)
 pub record IsClaimed (b : BoardValue) (w v : ℕ) (job : Job) : Type 0 where
   pub worker : job.worker ≡ w
   pub vertex : job.vertex ≡ v

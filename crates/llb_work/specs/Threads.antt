@@ -6,7 +6,7 @@ use Rattle.llb_work.specs.declared.worker_thread.WorkerThread.TheVariants.{Threa
 use Rattle.llb_work.specs.Passes.{IsPassFor}
 
 module _ {L : Type 0} where
-  -- a running thread has promised to return this worker's pass; if no thread could be started, the worker's `kit` has the pass
+  -- a running thread has promised to return this worker's pass; if no thread could be started, what the worker gave back (`kit`) has the pass
   abbrev pub ThreadKeeps : ReadyQueue → ℕ → WorkerThread L → Type 0
   ThreadKeeps q w (Thread h) = (h.promise.queue.value ≡ q) × (h.promise.worker ≡ w)
   ThreadKeeps q w (Here kit) = IsPassFor q w kit.pass

@@ -2,14 +2,14 @@
 //!
 //! Before a worker waits it does three things, in this order: it reads the word `wakes`, sees that the run is not over, and finds the queue
 //! empty. It then parks on `wakes`; parking returns at once if `wakes` has changed since the worker read it. So the worker sleeps only if there
-//! was no wake since it read `wakes`, and no later wake misses the worker: a wake first changes `wakes` and then reads `sleepers`, which the
-//! worker has raised before it parks.
+//! was no wake since it read `wakes`, and no later wake misses the worker: a wake first changes `wakes` and then reads `sleepers`, and the
+//! worker adds itself to `sleepers` before it parks.
 //!
-//! A worker that puts numbers into the queue wakes one sleeper for each of them, except for the number that it takes itself right after. So while a worker
-//! sleeps, as many workers are about to take a number as there are numbers in the queue, and no number stays there. A worker that sees the run end wakes all
-//! sleepers. If a claim was refused because another vertex holds the key of a locked cache, the number of the refused vertex is not in the queue. The worker
-//! that ends the holding vertex puts such a number back, with the numbers of the vertices that have become ready. So after every settled vertex a worker is
-//! awake, and goes on or ends the run.
+//! A worker that puts numbers into the queue wakes one sleeper for each number, or one sleeper less if it takes a number itself right afterwards. So while
+//! a worker sleeps, as many workers are about to take a number as there are numbers in the queue, and no number stays there. A worker that sees the run end
+//! wakes all sleepers. If a claim was refused because another vertex holds the key of a locked cache, the number of the refused vertex is not in the queue.
+//! The worker that ends the holding vertex puts such a number back, with the numbers of the vertices that have become ready. So after every settled vertex
+//! a worker is awake, and goes on or ends the run.
 
 use crossbeam_utils::Backoff;
 use std::sync::Wait;
@@ -18,7 +18,7 @@ use std::sync::atomic::{AtomicU64, Ordering};
 /// What idle workers look at to wait: the number of wakes, the number of sleepers, and whether the run is over.
 #[derive(Drop)]
 pub(crate) struct Idle {
-    // How many wakes there were; its low 32 bits are compared when a worker parks.
+    // How many wakes there were; the low 32 bits of this number are compared when a worker parks.
     wakes: AtomicU64,
     // How many workers are about to park, are parked, or were woken just now.
     sleepers: AtomicU64,

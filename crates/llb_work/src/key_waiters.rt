@@ -1,13 +1,13 @@
-//! The numbers of vertices whose claim was refused because another worker holds a locked key; here they wait for that key. The numbers that wait for one key
-//! are put into the queue again one by one: the first when the vertex that holds the key ends, and each later one when the vertex of the number before it ends,
-//! or when the claim of that vertex is refused for another key. So no vertex is claimed again and again while the key is held. The table is made with all the
-//! room that it needs, and later calls do not allocate. Nothing in this module knows about the board.
+//! Keeps the numbers of vertices whose claim was refused because another worker holds a locked key; these numbers wait for the key. The numbers that wait for
+//! one key are put into the queue again one by one: the first when the vertex that holds the key ends, and each later one when the vertex of the number before
+//! it ends, or when the claim of that vertex is refused for another key. So no vertex is claimed again and again while the key is held. The table is made with
+//! all the room that it needs, and later calls do not allocate. Nothing in this module knows about the board.
 
 use llb_cache::Key;
 use std::alloc::{AllocError, Global};
 
 // The numbers that wait for one key: the first and the last of them in the order in which they came, and the number, if any, that was put into the queue again
-// and has not been claimed since. The table `after` says which number follows which.
+// and whose claim is still to be tried (`put`). The field `after` of `KeyWaiters` says which number follows which.
 #[derive(Drop)]
 struct Row {
     key: Key,
@@ -17,7 +17,7 @@ struct Row {
 }
 
 impl Row {
-    // Returns whether no number waits for the key, and no number that was put into the queue again still has to be claimed.
+    // Returns whether the row has no number: no number waits for the key, and `put` is `None`.
     fn is_empty(&self) -> bool {
         self.put.is_none() && self.first.is_none()
     }
@@ -94,8 +94,8 @@ impl KeyWaiters {
         true
     }
 
-    // Takes the next number of a row, to be put into the queue again. Returns `None` if no number waits, or if a number of this row was put again before and
-    // has not been claimed since.
+    // Takes the next number of a row, to be put into the queue again. Returns `None` if no number waits, or if an earlier number of this row was put into the
+    // queue again and its claim is still to be tried.
     fn next_at(&mut self, at: usize) -> Option<u32> {
         let KeyWaiters { rows, after } = self;
         let row = rows.get_mut(at)?;
@@ -108,8 +108,8 @@ impl KeyWaiters {
         row.put
     }
 
-    /// Takes a number that waits for a key, which is about to be free. Returns `None` if no number waits, or if a number was put again for this key and has not
-    /// been claimed since.
+    /// Takes a number that waits for a key, which is about to be free. Returns `None` if no number waits, or if an earlier number that waited for this key was
+    /// put into the queue again and its claim is still to be tried.
     pub(crate) fn next_of(&mut self, key: &Key) -> Option<u32> {
         let at = self.place_of(key)?;
         self.next_at(at)
@@ -129,7 +129,7 @@ impl KeyWaiters {
         next
     }
 
-    // Removes a row if it has no number.
+    // Removes the row at an index if the row is empty (`is_empty`).
     fn drop_empty(&mut self, at: usize) {
         if at < self.rows.len() && self.rows[at].is_empty() {
             self.rows.swap_remove(at);

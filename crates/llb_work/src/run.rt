@@ -28,9 +28,10 @@ use std::thread::Threads;
 /// The fault is the first that is met: 151 `Memory` if memory is refused, 152 `Stopped` if the gate stops a worker, 153 `Thread` if a thread can't be started.
 /// If memory is refused for the copies of the board, or for what the workers need before they start (such as the queue and their lists), no thread starts, and
 /// the board is returned as it was given. The worker that meets 151 or 152 notes the fault and cancels what it runs, both in one hold of the lock; every other
-/// worker ends what it runs, and the work of a worker without a thread is done by the caller's thread. So if threads were started, no worker runs anything on
-/// the returned board, and no cache is held. Granted events lead from the given board to the returned one, and the sum of `made` is their number; none of them
-/// is a cancel unless there is a fault. 154 `Foreign` never occurs: it would say that the copy of the board under the lock differs from the given board.
+/// worker ends what it runs. If a worker has no thread (153), the caller's thread does the work of this worker. So if threads were started, no worker runs
+/// anything on the returned board, and no cache is held. Granted events lead from the given board to the returned one, and the sum of `made` is their number;
+/// none of them is a cancel unless there is a fault. 154 `Foreign` never occurs: it would say that the copy of the board under the lock differs from the given
+/// board.
 pub fn run_workers<G: Gate + Sync, R: Threads + Wait + Sync>(
     rt: &R,
     alloc: Global,

@@ -34,7 +34,7 @@ pub(crate) struct SharedBoard<S: Gated> {
     pub plain: Vec<bool>,
     pub waiters: KeyWaiters,
     pub calls: Book<S>,
-    /// How many events the record had when a worker last counted the events that it had added.
+    /// How many events the record had when a worker last counted its events (`count`).
     pub counted: usize,
     pub noted: Option<Noted>,
     pub ghost kept: { start ≡ S.start } by { Prim.hlevel (codes, coded_tree, coded_store) },

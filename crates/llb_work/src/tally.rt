@@ -9,7 +9,7 @@ ghost use Rattle.llb_model.specs.Run.{events_by};
 use llb_board::{Board, Event};
 use std::sync::ledger::{Book, Ledger, Share};
 
-/// How many events a worker has made, with its share of the ledger.
+/// A worker's count of the events that it has made, and the worker's share of the ledger, which has the same amount.
 #[derive(Drop)]
 pub(crate) struct Tally<S: Ledger> {
     pub made: u64,
