@@ -15,7 +15,7 @@ pub enum RunFault {
     Stopped,
     /// 153: a thread could not be started.
     Thread,
-    /// 154: the copy under the lock differs from the board passed to the run. This never occurs.
+    /// 154: the copy of the board under the lock differs from the board given to the run. This never occurs.
     Foreign(Board),
 }
 
