@@ -59,7 +59,7 @@ pub record IsFound (c : cache.CachesValue) (w : Wanted) : Type 0 where
 abbrev pub place_found : Wanted → Instance
 place_found w = place w.key w.found.number
 
--- the tree with which an instance begins: the instance's tree if it exists, else the tree of the mount's input, or the empty tree if there is no input
+-- the tree of an instance at the claim: its present tree if the instance exists, else the tree of the mount's input or, if there is no input, the empty tree
 abbrev pub first_tree : List TreeMap → Wanted → TreeMap
 first_tree inputs w = unwrap_or (option_map (λ t. t.now) w.found.tree) (base_in w.input inputs)
 
@@ -67,7 +67,7 @@ first_tree inputs w = unwrap_or (option_map (λ t. t.now) w.found.tree) (base_in
 abbrev pub row_found : Wanted → Option ℕ
 row_found w = w.found.row
 
--- what a claim takes: instances, their numbers, the trees with which they begin, and the needs for the lease (a key, and the tree of a new instance)
+-- what a claim takes: instances, their numbers, their trees at the claim, and the needs for the lease (a key, and the tree with which a new instance begins)
 abbrev pub Taking : Type 0
 Taking = List Instance × List ℕ × List TreeMap × List cache_need.Need
 

@@ -20,7 +20,7 @@ IsRunning (Some (seat.Runs l x)) = Unit {0}
 IsRunning (Some seat.Idle) = ⊥
 IsRunning None = ⊥
 
--- the number of the lease of a worker's instances, if it has one
+-- the number of the lease of a worker's instances, if the worker has a lease
 abbrev pub leased_by : Seat → Option ℕ
 leased_by seat.Idle = None
 leased_by (seat.Runs l x) = l

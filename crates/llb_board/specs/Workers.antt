@@ -17,7 +17,7 @@ use Rattle.llb_board.specs.Supplies.{Supplies, supplies_for, needed}
 use Rattle.llb_board.specs.WorkerRules.{Begun}
 use Rattle.llb_board.specs.Vertices.{VerticesValue}
 
--- what contracts see of the workers: what each worker does, the rows of the caches, and the supplies of each worker (what it has from its claim to its settle)
+-- what contracts see of the workers: what each worker does, the rows of the caches, and the supplies of each worker (what it has while it runs a vertex)
 pub record WorkersValue : Type 0 where
   pub workers : List WorkerStatus
   pub rows : List Row

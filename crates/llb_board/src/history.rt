@@ -68,8 +68,8 @@ impl History {
         self.events.push_reserved(event);
     }
 
-    /// Appends a cancel by worker `w`, and adds one to the count of cancels of vertex `v`. There has to be room for the event, and the count so far is at most
-    /// the number of events.
+    /// Appends a cancel by worker `w`, and adds one to the count of cancels of vertex `v`. There must be room for the event, and the count so far must be
+    /// at most the number of events.
     pub(crate) fn record_cancel(&mut self, w: u32, v: u32)
         requires room { length self.old.list < self.old.space.room }
         requires low { v < length self.old.space.cancels }

@@ -338,7 +338,8 @@ fn count(links: &mut Links, v: u32, was_done: bool, is_done: bool)
     }
 }
 
-// Returns the status of a vertex as callers see it, given the vertex's state, whether the vertex has no open input, and whether it is marked.
+// Returns the status of a vertex as callers see it, given the vertex's state, whether the vertex is Ready, and whether it is marked (failed, or downstream of
+// a failed vertex).
 fn look(stage: &Stage, ready: bool, marked: bool) -> Status
     ensures { result ≡ look ready marked (status_of stage.now) }
 {

@@ -1,4 +1,5 @@
-//! Compares a job with the job that remains for a worker, by value, and puts the result of the job's micro-steps into what the worker runs and into the caches.
+//! Compares a job by value with the job that remains for a worker, and puts the result of the job's micro-steps into the state of the worker and into the
+//! caches.
 
 ghost use Rattle.std.specs.Prelude.{◌≡◌, ◌↔◌, ◌<◌, length, true, Some, slice_get, slice_set, is_some, IsTrue};
 ghost use Rattle.std.specs.Bool.{OnTrue, OnFalse};
