@@ -90,7 +90,7 @@ pub record IsLast (u : Displaced) (b : BoardValue) : Type 0 where
 pub record IsBegun (b : BoardValue) (w v : ℕ) : Type 0 where
   pub runs : slice_get b.state.statuses v ≡ Some (Running w)
 
--- after a step: worker w runs a vertex, and `saved` and `trees`, which are put back, fit what w runs
+-- after a step: worker w runs a vertex v; `saved`, put back, yields v's number of mounts; w's instances have v's keys, and `trees` has a tree for each of them
 pub record IsStepped (b : BoardValue) (w : ℕ) (saved : Saved) (trees : List TreeMap) : Type 0 where
   pub x : Execution
   pub runs : slice_get b.state.workers w ≡ Some (Runs x)

@@ -1,4 +1,4 @@
--- The results of a claim, a step, a settle and a cancel, for the worker of the event and the caches; or, as a fault, the first cause why the event is refused.
+-- What a claim, a step, a settle and a cancel do to the worker of the event and to the caches; or, as a fault, the first cause why the event is refused.
 use Rattle.std.specs.Prelude.{ℕ, List, Option, Some, None, Result, Ok, Err, if◌then◌else◌}
 use Rattle.llb_loader.specs.declared.graph.Vertex.{Vertex}
 use Rattle.llb_tree.specs.Tree.{TreeMap}
@@ -49,7 +49,7 @@ pub record Worked : Type 0 where
   pub trees : List TreeMap
   pub reply : Reply
 
--- the result of micro-step m, given the work and the fault after it (`left`)
+-- the result of micro-step m, given the work and the fault after m (`left`)
 abbrev pub worked_to : Execution → MicroStep → Left → Worked
 worked_to x m left = record { execution = with_step x left; trees = left.work.trees; reply = step_reply x.done m x.own left }
 

@@ -280,8 +280,8 @@ impl Board {
         self.history.events()
     }
 
-    /// Returns the event to do next if the board is driven by one worker (the *chosen* event): the next step or settle of the running worker with the lowest
-    /// number or, if no worker runs, the claim of the first Ready vertex by worker 0. `None` if the board is complete. Does not allocate.
+    /// Returns the *chosen* event, which a run on one thread does next: the next step or settle of the running worker with the lowest number or, if no worker
+    /// runs, the claim of the first Ready vertex by worker 0. `None` if the board is complete. Does not allocate.
     pub fn chosen(&self) -> Option<Event>
         ensures { result ≡ chosen self.now.build self.now.state }
     {

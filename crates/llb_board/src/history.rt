@@ -121,8 +121,8 @@ impl History {
         }
     }
 
-    /// Reserves room for `events` more events before a claim of vertex `v`, if the vertex was cancelled before. Fails with 141 `Memory` alone; then the room
-    /// is as it was.
+    /// Reserves room for `events` more events, for a claim of vertex `v`; reserves nothing if the vertex was never cancelled. Fails with 141 `Memory` alone;
+    /// then the room is as it was.
     pub(crate) fn reserve(&mut self, v: u32, events: usize) -> Result<(), Memory>
         ensures list { self.new.list ≡ self.old.list }
         ensures ok { OnOk result (self.new.space ≡ claimed v events self.old.space) }

@@ -232,7 +232,7 @@ impl Vertices {
         self.build.locals()
     }
 
-    /// Returns vertex `v`. Fails with 133 `NoVertex` if there is none, else with 134 `NotReady` if the vertex does not wait or an input of it is not done.
+    /// Returns vertex `v`, if the vertex is Ready. Fails with 133 `NoVertex` if there is no such vertex, else with 134 `NotReady`.
     /// Does not allocate.
     pub(crate) fn ready(&self, v: u32) -> Result<&Vertex, ClaimFault>
         ensures there { IfOk result (λ x. slice_get self.now.build.graph.vertices v ≡ Some x.now) }

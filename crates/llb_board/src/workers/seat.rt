@@ -133,7 +133,8 @@ pub(crate) fn put_left(
     lease
 }
 
-/// Returns whether both lists are equally long and each worker runs the same in both, by value; the numbers of leases are not compared. Does not allocate.
+/// Returns whether both lists are equally long and each worker has the same state in both, compared by value; the numbers of leases are not compared. Does not
+/// allocate.
 pub(crate) fn same_seats(seats: &[Seat], others: &[Seat]) -> bool
     ensures { IsTrue result ↔ (map at_of seats.now ≡ map at_of others.now) }
 {
