@@ -1,4 +1,4 @@
--- The job that remains for a worker, and the worker's seat (what it runs) after the job's micro-steps.
+-- The job that remains for a worker, and the worker's seat (what the worker runs) after the job's micro-steps.
 use Rattle.std.specs.Prelude.{◌≡◌, ℕ, ◌+◌, Bool, true, false, map, Option, Some, None}
 use Rattle.std.specs.List.{list_any}
 use Rattle.llb_cache.specs.declared.key.Mode.{Mode}

@@ -52,7 +52,7 @@ supplies_for o = record {
   keys = map key_of (needs_at o);
 }
 
--- the supplies that a worker has now, read from its seat (what it runs)
+-- the supplies that a worker has now, read from the worker's seat (what the worker runs)
 abbrev pub ready_made : Seat → Supplies
 ready_made seat.Idle = supplies_for None
 ready_made (seat.Runs l x) = supplies_of x
