@@ -23,7 +23,7 @@ use Rattle.llb_board.specs.declared.workers.needs.Wanted.{Wanted}
 abbrev pub is_locked_and_held : Leases → Key → Bool
 is_locked_and_held out k = is_locked k.mode && is_held out (place k 0)
 
--- the key of the first need whose key is locked and whose instance a lease holds
+-- the first locked key of these needs whose instance a lease holds; nothing if there is no such key
 abbrev pub first_held_key : Leases → List Need → Option Key
 first_held_key out [] = None
 first_held_key out (n ∷ needs) = if is_locked_and_held out n.key then Some n.key else first_held_key out needs

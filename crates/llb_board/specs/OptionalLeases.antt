@@ -27,7 +27,7 @@ out_without out None = out
 abbrev pub given_back : cache.CachesValue → Option ℕ → cache.CachesValue
 given_back c l = record c { out = out_without c.out l }
 
--- the caches after lease l is given back and what it added to the caches is removed; the same caches if there is no l
+-- the caches after lease l is given back and what l added to the caches is removed; the same caches if there is no l
 abbrev pub taken_back : cache.CachesValue → Option ℕ → List Growth → cache.CachesValue
 taken_back c l gs = record (given_back c l) { rows = unmade c.rows (leased_places c.out l) gs }
 
@@ -46,7 +46,7 @@ abbrev pub some_lease : Result (ℕ × cache.CachesValue) LeaseFault → Result 
 some_lease (Ok (l, c)) = Ok (Some l, c)
 some_lease (Err e) = Err e
 
--- the result of leasing for these needs; no lease if there are no needs
+-- the result of making a lease for these needs; no lease if there are no needs
 abbrev pub lease_if : cache.CachesValue → List cache_need.Need → Result (Option ℕ × cache.CachesValue) LeaseFault
 lease_if c [] = Ok (None, c)
 lease_if c (n ∷ needs) = some_lease (cache.lease_of c (n ∷ needs))

@@ -32,7 +32,7 @@ pub enum LandFault {
     /// 140: a cache of the vertex that the worker runs is in shared mode.
     #[error("140")]
     HasShared(Outcome),
-    /// 139: the outcome's job differs from the job that remains for the worker now, with the present trees of the worker's cache instances.
+    /// 139: the outcome's job is not the job that remains for the worker with the present cache trees.
     #[error("139")]
     Stranger(Outcome),
 }
