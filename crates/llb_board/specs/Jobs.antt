@@ -40,7 +40,7 @@ pub record IsBegun (w : ℕ) (x : Execution) (job : Job) : Type 0 where
   pub done : job.done ≡ x.done
   pub clean : x.fault ≡ None
 
--- the job is the one that remains for the worker, and no micro-step has faulted
+-- the job is what remains for the worker (`job_now`), and no micro-step has faulted
 pub record IsRunOf (b : Build) (store : Store) (w : ℕ) (x : Execution) (job : Job) : Type 0 where
   pub clean : x.fault ≡ None
   pub same : job ≡ job_now b store w x

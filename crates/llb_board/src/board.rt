@@ -294,7 +294,7 @@ impl Board {
         }
     }
 
-    /// Returns whether every vertex is done, failed or blocked, so that no worker runs one. Does not allocate.
+    /// Returns whether the board is complete: every vertex is done, failed or blocked, so no worker runs a vertex. Does not allocate.
     pub fn is_complete(&self) -> bool
         ensures { result ≡ is_complete self.now.build self.now.state }
     {

@@ -170,7 +170,7 @@ fn same_execution(execution: &Execution, other: &Execution) -> bool
         && all_same(execution.places.as_slice(), other.places.as_slice())
 }
 
-// Returns the lease of a worker, if it has one.
+// Returns the lease of a worker, if the worker has one.
 fn lease_of(seat: &Seat) -> Option<Lease>
     ensures { result ≡ leased_by seat.now }
 {
