@@ -59,7 +59,7 @@ impl History {
         &self.events
     }
 
-    /// Appends an event, for which there is room.
+    /// Appends an event. There must be room for the event.
     pub(crate) fn record(&mut self, event: Event)
         requires { length self.old.list < self.old.space.room }
         ensures list { self.new.list ≡ self.old.list ++ event ∷ [] }
@@ -83,7 +83,7 @@ impl History {
         self.cancels[v as usize] = count + 1;
     }
 
-    /// Appends `count` micro-steps of a worker, for which there is room.
+    /// Appends `count` micro-steps of a worker. There must be room for these events.
     pub(crate) fn record_steps(&mut self, w: u32, count: u32)
         requires { length self.old.list + count ≤ self.old.space.room }
         ensures list { self.new.list ≡ self.old.list ++ steps_by w count }

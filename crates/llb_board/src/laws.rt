@@ -90,7 +90,7 @@ pub fn held_are_there(board: &Board)
     board.is_graph();
 }
 
-/// Proves that for a private key a claim takes the instance with the least number that no running worker holds.
+/// Proves that for a private key a claim takes the instance with the least free number; a number is free if no running worker holds the instance with it.
 pub fn claims_least(board: &Board)
     ensures { machine.ClaimsLeast board.now.build }
 {
