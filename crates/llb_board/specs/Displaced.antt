@@ -31,7 +31,7 @@ use Rattle.llb_board.specs.declared.workers.undoing.End.TheVariants as end
 
 -- ---- the result of an event
 
--- the table's result of an event on this state, with a refusal turned into the fault that `walk` returns for it
+-- the table's result of an event on this state, with a refusal turned into the fault that `Board::walk` returns for this refusal
 abbrev pub walk_in : VerticesValue → WorkersValue → own_event.Event → Result (State × table.Reply) WalkFault
 walk_in vs ws (event.Claim w v) = faulted walk.Claim (claim_in vs ws w v)
 walk_in vs ws (event.Step w) = faulted walk.Step (step_in vs ws w)
@@ -64,7 +64,7 @@ not_running end.Cancel = walk.Cancel no_cancel.NotRunning
 -- ---- what an event displaces: what it changes, and what has to be kept to take the event back
 
 -- For a claim: the worker, the vertex, and what the claim's lease added to the caches. For a step: the worker, what the step can change in the workspace, and
--- the trees of the worker's instances. For a settle or a cancel: which of the two, the worker, what it ran, and a prepared lease of its instances, if any.
+-- the trees of the worker's instances. For a settle or a cancel: which of the two, the worker, what the worker ran, and a prepared lease if it held instances.
 pub data Back : Type 0 where
   Unclaim : ℕ → ℕ → List Growth → Back
   Unstep : ℕ → Saved → List TreeMap → Back
@@ -92,13 +92,13 @@ step_before saved (Some (Runs x)) = Runs (with_view_back saved x)
 step_before saved (Some Idle) = Idle
 step_before saved None = Idle
 
--- the statuses of the workers before the event, given their statuses after it
+-- the statuses of the workers before the event, given their statuses after the event
 abbrev pub workers_before : Back → List WorkerStatus → List WorkerStatus
 workers_before (Unclaim w v growths) workers = slice_set workers w Idle
 workers_before (Unstep w saved trees) workers = slice_set workers w (step_before saved (slice_get workers w))
 workers_before (Resume e w left lent) workers = slice_set workers w (Runs left.execution)
 
--- the supplies of each worker (what a worker has from its claim to its settle) as they were before the event
+-- the supplies of each worker (what a worker has while it runs a vertex) as they were before the event
 abbrev pub supplies_before : Back → List Supplies → List Supplies
 supplies_before (Unclaim w v growths) supplies = slice_set supplies w (supplies_for None)
 supplies_before (Unstep w saved trees) supplies = supplies
@@ -176,7 +176,7 @@ pub record MarksStep (vs : VerticesValue) (ws : WorkersValue) (w : ℕ) (u : Dis
   pub mounts : mounts_in x.own ≡ length (mounts_at (slice_get vs.build.graph.vertices x.vertex))
   pub keys : map (λ (p : Instance). p.key) x.places ≡ map key_of (needs_at (slice_get vs.build.graph.vertices x.vertex))
 
--- `u` holds what has to be put back to take back the settle or the cancel (`e`) of what worker w runs
+-- `u` holds what has to be put back to take back `e`, the settle or the cancel of the vertex that worker w runs
 pub record MarksEnd (vs : VerticesValue) (ws : WorkersValue) (e : End) (w : ℕ) (u : Displaced) : Type 0 where
   pub left : Left
   pub runs : slice_get ws.workers w ≡ Some (Runs left.execution)

@@ -16,7 +16,7 @@ walk_text (walk.Settle e) = settle_text e
 walk_text (walk.Cancel e) = cancel_text e
 walk_text walk.Memory = codes "141"
 
--- what `walk` returns if a claim is refused for this cause; for want of memory, the one fault `Memory`, whatever the event was
+-- what `walk` returns if a claim is refused for this cause; `walk` has one fault `Memory` for events of all kinds
 abbrev pub claim_refused : ClaimFault → WalkFault
 claim_refused claim.Memory = walk.Memory
 claim_refused claim.NoWorker = walk.Claim claim.NoWorker

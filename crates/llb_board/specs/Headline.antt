@@ -31,12 +31,12 @@ OthersLeave b = (w : ℕ) (p : Instance) → HoldsInstance b w p → IsExclusive
     → table b.build b.state e ≡ Some (t, r)
     → content t.store p ≡ content b.state.store p
 
--- if the tree of a locked or private instance that a worker holds is replaced, each event of another worker has the same reply, and the same effect on all else
+-- no event of another worker reads the tree of a locked or private instance that w holds: with another tree, the reply and the effect on all else are the same
 abbrev pub OthersIgnore : BoardValue → Type 0
 OthersIgnore b = (w : ℕ) (p : Instance) → HoldsInstance b w p → IsExclusive p.key.mode → (e : Event) (tree : TreeMap) → worker_of e ≢ w
     → table b.build (with_content p tree b.state) e ≡ option_map (with_content_after p tree) (table b.build b.state e)
 
--- settled vertices and instances that no worker holds are as if the claimed vertices had run one after another, in claim order, each whole or up to its cancel
+-- settled vertices and instances that no worker holds are as if the claimed vertices had run one after another, in claim order, each to its end or its cancel
 abbrev pub StandsInClaimOrder : BoardValue → Type 0
 StandsInClaimOrder b = StandsIn b.state (order b.build (at_first b.build b.opening.store) (claims_in (replies_in b)))
 

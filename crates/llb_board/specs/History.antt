@@ -18,7 +18,7 @@ pub record HistoryValue : Type 0 where
   pub list : List Event
   pub space : Space
 
--- the room that a claim reserves for a vertex that takes at most `events` events and was cancelled n times: none if n is 0
+-- the room that a claim reserves for a vertex that takes at most `events` events and was cancelled n times: 0 if n is 0, else room for `events` events
 abbrev pub taken : ℕ → ℕ → ℕ
 taken events zero = 0
 taken events (suc n) = events
@@ -53,7 +53,7 @@ front xs = take (length xs - 1) xs
 abbrev pub last_of : {A : Type 0} → List A → Option A
 last_of xs = slice_get xs (length xs - 1)
 
--- the room and the counts before the last event, which is an event of vertex v, given the room and the counts after it: what the event added is subtracted
+-- the room and the counts of cancels before the last event (an event of vertex v), given those after this event: what the event added is subtracted
 abbrev pub space_back : Option Event → ℕ → ℕ → Space → Space
 space_back (Some (Claim w u)) v events s = unclaimed v events s
 space_back (Some (Step w)) v events s = s

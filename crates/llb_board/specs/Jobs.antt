@@ -1,4 +1,4 @@
--- The job that remains for a worker, and the worker's seat (what it runs) after the job's micro-steps.
+-- The job that remains for a worker, and the worker's seat (what the worker runs) after the job's micro-steps.
 use Rattle.std.specs.Prelude.{◌≡◌, ℕ, ◌+◌, Bool, true, false, map, Option, Some, None}
 use Rattle.std.specs.List.{list_any}
 use Rattle.llb_cache.specs.declared.key.Mode.{Mode}
@@ -40,7 +40,7 @@ pub record IsBegun (w : ℕ) (x : Execution) (job : Job) : Type 0 where
   pub done : job.done ≡ x.done
   pub clean : x.fault ≡ None
 
--- the job is the one that remains for the worker, and no micro-step has faulted
+-- the job is what remains for the worker (`job_now`), and no micro-step has faulted
 pub record IsRunOf (b : Build) (store : Store) (w : ℕ) (x : Execution) (job : Job) : Type 0 where
   pub clean : x.fault ≡ None
   pub same : job ≡ job_now b store w x

@@ -40,7 +40,7 @@ pub record RunsShared (b : BoardValue) (w : ℕ) : Type 0 where
   pub runs : slice_get b.state.workers w ≡ Some (Runs x)
   pub shared : has_shared x ≡ true
 
--- worker w can't land the outcome of the job for this cause, and no earlier cause applies
+-- this cause prevents worker w from landing the outcome of the job, and no earlier cause applies
 abbrev pub StandsInWay : BoardValue → ℕ → Job → LandCause → Type 0
 StandsInWay b w job cause.NoWorker = slice_get b.state.workers w ≡ None
 StandsInWay b w job cause.NotRunning = slice_get b.state.workers w ≡ Some Idle
@@ -54,7 +54,7 @@ land_fault cause.NotRunning o = fault.NotRunning o
 land_fault cause.HasShared o = fault.HasShared o
 land_fault cause.Stranger o = fault.Stranger o
 
--- e is the fault for the first cause why worker w can't land outcome o
+-- e is the fault for the first cause that prevents worker w from landing outcome o
 pub record IsRefused (b : BoardValue) (w : ℕ) (o : OutcomeValue) (e : LandFault) : Type 0 where
   pub cause : LandCause
   pub stands : StandsInWay b w o.job cause

@@ -14,7 +14,7 @@ use Rattle.llb_board.specs.Seen.{BoardValue}
 abbrev pub SettledArePlain : BoardValue → Type 0
 SettledArePlain b = (v : ℕ) (e : Ending) → is_plain b.build v ≡ true → slice_get b.state.statuses v ≡ Some (Settled e) → outcome b.build v ≡ Some (Ended e)
 
--- the table grants the chosen event: the next event of the running worker with the lowest number or, if no worker runs, worker 0's claim of a Ready vertex
+-- the table grants the chosen event: the next event of the first running worker or, if no worker runs, worker 0's claim of the first Ready vertex
 abbrev pub ChosenIsGranted : BoardValue → Type 0
 ChosenIsGranted b = (e : Event) → chosen b.build b.state ≡ Some e → is_some (table b.build b.state e) ≡ true
 

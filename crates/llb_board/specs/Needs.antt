@@ -23,7 +23,7 @@ use Rattle.llb_board.specs.declared.workers.needs.Wanted.{Wanted}
 abbrev pub is_locked_and_held : Leases → Key → Bool
 is_locked_and_held out k = is_locked k.mode && is_held out (place k 0)
 
--- the key of the first need whose key is locked and whose instance a lease holds
+-- the first locked key of these needs whose instance a lease holds; nothing if there is no such key
 abbrev pub first_held_key : Leases → List Need → Option Key
 first_held_key out [] = None
 first_held_key out (n ∷ needs) = if is_locked_and_held out n.key then Some n.key else first_held_key out needs
@@ -59,7 +59,7 @@ pub record IsFound (c : cache.CachesValue) (w : Wanted) : Type 0 where
 abbrev pub place_found : Wanted → Instance
 place_found w = place w.key w.found.number
 
--- the tree with which an instance begins: the instance's tree if it exists, else the tree of the mount's input, or the empty tree if there is no input
+-- the tree of an instance at the claim: its present tree if the instance exists, else the tree of the mount's input or, if there is no input, the empty tree
 abbrev pub first_tree : List TreeMap → Wanted → TreeMap
 first_tree inputs w = unwrap_or (option_map (λ t. t.now) w.found.tree) (base_in w.input inputs)
 
@@ -67,7 +67,7 @@ first_tree inputs w = unwrap_or (option_map (λ t. t.now) w.found.tree) (base_in
 abbrev pub row_found : Wanted → Option ℕ
 row_found w = w.found.row
 
--- what a claim takes: instances, their numbers, the trees with which they begin, and the needs for the lease (a key, and the tree of a new instance)
+-- what a claim takes: instances, their numbers, their trees at the claim, and the needs for the lease (a key, and the tree with which a new instance begins)
 abbrev pub Taking : Type 0
 Taking = List Instance × List ℕ × List TreeMap × List cache_need.Need
 

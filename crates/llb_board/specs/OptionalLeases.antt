@@ -27,7 +27,7 @@ out_without out None = out
 abbrev pub given_back : cache.CachesValue → Option ℕ → cache.CachesValue
 given_back c l = record c { out = out_without c.out l }
 
--- the caches after lease l is given back and what it added to the caches is removed; the same caches if there is no l
+-- the caches after lease l is given back and what l added to the caches is removed; the same caches if there is no l
 abbrev pub taken_back : cache.CachesValue → Option ℕ → List Growth → cache.CachesValue
 taken_back c l gs = record (given_back c l) { rows = unmade c.rows (leased_places c.out l) gs }
 
@@ -41,12 +41,12 @@ abbrev pub lent_if : cache.CachesValue → Option LentValue → Option ℕ × ca
 lent_if c None = (None, c)
 lent_if c (Some l) = (Some (cache.free_lease c.out), lent_again c l.places)
 
--- the result of a lease, with its number as an option
+-- the result of making a lease, with the number of the lease as an option
 abbrev pub some_lease : Result (ℕ × cache.CachesValue) LeaseFault → Result (Option ℕ × cache.CachesValue) LeaseFault
 some_lease (Ok (l, c)) = Ok (Some l, c)
 some_lease (Err e) = Err e
 
--- the result of leasing for these needs; no lease if there are no needs
+-- the result of making a lease for these needs; no lease if there are no needs
 abbrev pub lease_if : cache.CachesValue → List cache_need.Need → Result (Option ℕ × cache.CachesValue) LeaseFault
 lease_if c [] = Ok (None, c)
 lease_if c (n ∷ needs) = some_lease (cache.lease_of c (n ∷ needs))

@@ -1,4 +1,4 @@
--- The part of a prepared claim that depends on the vertex alone.
+-- The outfit for a vertex: the part of a prepared claim that depends on the vertex alone.
 use Rattle.std.specs.Prelude.{List, replicate}
 use Rattle.llb_loader.specs.declared.graph.Vertex.{Vertex}
 use Rattle.llb_tree.specs.Tree.{TreeMap, empty_tree}

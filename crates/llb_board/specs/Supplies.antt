@@ -1,4 +1,4 @@
--- What a worker has from its claim to its settle: empty trees for the outputs (so a settle needs no memory), and the micro-steps and caches of its vertex.
+-- What a worker has while it runs a vertex: an empty tree for each output (so a settle needs no memory), and the vertex's micro-steps and caches.
 use Rattle.std.specs.Prelude.{ℕ, List, [], map, replicate, length, Option, Some, None, slice_get}
 use Rattle.llb_tree.specs.Tree.{TreeMap, empty_tree}
 use Rattle.llb_loader.specs.declared.graph.Vertex.{Vertex}
@@ -13,7 +13,7 @@ use Rattle.llb_board.specs.declared.workers.seat.Seat.{Seat}
 use Rattle.llb_board.specs.declared.workers.seat.Execution as own
 use Rattle.llb_board.specs.declared.workers.seat.Seat.TheVariants as seat
 
--- what a worker has from its claim to its settle: an empty tree for each output of its vertex, the vertex's micro-steps, how many mounts the vertex has, the
+-- what a worker has while it runs a vertex: an empty tree for each output of the vertex, the vertex's micro-steps, how many mounts the vertex has, the
 -- numbers of those mounts that show caches, and the keys of these caches
 pub record Supplies : Type 0 where
   pub outputs : List TreeMap
@@ -22,7 +22,7 @@ pub record Supplies : Type 0 where
   pub shown : List ℕ
   pub keys : List Key
 
--- the supplies that an execution holds in the code
+-- the supplies that an execution of the code holds
 abbrev pub supplies_of : own.Execution → Supplies
 supplies_of x = record {
   outputs = x.outputs.items;
@@ -42,7 +42,7 @@ abbrev pub needs_at : Option Vertex → List Need
 needs_at (Some v) = needs_of v
 needs_at None = []
 
--- the supplies for an execution of this vertex; nothing if there is no vertex
+-- the supplies for an execution of this vertex; all empty if there is no vertex
 abbrev pub supplies_for : Option Vertex → Supplies
 supplies_for o = record {
   outputs = replicate (program_at o).outputs empty_tree;
@@ -52,7 +52,7 @@ supplies_for o = record {
   keys = map key_of (needs_at o);
 }
 
--- the supplies that a worker has now, read from its seat (what it runs)
+-- the supplies that a worker has now, read from the worker's seat (what the worker runs)
 abbrev pub ready_made : Seat → Supplies
 ready_made seat.Idle = supplies_for None
 ready_made (seat.Runs l x) = supplies_of x

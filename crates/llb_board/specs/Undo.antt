@@ -90,7 +90,7 @@ pub record IsLast (u : Displaced) (b : BoardValue) : Type 0 where
 pub record IsBegun (b : BoardValue) (w v : ℕ) : Type 0 where
   pub runs : slice_get b.state.statuses v ≡ Some (Running w)
 
--- after a step: worker w runs a vertex, and `saved` and `trees`, which are put back, fit what w runs
+-- after a step: worker w runs a vertex v; `saved`, put back, yields v's number of mounts; w's instances have v's keys, and `trees` has a tree for each of them
 pub record IsStepped (b : BoardValue) (w : ℕ) (saved : Saved) (trees : List TreeMap) : Type 0 where
   pub x : Execution
   pub runs : slice_get b.state.workers w ≡ Some (Runs x)
@@ -98,7 +98,7 @@ pub record IsStepped (b : BoardValue) (w : ℕ) (saved : Saved) (trees : List Tr
   pub count : length trees ≡ length x.places
   pub keys : map (λ (p : Instance). p.key) x.places ≡ map key_of (needs_at (slice_get b.build.graph.vertices x.vertex))
 
--- after a settle or a cancel: worker w is idle, `left` fits the vertex that w left, and `lent` is a prepared lease of the instances that w held, if any
+-- after a settle or a cancel: worker w is idle, `left` has the supplies and keys of the vertex that w left, and `lent` is a prepared lease if w held instances
 pub record IsLeft (b : BoardValue) (w : ℕ) (left : Left) (lent : Option LentValue) : Type 0 where
   pub idle : slice_get b.state.workers w ≡ Some Idle
   pub supplies : left.supplies ≡ supplies_for (slice_get b.build.graph.vertices left.execution.vertex)

@@ -1,4 +1,4 @@
--- What is kept of a worker before its settle or cancel, and the worker's seat (what it runs) after a micro-step is taken back.
+-- What is kept of a worker before its settle or cancel, and the worker's seat (what the worker runs) after a micro-step is taken back.
 use Rattle.std.specs.Prelude.{◌-◌, Option, Some, None}
 use Rattle.llb_execution.specs.Saves.{Saved, put_back}
 use Rattle.llb_model.specs.State.{Execution}

@@ -1,4 +1,4 @@
--- The vertices as contracts see them (the build and the statuses), and what the code keeps besides, all of which follows from the build and the statuses.
+-- The vertices as contracts see them (the build and the statuses), and what else the code keeps, which all follows from the build and the statuses.
 use Rattle.std.specs.Prelude.{◌≡◌, ℕ, ◌<◌, Bool, true, false, ◌||◌, ◌&&◌, not, List, length, replicate, Option, Some, None, is_some, slice_get, slice_set}
 use Rattle.llb_loader.specs.Graph.{IsGraph}
 use Rattle.llb_loader.specs.declared.graph.Vertex.{Vertex}
@@ -34,7 +34,7 @@ status_of (stage.Failed f) = Settled (Failed f)
 
 -- ---- what else is kept
 
--- if the status of a vertex is done, the vertex has a tree for each of its outputs
+-- if the status is Done, it has a tree for each output of the vertex
 abbrev pub IsWhole : Option Vertex → Status → Type 0
 IsWhole (Some x) (Settled (Done trees)) = length trees ≡ x.outputs
 IsWhole (Some x) (Settled (Failed f)) = Unit {0}
@@ -65,7 +65,7 @@ AreCounted true false users old new = AreRaised users old new
 AreCounted false false users old new = new ≡ old
 AreCounted true true users old new = new ≡ old
 
--- What the code keeps besides agrees with the build and the statuses. A vertex is marked if it has failed or is downstream of one that has. The links count the
+-- What else the code keeps agrees with the build and the statuses. A vertex is marked if it has failed or is downstream of one that has. The links count the
 -- inputs that are not done. No vertex whose number is below `first_open` can be claimed now or later. Each vertex has a status, and all outputs if it is done.
 pub record IsInStep (b : Build) (statuses : List Status) (stop_marks : List Bool) (links : Linked) (first_open : ℕ) : Type 0 where
   pub graph : IsGraph b.graph

@@ -1,4 +1,4 @@
--- The results of a claim, a step, a settle and a cancel, for the worker of the event and the caches; or, as a fault, the first cause why the event is refused.
+-- What a claim, a step, a settle and a cancel do to the worker of the event and to the caches; or, as a fault, the first cause why the event is refused.
 use Rattle.std.specs.Prelude.{ℕ, List, Option, Some, None, Result, Ok, Err, if◌then◌else◌}
 use Rattle.llb_loader.specs.declared.graph.Vertex.{Vertex}
 use Rattle.llb_tree.specs.Tree.{TreeMap}
@@ -36,7 +36,7 @@ begun_at b c w v vertex trees ps = record {
   needs = asked trees (needs_of vertex);
 }
 
--- the result of a claim or, if the tree of an input is missing, the refusal
+-- the result of a claim or, if the tree of an input is missing, the refusal `NotReady`
 abbrev pub begun : Build → CachesValue → ℕ → ℕ → Vertex → Option (List TreeMap) → Result Begun ClaimFault
 begun b c w v vertex (Some trees) = Ok (begun_at b c w v vertex trees (places_taken c.out (needs_of vertex)))
 begun b c w v vertex None = Err claim.NotReady
@@ -49,11 +49,11 @@ pub record Worked : Type 0 where
   pub trees : List TreeMap
   pub reply : Reply
 
--- the result of micro-step m, given the work and the fault after it (`left`)
+-- the result of micro-step m, given the work and the fault after m (`left`)
 abbrev pub worked_to : Execution → MicroStep → Left → Worked
 worked_to x m left = record { execution = with_step x left; trees = left.work.trees; reply = step_reply x.done m x.own left }
 
--- the result of a micro-step on these trees of the instances, or the refusal that no micro-step is left
+-- the result of a micro-step on these trees of the instances or, if no micro-step is left, the refusal `NothingLeft`
 abbrev pub worked_by : Execution → List TreeMap → Option MicroStep → Result Worked StepFault
 worked_by x trees None = Err step.NothingLeft
 worked_by x trees (Some m) = Ok (worked_to x m (step_on x.done (Some m) (work_with x.own trees)))

@@ -17,13 +17,13 @@ use Rattle.llb_board.specs.Supplies.{Supplies, supplies_for, needed}
 use Rattle.llb_board.specs.WorkerRules.{Begun}
 use Rattle.llb_board.specs.Vertices.{VerticesValue}
 
--- what contracts see of the workers: what each worker does, the rows of the caches, and the supplies of each worker (what it has from its claim to its settle)
+-- what contracts see of the workers: what each worker does, the rows of the caches, and the supplies of each worker (what a worker has while it runs a vertex)
 pub record WorkersValue : Type 0 where
   pub workers : List WorkerStatus
   pub rows : List Row
   pub supplies : List Supplies
 
--- there are 1 to 64 workers, and each worker that holds instances has a lease of exactly these
+-- there are 1 to 64 workers, and each worker that holds instances has a lease of exactly these instances
 pub record IsCrew (workers : List WorkerStatus) (out : Leases) (leases : List (Option ℕ)) : Type 0 where
   pub some : 0 < length workers
   pub few : length workers ≤ 64

@@ -1,7 +1,7 @@
 //! The board: the vertices, the workers, and the record of events since the board was opened. By the board's invariant the table replays the record to the
-//! board's state. The record has room for all events to come, except those of a vertex that is claimed again after a cancel: that claim reserves their room.
-//! Each running worker has what its vertex needs until the settle: the micro-steps, an empty tree for each output, and the cache instances. The invariants of
-//! vertices and workers are in their own modules.
+//! board's state. The record has room for all events to come, except those of a vertex that waits after a cancel: the next claim of that vertex reserves room
+//! for its events. Each running worker has what its vertex needs until the settle: the micro-steps, an empty tree for each output, and the cache instances. The
+//! invariants of vertices and workers are in their own modules.
 
 ghost use Rattle.std.specs.Prelude.{◌≡◌, ◌<◌, ◌≤◌, ◌+◌, [], length, replicate, true, is_some, option_map, Some, OnErr, IfErr, IfOk, if◌then◌else◌};
 ghost use Rattle.llb_events.specs.declared.event.Settled.TheVariants as ended;
@@ -53,7 +53,7 @@ use std::alloc::Global;
 use std::marker::Model;
 pub use walk::{Reply, Walked};
 
-/// A graph that workers work on, with its local trees and caches, and the record of the events so far.
+/// The state of a run: the vertices of a graph with its local trees, the workers, the caches, and the record of the events so far.
 pub struct Board {
     alloc: Global,
     vertices: Vertices,
@@ -187,8 +187,8 @@ impl Board {
         Ok(job)
     }
 
-    /// Does the next micro-step of what a worker runs. If the micro-step is a command, it runs or is skipped, as the last status and the `;`, `&&` or `||`
-    /// before it require. The micro-step reads the caches as they are now and writes its changes to them at once. Fails with 131 `NoWorker`, 136 `NotRunning`,
+    /// Does the next micro-step of what a worker runs. A command runs or is skipped, as the last status and the `;`, `&&` or `||` before the command
+    /// require. The micro-step reads the caches as they are now and writes its changes to them at once. Fails with 131 `NoWorker`, 136 `NotRunning`,
     /// 137 `NothingLeft` or 141 `Memory`; a skipped command does not allocate.
     pub fn step(&mut self, w: u32) -> Result<Stepped, StepFault>
         ensures gives { GivesStep (λ r. (self.new, HasStepped r)) result (step_of self.old w) }
@@ -200,8 +200,8 @@ impl Board {
         Ok(stepped)
     }
 
-    /// Settles the finished vertex that a worker runs: its micro-steps are all done, or one faulted. The worker's cache instances are free again. Fails with
-    /// 131 `NoWorker`, 136 `NotRunning` or 138 `NotFinished`. Does not allocate.
+    /// Settles the vertex that a worker runs, if the vertex is finished (all micro-steps are done, or one has faulted). The worker's cache instances are free
+    /// again. Fails with 131 `NoWorker`, 136 `NotRunning` or 138 `NotFinished`. Does not allocate.
     pub fn settle(&mut self, w: u32) -> Result<Settled, SettleFault>
         ensures gives { GivesSettle (λ r. (self.new, HasSettled r)) result (settle_of self.old w) }
         ensures err { OnErr result (self.new ≡ self.old) }
@@ -280,8 +280,8 @@ impl Board {
         self.history.events()
     }
 
-    /// Returns the event to do next if the board is driven by one worker (the *chosen* event): the next step or settle of the running worker with the lowest
-    /// number or, if no worker runs, the claim of the first Ready vertex by worker 0. `None` if the board is complete. Does not allocate.
+    /// Returns the *chosen* event, which a run on one thread does next: the next step or settle of the running worker with the lowest number or, if no worker
+    /// runs, the claim of the first Ready vertex by worker 0. `None` if the board is complete. Does not allocate.
     pub fn chosen(&self) -> Option<Event>
         ensures { result ≡ chosen self.now.build self.now.state }
     {
@@ -294,7 +294,7 @@ impl Board {
         }
     }
 
-    /// Returns whether every vertex is done, failed or blocked, so that no worker runs one. Does not allocate.
+    /// Returns whether the board is complete: every vertex is done, failed or blocked, so no worker runs a vertex. Does not allocate.
     pub fn is_complete(&self) -> bool
         ensures { result ≡ is_complete self.now.build self.now.state }
     {

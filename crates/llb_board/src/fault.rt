@@ -1,5 +1,6 @@
-//! Why the opening of a board, a landing, a call of `Board::walk`, or a call that lacks memory fails; `llb_events` has the faults of single events. A fault
-//! prints its number; 121 then prints the name of the local source without a tree. The fault of an opening or a landing holds what was handed to the call.
+//! The faults of opening a board, of a landing and of `Board::walk`, and the fault of calls that fail for want of memory alone; `llb_events` has the faults of
+//! single events. A fault prints its number; 121 then prints the name of the local source without a tree. The fault of an opening or a landing holds what was
+//! handed to the call.
 
 ghost use Rattle.std.specs.Prelude.{Some};
 ghost use Rattle.llb_board.specs.Faults.{walk_text};
@@ -31,7 +32,7 @@ pub enum LandFault {
     /// 140: a cache of the vertex that the worker runs is in shared mode.
     #[error("140")]
     HasShared(Outcome),
-    /// 139: the outcome is not of the job that the worker runs now, with the caches as they are now.
+    /// 139: the outcome's job is not the job that remains for the worker with the present cache trees.
     #[error("139")]
     Stranger(Outcome),
 }

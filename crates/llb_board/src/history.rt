@@ -59,7 +59,7 @@ impl History {
         &self.events
     }
 
-    /// Appends an event, for which there is room.
+    /// Appends an event. There must be room for the event.
     pub(crate) fn record(&mut self, event: Event)
         requires { length self.old.list < self.old.space.room }
         ensures list { self.new.list ≡ self.old.list ++ event ∷ [] }
@@ -68,8 +68,8 @@ impl History {
         self.events.push_reserved(event);
     }
 
-    /// Appends a cancel by worker `w`, and adds one to the count of cancels of vertex `v`. There has to be room for the event, and the count so far is at most
-    /// the number of events.
+    /// Appends a cancel by worker `w`, and adds one to the count of cancels of vertex `v`. There must be room for the event, and the count so far must be
+    /// at most the number of events.
     pub(crate) fn record_cancel(&mut self, w: u32, v: u32)
         requires room { length self.old.list < self.old.space.room }
         requires low { v < length self.old.space.cancels }
@@ -83,7 +83,7 @@ impl History {
         self.cancels[v as usize] = count + 1;
     }
 
-    /// Appends `count` micro-steps of a worker, for which there is room.
+    /// Appends `count` micro-steps of a worker. There must be room for these events.
     pub(crate) fn record_steps(&mut self, w: u32, count: u32)
         requires { length self.old.list + count ≤ self.old.space.room }
         ensures list { self.new.list ≡ self.old.list ++ steps_by w count }
@@ -121,8 +121,8 @@ impl History {
         }
     }
 
-    /// Reserves room for `events` more events before a claim of vertex `v`, if the vertex was cancelled before. Fails with 141 `Memory` alone; then the room
-    /// is as it was.
+    /// Reserves room for `events` more events, for a claim of vertex `v`; reserves nothing if the vertex was never cancelled. Fails with 141 `Memory` alone;
+    /// then the room is as it was.
     pub(crate) fn reserve(&mut self, v: u32, events: usize) -> Result<(), Memory>
         ensures list { self.new.list ≡ self.old.list }
         ensures ok { OnOk result (self.new.space ≡ claimed v events self.old.space) }

@@ -14,9 +14,9 @@ ghost use Rattle.llb_board.specs.Headline.{Headline, StandsInClaimOrder};
 use crate::board::Board;
 
 /// Proves the promise of the whole machine. The table replays the record, with a reply for each event, from the opening state to the board's state. No two
-/// workers hold the same locked cache at once, nor the same instance of a private cache. No event of another worker changes or reads an instance of a locked or
-/// private cache that a worker holds. A settled vertex with no cache mount at or before it has its plain outcome. All this holds at every moment, for any
-/// workers and any order of events.
+/// workers hold the same locked cache at once, nor the same instance of a private cache. An instance of a locked or private cache that a worker holds is
+/// neither changed nor read by an event of another worker. A settled vertex with no cache mount at or before it has its plain outcome. All this holds at every
+/// moment, for any workers and any order of events.
 pub fn headline(board: &Board)
     ensures { Headline board.now }
 {
@@ -90,7 +90,7 @@ pub fn held_are_there(board: &Board)
     board.is_graph();
 }
 
-/// Proves that for a private key a claim takes the instance with the least number that no running worker holds.
+/// Proves that for a private key a claim takes the instance with the least free number; a number is free if no running worker holds the instance with it.
 pub fn claims_least(board: &Board)
     ensures { machine.ClaimsLeast board.now.build }
 {
@@ -143,7 +143,7 @@ pub fn execs_end_by_last_status(board: &Board)
     let _ = board;
 }
 
-/// Proves that a script of `&&` alone runs its commands in turn up to the first with a status other than 0, and skips none.
+/// Proves that commands that are joined by `&&` alone run one after another, up to and with the first whose status is not 0, and that none of these is skipped.
 pub fn ands_run_in_turn(board: &Board)
     ensures { machine.AndsRunInTurn }
 {

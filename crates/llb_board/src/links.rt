@@ -15,8 +15,8 @@ use std::marker::Model;
 use std::sync::Arc;
 
 /// For each vertex of a graph: its users (the vertices that have an edge to it), ascending, each once; and its count of open inputs (how many of the vertices
-/// to which it has an edge are not done). Copies share the lists of users. `reached` is an empty list with room for all vertices; `spread` works in it.
-/// Contracts see the users and the counts, as lists.
+/// to which it has an edge are not done). Copies share the lists of users. `reached` is an empty list with room for all vertices, which `spread` fills and
+/// empties. Contracts see the users and the counts, as lists.
 pub(crate) struct Links {
     users: Arc<Vec<Vec<u32>>>,
     counts: Vec<u32>,

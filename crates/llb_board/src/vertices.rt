@@ -232,7 +232,7 @@ impl Vertices {
         self.build.locals()
     }
 
-    /// Returns vertex `v`. Fails with 133 `NoVertex` if there is none, else with 134 `NotReady` if the vertex does not wait or an input of it is not done.
+    /// Returns vertex `v`, if the vertex is Ready. Fails with 133 `NoVertex` if there is no such vertex, else with 134 `NotReady`.
     /// Does not allocate.
     pub(crate) fn ready(&self, v: u32) -> Result<&Vertex, ClaimFault>
         ensures there { IfOk result (λ x. slice_get self.now.build.graph.vertices v ≡ Some x.now) }
@@ -338,7 +338,8 @@ fn count(links: &mut Links, v: u32, was_done: bool, is_done: bool)
     }
 }
 
-// Returns the status of a vertex as callers see it, given the vertex's state, whether the vertex has no open input, and whether it is marked.
+// Returns the status of a vertex as callers see it, given the vertex's state, whether the vertex is Ready, and whether it is marked (failed, or downstream of
+// a failed vertex).
 fn look(stage: &Stage, ready: bool, marked: bool) -> Status
     ensures { result ≡ look ready marked (status_of stage.now) }
 {

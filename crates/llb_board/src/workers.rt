@@ -150,7 +150,7 @@ impl Workers {
         })
     }
 
-    /// Returns whether each worker runs the same as in `other`, and each cache has the same trees, compared by value. Does not allocate.
+    /// Returns whether each worker has the same state in both, and each cache the same trees, compared by value. Does not allocate.
     pub(crate) fn same(&self, other: &Workers) -> bool
         ensures { IsTrue result ↔ ((self.now.workers ≡ other.now.workers) × (self.now.rows ≡ other.now.rows)) }
     {

@@ -41,7 +41,7 @@ cancel_text cancel.NotRunning = codes "136"
 
 -- ---- memory that a claim may need
 
--- whether a claim with this result in the table may need memory: the table grants the claim, or refuses it because a key is held that has a text to copy
+-- whether a claim may need memory, given the table's result: true for a grant, and for 135 `Held` if the held key has a text (an ID or a digest) to copy
 abbrev pub claim_may_want : {A : Type 0} → Result A ClaimFault → Bool
 claim_may_want (Ok a) = true
 claim_may_want (Err (claim.Held k)) = has_text k

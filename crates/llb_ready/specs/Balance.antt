@@ -1,4 +1,4 @@
--- The rule of the queue. The rule relates the numbers in the queue (oldest first) to the numbers that the passes have put and taken.
+-- The invariant of the queue, which relates the numbers in the queue (oldest first) to the numbers that the passes have put and taken.
 use Rattle.std.specs.Prelude.{◌≡◌, ℕ, ◌+◌, ◌*◌, ◌<◌, ◌≤◌, List, [], length, slice_index, sum, sum_by}
 use mathlib.Core.Option.{some}
 use lib.ListN.{get_elem?}

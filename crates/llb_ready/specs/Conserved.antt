@@ -7,7 +7,7 @@ use Rattle.llb_ready.specs.Hands.{HasAll, with_put, with_taken}
 abbrev pub times : ℕ → List ℕ → ℕ
 times x xs = count_by (λ y. y == x) xs
 
--- For each number, the count of its puts is the count of its takes plus how often it is in the queue; and so it is for all puts, all takes and the whole queue.
+-- For each number, the count of its puts is the count of its takes plus how often it is in the queue. For all numbers together, the same equation holds.
 pub record IsConserved (v : Hand) (present : List ℕ) : Type 0 where
   pub each : (x : ℕ) → times x v.put ≡ times x v.taken + times x present
   pub all : length v.put ≡ length v.taken + length present
@@ -32,10 +32,10 @@ HasTakenAll v = (length v.taken ≡ length v.put) × ((x : ℕ) → times x v.ta
 abbrev pub HasLeft : Hand → ℕ → Type 0
 HasLeft v x = times x v.taken < times x v.put
 
--- After a put: the pass has put one more number, x; if it is the whole pass, there was room for x.
+-- After a put: the pass has put one more number, x; if the pass is the whole one, the queue had room for x.
 abbrev pub GainsPut : Hand → ℕ → Hand → Type 0
 GainsPut v x w = (w ≡ with_put v x) × (HasAll v → HasRoom v)
 
--- After a take: the pass has taken one more number, x; if it is the whole pass, x was in the queue.
+-- After a take: the pass has taken one more number, x; if the pass is the whole one, x was in the queue.
 abbrev pub GainsTaken : Hand → ℕ → Hand → Type 0
 GainsTaken v x w = (w ≡ with_taken v x) × (HasAll v → HasLeft v x)

@@ -1,5 +1,5 @@
 -- Read first Hands (what contracts know of a pass, and how each call changes what they know) and Conserved (what is known of all numbers that were put and
--- taken), then Passes (the definitions that clauses cite). Balance has the rule of the queue, which no clause cites.
+-- taken), then Passes (the definitions that clauses cite). Balance has the invariant of the queue, which no clause cites.
 pub mod Hands
 pub mod Conserved
 pub mod Balance

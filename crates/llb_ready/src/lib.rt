@@ -1,5 +1,5 @@
 //! A queue of numbers that threads share. A thread needs a pass to put and take numbers. For each pass, contracts know which numbers it has put and taken.
-//! Each pass is a fraction of one whole. The crate is built on the array queue of `crossbeam_queue`; every step of that queue keeps the rule in `rule.rt`.
+//! Each pass is a fraction of one whole. The crate is built on the array queue of `crossbeam_queue`; every step of that queue keeps the invariant in `rule.rt`.
 //!
 //! Types: `ReadyQueue`, `ReadyPass` (the right to put and take, whole or a fraction of the whole), `Full` and `ReadyFault`.
 //! Promise: `ReadyQueue::close` (`conserved`): for each number, how often it was put is how often it was taken plus how often it is still in the queue.

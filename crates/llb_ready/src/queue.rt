@@ -40,7 +40,7 @@ impl ReadyQueue {
     {
         let (queue, whole) = RuledArrayQueue::ruled(alloc, n as usize)?;
         let mut pass = whole;
-        // By the rule, the pass of a new queue has room 0. Each of the `n` rounds adds 1 to this room, in contracts alone: the queue has all its room already.
+        // By `Fair`, the pass of a new queue has room 0. Each of the `n` rounds adds 1 to this room, in contracts alone: the queue has all its room already.
         for _i in 0..n {
             drop(queue.another::<Widens>(&mut pass));
         }

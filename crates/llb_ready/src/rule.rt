@@ -1,9 +1,9 @@
-//! The rule of the queue, and how each kind of step changes a pass. These types are for contracts; no code here runs.
+//! The invariant of the queue, and how each kind of step changes a pass. These types are for contracts; no code here runs.
 
 use crate::hand::Hand;
 use crossbeam_queue::protocol::{Join, Lesson, Outcome, Protocol, Split};
 
-/// The rule: the numbers that were put are those that were taken and those in the queue, and the passes are fractions of one whole.
+/// The invariant: the numbers that were put are those that were taken and those in the queue, and the fractions of all passes add up to 1.
 pub(crate) struct Fair;
 
 impl Protocol<u32, Hand> for Fair {

@@ -1,6 +1,6 @@
 //! Lands an outcome: after the work was done away from the board, puts the effect of all remaining micro-steps of a worker and of its settle on the board at
-//! once. No micro-step is done again. `land` compares the outcome's job with the job that remains for the worker on the board, with their trees by value;
-//! `land_known` compares nothing.
+//! once. No micro-step is done again. `land` compares the outcome's job, trees included, with the job that remains for the worker on the board; `land_known`
+//! compares nothing.
 
 ghost use Rattle.std.specs.Prelude.{◌≡◌, option_map, slice_get, IfOk, IfErr, OnOk, OnErr};
 ghost use Rattle.std.specs.List.{list_any};
@@ -30,9 +30,9 @@ pub(crate) enum LandCause {
 
 impl Board {
     /// Lands the outcome of a worker's job: the effect is that of all remaining micro-steps of the worker and of its settle, and the record grows by exactly
-    /// these events. Fails with 131 `NoWorker`, 136 `NotRunning`, 140 `HasShared` if a cache of the worker's vertex is in shared mode, or 139 `Stranger` if
-    /// the outcome's job is not what the worker runs now, with the caches as they are now. On failure the fault holds the outcome, and the board is unchanged.
-    /// Does not allocate.
+    /// these events. Fails with 131 `NoWorker`, 136 `NotRunning`, 140 `HasShared` if a cache of the worker's vertex is in shared mode, or 139 `Stranger` if the
+    /// outcome's job differs from the job that remains for the worker now, with the present trees of the worker's cache instances. On failure the fault holds
+    /// the outcome, and the board is unchanged. Does not allocate.
     pub fn land(&mut self, w: u32, outcome: Outcome) -> Result<Settled, LandFault>
         ensures gives { IfOk result (λ r. Lands self.old w outcome self.new (HasSettled r)) }
         ensures refused { IfErr result (λ e. IsRefused self.old w outcome e) }
@@ -98,7 +98,7 @@ impl Board {
         }
     }
 
-    // Puts the result of an outcome's micro-steps into what the worker runs and into the caches, and records these micro-steps.
+    // Puts the result of an outcome's micro-steps into the state of the worker and into the caches, and records these micro-steps.
     fn go_through(&mut self, w: u32, outcome: Outcome)
         requires { CanLand self.old w outcome.job }
         ensures { IsThrough self.old w outcome.count self.new }

@@ -7,7 +7,8 @@ use crate::board::Board;
 use crate::workers::Undo;
 
 impl Board {
-    /// Takes back the last event of the record, given the `Undo` that `walk` returned for that event, or another one that meets `CanUndo`. Does not allocate.
+    /// Takes back the last event of the record, given the `Undo` that `walk` returned for that event, or another `Undo` that meets `CanUndo`. Does not
+    /// allocate.
     pub fn undo(&mut self, undo: Undo)
         requires { CanUndo undo self.old }
         ensures { self.new ≡ undone undo self.old }

@@ -45,7 +45,7 @@ impl Events {
         })
     }
 
-    /// Appends an event, for which there is room.
+    /// Appends an event. There must be room for the event.
     pub(crate) fn push_reserved(&mut self, event: Event)
         requires { length self.old.list < self.old.room }
         ensures list { self.new.list ≡ self.old.list ++ event ∷ [] }

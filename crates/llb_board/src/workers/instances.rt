@@ -86,7 +86,8 @@ pub(crate) fn take_back(caches: &mut Caches, lease: Option<Lease>, growths: &[Gr
     }
 }
 
-/// Prepares a lease of these instances, with a list that has room for `room` leases; `None` if there are no instances. Fails with 141 `Memory` alone.
+/// Prepares a lease of these instances, so that the later grant does not allocate. At the grant, fewer than `room` leases may be current. Returns `None` if
+/// there are no instances. Fails with 141 `Memory` alone.
 pub(crate) fn lent_for(
     alloc: Global,
     places: &[Instance],

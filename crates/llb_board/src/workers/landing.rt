@@ -1,4 +1,5 @@
-//! Compares a job with the job that remains for a worker, by value, and puts the result of the job's micro-steps into what the worker runs and into the caches.
+//! Compares a job by value with the job that remains for a worker, and puts the result of the job's micro-steps into the state of the worker and into the
+//! caches.
 
 ghost use Rattle.std.specs.Prelude.{◌≡◌, ◌↔◌, ◌<◌, length, true, Some, slice_get, slice_set, is_some, IsTrue};
 ghost use Rattle.std.specs.Bool.{OnTrue, OnFalse};
@@ -24,7 +25,7 @@ use llb_execution::{Job, Outcome, Program};
 use llb_wire::Same;
 
 impl Workers {
-    /// Returns whether a job is the one that remains for a worker, with the caches as they are now. Does not allocate.
+    /// Returns whether `job` is the job that remains for a worker, with the caches as they are now. Does not allocate.
     pub(crate) fn is_run_of(&self, vertices: &Vertices, w: u32, job: &Job) -> bool
         requires there { (x : machine.Execution) → slice_get self.now.workers w ≡ Some (Runs x)
             → is_some (slice_get vertices.now.build.graph.vertices x.vertex) ≡ true }
@@ -56,7 +57,7 @@ impl Workers {
     }
 }
 
-// Returns whether a job is the one that remains for worker `w`, which runs this execution, with the caches as they are now.
+// Returns whether `job` is the job that remains for worker `w`, which runs this execution, with the caches as they are now.
 fn is_left(vertices: &Vertices, caches: &Caches, w: u32, execution: &Execution, job: &Job) -> bool
     requires vertex { is_some (slice_get vertices.now.build.graph.vertices execution.now.vertex) ≡ true }
     requires supplies { supplies_of execution.now ≡ supplies_for (slice_get vertices.now.build.graph.vertices execution.now.vertex) }

@@ -1,4 +1,4 @@
-//! Finds the caches that a vertex mounts, and what a claim takes of them: the instances, the trees with which the instances begin, and the needs for a lease.
+//! Finds the caches that a vertex mounts, and what a claim takes of these caches: instances, the trees of the instances, and the needs for a lease.
 //! Nothing here changes the caches.
 
 ghost use Rattle.std.specs.Prelude.{◌≡◌, ◌<◌, ◌^◌, Ok, IfErr, IfOk, MatchResult, Some, None, true, map, length, option_map};
@@ -37,7 +37,7 @@ pub(crate) struct Taking {
     pub places: Vec<Instance>,
     /// The numbers of the instances.
     pub instances: Vec<u32>,
-    /// The trees that the instances begin with.
+    /// The trees of the instances; for an instance that does not exist yet, the tree with which the instance will begin.
     pub trees: Vec<Tree>,
     pub needs: Vec<Need>,
     /// The rows in which the keys of the needs were found.
@@ -143,7 +143,7 @@ fn locked_key_shown<'a>(vertex: &'a Vertex, mount: &'a Mount) -> Option<KeyRef<'
     None
 }
 
-// Returns the key of the cache that a mount of a vertex shows, if it shows one. Does not allocate.
+// Returns the key of the cache that a mount of a vertex shows, if the mount shows a cache. Does not allocate.
 fn key_shown<'a>(vertex: &'a Vertex, mount: &'a Mount) -> Option<KeyRef<'a>>
     requires { HasEdges vertex.now }
     ensures { result ≡ option_map key_as (key_of vertex.now.op.inputs mount.now) }
@@ -234,7 +234,7 @@ fn instance_numbers(alloc: Global, places: &[Instance]) -> Result<Vec<u32>, Clai
     Ok(numbers)
 }
 
-// Copies the trees with which the instances begin.
+// Copies the trees of the instances, or for a new instance the tree of its seed.
 fn first_trees(
     alloc: Global,
     inputs: &[Tree],

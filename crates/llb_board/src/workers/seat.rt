@@ -133,7 +133,8 @@ pub(crate) fn put_left(
     lease
 }
 
-/// Returns whether both lists are equally long and each worker runs the same in both, by value; the numbers of leases are not compared. Does not allocate.
+/// Returns whether both lists are equally long and each worker has the same state in both, compared by value; the numbers of leases are not compared. Does not
+/// allocate.
 pub(crate) fn same_seats(seats: &[Seat], others: &[Seat]) -> bool
     ensures { IsTrue result ↔ (map at_of seats.now ≡ map at_of others.now) }
 {
@@ -169,7 +170,7 @@ fn same_execution(execution: &Execution, other: &Execution) -> bool
         && all_same(execution.places.as_slice(), other.places.as_slice())
 }
 
-// Returns the lease of a worker, if it has one.
+// Returns the lease of a worker, if the worker has one.
 fn lease_of(seat: &Seat) -> Option<Lease>
     ensures { result ≡ leased_by seat.now }
 {

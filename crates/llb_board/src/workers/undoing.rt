@@ -1,4 +1,4 @@
-//! Keeps before an event what the event will displace (change) in the workers and the caches, and puts it back when the event is taken back. One item is
+//! Before an event, keeps what the event will displace (change) in the workers and the caches; puts this back when the event is taken back. One item is
 //! kept for each cache that the vertex of the event mounts, and none for any other cache.
 
 ghost use Rattle.std.specs.Prelude.{◌≡◌, ◌<◌, false, length, map, option_map, slice_get, IfOk, IfErr, Err};
