@@ -59,11 +59,11 @@ abbrev pub follow : List (List ℕ) → List (List ℕ) → Result (List (List �
 follow path [] = Ok path
 follow path (part ∷ parts) = enter path part >>= λ next. follow next parts
 
--- the parts of a text between its `/`
+-- the parts of a text, which is split at each `/`
 abbrev pub parts_of : List ℕ → List (List ℕ)
 parts_of = slice_split (λ b. b == 47)
 
--- the path from the root that a text reads as, or the fault of its first wrong part
+-- the path that a text is read as, from the root; or the fault of the first part that `enter` refuses
 abbrev pub path_of : List ℕ → Result (List (List ℕ)) TreeFault
 path_of text = follow [] (parts_of text)
 

@@ -160,7 +160,7 @@ impl Node {
         })
     }
 
-    // Returns this directory with another mode and owner; if this node is a file, returns an empty directory with them.
+    // Returns this directory with another mode and owner; if this node is a file, returns an empty directory with that mode and owner.
     fn with_meta(&self, alloc: Global, meta: Meta) -> Result<Node, AllocError>
         ensures { IfOk result (λ n. (q : List (List ℕ)) → finite.get n q ≡ dir_look meta (finite.get self.now) q) }
     {
@@ -175,7 +175,8 @@ impl Node {
         }
     }
 
-    // Returns the directory at these names with another mode and owner; if no directory is there, returns an empty one.
+    // Returns the directory to which the names lead down from this node, with another mode and owner; if no directory is there, returns an empty directory
+    // with that mode and owner.
     pub(crate) fn dir_at(
         &self,
         alloc: Global,

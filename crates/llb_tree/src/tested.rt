@@ -19,7 +19,7 @@ use std::sync::Arc;
 pub trait NameTest {
     ghost passes: { Self → List ℕ → Bool };
 
-    /// Returns whether a name passes. Does not allocate.
+    /// Returns whether a name passes this test. Does not allocate.
     fn passes(&self, name: &Name) -> bool
         ensures { result ≡ passes self.now name.now };
 }

@@ -10,7 +10,7 @@ use Rattle.llb_wire.specs.declared.field.Field.{Field}
 use Rattle.llb_wire.specs.declared.fault.WireFault.{WireFault}
 use Rattle.llb_wire.specs.declared.fault.WireFault.TheVariants.{Truncated, LongVarint, BadField, BadWireType}
 
--- The number and the length of the varint at the start of the bytes, or the fault. The varint has at most `more` + 1 bytes; byte `more` + 1 is at most 1.
+-- The number and the length of the varint at the start of the bytes, or the fault. It has at most `more` + 1 bytes; if it has `more` + 1, the last is 0 or 1.
 unfoldable pub varint_from : ℕ → List ℕ → Result (ℕ × ℕ) WireFault
 varint_from more [] = Err Truncated
 varint_from zero (b ∷ bs) = if nat_lt 1 b then Err LongVarint else Ok (b, 1)

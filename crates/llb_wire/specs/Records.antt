@@ -1,4 +1,4 @@
--- The type of a record with its bytes but without a position, and the rule by which bytes spell a list of records.
+-- The type of a record with its bytes but without a position, and what it means that bytes spell a list of records.
 use Rattle.std.specs.Prelude.{◌≡◌, ℕ, ◌+◌, ◌-◌, ◌*◌, ◌≤◌, List, [], ◌∷◌, ◌++◌, length, take, drop, Some, None, Ok}
 use Rattle.std.specs.List.{AllByRecursion, flat_map}
 use Rattle.std.specs.Int.{Width, w32, w64, byte_len, to_le_bytes, from_le_bytes}
@@ -16,11 +16,11 @@ pub record Record : Type 0 where
   pub payload : List ℕ
   pub text : List ℕ
 
--- the record of field f, with its payload and its text; f was read at the start of the given bytes
+-- the record that was read as f at the start of the given bytes; the record has its payload and its text, and f only their positions
 abbrev pub record_of : List ℕ → Field → Record
 record_of bytes f = record { number = f.number; wire = f.wire; value = f.value; payload = drop f.start (take f.«end» bytes); text = take f.«end» bytes }
 
--- the record of field f, with its payload and its text; f was read at position `at` of the given bytes
+-- the record that was read as f at position `at` of the given bytes; the record has its payload and its text, and f only their positions
 abbrev pub record_at : List ℕ → ℕ → Field → Record
 record_at bytes at f = record {
   number = f.number;

@@ -79,7 +79,7 @@ pub record TagAt (bytes : List ℕ) (at number : ℕ) (wire : Wire) (last : ℕ)
   pub spelled : VarintAt bytes at (8 * number + code_of wire) last
   pub named : IsFieldNumber number
 
--- the bytes from `at` up to `last` are n in a fixed width, least significant byte first
+-- the bytes from `at` up to `last` spell n in a fixed width, least significant byte first
 pub record FixedAt (w : Width) (bytes : List ℕ) (at n last : ℕ) : Type 0 where
   pub size : last ≡ at + byte_len w
   pub inside : last ≤ length bytes
