@@ -55,7 +55,7 @@ pub record IsAbove (ds : List (List (List ℕ))) (rows : List Row) (j k : ℕ) :
 abbrev pub Climbs : List (List (List ℕ)) → List Row → ℕ → Type 0
 Climbs ds rows count = (j k : ℕ) → k < j → j < count → is_within (dest_of ds rows k) (dest_of ds rows j) ≡ true → IsAbove ds rows j k
 
--- `at` is below `count`; of the dests at positions below `count`, each prefix of the path is at or before position `at`, and is a prefix of the dest at `at`
+-- `at` is below `count`; for each k below `count`, if the dest at k is a prefix of the path, then k ≤ `at`, and the dest at k is a prefix of the dest at `at`
 pub record IsNear (ds : List (List (List ℕ))) (rows : List Row) (count : ℕ) (path : List (List ℕ)) (at : ℕ) : Type 0 where
   pub there : at < count
   pub kept : (k : ℕ) → k < count → is_within (dest_of ds rows k) path ≡ true → k ≤ at

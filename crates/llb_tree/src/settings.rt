@@ -9,8 +9,8 @@ ghost use Rattle.llb_tree.specs.Laying.{AreSettings, TakesWhole, owner_fits};
 use crate::meta::Meta;
 use std::marker::Model;
 
-/// What an overlay sets at each upper entry: a mode, a user and a group, each optional (an entry keeps its own if none is
-/// set); and whether a directory that both trees have keeps the lower tree's mode and owner.
+/// What an overlay sets at each upper entry: a mode, a user and a group, each optional (the entry keeps what is not set);
+/// and whether a directory that both trees have keeps the lower tree's mode and owner.
 #[derive(Clone, Copy)]
 pub struct OverlaySettings {
     mode: Option<u16>,
