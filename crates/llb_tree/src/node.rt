@@ -20,7 +20,7 @@ use std::sync::Arc;
 /// The entry at a path: a directory, or a file with its content.
 #[derive(Clone, Copy)]
 pub enum Entry<'a> {
-    /// A directory, by its mode and owner.
+    /// A directory: its mode and owner.
     Dir(Meta),
     /// A file: its mode and owner, and its content.
     File(Meta, &'a Bytes),
@@ -210,8 +210,8 @@ impl Node {
         Ok(())
     }
 
-    // Copies the node; the copy shares what is below the node. Fails only if the count of owners of the content, or of the list of children,
-    // is at its limit.
+    // Copies the node; the copy shares the content of a file, or the list of the pieces of a directory. Fails only if the count of owners of that
+    // content or list is at its limit.
     pub(crate) fn copy(&self) -> Result<Node, AllocError>
         ensures { IfOk result (λ n. n ≡ self.now) }
     {
@@ -224,7 +224,7 @@ impl Node {
 }
 
 impl Child {
-    // Copies the child; the copy shares the name and what the node holds.
+    // Copies the child; the copy shares the name, and the content or the list of pieces of the node.
     pub(crate) fn copy(&self) -> Result<Child, AllocError>
         ensures { IfOk result (λ k. pair_of k ≡ pair_of self.now) }
     {
