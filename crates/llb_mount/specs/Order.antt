@@ -8,7 +8,7 @@ use Rattle.llb_mount.specs.declared.order.Row.{Row}
 abbrev pub no_row : Row
 no_row = record { mount = 0; above = 0 }
 
--- the number of the mount at a position
+-- the number of the mount in the row at a position
 abbrev pub mount_of : List Row → ℕ → ℕ
 mount_of rows j = (slice_index_or rows j no_row).mount
 
@@ -16,7 +16,7 @@ mount_of rows j = (slice_index_or rows j no_row).mount
 abbrev pub above_of : List Row → ℕ → ℕ
 above_of rows j = (slice_index_or rows j no_row).above
 
--- the dest at a position
+-- the dest at a position: the dest of the mount in the row at that position
 abbrev pub dest_of : List (List (List ℕ)) → List Row → ℕ → List (List ℕ)
 dest_of ds rows j = slice_index_or ds (mount_of rows j) []
 

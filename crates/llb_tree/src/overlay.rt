@@ -1,7 +1,7 @@
 //! Lays one tree over another. The call goes down both trees at once and visits only paths that both trees have; nodes at other paths are shared. At each level
 //! the upper children are put among the lower ones, each into the piece that its name belongs to. But if the upper children have every name of the lower ones,
-//! and the settings leave every upper entry unchanged, the upper pieces replace the lower ones, and only the directories that both trees have are laid, one level
-//! deeper. After a refusal the lower tree is unchanged, since the new children are put into copies of the lower pieces.
+//! and the settings leave every upper entry unchanged, the upper pieces replace the lower ones, and only the directories that both trees have are laid, one
+//! level deeper. After a refusal the lower tree is unchanged, since the new children are put into copies of the lower pieces.
 
 ghost use Rattle.std.specs.Prelude.{◌≡◌, ℕ, List, option_map, IfOk, IfErr, OnOk, OnErr, map, true, unwrap_or};
 ghost use Rattle.std.specs.Arc.{arc_value};

@@ -8,7 +8,7 @@ use llb_wire::Memory;
 use std::alloc::AllocError;
 use std::{error, fmt};
 
-/// Why a text is not read as a tree, or a tree has no digest. Lines are counted from 1.
+/// Why a text is not read as a tree, or why `tree_digest` returns no digest (34 alone). Lines are counted from 1.
 #[derive(Clone, Copy, Debug, PartialEq, Eq)]
 pub enum TextFault {
     /// 31 N: line N does not spell an entry, or does not end in a line feed.
