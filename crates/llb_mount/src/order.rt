@@ -97,7 +97,7 @@ pub(crate) fn ordered(alloc: Global, mounts: &[Shown]) -> Result<Vec<Row>, Memor
 }
 
 /// Returns the number of the mount with the longest dest that is a prefix of the path, and how many names that dest has. Does not allocate. Compares the path
-/// with about log2 N dests (N is the number of mounts) in the binary search, and then with at most all dests that are prefixes of one dest.
+/// with about log2 N dests (N is the number of mounts) in the binary search, and then only with dests that are prefixes of one dest.
 pub(crate) fn route_by(mounts: &[Shown], rows: &[Row], path: &Path) -> (u32, u32)
     requires view { IsView mounts.now }
     requires order { IsOrder (dests mounts.now) rows.now }

@@ -151,8 +151,7 @@ impl View {
 
     /// Returns the number of the mount with the longest dest that is a prefix of the path, by names, and how many names that dest has; the caller drops these
     /// names from the front of the path. Does not allocate. With an order of the dests the call compares the path with about log2 N dests (N is the number of
-    /// mounts), and then with at most all dests that are prefixes of one dest. Without an order, as for at most eight mounts, it compares the path with all
-    /// dests.
+    /// mounts), and then only with dests that are prefixes of one dest. Without an order, as for at most eight mounts, it compares the path with all dests.
     pub fn route(&self, path: &Path) -> (u32, u32)
         ensures route { result ≡ route self.now path.now }
         ensures longest { IsRoute self.now path.now result }
