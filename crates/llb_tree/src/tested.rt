@@ -1,4 +1,4 @@
-//! Removes the paths of a tree that pass given tests, and all paths below such paths. There is one test for each name of a path, from the root down. The call
+//! Removes the paths of a tree that pass given tests, and what is below these paths. There is one test for each name of a path, from the root down. The call
 //! goes down only into directories whose own names pass, so it visits no path with more names than there are tests.
 
 ghost use Rattle.std.specs.Prelude.{◌≡◌, ◌∷◌, Bool, List, ℕ, IfOk, option_map};

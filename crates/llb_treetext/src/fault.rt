@@ -15,7 +15,7 @@ pub enum TextFault {
     BadLine(u64),
     /// 32 N: the path of line N is not after the path of the line before, or line 1 is not for the root.
     Order(u64),
-    /// 33 N: no earlier line is for a directory at the parent of the path of line N.
+    /// 33 N: no earlier line is for the parent directory of the path of line N.
     NoParent(u64),
     /// 34: memory was refused.
     Memory,
