@@ -3,7 +3,7 @@
 //!
 //! Types: `Memory` (fault 55), the only fault.
 //! Promise: `lay` returns the tree that the definition `lay` describes as a map. `lay_over` (`ok`, `err`) replaces the lower tree by this result, and
-//! `lay_onto` takes ownership of the lower tree. Laws say what is at each path, and what the result is if a tree is laid over itself or over the empty tree.
+//! `lay_onto` takes ownership of the lower tree. Laws say what the result has at each path, and what it is if both trees are equal or one of them is empty.
 //!
 //! A caller:
 //!

@@ -8,7 +8,7 @@ use Rattle.llb_mount.specs.declared.order.Row.{Row}
 abbrev pub no_row : Row
 no_row = record { mount = 0; above = 0 }
 
--- the number of the mount at a position
+-- the number of the mount in the row at a position
 abbrev pub mount_of : List Row → ℕ → ℕ
 mount_of rows j = (slice_index_or rows j no_row).mount
 
@@ -16,7 +16,7 @@ mount_of rows j = (slice_index_or rows j no_row).mount
 abbrev pub above_of : List Row → ℕ → ℕ
 above_of rows j = (slice_index_or rows j no_row).above
 
--- the dest at a position
+-- the dest at a position: the dest of the mount in the row at that position
 abbrev pub dest_of : List (List (List ℕ)) → List Row → ℕ → List (List ℕ)
 dest_of ds rows j = slice_index_or ds (mount_of rows j) []
 
@@ -45,17 +45,17 @@ pub record AtRoot (ds : List (List (List ℕ))) (rows : List Row) : Type 0 where
   pub there : 0 < length rows
   pub root : dest_of ds rows 0 ≡ []
 
--- the position `above_of rows j` is before j and at or after k, and the dest at k is a prefix of the dest at that position
+-- position p, which is `above_of rows j`, is before j and at or after k, and the dest at k is a prefix of the dest at p
 pub record IsAbove (ds : List (List (List ℕ))) (rows : List Row) (j k : ℕ) : Type 0 where
   pub up : above_of rows j < j
   pub kept : k ≤ above_of rows j
   pub within : is_within (dest_of ds rows k) (dest_of ds rows (above_of rows j)) ≡ true
 
--- for each j below `count` and each k before j, if the dest at k is a prefix of the dest at j, `IsAbove` holds, so going up from j does not pass over k
+-- `IsAbove` holds for each j below `count` and each k before j such that the dest at k is a prefix of the dest at j; so going up from j does not pass over k
 abbrev pub Climbs : List (List (List ℕ)) → List Row → ℕ → Type 0
 Climbs ds rows count = (j k : ℕ) → k < j → j < count → is_within (dest_of ds rows k) (dest_of ds rows j) ≡ true → IsAbove ds rows j k
 
--- position `at` is below `count`; each dest at a position below `count` that is a prefix of the path is at or before `at`, and is a prefix of the dest at `at`
+-- `at` is below `count`; for each k below `count`, if the dest at k is a prefix of the path, then k ≤ `at`, and the dest at k is a prefix of the dest at `at`
 pub record IsNear (ds : List (List (List ℕ))) (rows : List Row) (count : ℕ) (path : List (List ℕ)) (at : ℕ) : Type 0 where
   pub there : at < count
   pub kept : (k : ℕ) → k < count → is_within (dest_of ds rows k) path ≡ true → k ≤ at

@@ -12,7 +12,7 @@ abbrev pub greatest_length : List (List (List ℕ)) → List (List ℕ) → ℕ
 greatest_length [] path = 0
 greatest_length (d ∷ ds) path = if is_within d path then max (length d) (greatest_length ds path) else greatest_length ds path
 
--- the position of the first dest that equals this path; the number of dests if none does
+-- the position of the first dest that equals this path; the number of dests if no dest equals the path
 abbrev pub number_of : List (List (List ℕ)) → List (List ℕ) → ℕ
 number_of ds path = position_or_len (λ d. pointwise (pointwise nat_eq) d path) ds
 

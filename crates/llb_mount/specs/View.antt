@@ -1,5 +1,5 @@
--- A view as the list of its mounts: which lists are views, how a mount is found
--- by its number, and the only change of a view: a mount gets another tree.
+-- A view as the list of its mounts: which lists are views, and which mount has a given number.
+-- A view changes only in that one of its mounts gets another tree.
 use Rattle.std.specs.Prelude.{◌≢◌, ℕ, ◌<◌, ◌^◌, false, List, [], map, length, slice_index_or, slice_set, Contains, AllPairs}
 use Rattle.llb_tree.specs.Tree.{TreeMap, empty_tree}
 use Rattle.llb_mount.specs.declared.shown.Shown.{Shown}

@@ -1,6 +1,6 @@
-//! The mounts of a view in the order of their dests, by which the mount of a path is found if there are many mounts. Each dest has a link to the longest other
-//! dest that is a prefix of it. A binary search finds the last dest that does not come after the path. If the links are followed from that dest, the first dest
-//! that is a prefix of the path is the longest such dest.
+//! The mounts of a view in the order of their dests. In a view of many mounts this order serves to find the mount that a path leads to. Each dest has a link to
+//! the longest other dest that is a prefix of it. A binary search finds the last dest that does not come after the path. If the links are followed from that
+//! dest, the first dest that is a prefix of the path is the longest such dest.
 
 ghost use Rattle.std.specs.Prelude.{◌≡◌, ◌<◌, ◌+◌, true, length, IfOk};
 ghost use Rattle.llb_tree.specs.Path.{is_within};
@@ -57,7 +57,7 @@ fn nearest(mounts: &[Shown], rows: &[Row], from: usize, path: &Path) -> usize
     at
 }
 
-// Returns the mounts in the order of their dests; `link` sets their links afterwards.
+// Returns a row for each mount, in the order of the dests, without links; `link` sets the links afterwards.
 fn sorted(alloc: Global, mounts: &[Shown]) -> Result<Vec<Row>, Memory>
     requires { IsView mounts.now }
     ensures rises { IfOk result (λ rows. Rises (dests mounts.now) rows.items) }
@@ -85,7 +85,8 @@ fn link(mounts: &[Shown], rows: &mut [Row])
     }
 }
 
-/// Returns the mounts of a view in the order of their dests, with their links. Fails with 62 `Memory` alone.
+/// Returns a row for each mount of a view, in the order of the dests. The link of a row is the index of the row of the longest other dest that is a prefix of
+/// the row's dest (0 in the first row, which is the root's). Fails with 62 `Memory` alone.
 pub(crate) fn ordered(alloc: Global, mounts: &[Shown]) -> Result<Vec<Row>, Memory>
     requires { IsView mounts.now }
     ensures { IfOk result (λ rows. IsOrder (dests mounts.now) rows.items) }
@@ -95,8 +96,8 @@ pub(crate) fn ordered(alloc: Global, mounts: &[Shown]) -> Result<Vec<Row>, Memor
     Ok(rows)
 }
 
-/// Returns the number of the mount with the longest dest that is a prefix of the path, and how many names that dest has. Does not allocate; takes time in the
-/// logarithm of the number of mounts, plus the number of dests that are prefixes of one dest.
+/// Returns the number of the mount with the longest dest that is a prefix of the path, and how many names that dest has. Does not allocate. Compares the path
+/// with about log2 N dests (N is the number of mounts) in the binary search, and then only with dests that are prefixes of one dest.
 pub(crate) fn route_by(mounts: &[Shown], rows: &[Row], path: &Path) -> (u32, u32)
     requires view { IsView mounts.now }
     requires order { IsOrder (dests mounts.now) rows.now }

@@ -115,7 +115,7 @@ fn order_of(mounts: &Vec<Shown>) -> Option<Arc<Vec<Row>>>
 
 impl View {
     /// Returns whether a view can be made of these mounts: one dest is the root, no two dests are the same, and there are fewer than 2^32
-    /// mounts. Does not allocate; takes time in the square of the number of mounts.
+    /// mounts. Does not allocate; takes time quadratic in the number of mounts.
     pub fn can_make(mounts: &[Shown]) -> bool
         ensures { IsTrue result ↔ IsView mounts.now }
     {
@@ -150,8 +150,8 @@ impl View {
     }
 
     /// Returns the number of the mount with the longest dest that is a prefix of the path, by names, and how many names that dest has; the caller drops these
-    /// names from the front of the path. Does not allocate. With an order of the dests the call takes time in the logarithm of the number of mounts, plus the
-    /// number of dests that are prefixes of one dest; without an order, as for at most eight mounts, the call compares the path with each mount's dest.
+    /// names from the front of the path. Does not allocate. With an order of the dests the call compares the path with about log2 N dests (N is the number of
+    /// mounts), and then only with dests that are prefixes of one dest. Without an order, as for at most eight mounts, it compares the path with all dests.
     pub fn route(&self, path: &Path) -> (u32, u32)
         ensures route { result ≡ route self.now path.now }
         ensures longest { IsRoute self.now path.now result }

@@ -1,4 +1,4 @@
--- Bounds of the height of a tree: the tree of a child has a smaller height than the tree of the directory that the child is in.
+-- Bounds of the height of a tree. They show that the tree of a child has a smaller height than the tree of the directory that the child is in.
 use Rattle.std.specs.Prelude.{ℕ, ◌≡◌, ◌+◌, ◌-◌, ◌≤◌, max, List, [], ◌∷◌, ◌++◌, true, false, cond, Option, Some, None, refl, is_some, length}
 use Rattle.std.proofs.Common.{sym, ◌∙◌, ap, arith}
 use Rattle.std.specs.Ordering.{eq_by_cmp, is_eq}

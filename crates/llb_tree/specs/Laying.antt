@@ -1,4 +1,4 @@
--- What the steps of laying one tree over another make of nodes and of their children.
+-- What each step of laying one tree over another returns, for a node, for a list of children or for a list of pieces.
 use Rattle.std.specs.Prelude.{◌≡◌, ◌<◌, ◌^◌, ℕ, zero, suc, true, false, List, [], ◌∷◌, map, Option, Some, None, is_some, Vec}
 use Rattle.std.specs.declared.alloc.Global.{Global}
 use Rattle.std.specs.FinMap as finite
@@ -10,7 +10,7 @@ use Rattle.llb_tree.specs.Overlay.{SettingsValue, is_mode, laid_meta, over, over
 use Rattle.llb_tree.specs.declared.node.Child.{Child}
 use Rattle.llb_tree.specs.declared.node.Piece.{Piece}
 
--- the tree t, in which each entry gets the mode, the user and the group that `w` sets, and keeps what `w` does not set
+-- the tree t after each of its entries gets the mode, the user and the group that the settings `w` set; what `w` does not set stays
 abbrev pub dress : SettingsValue → TreeMap → TreeMap
 dress w t = finite.from_entries (map (λ (e : List (List ℕ) × Entry). (e.0, over w None e.1)) (finite.entries t))
 
@@ -23,16 +23,16 @@ pub record Lays (w : SettingsValue) (upper old new : List Child) : Type 0 where
   pub sorted : AreSorted new
   pub children : (m : List ℕ) (q : List (List ℕ)) → look_in (child m new) q ≡ over_at w (look_in (child m old)) (look_in (child m upper)) q
 
--- t is the tree of an upper child laid over the lower child of the same name, if there is one
+-- t is the tree of an upper child, laid over the tree of the lower child with the same name, or over nothing if no lower child has that name
 abbrev pub IsOver : SettingsValue → List Child → Child → TreeMap → Type 0
 IsOver w old upper t = (q : List (List ℕ)) → finite.get t q ≡ over_at w (look_in (child (name_of upper) old)) (finite.get upper.node) q
 
--- `made` is the upper child laid over the lower child of the same name, if there is one
+-- `made` is the upper child, laid over the lower child with the same name, or over nothing if no lower child has that name
 pub record IsLaid (w : SettingsValue) (old : List Child) (upper made : Child) : Type 0 where
   pub named : name_of made ≡ name_of upper
   pub laid : (q : List (List ℕ)) → finite.get made.node q ≡ over_at w (look_in (child (name_of upper) old)) (finite.get upper.node) q
 
--- for each upper child there is one made child, in the same order: the upper child laid over the lower child of the same name, if there is one
+-- for each upper child there is one child in the result, in the same order: the upper child after laying, as `IsLaid` says
 abbrev pub AreLaid : SettingsValue → List Child → List Child → List Child → Type 0
 AreLaid w old [] [] = Unit {0}
 AreLaid w old [] (k ∷ made) = ⊥
@@ -81,7 +81,7 @@ written i t [] = []
 written zero t (k ∷ ks) = (k.0, t) ∷ ks
 written (suc i) t (k ∷ ks) = k ∷ written i t ks
 
--- the result of putting other children among the children `old`, one by one, each in place of the child with the same name, if there is one
+-- the children `old` after other children are put among them, one by one: each replaces the child with the same name, or is inserted if there is none
 abbrev pub puts : Pairs → Pairs → Pairs
 puts [] old = old
 puts (k ∷ ks) old = puts ks (finite.put name_cmp k.0 k.1 old)

@@ -1,4 +1,4 @@
--- Read first Tree (a tree as a map from paths to entries, and its edits) and Path (names, paths, and what a text reads as) with Meta and Modes, then Overlay
+-- Read first Tree (a tree as a map from paths to entries, and its edits) and Path (names, paths, and how a text is read) with Meta and Modes, then Overlay
 -- (one tree over another), Walks, Tested, Rows and Faults. PathOrder has the laws of the order of paths, which the code of the type `Path` cites; Nodes,
 -- Pieces, Looks, Falls and Laying say how this crate keeps trees as nodes; Coded says how trees are turned into plain values.
 pub mod Faults

@@ -13,7 +13,7 @@ use Rattle.llb_tree.specs.Nodes.{name_of, below, flat, kids_of, own_entry, entri
 use Rattle.llb_tree.specs.declared.node.Kind.{Kind}
 use Rattle.llb_tree.specs.declared.node.Child.{Child}
 
--- the entry at path `p` below the child named `n`, if there is one
+-- the entry at path `p` in the tree of the child named `n`, if there is one
 abbrev pub look_kids : List Child → List ℕ → List (List ℕ) → Option Entry
 look_kids [] n p = None
 look_kids (k ∷ ks) n p = option_or (cond (is_eq (name_cmp n (name_of k))) (finite.get k.node p) None) (look_kids ks n p)
@@ -51,6 +51,6 @@ find_flat n q (k ∷ ks) =
 pub get-below : (k : Kind) (n : List ℕ) (q : List (List ℕ)) → finite.get (map_of k) (n ∷ q) ≡ look_kids (kids_of k) n q
 get-below k n q = finite.get-from_entries path_cmp-IsTotalOrder (entries_of k) (n ∷ q) ∙ find_flat n q (kids_of k)
 
--- the map of a node has the node's entry at the empty path
+-- at the empty path, the map of a node has the node's own entry
 pub get-root : (k : Kind) → finite.get (map_of k) [] ≡ Some (own_entry k)
 get-root k = finite.get-from_entries path_cmp-IsTotalOrder (entries_of k) []

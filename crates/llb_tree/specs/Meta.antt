@@ -8,7 +8,7 @@ pub record MetaValue : Type 0 where
   pub uid : ℕ
   pub gid : ℕ
 
--- the mode has at most twelve bits, and the owners have at most 32
+-- the mode is at most 4095, and the user and the group are below 2^32
 pub record IsMeta (m : MetaValue) : Type 0 where
   pub mode : m.mode ≤ 4095
   pub uid : m.uid < 2 ^ 32

@@ -1,5 +1,5 @@
--- What the nodes of a tree represent: a node is a file, or a directory with its children in the order of their names. The contracts
--- of most public calls describe a tree by its map from paths to entries, not by its nodes.
+-- The nodes in which a tree is kept, and the tree that a node represents. A node is a file, or a directory with its children in the order
+-- of their names. The contracts of most public calls describe a tree by its map from paths to entries, not by its nodes.
 use Rattle.std.specs.Prelude.{cond, ◌≡◌, ℕ, ◌+◌, ◌≤◌, List, [], ◌∷◌, ◌++◌, map, T, Option, Some, None, Result, Ok, Err}
 use denote.Ref.{Bor}
 use Rattle.std.specs.Arc.{arc_value}
@@ -26,7 +26,7 @@ abbrev pub seen : Entry → base.Entry
 seen (entry.Dir m) = base.Dir m
 seen (entry.File m b) = base.File m b.now
 
--- a path with its entry, as contracts see them, given a borrowed path and an entry of the code
+-- a borrowed path and a value of the code's type `Entry`, as the pair that contracts see
 abbrev pub pair_seen : Bor (List (List ℕ)) × Entry → Pair
 pair_seen (p, e) = (p.now, seen e)
 
@@ -91,7 +91,7 @@ abbrev pub look_in : Option TreeMap → Look
 look_in None q = None
 look_in (Some t) q = finite.get t q
 
--- the result of `place`, if one more child is put before the list of children: the position, as `Ok` or `Err`, is one more
+-- what `place`, defined next, returns after one more child is put in front of the list: the position, in `Ok` or in `Err`, grows by 1
 abbrev pub later : Result ℕ ℕ → Result ℕ ℕ
 later (Ok i) = Ok (i + 1)
 later (Err i) = Err (i + 1)

@@ -1,4 +1,4 @@
--- Names and paths: which byte strings are names, the order of paths, and the path that a text reads as. A path is the
+-- Names and paths: which byte strings are names, the order of paths, and how a text is read as a path. A path is the
 -- list of its names from the root down, so the root is the empty list.
 use Rattle.std.specs.Prelude.{◌≡◌, ℕ, ◌-◌, ◌≤◌, ◌==◌, nat_eq, nat_le, nat_lt, Bool, ◌&&◌, ◌||◌, not, IsTrue, if◌then◌else◌, List, [], ◌∷◌}
 use Rattle.std.specs.Prelude.{◌++◌, length, take, Result, Ok, Err}
@@ -59,15 +59,15 @@ abbrev pub follow : List (List ℕ) → List (List ℕ) → Result (List (List �
 follow path [] = Ok path
 follow path (part ∷ parts) = enter path part >>= λ next. follow next parts
 
--- the parts of a text between its `/`
+-- the parts of a text, which is split at each `/`
 abbrev pub parts_of : List ℕ → List (List ℕ)
 parts_of = slice_split (λ b. b == 47)
 
--- the path from the root that a text reads as, or the fault of its first wrong part
+-- the path that a text is read as, from the root; or the fault of the first part that `enter` refuses
 abbrev pub path_of : List ℕ → Result (List (List ℕ)) TreeFault
 path_of text = follow [] (parts_of text)
 
--- the path that a text reads as, if it is read from the path `start`; but a text that begins with `/` is read from the root
+-- the path that a text is read as, from the path `start`; but a text that begins with `/` is read from the root
 abbrev pub path_from : List (List ℕ) → List ℕ → Result (List (List ℕ)) TreeFault
 path_from start text = if starts_with nat_eq text (47 ∷ []) then path_of text else follow start (parts_of text)
 
@@ -80,7 +80,7 @@ depth (Err e) = Err e
 abbrev pub joined : List (List ℕ) → List ℕ
 joined = join_with_byte 47
 
--- the names of a path, joined by `/`, are a text that reads as that path; the same text with a `/` before it reads as that path too
+-- the names of a path, joined by `/`, are a text that is read as that path; the same text with a `/` before it is read as that path too
 pub record ReadsBack (path : List (List ℕ)) : Type 0 where
   pub relative : path_of (joined path) ≡ Ok path
   pub absolute : path_of (47 ∷ joined path) ≡ Ok path

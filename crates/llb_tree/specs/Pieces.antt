@@ -28,12 +28,12 @@ abbrev pub AllFull : List Pairs → Type 0
 AllFull [] = Unit {0}
 AllFull (p ∷ ps) = (0 < length p) × AllFull ps
 
--- the pairs of the pieces one after another are sorted by name, each name once, and only the first piece may be empty
+-- the children of all pieces, taken piece after piece, are sorted by name, each name once; and only the first piece may be empty
 pub record IsPieced (ps : List Pairs) : Type 0 where
   pub sorted : T (finite.is_sorted name_cmp (joined ps))
   pub full : AllFull (drop 1 ps)
 
--- `IsPieced` holds for the pairs of these values of the code's type `Piece`
+-- `IsPieced` holds for these pieces, given as values of the code's type `Piece`
 abbrev pub ArePieced : List Piece → Type 0
 ArePieced ps = IsPieced (map row_pairs ps)
 
@@ -48,7 +48,7 @@ pub record IsPieceOf (n : List ℕ) (ps : List Pairs) (j : ℕ) : Type 0 where
   pub before : 0 < j → begins_after n (get_or ps j []) ≡ false
   pub after : suc j < length ps → begins_after n (get_or ps (suc j) []) ≡ true
 
--- the pieces without the piece at position j, if that piece is empty (it is also the first argument); else all pieces
+-- the pieces without the piece at position j, if that piece, which is also the first argument, is empty; else all pieces
 abbrev pub tidied_by : Pairs → ℕ → List Pairs → List Pairs
 tidied_by [] j ps = remove ps j
 tidied_by (e ∷ es) j ps = ps
@@ -61,7 +61,7 @@ tidied j ps = tidied_by (get_or ps j []) j ps
 abbrev pub without : List ℕ → Pairs → Pairs
 without n = where_key name_cmp (λ m. not (eq_by_cmp name_cmp n m))
 
--- the children `es`, in which the child with this name has the given tree and is added if it was missing; if no tree is given, that child is left out
+-- the children `es` after the child with this name gets the given tree, or is added with that tree; if no tree is given, after that child is removed
 abbrev pub change : List ℕ → Option TreeMap → Pairs → Pairs
 change n (Some t) es = finite.put name_cmp n t es
 change n None es = without n es

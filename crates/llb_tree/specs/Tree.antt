@@ -111,7 +111,7 @@ subtree t p = dir_there t p >>= λ _. Ok (tree_at t p)
 abbrev pub name_below : List (List ℕ) → List (List ℕ) → List (List ℕ)
 name_below p q = if is_within p q && (length (drop (length p) q) == 1) then drop (length p) q else []
 
--- the names of the entries that are directly in a directory, in order
+-- the names of the entries that are directly in a directory, in order; or the fault, if nothing is at the path or a file is there
 abbrev pub list : TreeMap → List (List ℕ) → Result (List (List ℕ)) TreeFault
 list t p = dir_there t p >>= λ _. Ok (flat_map (name_below p) (finite.keys t))
 

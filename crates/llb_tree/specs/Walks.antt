@@ -1,4 +1,4 @@
--- The entries that a walk through a tree, in path order, has not passed.
+-- The entries that a walk through a tree in path order has not passed yet.
 use Rattle.std.specs.Prelude.{ℕ, ◌≤◌, not, List, [], ◌∷◌, ◌++◌, length, map, T, Option, Some, None}
 use denote.Ref.{Bor}
 use Rattle.std.specs.List.{All}
@@ -20,7 +20,7 @@ past (e ∷ es) = where_key path_cmp (λ q. not (is_within e.0 q)) es
 abbrev pub levels_of : List Children → List (List Child)
 levels_of = map left_in
 
--- the entries of these lists of children, by their paths from the root; the entries of the deepest list come first
+-- the entries at and below the children in these lists, each with its path from the root; the list of the deepest directory comes first
 abbrev pub behind : List (List ℕ) → List (List Child) → List (List (List ℕ) × Entry)
 behind [] ls = []
 behind (n ∷ p) [] = []

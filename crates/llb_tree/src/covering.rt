@@ -56,7 +56,7 @@ fn are_alike(upper: &[Piece], lower: &[Piece]) -> bool
 }
 
 // Returns whether each name of the lower children is a name of an upper child. Often one of the two directories was made from the other and both have the same
-// names, so the call tests this first.
+// names, so the call first tests whether all names are the same.
 pub(crate) fn covers(upper: &[Piece], lower: &[Piece]) -> bool
     ensures { IsTrue result → Covers (kids_in upper.now) (kids_in lower.now) }
 {

@@ -34,7 +34,7 @@ impl Child {
 
 impl Node {
     /// Returns the children in the order of their names; a file has none. The entries of a node are its own entry, and then the entries of its children, child
-    /// by child, each with the child's name before its path. Does not allocate.
+    /// by child, with the child's name in front of each entry's path. Does not allocate.
     pub fn children(&self) -> Children<'_>
         ensures entries { (e : base.Entry) → finite.get self.now [] ≡ Some e → finite.entries self.now ≡ ([], e) ∷ flat (left_in result) }
         ensures order { AreSorted (left_in result) }

@@ -51,7 +51,7 @@ impl Meta {
         }
     }
 
-    /// Proves that the mode is at most 4095, and that the owners are numbers of 32 bits.
+    /// Proves that the mode is at most 4095, and that the user and the group are below 2^32.
     pub fn is_meta(&self)
         ensures { IsMeta self.now }
     {

@@ -25,7 +25,7 @@ impl Model for Mode {
 }
 
 impl Mode {
-    /// Reads the mode that one to four octal digits spell; returns `None` if the word is something else.
+    /// Reads a word of one to four octal digits as a mode; returns `None` for any other word.
     pub fn read(word: &str) -> Option<Mode>
         ensures { result ≡ mode_of word.now }
     {

@@ -11,7 +11,7 @@ use std::alloc::Global;
 use std::cmp::Ordering;
 use std::marker::Model;
 
-/// A name: 1 to 255 bytes of UTF-8 without `/`, none below 0x20 and none 0x7F, and neither `.` nor `..`.
+/// A name: 1 to 255 bytes of UTF-8, none of them `/`, 0x7F or below 0x20; and neither `.` nor `..`.
 #[derive(Clone)]
 pub struct Name {
     text: String,

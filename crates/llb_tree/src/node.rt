@@ -20,7 +20,7 @@ use std::sync::Arc;
 /// The entry at a path: a directory, or a file with its content.
 #[derive(Clone, Copy)]
 pub enum Entry<'a> {
-    /// A directory, by its mode and owner.
+    /// A directory: its mode and owner.
     Dir(Meta),
     /// A file: its mode and owner, and its content.
     File(Meta, &'a Bytes),
@@ -160,7 +160,7 @@ impl Node {
         })
     }
 
-    // Returns this directory with another mode and owner; if this node is a file, returns an empty directory with them.
+    // Returns this directory with another mode and owner; if this node is a file, returns an empty directory with that mode and owner.
     fn with_meta(&self, alloc: Global, meta: Meta) -> Result<Node, AllocError>
         ensures { IfOk result (λ n. (q : List (List ℕ)) → finite.get n q ≡ dir_look meta (finite.get self.now) q) }
     {
@@ -175,7 +175,8 @@ impl Node {
         }
     }
 
-    // Returns the directory at these names with another mode and owner; if no directory is there, returns an empty one.
+    // Returns the directory to which the names lead down from this node, with another mode and owner; if no directory is there, returns an empty directory
+    // with that mode and owner.
     pub(crate) fn dir_at(
         &self,
         alloc: Global,
@@ -209,8 +210,8 @@ impl Node {
         Ok(())
     }
 
-    // Copies the node; the copy shares what is below the node. Fails only if the count of owners of the content, or of the list of children,
-    // is at its limit.
+    // Copies the node; the copy shares the content of a file, or the list of the pieces of a directory. Fails only if the count of owners of that
+    // content or list is at its limit.
     pub(crate) fn copy(&self) -> Result<Node, AllocError>
         ensures { IfOk result (λ n. n ≡ self.now) }
     {
@@ -223,7 +224,7 @@ impl Node {
 }
 
 impl Child {
-    // Copies the child; the copy shares the name and what the node holds.
+    // Copies the child; the copy shares the name, and the content or the list of pieces of the node.
     pub(crate) fn copy(&self) -> Result<Child, AllocError>
         ensures { IfOk result (λ k. pair_of k ≡ pair_of self.now) }
     {

@@ -1,7 +1,7 @@
-//! Lays one tree over another. The call goes down both trees at once and visits only what both have; what only one of them has is shared. At each level the
-//! upper children are put among the lower ones, each into the piece that its name belongs to. But if the upper children have every name of the lower ones, and
-//! each upper entry is to stay as it is, the upper pieces replace the lower ones, and only the directories that both trees have are laid, one level deeper.
-//! After a refusal the lower tree is unchanged, since the new children are put into copies of the lower pieces.
+//! Lays one tree over another. The call goes down both trees at once and visits only paths that both trees have; nodes at other paths are shared. At each level
+//! the upper children are put among the lower ones, each into the piece that its name belongs to. But if the upper children have every name of the lower ones,
+//! and the settings leave every upper entry unchanged, the upper pieces replace the lower ones, and only the directories that both trees have are laid, one
+//! level deeper. After a refusal the lower tree is unchanged, since the new children are put into copies of the lower pieces.
 
 ghost use Rattle.std.specs.Prelude.{◌≡◌, ℕ, List, option_map, IfOk, IfErr, OnOk, OnErr, map, true, unwrap_or};
 ghost use Rattle.std.specs.Arc.{arc_value};
@@ -92,8 +92,8 @@ fn lay_node(
     }
 }
 
-// Lays upper children over lower ones. If the upper children have every name of the lower ones, and each upper entry is to stay as it is, the lists of the
-// lower children are not copied. If the call returns true, the new children are the upper ones, unchanged.
+// Lays upper children over lower ones. If the upper children have every name of the lower ones, and the settings leave every upper entry unchanged, the lists
+// of the lower children are not copied. If the call returns true, the new children are the upper ones, unchanged.
 #[cycle(lay)]
 fn lay_children(
     kids: &mut Arc<Vec<Piece>>,
@@ -280,8 +280,9 @@ fn laid_child(
 impl Tree {
     /// Lays the tree `upper` over this one, and returns the result. At a path the result has what `upper` has there, with the mode and the owner that
     /// `settings` sets. If `upper` has nothing there, the result has what this tree has there, unless a file of `upper` is above the path. If `settings`
-    /// says so, a directory that both trees have keeps this tree's mode and owner. Fails with 27 `Memory` alone. The call visits only what both trees have;
-    /// what only one tree has is shared, not copied. But if `settings` sets a mode or an owner, all entries of `upper` get new nodes, which share contents.
+    /// says so, a directory that both trees have keeps this tree's mode and owner. Fails with 27 `Memory` alone. The call visits only paths that both trees
+    /// have; nodes at other paths are shared, not copied. But if `settings` sets a mode or an owner, all entries of `upper` get new nodes, which share the
+    /// contents.
     pub fn overlaid(self, settings: &OverlaySettings, upper: &Tree) -> Result<Tree, TreeFault>
         ensures paths { IfOk result (λ t. (q : List (List ℕ)) → finite.get t q ≡ over_at settings.now (finite.get self) (finite.get upper.now) q) }
         ensures memory { IfErr result (λ e. is_memory e ≡ true) }
@@ -292,8 +293,8 @@ impl Tree {
     }
 
     /// Lays the tree `upper` over this one, as `overlaid` does, and replaces this tree by the result. Fails with 27 `Memory` alone;
-    /// then this tree is unchanged. The call replaces the root's list of children. Below the root, what both trees have is laid on
-    /// copies of nodes, and what only one tree has is shared.
+    /// then this tree is unchanged. The call replaces the root's list of children. Below the root, if both trees have a
+    /// directory at a path, the call changes a copy of this tree's directory; other nodes are shared.
     pub fn overlay(&mut self, settings: &OverlaySettings, upper: &Tree) -> Result<(), TreeFault>
         ensures paths { OnOk result ((q : List (List ℕ)) → finite.get self.new q ≡ over_at settings.now (finite.get self.old) (finite.get upper.now) q) }
         ensures memory { IfErr result (λ e. is_memory e ≡ true) }

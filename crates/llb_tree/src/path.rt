@@ -48,7 +48,7 @@ impl Path {
 
     /// Reads a text as a path from the root: the text is split at `/`, empty parts and `.` are dropped, and `..`
     /// removes the last name and stops at the root. Fails with 26 `BadName` at the first part that is no name or is the
-    /// 129th name, also if a later `..` would remove it; with 27 `Memory` only if the text reads as a path.
+    /// 129th name, also if a later `..` would remove it; with 27 `Memory` only if the text can be read as a path.
     pub fn read(alloc: Global, text: &str) -> Result<Path, TreeFault>
         ensures gives { Gives (λ p. p) result (path_of text.now) }
         ensures last { MemoryLast result (path_of text.now) }

@@ -9,8 +9,8 @@ ghost use Rattle.llb_tree.specs.Laying.{AreSettings, TakesWhole, owner_fits};
 use crate::meta::Meta;
 use std::marker::Model;
 
-/// What an overlay sets at each upper entry: a mode, a user and a group, each optional (an entry keeps its own if none is
-/// set); and whether a directory that both trees have keeps the lower tree's mode and owner.
+/// What an overlay sets at each upper entry: a mode, a user and a group, each optional (the entry keeps what is not set);
+/// and whether a directory that both trees have keeps the lower tree's mode and owner.
 #[derive(Clone, Copy)]
 pub struct OverlaySettings {
     mode: Option<u16>,
@@ -80,7 +80,7 @@ impl OverlaySettings {
         !self.keeps && self.gives_nothing()
     }
 
-    // Returns the mode and the owner, in the result, of a directory that both trees have.
+    // Returns the mode and the owner that a directory of both trees has after the overlay.
     pub(crate) fn met(&self, lower: Meta, upper: Meta) -> Meta
         ensures { Dir result ≡ over self.now (Some (Dir lower)) (Dir upper) }
     {
@@ -91,7 +91,7 @@ impl OverlaySettings {
         }
     }
 
-    // Proves that the mode is at most 4095, and that the owners are numbers of 32 bits.
+    // Proves that the mode, if it is set, is at most 4095, and that the user and the group, if they are set, are below 2^32.
     pub(crate) fn are_settings(&self)
         ensures { AreSettings self.now }
     {
@@ -100,7 +100,7 @@ impl OverlaySettings {
     }
 }
 
-// Proves that an owner is a number of 32 bits.
+// Proves that the number of an owner, if it is set, is below 2^32.
 fn fits(owner: Option<u32>)
     ensures { owner_fits owner }
 {

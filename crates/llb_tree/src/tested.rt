@@ -1,4 +1,4 @@
-//! Removes the paths of a tree that pass given tests, and all paths below such paths. There is one test for each name of a path, from the root down. The call
+//! Removes the paths of a tree that pass given tests, and what is below these paths. There is one test for each name of a path, from the root down. The call
 //! goes down only into directories whose own names pass, so it visits no path with more names than there are tests.
 
 ghost use Rattle.std.specs.Prelude.{◌≡◌, ◌∷◌, Bool, List, ℕ, IfOk, option_map};
@@ -19,12 +19,12 @@ use std::sync::Arc;
 pub trait NameTest {
     ghost passes: { Self → List ℕ → Bool };
 
-    /// Returns whether a name passes. Does not allocate.
+    /// Returns whether a name passes this test. Does not allocate.
     fn passes(&self, name: &Name) -> bool
         ensures { result ≡ passes self.now name.now };
 }
 
-// Returns a node without the paths that pass the tests, and without all paths below such paths; `None` if no path passes.
+// Returns a node without the paths that pass the tests, and without what is below these paths; `None` if no path passes.
 #[cycle(thin)]
 fn thinned<T: NameTest>(
     node: &Node,
@@ -48,7 +48,7 @@ fn thinned<T: NameTest>(
     }
 }
 
-// Returns children without the paths that pass the tests, and without all paths below such paths; `None` if no path passes.
+// Returns children without the paths that pass the tests, and without what is below these paths; `None` if no path passes.
 #[cycle(thin)]
 fn thinned_children<T: NameTest>(
     kids: Children<'_>,
@@ -72,7 +72,7 @@ fn thinned_children<T: NameTest>(
     Ok(Some(kept))
 }
 
-// Appends a child without the paths that pass the tests, and without all paths below such paths; returns whether any path was left out.
+// Appends a child without the paths that pass the tests, and without what is below these paths; returns whether any path was left out.
 #[cycle(thin)]
 fn keep<T: NameTest>(
     kept: &mut Vec<Child>,
@@ -105,7 +105,7 @@ fn keep<T: NameTest>(
 }
 
 impl Tree {
-    /// Returns the tree without the paths that pass the tests, and without all paths below such paths; `None` if no path passes. Fails with 25 `Root` if there
+    /// Returns the tree without the paths that pass the tests, and without what is below these paths; `None` if no path passes. Fails with 25 `Root` if there
     /// are no tests, else with 27 `Memory`. The result shares all unchanged nodes with this tree.
     pub fn without_passing<T: NameTest>(&self, tests: &[T]) -> Result<Option<Tree>, TreeFault>
         ensures gives { Gives (λ o. o) result (rid_of T.passes tests.now self.now) }

@@ -1,5 +1,5 @@
 //! The tree: a root directory, an upper bound of the number of names in its paths, and its allocator. Contracts see only the map from paths to entries. A copy
-//! of a tree shares everything; an edit copies the directories on its path before it changes the last of them. The checks that can refuse an edit come first.
+//! of a tree shares everything; an edit copies the directories on its path before it changes the last one. The checks that can refuse an edit come first.
 
 ghost use Rattle.std.specs.Prelude.{◌≡◌, ◌++◌, ℕ, List, Ok, Err, MatchResult, IfOk, IfErr, OnOk, OnErr, false, option_map};
 ghost use Rattle.std.specs.FinMap as finite;

@@ -1,5 +1,5 @@
-//! An overlay writes its changes into copies of the upper tree's children. A copy is made only when something is
-//! first written into it.
+//! If the upper children replace the lower ones, an overlay writes its changes into a copy of the list of upper children or
+//! upper pieces. The copy is made only when something is first written into it.
 
 ghost use Rattle.std.specs.Prelude.{◌≡◌, ◌<◌, length, IfOk, map, set};
 ghost use Rattle.llb_tree.specs.Nodes.{pair_of};

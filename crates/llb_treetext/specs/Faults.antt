@@ -33,7 +33,7 @@ is_refused_memory print.Write = false
 abbrev pub Prints : Option (List ℕ) → Option (List ℕ) → Bool → List ℕ → Result (Unit {0}) PrintFault → Type 0
 Prints = output.Writes is_refused_memory
 
--- the text of a fault: its number, and the number of its line if it has one
+-- the text of a fault of reading a text: the fault's number and, except for `Memory`, the number of the faulty line
 abbrev pub reading_text : TextFault → List ℕ
 reading_text (text.BadLine line) = codes "31 " ++ decimal line
 reading_text (text.Order line) = codes "32 " ++ decimal line

@@ -101,11 +101,11 @@ dir_in m path = on (result_ok (path_of path)) (λ p. Some (p, Dir m))
 abbrev pub file_in : MetaValue → List ℕ → List ℕ → Option (List (List ℕ) × Entry)
 file_in m digits path = on (bytes_in digits) (λ content. on (result_ok (path_of path)) (λ p. Some (p, File m content)))
 
--- the path and the entry that these fields spell; nothing if they spell none
+-- the path and the entry that these fields spell; nothing if the fields spell no entry
 abbrev pub row_from : Fields → Option (List (List ℕ) × Entry)
 row_from (m, None, path) = dir_in m path
 row_from (m, Some digits, path) = file_in m digits path
 
--- the path and the entry that a line spells; nothing if the line spells none
+-- the path and the entry that a line spells; nothing if the line spells no entry
 abbrev pub row_in : List ℕ → Option (List (List ℕ) × Entry)
 row_in line = on (parts_in line) row_from

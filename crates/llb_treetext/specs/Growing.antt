@@ -1,4 +1,4 @@
--- The tree of the lines so far; one of its directories may be kept in a separate tree. Only the code and the proofs use this file.
+-- The tree of the lines so far; one of its directories may be kept in a separate tree. Only this crate uses these definitions.
 use Rattle.std.specs.Prelude.{◌≡◌, ℕ, List, ◌++◌, Option, Some, None, Ok, false}
 use Rattle.std.specs.FinMap as finite
 use Rattle.llb_tree.specs.Path.{is_within}
@@ -14,7 +14,7 @@ pub record HasBelow (t above : TreeMap) (at : List (List ℕ)) (dir : TreeMap) :
   pub inside : (q : List (List ℕ)) → finite.get t (at ++ q) ≡ finite.get dir q
   pub outside : (q : List (List ℕ)) → is_within at q ≡ false → finite.get t q ≡ finite.get above q
 
--- t is `kept` if no directory is open (kept apart); else t has the open directory's tree, `kept`, at and below path `at`, and elsewhere has what `above` has
+-- t is `kept` if no directory is kept apart; else `kept` is that directory's tree: t has it at the directory's path, and elsewhere has what tree `above` has
 abbrev pub IsKept : TreeMap → Option Open → TreeMap → Type 0
 IsKept kept None t = kept ≡ t
 IsKept kept (Some o) t = HasBelow t o.above o.at kept × (o.text.now ≡ names_text o.at)
@@ -23,7 +23,7 @@ IsKept kept (Some o) t = HasBelow t o.above o.at kept × (o.text.now ≡ names_t
 abbrev pub IsGrown : Growing → TreeMap → Type 0
 IsGrown g t = IsKept g.tree g.open t
 
--- t is the tree of the lines so far, if the code still has this tree (it has none once memory is refused)
+-- t is the tree of the lines so far, if the code still has a tree; once memory is refused, the code has none
 abbrev pub IsGrownIfAny : Option Growing → TreeMap → Type 0
 IsGrownIfAny None t = Unit {0}
 IsGrownIfAny (Some g) t = IsGrown g t

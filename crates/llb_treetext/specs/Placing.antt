@@ -1,4 +1,4 @@
--- What reading one more line of a text makes of the tree of the lines before it. Only this crate uses these definitions.
+-- How the tree of the lines so far changes when one more line of a text is read. Only this crate uses these definitions.
 use Rattle.std.specs.Prelude.{◌≡◌, ℕ, ◌+◌, ◌<◌, ◌==◌, Bool, true, false, List, [], ◌∷◌, ◌++◌, length, map, None, Result, Ok, Err, if◌then◌else◌}
 use Rattle.std.specs.FinMap as finite
 use Rattle.std.specs.declared.cmp.Ordering.{Ordering}
@@ -50,8 +50,8 @@ rank b = if b == 47 then 0 else b
 abbrev pub trail_cmp : List ℕ → List ℕ → Ordering
 trail_cmp p q = slice_cmp nat_cmp (map rank p) (map rank q)
 
--- The text of the last entry's path is a text A followed by the given bytes; this is whether A is the path of a directory. Without bytes, A is the
--- path of the last entry, and `dir` says whether that entry is a directory; otherwise A is a directory's path exactly if the bytes begin with a slash.
+-- whether a text A is the path of a directory, if the path of the last entry is A followed by the given bytes. If there are no bytes, A is the path
+-- of the last entry, and `dir` is whether that entry is a directory; else A is the path of a directory exactly if the bytes begin with a slash.
 abbrev pub opens : List ℕ → Bool → Bool
 opens [] dir = dir
 opens (b ∷ later) dir = b == 47

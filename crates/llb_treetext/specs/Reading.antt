@@ -35,8 +35,8 @@ comes_next (r ∷ s ∷ rows) p = comes_next (s ∷ rows) p
 abbrev pub Begins : List ℕ → List (List ℕ) × Entry → Type 0
 Begins text row = IsRow row × ((later : List ℕ) × (text ≡ line_of row ++ later))
 
--- the first fault of the line after some entries: it is not the line of an entry; or its path does not come after the path of the last entry; or a
--- directory above its path is missing
+-- the first fault of the line after the lines of some entries: the line is not the line of an entry; or its path does not come after the path of the
+-- last entry; or one of the parents of its path is no directory
 abbrev pub IsFault : List (List (List ℕ) × Entry) → List ℕ → TextFault → Type 0
 IsFault rows rest (BadLine n) = (n ≡ length rows + 1) × ((row : List (List ℕ) × Entry) → ¬ Begins rest row)
 IsFault rows rest (Order n) = (n ≡ length rows + 1) × ((row : List (List ℕ) × Entry) × Begins rest row × (comes_next rows row.0 ≡ false))
@@ -44,7 +44,7 @@ IsFault rows rest (NoParent n) = (n ≡ length rows + 1)
     × ((row : List (List ℕ) × Entry) × Begins rest row × (comes_next rows row.0 ≡ true) × (walk (λ q. finite.find path_cmp q rows) row.0 ≢ Ok tt))
 IsFault rows rest Memory = ⊥
 
--- `rows` is empty or the entries of a tree, the text begins with the lines of `rows`, and the next line has this fault; an empty text has it in line 1
+-- `rows` is empty or the entries of a tree; the text begins with the lines of `rows`, and the next line (in an empty text, line 1) has this fault
 pub record Stops (bytes : List ℕ) (e : TextFault) : Type 0 where
   pub rows : List (List (List ℕ) × Entry)
   pub rest : List ℕ

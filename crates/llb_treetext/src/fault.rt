@@ -1,5 +1,5 @@
-//! Why a text of a tree is not read, and why a tree's text is not written. A fault prints what comes after the word
-//! `fault` in a refusal: its number, and then its arguments.
+//! Why a text is not read as a tree, and why a tree's text is not written. The text of a fault, which the program prints after
+//! the word `fault`, is the fault's number and, if a line is faulty, the number of that line.
 
 ghost use Rattle.std.specs.Prelude.{Some};
 ghost use Rattle.llb_treetext.specs.Faults.{reading_text, printing_text};
@@ -8,14 +8,14 @@ use llb_wire::Memory;
 use std::alloc::AllocError;
 use std::{error, fmt};
 
-/// Why a text is not read as a tree, or a tree has no digest. Lines are counted from 1.
+/// Why a text is not read as a tree, or why `tree_digest` returns no digest (34 alone). Lines are counted from 1.
 #[derive(Clone, Copy, Debug, PartialEq, Eq)]
 pub enum TextFault {
     /// 31 N: line N does not spell an entry, or does not end in a line feed.
     BadLine(u64),
     /// 32 N: the path of line N is not after the path of the line before, or line 1 is not for the root.
     Order(u64),
-    /// 33 N: no earlier line is for the parent of the path of line N.
+    /// 33 N: no earlier line is for the parent directory of the path of line N.
     NoParent(u64),
     /// 34: memory was refused.
     Memory,

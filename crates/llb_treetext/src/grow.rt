@@ -107,8 +107,8 @@ fn path_of_name(alloc: Global, text: &str) -> Result<Option<Path>, Memory>
     }
 }
 
-// Puts a line's file by its name into the directory that is kept apart, and returns whether it did so; a line that is not the line of a file directly below
-// that directory changes nothing. If memory is refused, the result is an error and not `false`, so that the refusal is reported.
+// If a line is the line of a file directly below the directory that is kept apart, puts the file into that directory by its name, and returns true; else
+// returns false and changes nothing. If memory is refused, the result is an error and not `false`, so that the refusal is reported.
 fn is_put_below(alloc: Global, growing: &mut Growing<'_>, parts: &Parts<'_>) -> Result<bool, Memory>
     ensures put { IfOk result (λ is_put. is_put ≡ true → (t : TreeMap) → IsGrown growing.old t → (row : List (List ℕ) × TreeEntry)
         → Follows t row parts.now → IsGrown growing.new (finite.insert t row.0 row.1)) }

@@ -4,7 +4,7 @@ ghost use Rattle.llb_treetext.specs.Reading.{HasOneAnswer, ReadsBack};
 
 use llb_tree::Tree;
 
-/// Proves that a text either is the text of one tree or has one first fault, and never both.
+/// Proves that a text is the text of at most one tree and has at most one first fault, and that the text of a tree has no first fault.
 pub fn one_answer(bytes: &[u8])
     ensures { HasOneAnswer bytes.now }
 {

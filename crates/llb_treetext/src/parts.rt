@@ -11,7 +11,7 @@ ghost use Rattle.llb_treetext.specs.Lines.{Spells, BeginsWith};
 use llb_tree::{Meta, Mode, Name};
 use llb_wire::is_hex;
 
-// The fields of a line: the mode with the user and the group, the digits of a file's content, and the text of the path.
+// The fields of a line: the mode with the user and the group, the digits of a file's content (none for a directory), and the text of the path.
 #[derive(Clone, Copy)]
 pub(crate) struct Parts<'a> {
     pub meta: Meta,

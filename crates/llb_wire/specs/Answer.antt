@@ -6,7 +6,7 @@ use Rattle.std.specs.Prelude.{◌≡◌, Bool, true, false, Result, Ok, Err, is_
 abbrev pub Fails : {Y F : Type 0} → (F → Bool) → F → Result Y F → Type 0
 Fails is_memory e rule = is_memory e ≡ false → rule ≡ Err e
 
--- a call returns the value of its rule (`view` turns the call's value into what contracts see), or fails with the rule's fault or the fault for refused memory
+-- either the call returns x, and its rule returns `view x`, which is what contracts see of x; or the call fails with the rule's fault or for want of memory
 abbrev pub Gives : {X Y F : Type 0} → (F → Bool) → (X → Y) → Result X F → Result Y F → Type 0
 Gives is_memory view (Ok x) rule = rule ≡ Ok (view x)
 Gives is_memory view (Err e) rule = Fails is_memory e rule

@@ -10,7 +10,7 @@ use Rattle.llb_wire.specs.declared.field.Field.{Field}
 use Rattle.llb_wire.specs.declared.fault.WireFault.{WireFault}
 use Rattle.llb_wire.specs.declared.fault.WireFault.TheVariants.{Truncated, LongVarint, BadField, BadWireType}
 
--- The number and the length of the varint at the start of the bytes, or the fault. The varint has at most `more` + 1 bytes; byte `more` + 1 is at most 1.
+-- The number and the length of the varint at the start of the bytes, or the fault. It has at most `more` + 1 bytes; if it has `more` + 1, the last is 0 or 1.
 unfoldable pub varint_from : ℕ → List ℕ → Result (ℕ × ℕ) WireFault
 varint_from more [] = Err Truncated
 varint_from zero (b ∷ bs) = if nat_lt 1 b then Err LongVarint else Ok (b, 1)
@@ -40,11 +40,11 @@ abbrev pub fixed_at : Width → List ℕ → ℕ → Result (ℕ × ℕ) WireFau
 fixed_at w bytes at = if nat_lt (length (drop at bytes)) (byte_len w) then
     Err Truncated else Ok (from_le_bytes w (take (byte_len w) (drop at bytes)), at + byte_len w)
 
--- a field with this number and wire type, whose payload begins at `start`; `v` is the pair of the field's value and the position after the payload
+-- the `Field` with this number and wire type, whose payload begins at `start`; `v` is the pair of the field's value and the position after the payload
 abbrev pub as_field : ℕ → Wire → ℕ → ℕ × ℕ → Field
 as_field number wire start v = record { number = number; wire = wire; value = v.0; start = start; «end» = v.1 }
 
--- the field whose tag ends at a position, or the first fault of its payload
+-- the record whose tag ends at a position, as a `Field`; or the first fault of its payload
 unfoldable pub payload_at : ℕ → Wire → List ℕ → ℕ → Result Field WireFault
 payload_at number Varint bytes at = varint_at bytes at >>= λ v. Ok (as_field number Varint at v)
 payload_at number I64 bytes at = fixed_at w64 bytes at >>= λ v. Ok (as_field number I64 at v)
@@ -52,7 +52,7 @@ payload_at number Len bytes at = varint_at bytes at >>= λ len. if nat_lt (lengt
     Err Truncated else Ok (as_field number Len len.1 (len.0, len.1 + len.0))
 payload_at number I32 bytes at = fixed_at w32 bytes at >>= λ v. Ok (as_field number I32 at v)
 
--- the field that begins at a position, with its tag, or the first fault of its bytes
+-- the record that begins at a position, as a `Field`; or the first fault of its bytes
 unfoldable pub field_at : List ℕ → ℕ → Result Field WireFault
 field_at bytes at = do
   tag ← varint_at bytes at
@@ -60,11 +60,11 @@ field_at bytes at = do
   wire ← wire_of (tag.0 % 8)
   payload_at number wire bytes tag.1
 
--- the field that begins at a position, or the first fault of its bytes; nothing if the position is the end of all bytes
+-- the record that begins at a position, as a `Field`, or the first fault of its bytes; nothing if the position is the end of all bytes
 unfoldable pub next_field : List ℕ → ℕ → Result (Option Field) WireFault
 next_field bytes at = if at == length bytes then Ok None else (field_at bytes at >>= λ f. Ok (Some f))
 
--- the payload of field f, whose tag was read at position `at`, begins after that position and ends within the bytes
+-- the payload of the record f, which was read at position `at`, begins after that position and ends within the bytes
 pub record IsWithin (bytes : List ℕ) (at : ℕ) (f : Field) : Type 0 where
   pub begins : at < f.start
   pub ordered : f.start ≤ f.«end»

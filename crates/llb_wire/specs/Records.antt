@@ -1,4 +1,4 @@
--- The type of a record with its bytes but without a position, and the rule by which bytes spell a list of records.
+-- The type of a record with its bytes but without a position, and what it means that bytes spell a list of records.
 use Rattle.std.specs.Prelude.{◌≡◌, ℕ, ◌+◌, ◌-◌, ◌*◌, ◌≤◌, List, [], ◌∷◌, ◌++◌, length, take, drop, Some, None, Ok}
 use Rattle.std.specs.List.{AllByRecursion, flat_map}
 use Rattle.std.specs.Int.{Width, w32, w64, byte_len, to_le_bytes, from_le_bytes}
@@ -16,11 +16,11 @@ pub record Record : Type 0 where
   pub payload : List ℕ
   pub text : List ℕ
 
--- the record of field f, with its payload and its text; f was read at the start of the given bytes
+-- the record that was read as the `Field` f at the start of the given bytes; the record has its payload and its text, f only the positions of the payload
 abbrev pub record_of : List ℕ → Field → Record
 record_of bytes f = record { number = f.number; wire = f.wire; value = f.value; payload = drop f.start (take f.«end» bytes); text = take f.«end» bytes }
 
--- the record of field f, with its payload and its text; f was read at position `at` of the given bytes
+-- the record that was read as the `Field` f at position `at` of the given bytes; the record has its payload and its text, f only the positions of the payload
 abbrev pub record_at : List ℕ → ℕ → Field → Record
 record_at bytes at f = record {
   number = f.number;
@@ -78,7 +78,7 @@ own_text I64 value payload = to_le_bytes w64 value
 own_text Len value payload = payload
 own_text I32 value payload = to_le_bytes w32 value
 
--- the record that is written, with the shortest varints: a LEN has the given payload, any other wire type the given value, which has to fit the type
+-- the record that is written, with the shortest varints: a LEN gets the given payload; any other wire type gets the given value, which has to fit the type
 abbrev pub written_record : ℕ → Wire → ℕ → List ℕ → Record
 written_record number wire value payload = record {
   number = number;

@@ -79,20 +79,20 @@ pub record TagAt (bytes : List ℕ) (at number : ℕ) (wire : Wire) (last : ℕ)
   pub spelled : VarintAt bytes at (8 * number + code_of wire) last
   pub named : IsFieldNumber number
 
--- the bytes from `at` up to `last` are n in a fixed width, least significant byte first
+-- the bytes from `at` up to `last` spell n in a fixed width, least significant byte first
 pub record FixedAt (w : Width) (bytes : List ℕ) (at n last : ℕ) : Type 0 where
   pub size : last ≡ at + byte_len w
   pub inside : last ≤ length bytes
   pub value : n ≡ from_le_bytes w (between at last bytes)
 
--- the tag of field f ends at position `at`, and the bytes after the tag spell the payload of f; for a LEN they begin with the payload's length
+-- the tag of record f ends at position `at`, and the bytes after the tag spell the payload of f; for a LEN they begin with the payload's length
 abbrev pub PayloadAt : Wire → List ℕ → ℕ → Field → Type 0
 PayloadAt Varint bytes at f = (f.start ≡ at) × VarintAt bytes at f.value f.«end»
 PayloadAt I64 bytes at f = (f.start ≡ at) × FixedAt w64 bytes at f.value f.«end»
 PayloadAt Len bytes at f = VarintAt bytes at f.value f.start × (f.«end» ≡ f.start + f.value) × (f.«end» ≤ length bytes)
 PayloadAt I32 bytes at f = (f.start ≡ at) × FixedAt w32 bytes at f.value f.«end»
 
--- the bytes at a position spell the field f
+-- the bytes at a position spell the record f
 pub record RecordAt (bytes : List ℕ) (at : ℕ) (f : Field) : Type 0 where
   pub tag_end : ℕ
   pub tag : TagAt bytes at f.number f.wire tag_end

@@ -1,4 +1,4 @@
-//! Lists that own their items, as a public type; contracts see the list of the items' values.
+//! The public type of lists that own their items. Contracts see the list of the items' values.
 
 ghost use Rattle.std.specs.Prelude.{◌≡◌, ◌==◌, length};
 
