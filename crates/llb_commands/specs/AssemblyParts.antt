@@ -13,18 +13,18 @@ use Rattle.llb_commands.specs.Io.{Stream, IsKept}
 use Rattle.llb_commands.specs.Running.{IsRefusal, TellsRefusal}
 use Rattle.llb_commands.specs.Assembly.{IsOut, IsPartOut, IsAssembled, IsNoText, IsUnread}
 
--- the program's fault for a fault of the assembler; the fault of a refused line keeps the line's number and the rule
+-- the fault with which the program ends if the assembler fails with this fault; for a refused line it has the line's number and the rule
 abbrev pub assembling_fault : AsmFault → ProgramFault
 assembling_fault (asm.Line n rule) = fault.Assembling (asm.Line n rule)
 assembling_fault (asm.UnknownLabel n) = fault.Assembling (asm.UnknownLabel n)
 assembling_fault asm.Memory = fault.Text asm.Memory
 assembling_fault asm.Write = fault.Text asm.Write
 
--- the program's fault for a fault of reading entries
+-- the fault with which the program ends if the entries could not be read from the bytes, with this fault
 abbrev pub entries_fault : OpFault → ProgramFault
 entries_fault e = if ops.is_memory e then fault.Entries else fault.Unread e
 
--- the program's fault for a fault of reading a text
+-- the fault with which the program ends if a text could not be read to its end
 abbrev pub text_unread_as : ReadFault → ProgramFault
 text_unread_as reading.TooLong = fault.TooLong
 text_unread_as (reading.Failed kind) = fault.Read

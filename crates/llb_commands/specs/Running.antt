@@ -23,11 +23,11 @@ use Rattle.llb_loader.specs.declared.fault.LoadFault.TheVariants.{Definition}
 use Rattle.llb_loader.specs.declared.fault.LoadFault.{LoadFault}
 use Rattle.llb_loader.specs.Faults.{is_memory}
 
--- the program's fault for a fault of the loader
+-- the fault with which the program ends if the loader fails with this fault
 abbrev pub passed_on : LoadFault → ProgramFault
 passed_on e = if is_memory e then Loading else Refused e
 
--- the program's fault for a fault of reading
+-- the fault with which the program ends if the definition could not be read to its end
 abbrev pub unread_as : ReadFault → ProgramFault
 unread_as reading.TooLong = Refused (Definition OverLimit)
 unread_as (reading.Failed kind) = Read
@@ -44,7 +44,7 @@ IsRefusal (Assembling e) = ⊤
 IsRefusal TooLong = ⊤
 IsRefusal _ = ⊥
 
--- if the fault is a refusal (`IsRefusal`) and the bytes of the input are known, these bytes have the cause that `IsSo` says for this fault
+-- if the fault is a refusal (`IsRefusal`) and the input's bytes are known, these bytes are the cause of the fault: `IsSo` holds for the fault and the bytes
 abbrev pub TellsRefusal : (ProgramFault → List ℕ → Type 0) → Option (List ℕ) → ProgramFault → Type 0
 TellsRefusal IsSo input e = IsRefusal e → IfSome input (IsSo e)
 

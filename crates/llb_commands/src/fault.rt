@@ -14,12 +14,12 @@ use std::alloc::AllocError;
 use std::io::Write;
 use std::{error, fmt};
 
-/// Why a text that the program itself makes is not written.
+/// Why the text of a graph, a definition or a reply of a session was not written, or not all of it.
 #[derive(Clone, Copy, Debug, PartialEq, Eq)]
 pub enum OutputFault {
     /// 182: the writer failed.
     Write,
-    /// 184: memory was refused for a line of the text.
+    /// 184: memory was refused for a line of a graph's text.
     Memory,
 }
 

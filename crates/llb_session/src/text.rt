@@ -108,7 +108,7 @@ pub(crate) fn tree_text(alloc: Global, tree: Option<&Tree>) -> Result<Vec<u8>, S
     Ok(text)
 }
 
-// Appends the line of tree `i` of a worker.
+// Appends the line for tree `i` of the trees that a worker works on.
 fn push_part(text: &mut String, i: usize, part: Part<'_>) -> Result<(), StepperFault>
     ensures line { IfOk result (λ _. string_bytes text.new ≡ string_bytes text.old ++ role_line i (role_in part.entry)) }
     ensures memory { IfErr result (λ e. e ≡ refusal.Memory) }
@@ -137,7 +137,7 @@ fn none_text(alloc: Global) -> Result<String, StepperFault>
     Ok(text)
 }
 
-// Returns a line for each tree of a workspace, or the line `none` if it has none.
+// Returns a line for each tree of a workspace, or the line `none` if the workspace has no tree.
 #[tactic(auto, unfolding(crate::specs::Texts::role_lines))]
 fn parts_text(alloc: Global, workspace: &Workspace) -> Result<String, StepperFault>
     ensures lines { IfOk result (λ s. string_bytes s ≡ part_lines (roles_of workspace.now)) }

@@ -1,5 +1,5 @@
--- The breakpoints of a stepper as two sets of vertices, for breakpoints at claims and at settles, and a flag for the one at
--- failures. The vertex of an event is looked up in these sets, so breakpoints are not tried one by one.
+-- The breakpoints of a stepper as two sets of vertices (those with a breakpoint at their claims, and those with a breakpoint at their settles) and a flag
+-- (whether there is a breakpoint at failures). The vertex of an event is looked up in these sets, so breakpoints are not tried one by one.
 use Rattle.std.specs.Prelude.{◌≡◌, ℕ, ◌==◌, ◌||◌, Bool, true, false, List}
 use Rattle.std.specs.List.{list_any}
 use Rattle.std.specs.Ordering.{nat_cmp}
