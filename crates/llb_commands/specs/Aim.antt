@@ -37,7 +37,7 @@ LoadsAsOne text definition entries graph = SpellsEntries (kept text) entries →
 
 -- what is proved about a text, a definition with its entries, the graph that the definition is loaded as, a board and a stepper
 pub record Aim (text definition : List ℕ) (entries : List (List ℕ)) (graph : Numbered) (board : BoardValue) (stepper : Stepping) : Type 0 where
-  -- any number of workers, from 1 to 64
+  -- the machine's board has 1 to 64 workers
   pub some_workers : 0 < length board.state.workers
   pub few_workers : length board.state.workers ≤ 64
   -- After every interleaving of atomic steps the machine's state and replies are the written table's on the recorded events: the table leads, by the record,

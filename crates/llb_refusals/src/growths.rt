@@ -33,7 +33,7 @@ const START: usize = 0x3000_0000_0000_0000;
 
 const TELL: usize = 0x2000_0000_0000_0000;
 
-/// A number above the number of growths of any call. A call with more growths ends the test.
+/// The limit on the number of a call's growths: a call that has this many ends the test.
 pub(crate) const MOST: usize = 100_000;
 
 /// Makes the `k`-th later growth fail, and only that one. Has no effect if the library is not loaded.
@@ -51,7 +51,7 @@ pub(crate) fn was_refused(alloc: Global) -> bool {
     Vec::<u8>::with_capacity(alloc, TELL).is_ok()
 }
 
-/// Returns whether a result is one of the faults in `lacks`, the third text of a row.
+/// Returns whether a result is one of the faults in `lacks`: the third text of a test's `Row`, which has ` and ` or ` or ` between its faults.
 pub(crate) fn is_lack(printed: &str, lacks: &str) -> bool {
     for lack in lacks.split(" and ") {
         if lack == printed {

@@ -130,8 +130,8 @@ impl Stepper {
         }
     }
 
-    /// Returns the line of event `i` of the board's record, counted from 1, with its reply. Returns `None` at 0, past the end of the record, and for events that
-    /// the board had when the stepper was made. Fails with 174 alone.
+    /// Returns the line of event `i` of the board's record, counted from 1, with its reply. Returns `None` at 0, past the end of the record, and for events
+    /// that the board had when the stepper was made. Fails with 174 alone.
     pub fn record_line(&self, i: u64) -> Result<Option<Text>, StepperFault>
         ensures line { IfOk result (λ o. option_map (λ t. t) o ≡ option_map (record_text self.now.board.build.graph.vertices i) (record_at self.now i)) }
         ensures memory { IfErr result (λ e. e ≡ fault.Memory) }

@@ -171,7 +171,7 @@ fn all_end<R: Abort + Threads + Wait + Sync>(
     true
 }
 
-// Returns the number of the row for the shape at index `at` and a number of workers. The number of workers is below 100, so different rows have different
+// Returns a number for the case of the shape at index `at` and a number of workers. The number of workers is below 100, so different cases have different
 // numbers.
 fn row(at: usize, workers: u32) -> usize {
     at.wrapping_mul(100).wrapping_add(workers as usize)

@@ -1,4 +1,4 @@
-//! Runs that go to their ends and are taken back event by event, after which the board is as before; and records that are replayed.
+//! Runs that go to their ends and are then taken back event by event, until the board is as before the run; and records that are replayed.
 
 ghost use Rattle.std.specs.Prelude.{◌≡◌};
 
