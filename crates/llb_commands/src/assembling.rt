@@ -13,7 +13,8 @@ use llb_wire::{Bytes, Over, write_all};
 use std::alloc::Global;
 use std::io::{Read, Write};
 
-// Returns the fault with which the program ends if the assembler fails with this fault: 161 or 162 if a line is refused, 163 or 164 if memory or a write failed.
+// Returns the fault with which the program ends if the assembler fails with this fault: 161 or 162 if a line is refused, 163 if memory is refused, and 164 if a
+// write failed.
 fn assembling_fault(fault: AsmFault) -> ProgramFault
     ensures { result ≡ assembling_fault fault }
 {
