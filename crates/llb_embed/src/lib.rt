@@ -2,7 +2,7 @@
 //! program's commands. The crate is built on `llb_commands`, and is linked as a static library. bindings/llbm.h says what a caller has to promise.
 //!
 //! Types: `Llb`, a handle: a struct of zeroes until a call puts a value into it.
-//! Promise: each exported call does what the program's command does, on the bytes that it is given and the value in the handle (clauses `ran`, `opened`,
+//! Promise: each exported call does what the program's command does, on the bytes that the caller passes and the value in the handle (clauses `ran`, `opened`,
 //! `replied` and others). The calls that copy the output or the messages copy as many bytes as fit, and return the whole length (`copied`, `all`).
 //!
 //! A caller:

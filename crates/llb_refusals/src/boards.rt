@@ -169,7 +169,7 @@ struct OnParts {
 }
 
 impl OnParts {
-    // Returns the parts for the next opening: those that `ready` made or, if memory was refused to the latest opening, those that this opening returned.
+    // Returns the parts for the next opening: the parts that `ready` made or, if the latest opening was refused memory, the parts that this opening returned.
     fn taken(&mut self) -> Option<Parts> {
         let answer = mem::replace(&mut self.answer, Answer::None);
         match answer {

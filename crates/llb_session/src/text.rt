@@ -15,7 +15,7 @@ use llb_treetext::{print_tree, push_path};
 use llb_wire::Over;
 use std::alloc::{AllocError, Global};
 
-// Appends the line of a vertex.
+// Appends the line with the number and the status of a vertex.
 fn push_status(text: &mut String, v: u32, status: Status) -> Result<(), StepperFault>
     ensures line { IfOk result (λ _. string_bytes text.new ≡ string_bytes text.old ++ status_line v status) }
     ensures memory { IfErr result (λ e. e ≡ refusal.Memory) }
