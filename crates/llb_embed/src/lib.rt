@@ -28,7 +28,7 @@ use handle::{put, start, take};
 use std::alloc::Global;
 use working::{assemble, copy_out, disassemble, local, open, reply, run, show};
 
-/// The status if memory for what the handle holds was refused.
+/// The status if memory for the value that a handle holds was refused.
 const NO_MEMORY: u8 = 3;
 
 /// Reads a text as a tree, and adds the tree as the local tree of a name; a tree that the name had before is replaced. Returns 0 if the tree is added; 2 if the

@@ -8,8 +8,9 @@ use std::alloc::Global;
 use std::process::Abort;
 
 /// A row of a test: the call; what the call is made on; the result of the call if memory is refused; and the result if no memory is refused. The third text
-/// is empty for a call that does not allocate. If it has several faults with ` and ` between them, each of them has to be the result of some refusal. If it
-/// has several with ` or ` between them, each refusal has one of them as its result. The last text may be the name of a tree in place of the tree's text.
+/// is empty for a call that does not allocate. If it has several faults with ` and ` between them, each of these faults has to be the result of some refusal.
+/// If it has several faults with ` or ` between them, each refusal has to result in one of them. The last text may be the name of a tree in place of the tree's
+/// text.
 pub(crate) type Row = (&'static str, &'static str, &'static str, &'static str);
 
 /// A call that can be made more than once, with the values that the call is made on and the result of the latest call.

@@ -12,7 +12,7 @@ use Rattle.llb_session.specs.Conversation.{Talks, Talked, Standing, Answered, Qu
 abbrev pub standing : Stepping → Pending → Standing
 standing s p = record { session = s; number = p.answered + 1; line = p.line.items }
 
--- what is written for the line of state p once its line end is read: its reply; nothing if the line ends the session; with `Write` a prefix of the reply
+-- what is written once the end of the line of state p is read: the reply; nothing if the line ends the session; with the fault `Write` a prefix of the reply
 abbrev pub IsSaid : Standing → Stepping → Stream → Result Bool SessionFault → Type 0
 IsSaid p t out (Ok true) = (text : List ℕ) × Answers p.session p.number p.line text t × IsWritten out text
 IsSaid p t out (Ok false) = Quits p.line × (t ≡ p.session) × IsKept out
@@ -22,7 +22,7 @@ IsSaid p t out (Err (Unending interrupted)) = ⊥
 IsSaid p t out (Err Memory) = ⊥
 IsSaid p t out (Err TooLong) = ⊥
 
--- what is written at the end of the input for the last line, which has no line end: its reply; nothing if it is empty or ends a session; or part of its reply
+-- what is written, at the end of the input, for the last line, which has no line end: the reply, or a prefix of it; nothing if the line is empty or `quit`
 abbrev pub IsLast : Standing → Stepping → Stream → Result (Unit {0}) SessionFault → Type 0
 IsLast p t out (Ok u) =
     ((text : List ℕ) × Talks p.session p.number (last_line p.line) text t × IsWritten out text)

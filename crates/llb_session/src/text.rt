@@ -73,7 +73,7 @@ pub(crate) fn line_text(
     Ok(text)
 }
 
-/// Returns the lines of the record after the first `from` events, up to the line of event `to`.
+/// Returns the lines of the record after the first `from` events, up to and with the line of event `to`.
 #[tactic(auto, unfolding(crate::specs::Texts::record_lines))]
 pub(crate) fn record_text(
     alloc: Global,

@@ -49,7 +49,7 @@ pub record AreUnchanged (old new : Kinds) : Type 0 where
   pub settles : (v : ℕ) → contains nat_cmp new.settles v ≡ contains nat_cmp old.settles v
   pub failures : new.failures ≡ old.failures
 
--- whether an event, whatever the reply to it, meets a breakpoint of the sets: it is a claim of a vertex in the set `claims`
+-- whether an event meets a breakpoint of the sets, whatever the reply to the event is: the event is a claim of a vertex in the set `claims`
 abbrev pub is_met_by_event : Kinds → Event → Bool
 is_met_by_event kinds (Claim w v) = contains nat_cmp kinds.claims v
 is_met_by_event kinds (Step w) = false

@@ -1,5 +1,5 @@
--- Breakpoints and lines, restated for the replies of the board's call `walk`. These replies are the table's, except that
--- the reply to a claim has no job.
+-- Breakpoints and lines, restated for the replies of the board's call `walk`, which does an event and also returns what undoes it. These replies are the
+-- table's, except that the reply to a claim has no job.
 use Rattle.std.specs.Prelude.{ℕ, ◌==◌, Bool, true, false, List, ◌++◌, codes, slice_get}
 use Rattle.std.specs.Fmt.{decimal}
 use Rattle.llb_loader.specs.declared.graph.Vertex.{Vertex}
