@@ -24,7 +24,7 @@ pub record IsAccepted (definition : List ℕ) (graph : Numbered) (board : BoardV
   pub board_over : board.build.graph ≡ graph
   pub stepper_over : stepper.board.build.graph ≡ graph
 
--- The property holds for every board over the graph, if the table leads by the board's events from the board's opening state to the board's state. So it
+-- The property holds for every board over the graph whose events lead, by the table, from the board's opening state to the board's state. So the property
 -- holds for all local trees, any number of workers, and every interleaving of events.
 abbrev pub AfterAll : Numbered → (BoardValue → Type 0) → Type 0
 AfterAll graph Holds = (b : BoardValue) (replies : List Reply) → b.build.graph ≡ graph
@@ -37,19 +37,19 @@ LoadsAsOne text definition entries graph = SpellsEntries (kept text) entries →
 
 -- what is proved about a text, a definition with its entries, the graph that the definition is loaded as, a board and a stepper
 pub record Aim (text definition : List ℕ) (entries : List (List ℕ)) (graph : Numbered) (board : BoardValue) (stepper : Stepping) : Type 0 where
-  -- any number of workers, from 1 to 64
+  -- the machine's board has 1 to 64 workers
   pub some_workers : 0 < length board.state.workers
   pub few_workers : length board.state.workers ≤ 64
-  -- After every interleaving of atomic steps the machine's state and replies are the written table's on the recorded events: the record is a run of the table
-  -- from the opening state to the board's state, with a reply for each event. The reply that a call returns (its clause `gives`) is the reply, in the run of
-  -- the record after the call, to the last event of this record.
+  -- After every interleaving of atomic steps the machine's state and replies are the written table's on the recorded events: the table leads, by the record,
+  -- from the opening state to the board's state, with a reply to each event. A call that does an event returns a reply (clause `gives`); in the run of the
+  -- record after the call, this is the reply to the record's last event.
   pub replays : Replays board
   pub replies : RepliesAreRecorded board
   -- no two executions hold one locked cache at once
   pub locked_once : AfterAll graph LockedOnce
   -- every settled vertex with no cache mount at or before it has the graph's plain outcome
   pub plain : AfterAll graph SettledArePlain
-  -- assembled text and loaded bytes are read as one graph
+  -- if the text is read as the entries of the definition, the bytes that the text is assembled to are loaded as the definition's graph
   pub one_graph : LoadsAsOne text definition entries graph
   -- The stepper is on the same graph. The table leads, by the stepper's record, to the stepper's state. Taking k events back with `back` leads to the
   -- board after the record without its last k events. The lines of the record, and those that a session's `go` prints, are the run's events and replies.

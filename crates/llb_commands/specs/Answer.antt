@@ -37,8 +37,8 @@ build_of locals g = record { graph = g; locals = locals }
 abbrev pub run_opening : ℕ → Opening
 run_opening workers = record { workers = workers; store = no_instances }
 
--- The events are a run by one worker, and each event is the one that `chosen` of llb_model chooses. In the run's last state, s, each vertex and each instance
--- is as if the vertices had been run one after another, in the order of their claims. Every such run ends in state s.
+-- The events are a run by one worker, and each is the event that `chosen` of llb_model returns. In the run's last state, s, each vertex and each instance is as
+-- if the vertices had been run one after another, in the order of their claims. Every such run ends in state s.
 pub record IsAlone (b : Build) (s : State) (events : List Event) : Type 0 where
   pub ends : EndsInClaimOrder b (run_opening 1) events s
   pub only : (es : List Event) (t : State) → EndsInClaimOrder b (run_opening 1) es t → t ≡ s

@@ -13,18 +13,18 @@ use Rattle.llb_commands.specs.Io.{Stream, IsKept}
 use Rattle.llb_commands.specs.Running.{IsRefusal, TellsRefusal}
 use Rattle.llb_commands.specs.Assembly.{IsOut, IsPartOut, IsAssembled, IsNoText, IsUnread}
 
--- the program's fault for a fault of the assembler; the fault of a refused line keeps the line's number and the rule
+-- the fault with which the program ends if the assembler fails with this fault: `Assembling` if a line is refused, `Text` if memory or a write failed
 abbrev pub assembling_fault : AsmFault → ProgramFault
 assembling_fault (asm.Line n rule) = fault.Assembling (asm.Line n rule)
 assembling_fault (asm.UnknownLabel n) = fault.Assembling (asm.UnknownLabel n)
 assembling_fault asm.Memory = fault.Text asm.Memory
 assembling_fault asm.Write = fault.Text asm.Write
 
--- the program's fault for a fault of reading entries
+-- the fault with which the program ends if reading the entries of a definition fails with this fault
 abbrev pub entries_fault : OpFault → ProgramFault
 entries_fault e = if ops.is_memory e then fault.Entries else fault.Unread e
 
--- the program's fault for a fault of reading a text
+-- the fault with which the program ends if a text could not be read to its end
 abbrev pub text_unread_as : ReadFault → ProgramFault
 text_unread_as reading.TooLong = fault.TooLong
 text_unread_as (reading.Failed kind) = fault.Read
@@ -36,17 +36,17 @@ abbrev pub EndsIn : (List ℕ → List ℕ → Type 0) → (ProgramFault → Lis
 EndsIn Comes IsRefused input output (Ok u) = IfSome input (IsOut Comes output)
 EndsIn Comes IsRefused input output (Err e) = (IsKept output × TellsRefusal IsRefused input e) ⊎ ((¬ IsRefusal e) × IfSome input (IsPartOut Comes output))
 
--- the definition that a text is assembled to; or a fault, and if the fault is a refusal, its cause in the text
+-- the result of assembling a text: the definition; or a fault (if the fault is a refusal, `IsNoText` says its cause in the text)
 abbrev pub IsDefinitionOf : List ℕ → Result (List ℕ) ProgramFault → Type 0
 IsDefinitionOf text (Ok definition) = IsAssembled text definition
 IsDefinitionOf text (Err e) = IsRefusal e → IsNoText e text
 
--- the definition that the bytes of an input are assembled to; or a fault, and if it is a refusal, its cause. If the bytes are not known, this says nothing.
+-- the result of assembling an input: the definition; or a fault (if the fault is a refusal, `IsNoText` says its cause). Without known bytes this says nothing.
 abbrev pub IsDefinitionIn : Option (List ℕ) → Result (List ℕ) ProgramFault → Type 0
 IsDefinitionIn input (Ok definition) = IfSome input (λ text. IsAssembled text definition)
 IsDefinitionIn input (Err e) = TellsRefusal IsNoText input e
 
--- the entries of an input that is a definition; or a fault, and if the fault is a refusal, its cause in the input
+-- the result of reading an input as a definition: the entries; or a fault (if the fault is a refusal, `IsUnread` says its cause in the input)
 abbrev pub AreEntriesIn : Option (List ℕ) → Result (List (List ℕ)) ProgramFault → Type 0
 AreEntriesIn input (Ok entries) = IfSome input (λ bytes. definition_of bytes ≡ Ok entries)
 AreEntriesIn input (Err e) = TellsRefusal IsUnread input e

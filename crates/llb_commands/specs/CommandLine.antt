@@ -86,7 +86,7 @@ split_word word = if nat_lt (position_or_len is_equals word) (length word) then 
 abbrev pub named_file : Local → Option (Text × Text)
 named_file l = Some (l.name.now, l.file.now)
 
--- the local sources are made from the words, in their order: each word, which has a `=`, is split at the first `=` into a name and a file
+-- the local sources are made from the words, in their order: each word has a `=`, and is split at its first `=` into a name and a file
 abbrev pub AreSplit : List Text → List Local → Type 0
 AreSplit words locals = map split_word words ≡ map named_file locals
 

@@ -21,8 +21,8 @@ use Rattle.llb_commands.specs.declared.words.WordsFault.TheVariants.{Words}
 abbrev pub Shelf : Type 0
 Shelf = List ℕ → Option (List ℕ)
 
--- how `step` ends: with a file as `Steps` says; if no file is named, nothing is written to the output, and the line `fault 183` is
--- written to standard error, with status 2 (3 if the line could not be written)
+-- How `step` ends. If the words name a file, it ends as `Steps` says. If the words name no file, nothing is written to the output, the line `fault 183` is
+-- written to standard error, and the status is 2 (3 if the line could not be written).
 abbrev pub StepsAt : Shelf → Option (Bor (List ℕ)) → ℕ → List Local → Io → ℕ → Type 0
 StepsAt files None workers locals io status = IsKept io.output × TellsWords io.errors.before io.errors.after (Words None) status
 StepsAt files (Some file) workers locals io status = Steps workers locals (files file.now) io status
@@ -35,7 +35,7 @@ PerformsAs files Step line locals io = StepsAt files line.file line.workers loca
 PerformsAs files Assemble line locals io = Assembles io
 PerformsAs files Disassemble line locals io = Disassembles io
 
--- the command that the words ask for has ended with this status
+-- the command of the line has ended on these local trees with this status
 abbrev pub Performs : Shelf → Line → List Local → Io → ℕ → Type 0
 Performs files line = PerformsAs files line.command line
 

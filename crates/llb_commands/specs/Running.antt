@@ -23,11 +23,11 @@ use Rattle.llb_loader.specs.declared.fault.LoadFault.TheVariants.{Definition}
 use Rattle.llb_loader.specs.declared.fault.LoadFault.{LoadFault}
 use Rattle.llb_loader.specs.Faults.{is_memory}
 
--- the program's fault for a fault of the loader
+-- the fault with which the program ends if the loader fails with this fault
 abbrev pub passed_on : LoadFault → ProgramFault
 passed_on e = if is_memory e then Loading else Refused e
 
--- the program's fault for a fault of reading
+-- the fault with which the program ends if the definition could not be read to its end
 abbrev pub unread_as : ReadFault → ProgramFault
 unread_as reading.TooLong = Refused (Definition OverLimit)
 unread_as (reading.Failed kind) = Read
@@ -44,16 +44,16 @@ IsRefusal (Assembling e) = ⊤
 IsRefusal TooLong = ⊤
 IsRefusal _ = ⊥
 
--- if the fault is a refusal (`IsRefusal`) and the bytes of the input are known, these bytes have the cause that `IsSo` says for this fault
+-- if the fault is a refusal (`IsRefusal`) and the input's bytes are known, these bytes are the cause of the fault: `IsSo` holds for the fault and the bytes
 abbrev pub TellsRefusal : (ProgramFault → List ℕ → Type 0) → Option (List ℕ) → ProgramFault → Type 0
 TellsRefusal IsSo input e = IsRefusal e → IfSome input (IsSo e)
 
--- the graph that the input defines; or a fault, and if the fault is a refusal, its cause in the input
+-- the result of loading the input: the input's graph; or a fault (if the fault is a refusal, `IsRefused` says its cause in the input)
 abbrev pub Loads : Option (List ℕ) → Result Numbered ProgramFault → Type 0
 Loads input (Ok g) = IfSome input (λ bytes. IsGraphIn bytes g)
 Loads input (Err e) = TellsRefusal IsRefused input e
 
--- the board that is opened on the graph of the input; or a fault, and if the fault is a refusal, its cause
+-- the result of opening a board on the graph of the input: the board; or a fault (if the fault is a refusal, `IsNotRun` says its cause)
 abbrev pub Opens : ℕ → List Local → Option (List ℕ) → Result BoardValue ProgramFault → Type 0
 Opens workers locals input (Ok b) = (g : Numbered) × IfSome input (λ bytes. IsGraphIn bytes g) × (b ≡ opened (build_of locals g) workers [])
 Opens workers locals input (Err e) = TellsRefusal (IsNotRun workers locals) input e
@@ -64,7 +64,7 @@ pub record IsFinished (workers : ℕ) (locals : List Local) (g : Numbered) (b : 
   pub ended : IsEnd workers (build_of locals g) b.state
   pub here : IsConsistent (build_of locals g) b.state
 
--- the board on which a run of the graph of the input has ended; or a fault, and if the fault is a refusal, its cause
+-- the result of a run of the graph of the input: the board on which the run has ended; or a fault (if the fault is a refusal, `IsNotRun` says its cause)
 abbrev pub Finishes : ℕ → List Local → Option (List ℕ) → Result BoardValue ProgramFault → Type 0
 Finishes workers locals input (Ok b) = (g : Numbered) × IfSome input (λ bytes. IsGraphIn bytes g) × IsFinished workers locals g b
 Finishes workers locals input (Err e) = TellsRefusal (IsNotRun workers locals) input e

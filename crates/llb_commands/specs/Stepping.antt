@@ -39,7 +39,7 @@ pub record IsSession (workers : ℕ) (locals : List Local) (commands output : St
   pub end : Stepping
   pub talks : Converses (conversation locals graph workers end commands output) result
 
--- the program's fault for a fault of a session
+-- the fault with which the program ends if a session fails with this fault
 abbrev pub session_fault : SessionFault → ProgramFault
 session_fault (session.Failed kind) = fault.Read
 session_fault (session.Unending interrupted) = fault.Read

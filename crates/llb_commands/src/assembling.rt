@@ -13,7 +13,8 @@ use llb_wire::{Bytes, Over, write_all};
 use std::alloc::Global;
 use std::io::{Read, Write};
 
-// Returns the program's fault for a fault of the assembler; the fault of a line keeps the line's number and the rule.
+// Returns the fault with which the program ends if the assembler fails with this fault: 161 or 162 if a line is refused, 163 if memory is refused, and 164 if a
+// write failed.
 fn assembling_fault(fault: AsmFault) -> ProgramFault
     ensures { result ≡ assembling_fault fault }
 {
@@ -23,7 +24,7 @@ fn assembling_fault(fault: AsmFault) -> ProgramFault
     }
 }
 
-// Returns the program's fault if a text was not read to its end: 185 if it is too long, else 181 or 184.
+// Returns the fault with which the program ends if a text was not read to its end: 185 if the text is too long, else 181 or 184.
 fn text_unread(fault: ReadFault) -> ProgramFault
     ensures { result ≡ text_unread_as fault }
 {

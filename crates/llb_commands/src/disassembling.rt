@@ -15,7 +15,7 @@ use llb_wire::Over;
 use std::alloc::Global;
 use std::io::{Read, Write};
 
-// Returns the program's fault for a fault of reading a definition: a refusal, unless memory was refused.
+// Returns the fault with which the program ends if its input can't be read as a definition: a refusal, unless memory was refused.
 fn entries_fault(fault: OpFault) -> ProgramFault
     ensures { result ≡ entries_fault fault }
 {

@@ -14,12 +14,12 @@ use std::alloc::AllocError;
 use std::io::Write;
 use std::{error, fmt};
 
-/// Why a text that the program itself makes is not written.
+/// Why the text of a graph, a definition or a reply of a session was not written, or not all of it.
 #[derive(Clone, Copy, Debug, PartialEq, Eq)]
 pub enum OutputFault {
     /// 182: the writer failed.
     Write,
-    /// 184: memory was refused for a line of the text.
+    /// 184: memory was refused for a line of a graph's text.
     Memory,
 }
 
@@ -66,7 +66,7 @@ pub enum ProgramFault {
     Run(RunFault),
     /// 34 and 35: the result's text was not written, or not all of it.
     Print(PrintFault),
-    /// 182 and 184: a text of the program's own was not written, or not all of it.
+    /// 182 and 184: the text of a graph, a definition or a reply of a session was not written, or not all of it.
     Output(OutputFault),
     /// 1 to 4 and 11 to 13: the bytes that are to be disassembled can't be read as a definition.
     Unread(OpFault),

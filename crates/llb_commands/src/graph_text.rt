@@ -10,7 +10,7 @@ use llb_ops::kind_name;
 use llb_wire::{Sink, write_all};
 use std::alloc::Global;
 
-// Appends a space, the vertex and the index of an input.
+// Appends the text of an input to a line: a space, the number of the input's vertex, a point, and the index of the vertex's output.
 fn push_input(line: &mut String, input: Edge) -> Result<(), OutputFault>
     ensures { Gives (λ _. string_bytes line.new) result (Ok (string_bytes line.old ++ input_text input)) }
 {
@@ -19,7 +19,7 @@ fn push_input(line: &mut String, input: Edge) -> Result<(), OutputFault>
     Ok(())
 }
 
-// Appends the inputs in their order, or a dash if there are none.
+// Appends the texts of the inputs to a line, in their order; if there are no inputs, a space and a dash.
 fn push_inputs(line: &mut String, inputs: &[Edge]) -> Result<(), OutputFault>
     ensures { Gives (λ _. string_bytes line.new) result (Ok (string_bytes line.old ++ inputs_text inputs.now)) }
 {

@@ -10,7 +10,7 @@ use llb_ops::OpFault;
 use std::alloc::Global;
 use std::io::Read;
 
-// Returns the program's fault for a fault of the loader: a refusal, unless memory was refused.
+// Returns the fault with which the program ends if the loader fails with this fault: a refusal, unless memory was refused.
 fn passed_on(fault: LoadFault) -> ProgramFault
     ensures { result ≡ passed_on fault }
 {

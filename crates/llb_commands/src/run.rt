@@ -97,7 +97,7 @@ fn print_over<W: Write>(alloc: Global, tree: &Tree, out: &mut W) -> Result<(), P
     print_tree(alloc, tree, &mut sink)
 }
 
-// Writes the text of the tree that an edge leads to, an output of a vertex; returns the board if the vertex is not done, since there is no such tree then.
+// Writes the text of the tree to which an edge leads (an output of a vertex). If the vertex is not done, there is no such tree, and the board is returned.
 fn print_output<W: Write>(
     alloc: Global,
     board: Board,
@@ -216,8 +216,8 @@ pub fn run_over<R: Read, W: Write, E: Write>(
 }
 
 /// Does what `run_over` does with this number of workers; if there are several, each has a thread, and the call waits for them. If no cache is mounted, the
-/// text is that of the result by the plain outcomes, for any number of workers. The status is 2 also if the number of workers is 0, or more than 64 (`fault
-/// 122`), and 3 also if a thread could not be started (`fault 153`).
+/// tree that is printed is the result's tree by the plain outcomes, for any number of workers. The status is 2 also if the number of workers is 0, or more than
+/// 64 (`fault 122`), and 3 also if a thread could not be started (`fault 153`).
 pub fn run_many_over<T: Threads + Wait + Sync, R: Read, W: Write, E: Write>(
     rt: &T,
     alloc: Global,

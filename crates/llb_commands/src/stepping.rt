@@ -15,7 +15,7 @@ use llb_stepper::Stepper;
 use std::alloc::Global;
 use std::io::{Read, Write};
 
-// Returns the program's fault for a fault of a session.
+// Returns the fault with which the program ends if a session fails with this fault.
 fn session_fault(fault: SessionFault) -> ProgramFault
     ensures { result ≡ session_fault fault }
 {

@@ -31,7 +31,7 @@ pub struct Local<'a> {
     pub file: &'a str,
 }
 
-/// What the words ask for.
+/// What the words of a command line ask for.
 #[derive(Debug, Drop)]
 pub struct Line<'a> {
     pub command: Command,

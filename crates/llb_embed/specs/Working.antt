@@ -90,9 +90,9 @@ Opened definition workers old new status = (new.locals ≡ old.locals) × (new.o
 abbrev pub GoesOn : List ℕ → Stepping → ℕ → Held → Type 0
 GoesOn line s n new = (t : Stepping) × (new.session ≡ Some t) × (new.lines ≡ n) × (¬ Quits line) × RespondsAs (request_in line) s n new.output.items t
 
--- A line is sent to session s. Status 0: the output is the line's reply. 1: the line ends the session, and no session is open then. Any other status: nothing
--- is changed, and the messages have a line that says why: no memory for the line that reports a refusal, or the session has already got 2^64 - 1 lines (if
--- the messages' line could not be written, the status is 3).
+-- A line is sent to session s. Status 0: the output is the line's reply. 1: the line ends the session; no session is open then. 3: memory is refused for the
+-- reply that would report a refusal. 2: the session has already got 2^64 - 1 lines. With 2 and 3 nothing is changed, there is no output, and the messages say
+-- why. If the messages can't be written, the status is 3 in both cases.
 abbrev pub RepliesOn : List ℕ → Stepping → Held → Held → ℕ → Type 0
 RepliesOn line s old new status =
     ((status ≡ 0) × (new.messages.items ≡ []) × GoesOn line s (old.lines + 1) new)

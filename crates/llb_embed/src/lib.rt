@@ -2,7 +2,7 @@
 //! program's commands. The crate is built on `llb_commands`, and is linked as a static library. bindings/llbm.h says what a caller has to promise.
 //!
 //! Types: `Llb`, a handle: a struct of zeroes until a call puts a value into it.
-//! Promise: each exported call does what the program's command does, on the bytes that it is given and the value in the handle (clauses `ran`, `opened`,
+//! Promise: each exported call does what the program's command does, on the bytes that the caller passes and the value in the handle (clauses `ran`, `opened`,
 //! `replied` and others). The calls that copy the output or the messages copy as many bytes as fit, and return the whole length (`copied`, `all`).
 //!
 //! A caller:
@@ -28,12 +28,12 @@ use handle::{put, start, take};
 use std::alloc::Global;
 use working::{assemble, copy_out, disassemble, local, open, reply, run, show};
 
-/// The status if memory for what the handle holds was refused.
+/// The status if memory for the value that a handle holds was refused.
 const NO_MEMORY: u8 = 3;
 
 /// Reads a text as a tree, and adds the tree as the local tree of a name; a tree that the name had before is replaced. Returns 0 if the tree is added; 2 if the
-/// text is refused (31 to 33, 185) or the name is not UTF-8 (183); 3 if memory is refused (34, 92, 184). With 2 or 3 no tree is added, and the messages have a
-/// line (with 3 they have none if memory for the line is refused).
+/// text is refused (31 to 33, 185) or the name is not UTF-8 (183); 3 if memory is refused (34, 92, 184). With 2 or 3 no tree is added, and the messages say why
+/// (with 3 they are empty or cut short if memory for them is refused).
 #[unsafe(no_mangle)]
 pub extern "C" fn llb_local(alloc: Global, it: &mut Llb, name: &[u8], text: &[u8]) -> u8
     requires { IsSound it.old }
@@ -50,7 +50,7 @@ pub extern "C" fn llb_local(alloc: Global, it: &mut Llb, name: &[u8], text: &[u8
 
 /// Opens a session on a definition, with this number of workers, on the local trees. Returns 0 if the session is open; 2 if the definition is refused (81 to
 /// 90), a local source has no tree (121), or the number of workers is not 1 to 64 (122); 3 if memory is refused (91, 92, 123, 184). With 2 or 3 a session that
-/// was open before is unchanged, and the messages have a line (with 3 they have none if memory for the line is refused).
+/// was open before is unchanged, and the messages say why (with 3 they are empty or cut short if memory for them is refused).
 #[unsafe(no_mangle)]
 pub extern "C" fn llb_open(alloc: Global, it: &mut Llb, definition: &[u8], workers: u32) -> u8
     requires { IsSound it.old }
@@ -66,9 +66,9 @@ pub extern "C" fn llb_open(alloc: Global, it: &mut Llb, definition: &[u8], worke
 }
 
 /// Sends a line, without its line end, to the session; the output is the reply. Returns 0 if the session goes on; 1 if the line ends the session, and then no
-/// session is open; 4 if no session was open; 3 if there is no memory for the line that reports a refusal (184); 2 past 2^64 - 1 lines (185). With 2 or 3 the
-/// session is unchanged, and the messages have a line (with 3 they have none if memory for the line is refused). If what the line asks for is refused (171 to
-/// 174), that refusal is the reply.
+/// session is open; 4 if no session was open; 3 if memory is refused for the reply that would report a refusal (184); 2 if the session has already got 2^64 - 1
+/// lines (185). With 2 or 3 the session is unchanged, and the messages say why (with 3 they are empty or cut short if memory for them is refused). If what the
+/// line asks for is refused (171 to 174), the status is 0 and the reply reports the refusal.
 #[unsafe(no_mangle)]
 pub extern "C" fn llb_line(alloc: Global, it: &mut Llb, line: &[u8]) -> u8
     requires { IsSound it.old }
@@ -85,7 +85,7 @@ pub extern "C" fn llb_line(alloc: Global, it: &mut Llb, line: &[u8]) -> u8
 
 /// Runs a definition on the local trees with one worker; the output is the text of the result. Returns the status of `llbm run`: 0 if the output is the whole
 /// text; 1 if a vertex failed, and then the messages have a line for each failed vertex; 2 if the definition is refused, or a local source has no tree; 3 if
-/// memory is refused. With 2 or 3 the messages have a line (with 3 they have none if memory for the line is refused).
+/// memory is refused. With 2 or 3 the messages say why (with 3 they are empty or cut short if memory for them is refused).
 #[unsafe(no_mangle)]
 pub extern "C" fn llb_run(alloc: Global, it: &mut Llb, definition: &[u8]) -> u8
     requires { IsSound it.old }

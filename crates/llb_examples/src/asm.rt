@@ -8,8 +8,8 @@ use llb_wire::Over;
 use std::alloc::Global;
 use std::process::Abort;
 
-// A definition of two entries. The first has 33 bytes: a merge of one empty input, with a platform and constraints. The second has three bytes, more than
-// `write_op` writes for its op; so the text has it as `raw`.
+// A definition of two entries. The first has 33 bytes: a merge of one input, the empty tree, with a platform and constraints. The second has three bytes, more
+// than `write_op` writes for its op; so in the assembler's text it is a `raw` line.
 const DEFINITION: &[u8] = b"\x0a\x21\x32\x0d\x0a\x0b\x08\xff\xff\xff\xff\xff\xff\xff\xff\xff\x01\
     \x52\x0e\x0a\x05amd64\x12\x05linux\x5a\x00\x0a\x03\xb2\x00\x00";
 

@@ -1,4 +1,4 @@
-//! Tests the calls of the libraries below the board. What a library does and the program prints is tested by the program's transcripts instead
+//! Tests the calls of the libraries below the board. What shows in the program's output is not tested here, but by the program's transcripts
 //! (`crates/llbm/src/tests`). The expected values are written by hand from the rules.
 #![tactic(auto)]
 

@@ -151,8 +151,8 @@ fn say_mounts(rt: &impl Abort, alloc: Global, text: &mut String, view: &View) {
     }
 }
 
-// Appends `ok` if the tree of a mount was replaced. Otherwise appends the fault, and the files of the tree that the fault
-// returns.
+// Appends `ok` if the tree of a mount was replaced. Otherwise appends the fault, and the names of the files in the tree that
+// the fault holds.
 fn say_set(rt: &impl Abort, alloc: Global, text: &mut String, answer: Result<(), ReadOnly>) {
     match answer {
         Ok(()) => say(rt, text, "ok "),

@@ -14,7 +14,7 @@ const SHARED: &[Row<'_>] = &[
     ("/a/c/d", 0o644, 0, 0, Some("y")),
 ];
 
-// Each story begins with the same tree. It makes a second tree, which shares memory with the first.
+// Each story begins with the same tree, and makes a second tree that shares memory with the first.
 const TAKEN_IS_EDITED: &str = "
     # A file of a copy is replaced and a directory goes.
     > new

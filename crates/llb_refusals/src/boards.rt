@@ -169,7 +169,7 @@ struct OnParts {
 }
 
 impl OnParts {
-    // Returns the parts for the next opening: those that `ready` made or, if memory was refused to the latest opening, those that this opening returned.
+    // Returns the parts for the next opening: the parts that `ready` made or, if the latest opening was refused memory, the parts that this opening returned.
     fn taken(&mut self) -> Option<Parts> {
         let answer = mem::replace(&mut self.answer, Answer::None);
         match answer {
@@ -315,7 +315,7 @@ fn board_called(board: &mut Board, call: &str) -> Answer {
     }
 }
 
-// Returns the words `W at V, NAME`: worker `w` works at vertex `v`, and NAME is `the board` if the board is the expected one, and `another` if it is not.
+// Returns the words `W at V, NAME`: worker `w` works on vertex `v`; NAME is `the board` if the board is the expected one, and `another` if it is not.
 fn printed_work(rt: &impl Abort, alloc: Global, w: u32, v: u32, name: &str) -> String {
     format!(in alloc; "{w} at {v}, {name}").expect(rt, "memory")
 }

@@ -16,7 +16,8 @@ enum Answer {
     Ready(Result<Lent, Memory>),
 }
 
-// Two equal values of caches; the needs of the call twice, since `lease` consumes needs and is called twice; and an instance of the key of each need.
+// Two equal values of caches; two copies of the list of `Need`s that `lease` is given, since each of its two calls consumes one; and for the key of each `Need`
+// an instance.
 #[derive(Drop)]
 struct OnCaches {
     call: &'static str,
@@ -106,7 +107,7 @@ fn two_needs(rt: &impl Abort, alloc: Global, written: &'static str) -> Vec<Many<
     needs
 }
 
-// Returns, for each need, the instance of its key with the number 0.
+// Returns for each need instance 0 of the need's key.
 fn instances_of(rt: &impl Abort, alloc: Global, written: &'static str) -> Vec<Instance> {
     let mut instances = Vec::new(alloc);
     for need in needs_of(rt, alloc, written).into_vec() {

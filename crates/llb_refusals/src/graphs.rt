@@ -35,7 +35,7 @@ struct OnGraph {
     answer: Answer,
 }
 
-// Returns the rows that a text describes. Before each row the text has ` = `. A row has its digest text, which is one letter, and the name of its entry. The
+// Returns the rows that a text describes. For each row the text has ` = `, the row's digest text (one letter), a space, and the name of the row's entry. The
 // last row is the terminal.
 fn rows_of(rt: &impl Abort, alloc: Global, written: &str) -> Vec<Linked> {
     let mut rows = Vec::new(alloc);

@@ -8,8 +8,9 @@ use std::alloc::Global;
 use std::process::Abort;
 
 /// A row of a test: the call; what the call is made on; the result of the call if memory is refused; and the result if no memory is refused. The third text
-/// is empty for a call that does not allocate. If it has several faults with ` and ` between them, each of them has to be the result of some refusal. If it
-/// has several with ` or ` between them, each refusal has one of them as its result. The last text may be the name of a tree in place of the tree's text.
+/// is empty for a call that does not allocate. If it has several faults with ` and ` between them, each of these faults has to be the result of some refusal.
+/// If it has several faults with ` or ` between them, each refusal has to result in one of them. The last text may be the name of a tree in place of the tree's
+/// text.
 pub(crate) type Row = (&'static str, &'static str, &'static str, &'static str);
 
 /// A call that can be made more than once, with the values that the call is made on and the result of the latest call.
@@ -33,7 +34,7 @@ const START: usize = 0x3000_0000_0000_0000;
 
 const TELL: usize = 0x2000_0000_0000_0000;
 
-/// A number above the number of growths of any call. A call with more growths ends the test.
+/// The limit on the number of a call's growths: a call that has this many ends the test.
 pub(crate) const MOST: usize = 100_000;
 
 /// Makes the `k`-th later growth fail, and only that one. Has no effect if the library is not loaded.
@@ -51,7 +52,7 @@ pub(crate) fn was_refused(alloc: Global) -> bool {
     Vec::<u8>::with_capacity(alloc, TELL).is_ok()
 }
 
-/// Returns whether a result is one of the faults in `lacks`, the third text of a row.
+/// Returns whether a result is one of the faults in `lacks`: the third text of a test's `Row`, which has ` and ` or ` or ` between its faults.
 pub(crate) fn is_lack(printed: &str, lacks: &str) -> bool {
     for lack in lacks.split(" and ") {
         if lack == printed {

@@ -1,4 +1,4 @@
-//! This crate has only tests. They make each call that allocates many times, and let each growth (each request for memory) of the call fail in turn. A
+//! This crate has only tests. A test makes the same call again and again, and each time another growth (another request for memory) of the call fails. A
 //! library, which `tools/refuse` loads into the tests, makes the growths fail. Without the library each test makes each call once, and no growth fails.
 #![tactic(auto)]
 

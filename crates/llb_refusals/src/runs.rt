@@ -279,8 +279,8 @@ fn threads<R: Abort + Threads + Wait + Sync>(rt: &R, alloc: Global, row: &Row) -
     panic!(rt; "no end of threads");
 }
 
-// Boards, each of which is run while one thread after another can't be started. In the first two rows every worker but the first already runs a vertex; in
-// the last row only the second worker and the last worker do.
+// Boards. Each board is run once for each thread, and in that run the thread can't be started. In the first two rows every worker but the first already runs a
+// vertex; in the last row only the second worker and the last worker do.
 const THREADS: &[Row] = &[
     (
         "run_workers",

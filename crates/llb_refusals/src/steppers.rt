@@ -72,7 +72,7 @@ fn stepper_of(rt: &impl Abort, alloc: Global, on: &'static str) -> Stepper {
     stepper
 }
 
-// Lets the stepper of a text go to its end or its first breakpoint. Returns the record.
+// Makes the stepper that a text describes, and lets it go to the end of the run or to the first breakpoint. Returns the record.
 fn run_of(rt: &impl Abort, alloc: Global, on: &'static str) -> Vec<Event> {
     let mut stepper = stepper_of(rt, alloc, on);
     let _ = stop_of(&mut stepper);

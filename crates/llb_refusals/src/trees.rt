@@ -1,4 +1,4 @@
-//! Calls on paths and trees while memory is refused. A row has a tree by its name (`written`).
+//! Calls on paths and trees while memory is refused. A row has the name of the tree on which its call is made (see `written`).
 
 use super::growths::{Row, Trial, are_refused};
 use super::printed::{

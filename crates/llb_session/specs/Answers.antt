@@ -116,8 +116,8 @@ pub record PrintsNumber (s : Stepping) (n : ℕ) (text : List ℕ) (t : Stepping
   pub printed : (text ≡ fault_line (BadCommand n)) ⊎ (text ≡ fault_line Memory)
   pub same : t ≡ s
 
--- The reply to line n. A granted request prints its text. A refused request prints the line that reports the refusal. A line that is no request prints fault
--- 173 with n, or fault 174.
+-- The reply to line n: for a granted request, the text that `Grants` has; for a refused request, the line that reports the refusal; for a line that is no
+-- request, fault 173 with n, or fault 174 if memory for this reply is refused.
 abbrev pub AnswersAs : Option Request → Stepping → ℕ → List ℕ → Stepping → Type 0
 AnswersAs None s n text t = PrintsNumber s n text t
 AnswersAs (Some r) s n text t = Grants r s text t ⊎ PrintsRefusal r s text t
@@ -127,8 +127,8 @@ abbrev pub MayFail : Option Request → Type 0
 MayFail None = ⊤
 MayFail (Some r) = Wants r Memory
 
--- The reply to line n, if memory is granted for any line that reports a refusal. A granted request prints its text. A refused request prints the line that
--- reports the refusal. A line that is no request prints fault 173 with n, and changes nothing.
+-- The reply to line n, if there is memory for the line that reports a refusal: for a granted request, the text that `Grants` has; for a refused request, the
+-- line that reports the refusal; for a line that is no request, fault 173 with n, and the stepper is unchanged.
 abbrev pub RespondsAs : Option Request → Stepping → ℕ → List ℕ → Stepping → Type 0
 RespondsAs None s n text t = (text ≡ fault_line (BadCommand n)) × (t ≡ s)
 RespondsAs (Some r) s n text t = Grants r s text t ⊎ PrintsRefusal r s text t

@@ -12,7 +12,7 @@ use Rattle.llb_session.specs.Conversation.{Talks, Talked, Standing, Answered, Qu
 abbrev pub standing : Stepping → Pending → Standing
 standing s p = record { session = s; number = p.answered + 1; line = p.line.items }
 
--- what is written for the line of state p once its line end is read: the reply, nothing if the line ends the session, or a prefix of the reply on `Write`
+-- what is written once the end of the line of state p is read: the reply; nothing if the line ends the session; with the fault `Write` a prefix of the reply
 abbrev pub IsSaid : Standing → Stepping → Stream → Result Bool SessionFault → Type 0
 IsSaid p t out (Ok true) = (text : List ℕ) × Answers p.session p.number p.line text t × IsWritten out text
 IsSaid p t out (Ok false) = Quits p.line × (t ≡ p.session) × IsKept out
@@ -22,7 +22,7 @@ IsSaid p t out (Err (Unending interrupted)) = ⊥
 IsSaid p t out (Err Memory) = ⊥
 IsSaid p t out (Err TooLong) = ⊥
 
--- what is written at the end of the input for the last line, which has no line end: its reply or a prefix of it; nothing if the line is empty or ends a session
+-- what is written, at the end of the input, for the last line, which has no line end: the reply, or a prefix of it; nothing if the line is empty or `quit`
 abbrev pub IsLast : Standing → Stepping → Stream → Result (Unit {0}) SessionFault → Type 0
 IsLast p t out (Ok u) =
     ((text : List ℕ) × Talks p.session p.number (last_line p.line) text t × IsWritten out text)
@@ -39,7 +39,7 @@ pub record Went (p : Standing) (bytes : List ℕ) (q : Standing) (out : Stream) 
   pub talked : Talked p bytes text q
   pub printed : IsWritten out text
 
--- what is true once no further byte is used: the bytes `heard` were used, and the bytes `unheard`, which follow them, were not used
+-- what is written, for each result, after the bytes `heard` were used; the bytes `unheard`, which follow them, were not used (with true there are none)
 abbrev pub IsHeard : Standing → List ℕ → List ℕ → Standing → Stream → Result Bool SessionFault → Type 0
 IsHeard p heard unheard q out (Ok true) = (unheard ≡ []) × Went p heard q out
 IsHeard p heard unheard q out (Ok false) = AtLineEnd heard (λ bytes. Quit p bytes q.session out)

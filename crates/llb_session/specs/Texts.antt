@@ -49,7 +49,7 @@ abbrev pub with_line_end : Option (List ℕ) → List ℕ
 with_line_end None = []
 with_line_end (Some text) = text ++ codes "\n"
 
--- the line of event i of the record, counted from 1; empty if `record_at` has no such event
+-- the line of event i of the record, counted from 1; empty if there is no event i, or if the board had event i when the stepper was made
 abbrev pub record_line : Stepping → ℕ → List ℕ
 record_line s i = with_line_end (option_map (record_text s.board.build.graph.vertices i) (record_at s i))
 

@@ -190,8 +190,8 @@ fn respond_to(
     Ok(fault_line(alloc, &fault)?.into_bytes())
 }
 
-/// Replies to line `number` of a session, counted from 1, on the stepper, and returns the whole reply. The reply is empty if the line is granted and prints
-/// nothing; it is `fault 173` and the number if the line is no request; it is `fault` and 171, 172 or 174 if the request is refused, and then nothing is
+/// Does on the stepper what line `number` of a session (counted from 1) asks for, and returns the whole reply. The reply is empty if the request is granted and
+/// prints nothing; it is `fault 173` and the number if the line is no request; it is `fault` and 171, 172 or 174 if the request is refused, and then nothing is
 /// changed. Returns `None` if the line ends the session. Fails if there is no memory for the line that reports a refusal, and then nothing is changed either;
 /// neither `clear` nor a line that ends the session fails.
 pub fn respond(

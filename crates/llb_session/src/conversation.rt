@@ -88,7 +88,7 @@ fn hear_all<W: Write>(
     Ok(true)
 }
 
-// Replies, at the end of the input, to the bytes after the last line end as to a line, if there are any.
+// Ends a conversation at the end of the input: if bytes follow the last line end, replies to them as to a line.
 fn conclude<W: Write>(
     alloc: Global,
     session: &mut Stepper,

@@ -1,9 +1,9 @@
-//! Why a conversation ends early. Printing a fault writes the text after the word `fault`, and does not allocate.
+//! Why a conversation fails. Printing a fault writes its number, and does not allocate.
 
 use std::io::ErrorKind;
 use thiserror::Error;
 
-/// Why a conversation ends early.
+/// Why a conversation fails: a read or a write failed, memory was refused, or a bound was met.
 #[derive(Clone, Copy, Debug, PartialEq, Eq, Error)]
 pub enum SessionFault {
     /// 181: a read failed; the fault holds the error.
@@ -15,7 +15,7 @@ pub enum SessionFault {
     /// 182: the writer failed.
     #[error("182")]
     Write,
-    /// 184: memory for a line was refused.
+    /// 184: memory for a line of commands was refused.
     #[error("184")]
     Memory,
     /// 185: there were more bytes of commands than the limit that was given (67,108,864 in the program).

@@ -17,9 +17,9 @@ pub enum Request {
     Clear,
     /// Does an event.
     Event(Event),
-    /// Does the chosen event, which is the one that `Stepper::next` returns.
+    /// Does the chosen event (the event that `Stepper::next` returns).
     Next,
-    /// Does chosen events one after another, until one meets a breakpoint or there is none.
+    /// Does chosen events one after another, until an event meets a breakpoint or there is no chosen event.
     Go,
     /// Takes the last event back.
     Back,

@@ -15,7 +15,7 @@ use llb_treetext::{print_tree, push_path};
 use llb_wire::Over;
 use std::alloc::{AllocError, Global};
 
-// Appends the line of a vertex.
+// Appends the line with the number and the status of a vertex.
 fn push_status(text: &mut String, v: u32, status: Status) -> Result<(), StepperFault>
     ensures line { IfOk result (λ _. string_bytes text.new ≡ string_bytes text.old ++ status_line v status) }
     ensures memory { IfErr result (λ e. e ≡ refusal.Memory) }
@@ -73,7 +73,7 @@ pub(crate) fn line_text(
     Ok(text)
 }
 
-/// Returns the lines of the record after the first `from` events, up to the line of event `to`.
+/// Returns the lines of the record after the first `from` events, up to and with the line of event `to`.
 #[tactic(auto, unfolding(crate::specs::Texts::record_lines))]
 pub(crate) fn record_text(
     alloc: Global,
@@ -108,7 +108,7 @@ pub(crate) fn tree_text(alloc: Global, tree: Option<&Tree>) -> Result<Vec<u8>, S
     Ok(text)
 }
 
-// Appends the line of tree `i` of a worker.
+// Appends the line for tree `i` of the trees that a worker works on.
 fn push_part(text: &mut String, i: usize, part: Part<'_>) -> Result<(), StepperFault>
     ensures line { IfOk result (λ _. string_bytes text.new ≡ string_bytes text.old ++ role_line i (role_in part.entry)) }
     ensures memory { IfErr result (λ e. e ≡ refusal.Memory) }
@@ -137,7 +137,7 @@ fn none_text(alloc: Global) -> Result<String, StepperFault>
     Ok(text)
 }
 
-// Returns a line for each tree of a workspace, or the line `none` if it has none.
+// Returns a line for each tree of a workspace, or the line `none` if the workspace has no tree.
 #[tactic(auto, unfolding(crate::specs::Texts::role_lines))]
 fn parts_text(alloc: Global, workspace: &Workspace) -> Result<String, StepperFault>
     ensures lines { IfOk result (λ s. string_bytes s ≡ part_lines (roles_of workspace.now)) }

@@ -1,5 +1,5 @@
--- The breakpoints of a stepper as two sets of vertices, for breakpoints at claims and at settles, and a flag for the one at
--- failures. The vertex of an event is looked up in these sets, so breakpoints are not tried one by one.
+-- The breakpoints of a stepper as two sets of vertices (those with a breakpoint at their claims, and those with a breakpoint at their settles) and a flag
+-- (whether there is a breakpoint at failures). The vertex of an event is looked up in these sets, so breakpoints are not tried one by one.
 use Rattle.std.specs.Prelude.{◌≡◌, ℕ, ◌==◌, ◌||◌, Bool, true, false, List}
 use Rattle.std.specs.List.{list_any}
 use Rattle.std.specs.Ordering.{nat_cmp}
@@ -49,7 +49,7 @@ pub record AreUnchanged (old new : Kinds) : Type 0 where
   pub settles : (v : ℕ) → contains nat_cmp new.settles v ≡ contains nat_cmp old.settles v
   pub failures : new.failures ≡ old.failures
 
--- whether an event, whatever the reply to it, meets a breakpoint of the sets: it is a claim of a vertex in the set `claims`
+-- whether an event meets a breakpoint of the sets, whatever the reply to the event is: the event is a claim of a vertex in the set `claims`
 abbrev pub is_met_by_event : Kinds → Event → Bool
 is_met_by_event kinds (Claim w v) = contains nat_cmp kinds.claims v
 is_met_by_event kinds (Step w) = false

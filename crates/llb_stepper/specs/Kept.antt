@@ -25,8 +25,8 @@ pub record Follows (before b : BoardValue) (r : short.Reply) : Type 0 where
   pub given : answered before event ≡ Some (b, reply)
   pub same : r ≡ told reply
 
--- This holds for each event that was done, the last one first: what is kept of the event takes it back from the board after the event, and the table leads
--- by this event from the board before it to the board after it, with the kept reply.
+-- For each event that was done, the last event first: the kept `undo` takes the event back from the board after the event, and the table leads by this event
+-- from the board before the event to the board after the event, with the kept reply.
 abbrev pub AreWalked : BoardValue → List Walked → Type 0
 AreWalked b [] = Unit {0}
 AreWalked b (w ∷ ws) = CanUndo w.undo b × Follows (undone w.undo b) b w.reply × AreWalked (undone w.undo b) ws

@@ -100,7 +100,7 @@ pub record RecordIsTheRun (s : Stepping) : Type 0 where
       → run s.board.build (opening s.board.build s.board.opening) s.board.events ≡ Some (t, replies) → 1 ≤ i → length s.board.events < i + length s.past
       → slice_get s.board.events (i - 1) ≡ Some e → slice_get replies (i - 1) ≡ Some r → record_at s i ≡ Some (e, r)
 
--- Stepper t has done the whole record of board b: it is on b, and its lines are the events of the record with their replies.
+-- Stepper t has done the whole record of board b: the board of t is b, and the lines of t are the events of the record with their replies.
 pub record HasRun (b : BoardValue) (t : Stepping) : Type 0 where
   pub leads : t.board ≡ b
   pub lines : (i : ℕ) (e : Event) (r : Reply) → slice_get b.events i ≡ Some e → slice_get (replies_in b) i ≡ Some r → record_at t (i + 1) ≡ Some (e, r)

@@ -6,9 +6,9 @@ use Rattle.llb_model.specs.Run.{run}
 use Rattle.llb_board.specs.Seen.{BoardValue, replies_in}
 use Rattle.llb_board.specs.Rules.{claim_of, step_of, settle_of, cancel_of}
 
--- For each call that does an event on board b: the replies to the record's events are those before the call, followed by the reply that the call returns. A
--- call that lands an outcome appends n steps of worker w, and the worker's settle, to the record; the replies to these events then follow instead. Board t is
--- the board after the call.
+-- What a call on board b adds at the end of the list of replies to the record's events; board t is the board after the call. A call that does one event adds
+-- the reply that the call returns. A call that lands an outcome adds the replies to the events that it appends to the record: n steps of worker w, and the
+-- worker's settle.
 pub record RepliesAreRecorded (b : BoardValue) : Type 0 where
   pub claim : (w v : ℕ) (t : BoardValue) (r : Reply) → claim_of b w v ≡ Ok (t, r) → replies_in t ≡ replies_in b ++ r ∷ []
   pub step : (w : ℕ) (t : BoardValue) (r : Reply) → step_of b w ≡ Ok (t, r) → replies_in t ≡ replies_in b ++ r ∷ []

@@ -71,7 +71,7 @@ meets e r (stop.Claims v) = claims v e
 meets e r (stop.Settles v) = settles v r
 meets e r stop.Fails = has_failed r
 
--- whether an event meets one of the breakpoints, given the board and the reply to which it leads; false if the event is refused, which is given as nothing
+-- whether an event meets one of the breakpoints, given the board and the reply to which the event leads; false if there are none, as the event is refused
 abbrev pub meets_by : List Break → Event → Option (BoardValue × Reply) → Bool
 meets_by breaks e None = false
 meets_by breaks e (Some p) = list_any (meets e p.1) breaks
@@ -92,7 +92,7 @@ unfoldable pub run_on : BoardValue → List Event → Option BoardValue
 run_on b [] = Some b
 run_on b (e ∷ es) = then_on (answered b e) (λ c. run_on c es)
 
--- whether the board after an event passes a test; false if the event was refused
+-- whether the board after an event passes the test `go`; false if the event was refused
 abbrev pub meets_from : Option (BoardValue × Reply) → (BoardValue → Bool) → Bool
 meets_from None go = false
 meets_from (Some p) go = go p.0
@@ -126,8 +126,8 @@ abbrev pub EndsAt : Bool → List Break → BoardValue → List Event → ℕ �
 EndsAt true breaks b es n = (k : ℕ) × ((n ≡ k + 1) × (meets_at breaks b es k ≡ true))
 EndsAt false breaks b es n = (n ≡ length es) × ((k : ℕ) → k < n → meets_at breaks b es k ≡ false)
 
--- Stepper t is s after the shortest non-empty prefix of a list of events whose last event meets a breakpoint, or after the whole list if no event of the list
--- meets a breakpoint; the breakpoints of t are those of s.
+-- Stepper t is s after some events of a list: all events up to and with the first that meets a breakpoint, or the whole list if no event meets a breakpoint.
+-- The breakpoints of t are those of s.
 pub record IsStop (s : Stepping) (es : List Event) (t : Stepping) (p : Stop) : Type 0 where
   pub leads : run_on s.board (take p.events es) ≡ Some t.board
   pub past : drop p.events (timeline t) ≡ timeline s

@@ -1,5 +1,5 @@
--- Breakpoints and lines, restated for the replies of the board's call `walk`. These replies are the table's, except that
--- the reply to a claim has no job.
+-- Breakpoints and lines, restated for the replies of the board's call `walk`, which does an event and also returns what undoes it. These replies are the
+-- table's, except that the reply to a claim has no job.
 use Rattle.std.specs.Prelude.{ℕ, ◌==◌, Bool, true, false, List, ◌++◌, codes, slice_get}
 use Rattle.std.specs.Fmt.{decimal}
 use Rattle.llb_loader.specs.declared.graph.Vertex.{Vertex}
@@ -43,7 +43,7 @@ told_text vertices e (reply.Stepped s) = step_text s
 told_text vertices e (reply.Settled s) = settle_text s
 told_text vertices e (reply.Cancelled c) = pair_text c.vertex c.done
 
--- the line for an event and the reply of `walk` to it, without a line end
+-- the line for an event and its reply, without a line end; the reply is the one that `walk` returns
 abbrev pub line_text : List Vertex → ℕ → Event → Reply → List ℕ
 line_text vertices number e r = decimal number ++ (codes " " ++ (event_text e ++ (codes " -> " ++ told_text vertices e r)))
 

@@ -1,5 +1,5 @@
-//! The breakpoints of a stepper, as a list and as sets: a set of vertices for breakpoints at claims, and one for breakpoints at settles. The vertex of an
-//! event is looked up in these sets, so a look-up takes at most logarithmic time in the number of breakpoints.
+//! The breakpoints of a stepper, as a list and as sets: the vertices with a breakpoint at their claims, and the vertices with a breakpoint at their settles.
+//! The vertex of an event is looked up in these sets, so a look-up takes at most logarithmic time in the number of breakpoints.
 
 ghost use Rattle.std.specs.Prelude.{◌≡◌, ◌++◌, ◌∷◌, [], OnOk, OnErr};
 ghost use Rattle.std.specs.List.{list_any};

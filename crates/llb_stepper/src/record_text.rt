@@ -100,7 +100,7 @@ fn reply_text(
     }
 }
 
-/// Returns the line for an event, made from its number, the event and the reply to it, without a line end.
+/// Returns the line for an event, without a line end: the number of the event, the event, ` -> ` and the reply.
 pub(crate) fn line_text(
     alloc: Global,
     vertices: &[Vertex],

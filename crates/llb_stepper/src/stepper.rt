@@ -130,8 +130,8 @@ impl Stepper {
         }
     }
 
-    /// Returns the line of event `i` of the board's record, counted from 1, with its reply: `None` past the end of the record, at 0, and for events that the
-    /// board had when the stepper was made. Fails with 174 alone.
+    /// Returns the line of event `i` of the board's record, counted from 1, with its reply. Returns `None` at 0, past the end of the record, and for events
+    /// that the board had when the stepper was made. Fails with 174 alone.
     pub fn record_line(&self, i: u64) -> Result<Option<Text>, StepperFault>
         ensures line { IfOk result (λ o. option_map (λ t. t) o ≡ option_map (record_text self.now.board.build.graph.vertices i) (record_at self.now i)) }
         ensures memory { IfErr result (λ e. e ≡ fault.Memory) }
@@ -143,7 +143,7 @@ impl Stepper {
         Ok(Some(Text::new(line)))
     }
 
-    // Returns event `i` of the record with its reply; `None` if `record_line` returns no line for it.
+    // Returns event `i` of the record with its reply; `None` if `record_line` returns no line for this number.
     fn recorded(&self, i: u64) -> Option<(Event, Reply)>
         ensures { result ≡ option_map told_pair (record_at self.now i) }
     {
@@ -284,8 +284,8 @@ pub fn there_and_back(stepper: &Stepper)
     let _ = &stepper.board;
 }
 
-/// Proves for each `n`: the board before the last `n` events, if the stepper did them, is the board to which the record without these events leads, in whatever
-/// way they were done.
+/// Proves for each `n`, if the stepper did the last `n` events: the board before these events is the board to which the record without them leads, however the
+/// events were done.
 pub fn past_is_the_records(stepper: &Stepper)
     ensures { PastIsTheRecords stepper.now }
 {

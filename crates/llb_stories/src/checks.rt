@@ -1,6 +1,6 @@
 //! Stories about what a session does not print: what each worker of a board does, and which instances caches have. Such a story is a transcript as in
-//! `sessions`: a line that begins with `> ` is a call, and the lines below it are the call's result. A call is an event as in a session, which prints nothing
-//! if it is granted, or one of these. `job W V` claims vertex V for worker W, and prints the job and the job's cache instances. `worker W` prints what worker
+//! `sessions`: a line that begins with `> ` is a call, and the lines below it are the call's result. A call is an event as in a session (a granted event prints
+//! nothing), or one of these. `job W V` claims vertex V for worker W, and prints the job and the job's cache instances. `worker W` prints what worker
 //! W does. `instance MODE I` prints the tree of instance I of the cache `k` with that mode (`seeded`: locked, with a seed). `leases` prints the number of
 //! current leases.
 

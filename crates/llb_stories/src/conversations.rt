@@ -13,7 +13,7 @@ use std::io;
 use std::io::{ErrorKind, Read, Write};
 use std::process::Abort;
 
-// The lines of a session, and all that the session prints. The stepper has a definition of one file and one worker.
+// The lines of a session, and all that the session prints. The stepper's board has one worker, and one vertex, which makes a file.
 const CONVERSATIONS: &[(&str, &str)] = &[
     // A session ends after its last line, or at a line `quit`.
     ("", ""),

@@ -171,8 +171,8 @@ fn all_end<R: Abort + Threads + Wait + Sync>(
     true
 }
 
-// Returns the number of the row for the shape at index `at` and a number of workers. The number of workers is below 100, so different rows have different
-// numbers.
+// Returns the number that a failure shows for a case: the shape at index `at`, run by this number of workers. The number of workers is below 100, so different
+// cases have different numbers.
 fn row(at: usize, workers: u32) -> usize {
     at.wrapping_mul(100).wrapping_add(workers as usize)
 }

@@ -162,7 +162,7 @@ fn is_a_block(board: &mut Board, outcome: Outcome) -> [bool; 3] {
     ]
 }
 
-// Does a step on the vertex of an outcome. Returns whether the outcome then does not land, and whether its worker can still settle the vertex.
+// Does a step on the vertex of an outcome. Returns whether the outcome then does not land, and whether the vertex's worker can still settle the vertex.
 fn is_late(board: &mut Board, outcome: Outcome) -> [bool; 3] {
     let stepped = are_done(board, "step 0");
     let refused = landed(board, 0, outcome) == 139;
@@ -253,8 +253,8 @@ fn a_vertex_is_claimed_worked_on_and_settled_with_each_refusal_on_the_way(rt: Ho
     );
 }
 
-// Worker 0 does a step and gives its vertex up, and worker 1 claims the vertex. The outcome of worker 0's job does not land for worker 1: it is another
-// worker's, and the step has changed the cache.
+// Worker 0 does a step and gives its vertex up, and worker 1 claims the vertex. The outcome of worker 0's job does not land for worker 1: the job was handed
+// out to worker 0, and the step has changed the cache.
 const GIVEN_UP: Expected = (
     "step 0\ncancel 0\ncancel 0\ncancel 9\nclaim 1 0",
     "done\ndone\n136\n131\ndone\n",

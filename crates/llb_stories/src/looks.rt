@@ -1,4 +1,4 @@
-//! Stories of calls that only read: the trees that a worker works on, and what caches have. These calls change nothing.
+//! Stories of calls that only read: the trees that a worker works on, and the keys and instances of caches. These calls change nothing.
 
 use super::sessions::{StoryKind, are_stories};
 

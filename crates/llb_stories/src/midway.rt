@@ -47,8 +47,8 @@ fn is_by_one(end: &RunEnd, before: usize) -> bool {
         && made == 11u64.saturating_sub(before as u64)
 }
 
-// The run begins in four states. In the first the worker has claimed the second vertex; in the second and third it has also done one or both of the vertex's
-// micro-steps; in the fourth it has settled the vertex.
+// The run begins in four states. In the first state the worker has claimed vertex 1; in the second and in the third state it has also done one or both of the
+// vertex's micro-steps; in the fourth state it has settled the vertex.
 #[test]
 fn a_worker_first_ends_what_it_runs(rt: HostRuntime) {
     for before in 1..=4 {

@@ -23,7 +23,7 @@ const WORKERS: &[(u32, Option<usize>)] = &[
     (64, None),
 ];
 
-// Returns, if the opening is refused for the number of workers, how many vertices the returned graph has; else `None`.
+// Returns how many vertices the graph has that a refused opening returns, if the opening is refused because of the number of workers; else `None`.
 fn vertices_back(fault: &OpenFault) -> Option<usize> {
     match fault {
         OpenFault::Workers(back, _, _) => Some(back.vertices().len()),
@@ -149,7 +149,7 @@ fn a_board_that_is_left_in_the_middle_gives_its_caches_to_the_next(rt: HostRunti
     is_so(&rt, is_answered(&rt, alloc, &mut board, BEHIND));
 }
 
-// Returns whether the opening is refused for the number of workers and returns caches equal to these.
+// Returns whether the opening is refused because of the number of workers, and returns caches equal to these.
 fn has_caches(fault: &OpenFault, caches: &Caches) -> bool {
     match fault {
         OpenFault::Workers(_, _, back) => back.same(caches),

@@ -1,4 +1,4 @@
-//! Runs that go to their ends and are taken back event by event, after which the board is as before; and records that are replayed.
+//! Runs that go to their ends and are then taken back event by event, until the board is as before the run; and records that are replayed.
 
 ghost use Rattle.std.specs.Prelude.{◌≡◌};
 
@@ -59,8 +59,9 @@ const WALKED: &[(&str, &str)] = &[
     ),
 ];
 
-// Runs a board to its end and takes the run back. Returns whether the run completes the board; whether the board then equals a copy that was made before the
-// run; whether the board and the copy go on to equal ends; and whether calls on the complete board have the results in `ended`.
+// Runs a board to its end and takes the run back. Returns whether the run completes the board; whether the board, once the run is taken back, equals a copy
+// that was made before the run; whether the board and the copy, both run to their ends, are equal; and whether calls on the complete board have the results in
+// `ended`.
 fn is_walked(rt: &impl Abort, alloc: Global, definition: &str, ended: &str) -> [bool; 4] {
     let mut board = board_of(rt, alloc, definition, "", 2);
     let mut fresh = copy_of(&board).expect(rt, "memory");

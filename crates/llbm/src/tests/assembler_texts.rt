@@ -1,5 +1,4 @@
-//! Tests `asm` and `dis`. The text that `asm` reads is in the call itself, after `$`; each `|` of the text is the end of a
-//! line.
+//! Tests `asm` and `dis`. The text that `asm` reads is in the call itself, after `$`; in this text each `|` means the end of a line.
 
 use super::transcripts::is_transcript;
 

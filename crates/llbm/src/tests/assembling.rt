@@ -3,7 +3,7 @@
 
 use super::transcripts::is_transcript;
 
-/// The texts that a call names after `@`, each below a line with `== `, the text's name and a description.
+/// The texts that calls of transcripts name after `@`. Each is below a line with `== `, the text's name and a description.
 pub(crate) const TEXTS: &str = "
 == MERGE: A merge of nothing.
 op {

@@ -1,5 +1,5 @@
-//! Entries for the definitions of calls. Each entry is the assembler's text below a line with `== `, the entry's name and a description. In the text, `%0` is
-//! the digest of the first entry of the definition in which the entry is used.
+//! Entries that calls of transcripts name in their definitions. Each entry is the assembler's text below a line with `== `, the entry's name and a description.
+//! In the text, `%0` is the digest of the first entry of the definition in which the entry is used.
 
 pub(crate) const ENTRIES: &str = r#"
 == MAKES_A: A file `/a` with the content `hi` on nothing.

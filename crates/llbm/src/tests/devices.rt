@@ -50,7 +50,7 @@ pub(crate) struct Rooms {
 
 const MANY: usize = 1 << 20;
 
-/// Devices that do not fail within the 1,048,576 reads, writes or flushes that each of them does.
+/// Devices each of which fails only after 1,048,576 reads, writes or flushes.
 pub(crate) const AMPLE: Rooms = Rooms {
     input: MANY,
     file: MANY,

@@ -1,4 +1,4 @@
-//! Execs for the definitions of calls. They are written in the same way as the entries in `definitions`.
+//! Execs that calls of transcripts name in their definitions. They are written in the same way as the entries in `definitions`.
 
 pub(crate) const EXECUTIONS: &str = r#"
 == COPIES: An exec on the first two entries with three mounts, of which two give an output.

@@ -48,8 +48,7 @@ pub(crate) fn rooms_of(device: Device, room: usize) -> Rooms {
     rooms
 }
 
-// Returns whether a call ended as expected after its device failed. The device did `room` reads, writes or flushes before it failed, which is less than the
-// call needs.
+// Returns whether a call ended as expected after its device failed. The device did `room` reads, writes or flushes before it failed, fewer than the call needs.
 fn is_failure(ran: &Ran, case: &Case, room: usize) -> bool {
     let (device, _, _, out, err) = case;
     match device {

@@ -36,7 +36,7 @@ fn assembled(alloc: Global, text: &str) -> Ran {
 }
 
 // The definition has 129 bytes and two entries: a file op, and the terminal that names the file op. The record of the first entry is the first 52 bytes. So a
-// cut after 0 or 52 bytes leaves whole records, of fewer than two entries.
+// definition that is cut after 0 or 52 bytes has only whole records, but fewer than two entries.
 #[test]
 fn a_definition_that_is_cut_is_refused(rt: HostRuntime) {
     let definition = definition_of(&rt, rt.alloc(), "MAKES_A; RESULT_0");
@@ -71,7 +71,7 @@ fn repeated(
     text
 }
 
-// An empty entry is a record of the two bytes `0a 00`. The loader counts equal entries as one entry, and fails with 83 because a definition has at least two.
+// An empty entry is a record of the two bytes `0a 00`. The loader counts equal entries as one entry, and fails with 83 because a definition needs at least two.
 #[test]
 fn a_definition_has_65536_entries_at_most(rt: HostRuntime) {
     let alloc = rt.alloc();

@@ -1,5 +1,5 @@
-//! Pieces of the entries of calls. A piece is some lines of the assembler's text below a line with `== `, the piece's name and a description. A piece that
-//! belongs to a mount is inserted after the line of the mount's dest.
+//! Pieces that calls of transcripts name to make an entry. A piece is some lines of the assembler's text below a line with `== `, the piece's name and a
+//! description. A piece that belongs to a mount is inserted after the line of the mount's dest.
 
 pub(crate) const PIECES: &str = r#"
 == TRUE: an exec of `true`, left open for its mounts

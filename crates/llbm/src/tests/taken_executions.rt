@@ -54,7 +54,7 @@ fn an_exec_is_taken_or_refused_by_its_feature_or_its_rule(rt: HostRuntime) {
     is_transcript(&rt, rt.alloc(), CASES);
 }
 
-// Execs of the script `true`, each with other mounts.
+// Execs of the script `true`, which differ in their mounts.
 const MOUNTS: &str = r#"
     # One is at the root.
     > show < TRUE | -1 / | }; RESULT

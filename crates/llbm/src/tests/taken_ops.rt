@@ -110,7 +110,7 @@ fn an_op_is_taken_or_refused_by_its_feature_or_its_rule(rt: HostRuntime) {
     is_transcript(&rt, rt.alloc(), OPS);
 }
 
-// Copies from the empty tree to the empty tree, which differ in the fields that are set.
+// Copies from the empty tree to the empty tree. The copies differ in which of their fields are set.
 const COPIES: &str = r#"
     > show < COPY | } | } | }; RESULT
     0 file steps 1 outputs 1 inputs -

@@ -1,10 +1,10 @@
-//! Tests the program by transcripts. A line that begins with `> ` is a call. The lines below it are what the call writes to standard output, then what it
-//! writes to standard error after `! `, and then its status if the status is not 0. A line that begins with `# ` describes the calls below it.
+//! Tests the program by transcripts. A line that begins with `> ` is a call. The lines below it are what the call writes to standard output; then, if the call
+//! writes to standard error, `! ` and what it writes there; then its status, if that is not 0. A line that begins with `# ` describes the calls below it.
 //!
 //! A call has the words of the command line, and after ` < ` its input in one of four forms: the entries of a definition, in the form of `written`; `=` and
-//! bytes in hexadecimal; `@` and the name of a text in `assembling`; `$` and a text in which each `|` is the end of a line. In a call of `step`, the commands
-//! of the session follow after ` | `, separated by `;`. The file `FILE` has the same bytes as the input; the other files are in `local_trees`. The output of
-//! `asm` is shown in hexadecimal. All devices read and write one byte at a time.
+//! bytes in hexadecimal; `@` and the name of a text in `assembling`; `$` and a text in which each `|` means the end of a line. In a call of `step`, the
+//! commands of the session follow after ` | `, separated by `;`. The file `FILE` has the same bytes as the input; the other files are in `local_trees`. The
+//! output of `asm` is shown in hexadecimal. All devices read and write one byte at a time.
 
 use super::assembling::TEXTS;
 use super::devices::{AMPLE, Narrow, Ran, Rooms, Slow};

@@ -76,7 +76,7 @@ fn push_act(rt: &impl Abort, text: &mut String, before: usize, action: &str) {
     push(rt, text, "}\n}\n}\n}\n");
 }
 
-// Appends an exec of a script. At its root is the output of the entry with the number `before`, or the empty tree if there is no such number.
+// Appends an exec of a script. At its root is the output of the entry with the number `before`, or the empty tree if `before` is `None`.
 fn push_script(rt: &impl Abort, text: &mut String, before: Option<usize>, script: &str) {
     push(rt, text, "op {\n");
     if let Some(before) = before {
@@ -99,7 +99,7 @@ fn entry_named(name: &str) -> Option<&'static str> {
         .or(block(SPELLED, name))
 }
 
-// Appends the text of an entry that is written in one of the other forms, not by a name. Its number in the definition is `at`.
+// Appends the text of an entry that is not written as a name, but in one of the other forms (see the head of this file). Its number in the definition is `at`.
 fn push_made(rt: &impl Abort, text: &mut String, at: usize, entry: &str) {
     let before = at.saturating_sub(1);
     let (word, rest) = entry.split_once(' ').unwrap_or((entry, ""));
@@ -111,7 +111,7 @@ fn push_made(rt: &impl Abort, text: &mut String, at: usize, entry: &str) {
     }
 }
 
-/// Appends the text of the entries that a call has; appends nothing if it has none.
+/// Appends the text of the entries that a call has; appends nothing if the call has no entries.
 pub(crate) fn push_entries(rt: &impl Abort, text: &mut String, entries: &str) {
     if entries.is_empty() {
         return;
