@@ -190,7 +190,7 @@ text_of (raw line bytes rest) = line ∷ text_of rest
 text_of (op line items entry rest) = line ∷ (lines_of items ++ (closing ∷ text_of rest))
 text_of (open_op line items) = line ∷ lines_of items
 
--- the bytes of each entry, in order; the op that is not closed, if there is one, is left out
+-- the bytes of each entry, in order; an op whose closing line is missing has no bytes here
 abbrev pub entries_of : Entries → List (List ℕ)
 entries_of none = []
 entries_of (raw line bytes rest) = bytes ∷ entries_of rest

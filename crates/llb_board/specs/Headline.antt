@@ -21,7 +21,7 @@ pub record HoldsInstance (b : BoardValue) (w : ℕ) (p : Instance) : Type 0 wher
 abbrev pub LockedOnce : BoardValue → Type 0
 LockedOnce b = (w u : ℕ) (p q : Instance) → HoldsInstance b w p → HoldsInstance b u q → p.key ≡ q.key → p.key.mode ≡ Locked → w ≡ u
 
--- two running workers that hold the same instance of a locked or a private key are the same worker
+-- no two workers hold the same instance of a locked or a private key
 abbrev pub HeldOnce : BoardValue → Type 0
 HeldOnce b = (w u : ℕ) (p : Instance) → HoldsInstance b w p → HoldsInstance b u p → IsExclusive p.key.mode → w ≡ u
 

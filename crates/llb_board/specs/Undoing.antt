@@ -13,7 +13,7 @@ pub record Left : Type 0 where
   pub execution : Execution
   pub supplies : Supplies
 
--- an execution that a worker left, and its supplies, as contracts see them
+-- what contracts see of an execution that is kept after its worker's settle or cancel: the execution and its supplies
 abbrev pub left_in : own.Execution → Left
 left_in x = record { execution = execution_of x; supplies = supplies_of x }
 

@@ -62,7 +62,7 @@ worked_by x trees (Some m) = Ok (worked_to x m (step_on x.done (Some m) (work_wi
 abbrev pub worked : List MicroStep → Execution → List TreeMap → Result Worked StepFault
 worked steps x trees = worked_by x trees (next_step steps x)
 
--- the result of a micro-step, with the rows of all caches in place of the trees of the execution's instances
+-- the result of a micro-step, as `Worked` has it, but with the rows of all caches instead of only the trees of the execution's instances
 abbrev pub Written : Type 0
 Written = Execution × List Row × Reply
 

@@ -1,4 +1,4 @@
--- Stores as plain values (pairs, numbers, lists), so that two values that contain stores can be compared in a contract.
+-- A store (a tree for each instance of a cache) as a plain value of pairs, numbers and lists, so that contracts can compare values that contain stores.
 use Rattle.std.specs.Prelude.{◌≡◌, ℕ, zero, suc, List, Option, Some, None, refl}
 use Rattle.std.specs.FinMap as finite
 use Rattle.std.specs.Coded.{Coded, code_by, coded×, coded_ℕ, coded_list, coded_option}

@@ -94,7 +94,7 @@ abbrev pub claim_unless : Build → State → ℕ → ℕ → Start → Option K
 claim_unless b s w v start (Some k) = Err (claim.Held k)
 claim_unless b s w v start None = Ok (claim_at b s w v start (places_for (held s.workers) (needs_of start.vertex)))
 
--- the result of a claim, given what the work on its vertex begins with, or the reason why the claim is refused
+-- the result of a claim, given either what the work on its vertex begins with or the reason why the claim is refused
 abbrev pub claimed : Build → State → ℕ → ℕ → Result Start ClaimFault → Result (State × Reply) ClaimFault
 claimed b s w v (Ok start) = claim_unless b s w v start (held_key (held s.workers) (needs_of start.vertex))
 claimed b s w v (Err cause) = Err cause

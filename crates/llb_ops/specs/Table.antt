@@ -1,5 +1,5 @@
 -- The table of messages: the fields of each message (`ops.proto` of BuildKit) that are read, by name, number and kind, in ascending order of
--- their numbers. A field of the kind `Bytes` is bytes, or a message that is not looked into; an entry of the map `attrs` is a message too.
+-- their numbers. A field of the kind `Bytes` is bytes, or a message whose fields are not read. An entry of the map `attrs` is a message with rows of its own.
 use Rattle.std.specs.Prelude.{◌≡◌, ℕ, List, [], ◌∷◌, map, find, filter, codes, Option, Some, true, false, nat_eq, ◌==◌}
 use Rattle.std.specs.List.{AllByRecursion}
 use Rattle.std.specs.Cmp.Lexicographic.{pointwise}

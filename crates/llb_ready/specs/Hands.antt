@@ -6,7 +6,7 @@ use Rattle.llb_ready.specs.declared.hand.Hand.{Hand}
 abbrev pub hand : ℕ → ℕ → ℕ → List ℕ → List ℕ → Hand
 hand num den room put taken = record { num = num; den = den; room = room; put = put; taken = taken }
 
--- A pass that may put and take has a fraction above zero.
+-- The fraction of a pass (its share of the right to put and to take numbers) is above zero; only such a pass may put and take.
 abbrev pub HasPart : Hand → Type 0
 HasPart v = (0 < v.num) × (0 < v.den)
 
@@ -26,11 +26,11 @@ first_hand room = hand 1 1 room [] []
 abbrev pub widened : Hand → Hand
 widened v = hand v.num v.den (v.room + 1) v.put v.taken
 
--- The pass after it puts x: x follows the numbers that the pass put before.
+-- A pass that has put x: x is now the last of the numbers that it has put.
 abbrev pub with_put : Hand → ℕ → Hand
 with_put v x = hand v.num v.den v.room (v.put ++ x ∷ []) v.taken
 
--- The pass after it takes x: x follows the numbers that the pass took before.
+-- A pass that has taken x: x is now the last of the numbers that it has taken.
 abbrev pub with_taken : Hand → ℕ → Hand
 with_taken v x = hand v.num v.den v.room v.put (v.taken ++ x ∷ [])
 
@@ -42,7 +42,7 @@ halved v = hand v.num (2 * v.den) v.room v.put v.taken
 abbrev pub other_half : Hand → Hand
 other_half v = hand v.num (2 * v.den) v.room [] []
 
--- Two passes that are joined have the sum of their fractions; the numbers that the first pass put and took are followed by those that the second put and took.
+-- Two passes joined to one: their fractions are added, the second's list of numbers put is appended to the first's, and so is its list of numbers taken.
 abbrev pub together : Hand → Hand → Hand
 together v w = hand (v.num * w.den + w.num * v.den) (v.den * w.den) v.room (v.put ++ w.put) (v.taken ++ w.taken)
 

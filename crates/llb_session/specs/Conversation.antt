@@ -127,8 +127,8 @@ EndsSo c heard unheard (Err (Unending interrupted)) =
 EndsSo c heard unheard (Err Memory) = Answered (opening c.before) heard c.after c.replies
 EndsSo c heard unheard (Err TooLong) = (length heard ≡ c.limit) × (0 < length unheard) × Answered (opening c.before) heard c.after c.replies
 
--- A conversation reads some bytes and uses them from the start, at most `limit` of them. Without a fault it ends with the input or with a line that ends
--- the session.
+-- A conversation reads some bytes and uses a first part of them, of at most `limit` bytes. Without a fault it ends where the input ends, or after a line
+-- that ends the session.
 pub record Converses (c : Conversation) (result : Result (Unit {0}) SessionFault) : Type 0 where
   pub heard : List ℕ
   pub unheard : List ℕ
