@@ -4,9 +4,9 @@
 -- The parts of a board: Links (the users of a vertex, how many inputs of a vertex are open, and where a mark spreads), Vertices (the vertices as contracts see
 -- them, and what is kept besides) and Workers (the workers as contracts see them). Then come WorkerRules (the results of a claim, a step, a settle and a cancel
 -- for a worker), OptionalLeases (leases that may be absent) and Jobs (the job that remains for a worker).
--- The other files: Needs (what a claim takes of the caches), Supplies (what a worker has while it runs a vertex), Displaced (what is kept to take an event
--- back), Looks (the trees that a worker works on), Statuses (how callers see a vertex and a worker), Faults (the refusals of `Board::walk`), Views (the model's
--- values for the code's data of a worker), Outfits (what a claim prepares from the vertex alone), Undoing (what is kept of a worker before its settle or cancel).
+-- The rest: Needs (what a claim takes of the caches), Supplies (what a worker has while it runs a vertex), Displaced (what is kept to take an event back),
+-- Looks (the trees that a worker works on), Statuses (how callers see a vertex and a worker), Faults (the refusals of `Board::walk`), Views (the model's values
+-- for a worker's data in the code), Outfits (what a claim prepares from the vertex alone) and Undoing (what is kept of a worker before its settle or cancel).
 pub mod Links
 pub mod Faults
 pub mod Statuses

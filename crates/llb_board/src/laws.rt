@@ -49,7 +49,8 @@ pub fn complete_is_plain(board: &Board)
     board.replays();
 }
 
-/// Proves that there is a chosen event (see `Board::chosen`) exactly if the board is not complete.
+/// Proves that a run on one thread has a next event (`Board::chosen`) exactly if the board is not complete, that is, if some vertex is neither settled nor
+/// blocked.
 pub fn chosen_until_complete(board: &Board)
     ensures { (chosen board.now.build board.now.state ≡ None) ↔ (is_complete board.now.build board.now.state ≡ true) }
 {

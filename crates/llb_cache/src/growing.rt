@@ -82,8 +82,8 @@ fn make(rows: &mut Rows, marks: &mut Vec<Marks>, ready: Ready)
     }
 }
 
-// Makes each of the prepared instances that does not exist, and marks all of them. The lists of rows and of marks have room for as many new
-// rows as there are prepared instances.
+// For each instance that a lease takes: makes the instance if it does not exist yet, and marks it. The lists of rows and of marks must have room for one
+// more row for each of these instances.
 pub(crate) fn make_all(rows: &mut Rows, marks: &mut Vec<Marks>, readies: Vec<Ready>)
     requires order { AreOrdered rows.old }
     requires spare { HasRoom rows.old (length readies.items) }

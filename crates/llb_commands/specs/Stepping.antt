@@ -21,7 +21,7 @@ use Rattle.llb_commands.specs.declared.fault.ProgramFault.TheVariants as fault
 abbrev pub begun : List Local → Numbered → ℕ → Stepping
 begun locals g workers = record { board = opened (build_of locals g) workers []; past = []; breaks = [] }
 
--- a session's conversation, from a new stepper over a graph to the stepper `end`; it uses at most `limit` bytes of commands, and does at most `most_reads` reads
+-- a session's conversation, from a new stepper over a graph to the stepper `end`; it uses at most `limit` bytes of commands, and at most `most_reads` reads
 abbrev pub conversation : List Local → Numbered → ℕ → Stepping → Stream → Stream → Conversation
 conversation locals graph workers end commands output = record {
   limit = limit;

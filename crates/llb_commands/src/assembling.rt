@@ -35,7 +35,7 @@ fn text_unread(fault: ReadFault) -> ProgramFault
     }
 }
 
-// Assembles a text to the definition of its entries.
+// Assembles a text into the definition of its entries.
 fn definition_of(alloc: Global, text: &[u8]) -> Result<Bytes, ProgramFault>
     ensures { IsDefinitionOf text.now result }
 {

@@ -47,7 +47,7 @@ fn local_arg<'a>(alloc: Global) -> Arg<'a>
         .action(ArgAction::Append)
 }
 
-// Returns `clap`'s description of the required word that names the file of the definition.
+// Returns `clap`'s description of the required positional argument that names the file of the definition.
 fn file_arg<'a>(alloc: Global) -> Arg<'a>
     ensures rule { rule_of result ≡ file_rule }
     ensures plain { result.global ≡ false }

@@ -104,7 +104,7 @@ pub fn add_local<R: Read>(
     }
 }
 
-// Reads the file of a local source as a tree, and adds the tree.
+// Reads the file of a local source as a tree, and adds the tree to the local trees under the source's name.
 fn add_file<F: Sources>(
     alloc: Global,
     files: &F,

@@ -86,7 +86,7 @@ fn nodes_and_a_walk_tell_the_same_entries(rt: HostRuntime) {
     }
 }
 
-// Appends the path at which a walk is (`end` after the last entry), and a bar.
+// Appends the path at which a walk is (`end` after the last entry), and a `|`.
 fn say_place(rt: &impl Abort, text: &mut String, walk: &Walk<'_>) {
     match walk.at() {
         None => say(rt, text, "end"),

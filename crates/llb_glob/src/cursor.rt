@@ -149,7 +149,8 @@ fn closed(stage: Stage) -> Result<(Cursor, Effect), PatternFault>
     }
 }
 
-// Returns the cursor after a `-`, and the effect of the `-`. Fails with 41 `BadPattern` unless the `-` is after a character that may begin a range.
+// Reads a `-` inside a class: returns the reader's next stage, after the `-` of a range; the `-` itself adds nothing to the class. Fails with 41
+// `BadPattern` unless the character before the `-` may begin a range.
 fn dashed(stage: Stage) -> Result<(Cursor, Effect), PatternFault>
     ensures { result ≡ dashed stage }
 {

@@ -139,47 +139,46 @@ impl fmt::Display for Feature {
     }
 }
 
-/// The rules that ops have to meet, in the order in which they are checked. A variant says what its rule demands; a fault with this variant says that the op
-/// breaks the rule.
+/// The rules that ops must meet, in the order in which they are checked. A fault with one of these variants says that the op breaks its rule.
 #[derive(Drop)]
 pub enum Rule {
-    /// The op has a kind.
+    /// The op must have a kind.
     NoKind,
-    /// A local source has a name after `local://`.
+    /// A local source must have a name after `local://`.
     LocalName,
-    /// A file op has at least one action.
+    /// A file op must have at least one action.
     NoActions,
-    /// An action reads inputs of the op, results of earlier actions, or nothing.
+    /// An action must read inputs of the op, results of earlier actions, or nothing.
     ActionInput,
-    /// The outputs of actions are numbered from 0, each once.
+    /// The outputs of actions must be numbered from 0, each once.
     ActionOutput,
-    /// An exec has a `meta`.
+    /// An exec must have a `meta`.
     NoMeta,
-    /// An exec has at least one word in `args`.
+    /// An exec must have at least one word in `args`.
     NoArgs,
-    /// An exec has at least one mount.
+    /// An exec must have at least one mount.
     NoMounts,
-    /// An exec has a mount with the dest `/`.
+    /// An exec must have a mount with the dest `/`.
     NoRoot,
-    /// The dests, the selectors and the cwd of an exec are paths.
+    /// The dests, the selectors and the cwd of an exec must be paths.
     BadPath,
-    /// No two mounts of an exec have the same dest.
+    /// No two mounts of an exec may have the same dest.
     SameDest,
-    /// The type of a mount is a number from 0 to 4.
+    /// The type of a mount must be a number from 0 to 4.
     MountKind,
-    /// The input of a bind or cache mount is an input of the op, or -1.
+    /// The input of a bind or cache mount must be an input of the op, or -1.
     MountInput,
-    /// The outputs of mounts are numbered from 0, each once, and only bind mounts have one.
+    /// The outputs of mounts must be numbered from 0, each once, and only bind mounts may have one.
     MountOutput,
-    /// A cache mount has a `cacheOpt`.
+    /// A cache mount must have a `cacheOpt`.
     NoCacheOpt,
-    /// The mode of a cache mount is a number from 0 to 2.
+    /// The mode of a cache mount must be a number from 0 to 2.
     Sharing,
-    /// No two cache mounts of an exec have the same key.
+    /// No two cache mounts of an exec may have the same key.
     CacheTwice,
-    /// The words of an exec are a script; the fault of the words, 71 to 73, follows.
+    /// The words of an exec must be a script; the fault of the words, 71 to 73, follows.
     Script(ScriptFault),
-    /// Each input of a merge is an input of the op, or -1.
+    /// Each input of a merge must be an input of the op, or -1.
     MergeInput,
 }
 

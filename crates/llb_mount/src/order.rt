@@ -57,7 +57,7 @@ fn nearest(mounts: &[Shown], rows: &[Row], from: usize, path: &Path) -> usize
     at
 }
 
-// Returns a row for each mount, in the order of the dests, without links; `link` sets the links afterwards.
+// Returns a `Row` for each mount, in the order of the dests. Each `above` is still 0; `link` sets them afterwards.
 fn sorted(alloc: Global, mounts: &[Shown]) -> Result<Vec<Row>, Memory>
     requires { IsView mounts.now }
     ensures rises { IfOk result (λ rows. Rises (dests mounts.now) rows.items) }

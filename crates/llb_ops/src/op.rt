@@ -227,8 +227,8 @@ pub fn kind_name(op: &Op) -> &'static str
     }
 }
 
-/// Proves that the records that are read of any message are the records that its bytes spell by the grammar of the wire, whichever fields the table has for the
-/// message; and that an op is read from the records that its entry spells, and from nothing else.
+/// Proves for every message: if its bytes are read, the records are those that the bytes spell by the grammar of the wire; bytes that spell records are refused
+/// only if a record does not fit its field in the table. An op is read from the records that its entry spells, and from nothing else.
 pub fn op_is_read_of_records(bytes: &[u8])
     ensures { IsReadOfRecords bytes.now }
 {

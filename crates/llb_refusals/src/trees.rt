@@ -32,7 +32,7 @@ struct OnTree {
     answer: Answer,
 }
 
-// Returns two equal contents, for two calls.
+// Returns two equal contents, one for each of two calls.
 fn two_contents(rt: &impl Abort, alloc: Global) -> Vec<Bytes> {
     let mut contents = Vec::new(alloc);
     for _ in 0..2 {

@@ -1,5 +1,5 @@
-//! Checks whether the upper children have all names of the lower ones. If so, the result of laying the upper children over the lower ones has the names of the
-//! upper children alone.
+//! Checks whether the children of the upper directory have all names of the lower directory's children. If so, laying the upper children over the lower ones
+//! results in children with the names of the upper ones alone.
 
 ghost use Rattle.std.specs.Prelude.{◌≡◌, IsTrue, IfSome, map};
 ghost use Rattle.llb_tree.specs.Nodes.{kids_in, left_in, name_of};

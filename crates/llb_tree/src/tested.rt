@@ -105,8 +105,9 @@ fn keep<T: NameTest>(
 }
 
 impl Tree {
-    /// Returns the tree without the paths that pass the tests, and without what is below these paths; `None` if no path passes. Fails with 25 `Root` if there
-    /// are no tests, else with 27 `Memory`. The result shares all unchanged nodes with this tree.
+    /// There is a test for each name of a path, from the root down: a path with as many names as there are tests passes if each name passes its test. Returns
+    /// the tree without the paths that pass, and without what is below these; `None` if no path passes. Fails with 25 `Root` if there are no tests, and
+    /// otherwise with 27 `Memory` alone. The result shares all unchanged nodes with this tree.
     pub fn without_passing<T: NameTest>(&self, tests: &[T]) -> Result<Option<Tree>, TreeFault>
         ensures gives { Gives (λ o. o) result (rid_of T.passes tests.now self.now) }
         ensures last { MemoryLast result (rid_of T.passes tests.now self.now) }

@@ -152,7 +152,7 @@ fn parts_in(text: &str) -> Option<Parts<'_>>
     file_parts(meta, digits, path)
 }
 
-// Returns the fields of a directory; `None` if the path is not spelled as `print_tree` writes it.
+// Returns the fields of a directory's line; `None` if the path is not spelled as `print_tree` writes it.
 fn dir_parts(meta: Meta, path: &str) -> Option<Parts<'_>>
     ensures { option_map parts_seen result ≡ dir_parts meta path.now }
 {

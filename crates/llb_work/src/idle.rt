@@ -15,7 +15,7 @@ use crossbeam_utils::Backoff;
 use std::sync::Wait;
 use std::sync::atomic::{AtomicU64, Ordering};
 
-/// What idle workers look at to wait: the number of wakes, the number of sleepers, and whether the run is over.
+/// The state by which idle workers wait and are woken: the number of wakes, the number of sleepers, and whether the run is over.
 #[derive(Drop)]
 pub(crate) struct Idle {
     // How many wakes there were; the low 32 bits of this number are compared when a worker parks.

@@ -6,8 +6,8 @@ use crate::board::Board;
 use crate::fault::Memory;
 
 impl Board {
-    /// Returns a second board with the same state and record. The second record has room for as many events as the first: by the clause `room` of
-    /// `Board::events`, equal boards have the same room. The boards share the graph and all trees. Fails with 141 `Memory` alone.
+    /// Returns a second board that equals this one: it has the same state and record, and memory reserved for as many events in all (by the clause `room` of
+    /// `Board::events`, equal boards have the same reserve). The boards share the graph and all trees. Fails with 141 `Memory` alone.
     pub fn copy(&self) -> Result<Board, Memory>
         ensures { IfOk result (λ b. b ≡ self.now) }
     {
