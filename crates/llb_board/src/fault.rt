@@ -31,7 +31,7 @@ pub enum LandFault {
     /// 140: a cache of the vertex that the worker runs is in shared mode.
     #[error("140")]
     HasShared(Outcome),
-    /// 139: the outcome is not of the job that the worker runs now, with the caches as they are now.
+    /// 139: the outcome's job differs from the work that remains for the worker now, or from the caches as they are now.
     #[error("139")]
     Stranger(Outcome),
 }
@@ -45,7 +45,7 @@ impl fmt::Debug for LandFault {
 /// Why a board is not opened. The graph, the local trees and the caches are in the fault.
 #[derive(Drop, Error)]
 pub enum OpenFault {
-    /// 121: a local source has no tree; the name of the first such source, by vertex.
+    /// 121: a local source has no tree; the name of the first such source, by vertex, follows.
     #[error("121 {0}")]
     MissingLocal(Text, Graph, Locals, Caches),
     /// 122: the number of workers is 0 or more than 64.

@@ -19,7 +19,7 @@ use std::{error, fmt};
 pub enum OutputFault {
     /// 182: the writer failed.
     Write,
-    /// 184: memory was refused for a line of the text.
+    /// 184: memory was refused for a line that the program writes.
     Memory,
 }
 
@@ -54,7 +54,7 @@ pub enum ProgramFault {
     Refused(LoadFault),
     /// 91: memory was refused while the definition was loaded.
     Loading,
-    /// 121: a local source has no tree; its name.
+    /// 121: a local source has no tree; its name follows.
     MissingLocal(Text),
     /// 122: the number of workers is 0 or more than 64.
     Workers,
