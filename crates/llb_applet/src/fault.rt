@@ -17,7 +17,7 @@ pub enum ScriptFault {
     NoApplet(Text),
     /// 72 C: in call C, counted from 0, the words after the applet's name fit none of its forms.
     Usage(usize),
-    /// 73 P: the text is no list of calls with separators between them; P, counted from 0, is its first bad position.
+    /// 73 P: the text is no list of calls with separators between them; P is its first bad position, from 0.
     ShellSyntax(usize),
     /// 74: memory was refused.
     Memory,

@@ -31,7 +31,7 @@ pub enum LandFault {
     /// 140: a cache of the vertex that the worker runs is in shared mode.
     #[error("140")]
     HasShared(Outcome),
-    /// 139: the outcome's job differs from the work that remains for the worker now, or from the caches as they are now.
+    /// 139: the outcome's job is not what the worker has to do now, or a cache of the job has changed.
     #[error("139")]
     Stranger(Outcome),
 }

@@ -8,7 +8,7 @@ use thiserror::Error;
 /// Why a pattern is refused.
 #[derive(Clone, Copy, Debug, PartialEq, Eq, Error)]
 pub enum PatternFault {
-    /// 41: a part of the pattern is no name or the 129th, ends in a lone `\`, or has an empty, unclosed or misspelled class.
+    /// 41: a part is no name or the 129th, ends in a lone `\`, or has an empty, open or misspelled class.
     #[error("41")]
     BadPattern,
     /// 42: memory was refused.

@@ -15,7 +15,7 @@ pub enum RunFault {
     Stopped,
     /// 153: a thread could not be started.
     Thread,
-    /// 154: the copy of the opening board that the lock guards is not the board that the run was called with. This never occurs.
+    /// 154: the opening board that the lock guards is not the board that the run was called with. This never occurs.
     Foreign(Board),
 }
 
