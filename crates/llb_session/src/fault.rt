@@ -15,7 +15,7 @@ pub enum SessionFault {
     /// 182: the writer failed.
     #[error("182")]
     Write,
-    /// 184: memory for a line was refused.
+    /// 184: memory was refused for a line of the session.
     #[error("184")]
     Memory,
     /// 185: there were more bytes of commands than the limit that was given (67,108,864 in the program).
