@@ -15,9 +15,9 @@ use thiserror::Error;
 pub enum ScriptFault {
     /// 71 WORD: the first word of a call, WORD, is no applet's name.
     NoApplet(Text),
-    /// 72 C: in call C, from 0, the words after the name fit none of the applet's forms.
+    /// 72 C: in call C, counted from 0, the words after the applet's name fit none of its forms.
     Usage(usize),
-    /// 73 P: the text is no list of calls with separators between them; its first bad position is P, from 0.
+    /// 73 P: the text is no list of calls with separators between them; P is its first bad position, from 0.
     ShellSyntax(usize),
     /// 74: memory was refused.
     Memory,

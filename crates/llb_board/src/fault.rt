@@ -32,7 +32,7 @@ pub enum LandFault {
     /// 140: a cache of the vertex that the worker runs is in shared mode.
     #[error("140")]
     HasShared(Outcome),
-    /// 139: the outcome's job is not the job that remains for the worker with the present cache trees.
+    /// 139: the outcome's job is not what the worker has to do now, or a cache of the job has changed.
     #[error("139")]
     Stranger(Outcome),
 }
@@ -46,7 +46,7 @@ impl fmt::Debug for LandFault {
 /// Why a board is not opened. The graph, the local trees and the caches are in the fault.
 #[derive(Drop, Error)]
 pub enum OpenFault {
-    /// 121: a local source has no tree; the name of the first such source, by vertex.
+    /// 121: a local source has no tree; the name of the first such source, by vertex, follows.
     #[error("121 {0}")]
     MissingLocal(Text, Graph, Locals, Caches),
     /// 122: the number of workers is 0 or more than 64.

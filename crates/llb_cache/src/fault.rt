@@ -9,7 +9,7 @@ use thiserror::Error;
 /// Why a lease is refused.
 #[derive(Debug, Drop, Error)]
 pub enum LeaseFault {
-    /// 111: another current lease has the instance of this locked key.
+    /// 111: another current lease has the instance of a locked key, whose ID follows.
     #[error("111 {0}")]
     Held(Key),
     /// 112: memory was refused.

@@ -54,7 +54,7 @@ pub enum ProgramFault {
     Refused(LoadFault),
     /// 91: memory was refused while the definition was loaded.
     Loading,
-    /// 121: a local source has no tree; its name.
+    /// 121: a local source has no tree; its name follows.
     MissingLocal(Text),
     /// 122: the number of workers is 0 or more than 64.
     Workers,

@@ -46,7 +46,7 @@ pub struct Line<'a> {
 /// Why the words of a command line are refused. A fault prints what follows the word `fault` in its line.
 #[derive(Clone, Copy, Debug)]
 pub enum WordsFault<'a> {
-    /// 183: the words are refused; a word that follows should be a local source but has no `=`.
+    /// 183: the words are refused; if a word follows, it should be `NAME=FILE`, but has no `=`.
     Words(Option<&'a str>),
     /// 184: memory was refused while the words were read.
     Memory,

@@ -28,7 +28,7 @@ pub enum LoadFault {
     NoResult,
     /// 86: input i of row k names no row.
     UnknownDigest(u32, u32),
-    /// 87: the reached rows have a cycle.
+    /// 87: there is a cycle among the rows on which the result depends.
     Cycle,
     /// 88: the op of row k has an unsupported feature; the feature's name follows.
     Unsupported(u32, Feature),

@@ -5,7 +5,7 @@ use std::alloc::{AllocError, AllocFailed};
 use std::fmt;
 use thiserror::Error;
 
-/// 61: the mount is read-only. The fault holds the new tree.
+/// 61: the mount is read-only; the fault holds the tree that the mount did not take.
 #[derive(Drop, Error)]
 #[error("61")]
 pub struct ReadOnly {

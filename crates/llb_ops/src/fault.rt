@@ -12,7 +12,7 @@ use std::{error, fmt};
 pub enum OpFault {
     /// 1 to 4: a record is not readable.
     Wire(WireFault),
-    /// 11: a field of the table of messages has the wrong wire type.
+    /// 11: a record's wire type is not that of its field in the table of messages.
     WrongWireType,
     /// 12: the bytes of a string are not UTF-8.
     NotUtf8,

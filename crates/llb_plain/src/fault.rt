@@ -9,7 +9,7 @@ use thiserror::Error;
 /// Why a graph is not evaluated: the first of these causes that applies.
 #[derive(Debug, Drop, Error)]
 pub enum PlainFault {
-    /// 101: no tree is given for a local source; the first such name, by vertex, follows.
+    /// 101: a local source has no tree; the name of the first such source, by vertex, follows.
     #[error("101 {0}")]
     MissingLocal(Text),
     /// 102: a vertex mounts a cache; the number of the first such vertex follows.

@@ -10,7 +10,7 @@ use std::{error, fmt};
 /// Why a stepper does not do what it is asked for.
 #[derive(Debug, Drop)]
 pub enum StepperFault {
-    /// 171: the board refuses the event by 131 to 138, or by 141.
+    /// 171: the board refuses the event; the board's fault, 131 to 138 or 141, follows.
     Board(WalkFault),
     /// 172: the stepper has done no event that it could take back.
     NothingBefore,

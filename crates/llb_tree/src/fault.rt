@@ -10,7 +10,7 @@ pub enum TreeFault {
     /// 21: nothing is at the path, or a parent is missing.
     #[error("21")]
     NotFound,
-    /// 22: a parent is a file, or a file is at a path that has to be a directory.
+    /// 22: a parent is a file, or a file is where a directory has to be.
     #[error("22")]
     NotDir,
     /// 23: a directory is in the way of a file.
