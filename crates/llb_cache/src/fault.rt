@@ -17,7 +17,7 @@ pub enum LeaseFault {
     Memory,
 }
 
-/// 112: memory was refused to a copy.
+/// 112: memory was refused.
 #[derive(Clone, Copy, Debug, PartialEq, Eq, Error)]
 #[error("112")]
 pub struct Memory;

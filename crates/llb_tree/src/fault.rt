@@ -22,7 +22,7 @@ pub enum TreeFault {
     /// 25: the edit can't be done at the root.
     #[error("25")]
     Root,
-    /// 26: a part of a text is no name, or a path would have more than 128 names.
+    /// 26: a part of a path is no name, or there would be more than 128 names.
     #[error("26")]
     BadName,
     /// 27: memory was refused.
