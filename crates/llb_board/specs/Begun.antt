@@ -15,7 +15,7 @@ abbrev pub plain_start : Build → Option Vertex → Option Start
 plain_start b None = None
 plain_start b (Some vertex) = option_map (start_with vertex) (inputs_from (λ k. ending_in (outcome b k)) vertex.inputs)
 
--- the job of worker w at vertex v with this start, if the vertex mounts no cache
+-- the job of worker w at vertex v, if the vertex mounts no cache; `start` has the vertex and the trees of its inputs
 abbrev pub job_from : Build → ℕ → ℕ → Start → Job
 job_from b w v start = job_on w v start.vertex (begin b start []) []
 
