@@ -10,7 +10,7 @@ use Rattle.llb_board.specs.Seen.{BoardValue}
 use Rattle.llb_board.specs.Jobs.{job_now}
 use Rattle.llb_board.specs.Landing.{CanLand}
 
--- what the work on a vertex starts with: the vertex, and for each input the tree in the plain outcome; nothing if one of these trees is missing
+-- what the work on a vertex begins with: the vertex, and each input's tree by the plain outcome of the input's vertex; nothing if one of these trees is missing
 abbrev pub plain_start : Build → Option Vertex → Option Start
 plain_start b None = None
 plain_start b (Some vertex) = option_map (start_with vertex) (inputs_from (λ k. ending_in (outcome b k)) vertex.inputs)
