@@ -37,7 +37,7 @@ abbrev pub verdict : {A : Type 0} → Result A ScriptFault → Result (Unit {0})
 verdict (Ok x) = Ok tt
 verdict (Err e) = Err e
 
--- what the check keeps of a call: how many words it has, and its first two words; a word that is missing is kept as an empty one
+-- `begun` has what is needed to check a call: how many words the call has, and its first two words (an empty word for one that is missing)
 pub record IsBegun (call : List (List ℕ)) (begun : Begun) : Type 0 where
   pub counted : begun.count ≡ length call
   pub named : begun.name.now ≡ slice_index_or call 0 []

@@ -18,7 +18,7 @@ use llb_tree::{Bytes, Entry, Meta, Mode, Path, TreeFault};
 use llb_wire::Text;
 use std::alloc::Global;
 
-// Makes a directory; with `parents`, its missing parents below the mount's dest too.
+// Makes a directory. With `parents`, also makes those of its parents below the mount's dest that are missing.
 fn mkdir(
     alloc: Global,
     parents: bool,

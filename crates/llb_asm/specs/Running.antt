@@ -130,7 +130,7 @@ abbrev pub finish : ℕ → List (List ℕ) → Option OpenOp → Result (List (
 finish n earlier None = Ok earlier
 finish n earlier (Some s) = Err (n, Breaks Unclosed)
 
--- the final result, given the progress after line n or its refusal: what `go`, which reads the later lines, makes of the progress; or the refusal with n
+-- the final result, given the progress after line n or that line's refusal: what `go`, which reads the later lines, makes of the progress; or n and the refusal
 abbrev pub next : ℕ → (Progress → Result (List (List ℕ)) (ℕ × Refusal)) → Result Progress Refusal → Result (List (List ℕ)) (ℕ × Refusal)
 next n go (Ok p) = go p
 next n go (Err e) = Err (n, e)

@@ -10,12 +10,12 @@ use Rattle.llb_board.specs.Seen.{BoardValue}
 use Rattle.llb_board.specs.Jobs.{job_now}
 use Rattle.llb_board.specs.Landing.{CanLand}
 
--- what the work on a vertex starts with: the vertex, and for each input the tree in the plain outcome; nothing if one of these trees is missing
+-- what the work on a vertex begins with: the vertex, and each input's tree by the plain outcome of the input's vertex; nothing if one of these trees is missing
 abbrev pub plain_start : Build → Option Vertex → Option Start
 plain_start b None = None
 plain_start b (Some vertex) = option_map (start_with vertex) (inputs_from (λ k. ending_in (outcome b k)) vertex.inputs)
 
--- the job of worker w at vertex v with this start, if the vertex mounts no cache
+-- the job of worker w at vertex v, if the vertex mounts no cache; `start` has the vertex and the trees of its inputs
 abbrev pub job_from : Build → ℕ → ℕ → Start → Job
 job_from b w v start = job_on w v start.vertex (begin b start []) []
 

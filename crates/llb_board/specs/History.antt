@@ -27,7 +27,7 @@ taken events (suc n) = events
 abbrev pub taken_by : ℕ → ℕ → Space → ℕ
 taken_by v events s = taken events (get_or s.cancels v 0)
 
--- the reserved room after a claim of vertex v
+-- the room that is reserved for events after a claim of vertex v, if the vertex takes at most `events` events
 abbrev pub claimed : ℕ → ℕ → Space → Space
 claimed v events s = record s { room = s.room + taken_by v events s }
 

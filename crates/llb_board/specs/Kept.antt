@@ -6,7 +6,7 @@ use Rattle.llb_board.specs.Seen.{BoardValue, Replays}
 use Rattle.llb_board.specs.History.{Space}
 
 -- The table replays the record to the board's state. The record's room is enough for all events of the run, except those of vertices that wait after a cancel:
--- the next claim of such a vertex reserves room for its events. The counts of cancels agree with the replies. Each worker has the supplies for its vertex.
+-- the next claim of such a vertex reserves room for its events. `space` has how often each vertex was cancelled. Each worker has the supplies for its vertex.
 pub record IsBoard (b : BoardValue) (ws : WorkersValue) (space : Space) : Type 0 where
   pub replays : Replays b
   pub room : space.room + owed b.build b.state.statuses replays.replies ≡ most_events b.build replays.replies

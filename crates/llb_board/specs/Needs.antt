@@ -71,7 +71,7 @@ row_found w = w.found.row
 abbrev pub Taking : Type 0
 Taking = List Instance × List ℕ × List TreeMap × List cache_need.Need
 
--- what a claim with these needs takes of these caches
+-- what a claim with these needs takes of these caches: instances, their numbers, their trees at the claim, and the needs for the lease
 abbrev pub taken_with : cache.CachesValue → List TreeMap → List Need → Taking
 taken_with c inputs needs = (
   places_taken c.out needs,

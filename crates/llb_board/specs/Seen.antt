@@ -24,7 +24,7 @@ pub record BoardValue : Type 0 where
 abbrev pub opening_with : ℕ → List Row → Opening
 opening_with workers rows = record { workers = workers; store = store_of rows }
 
--- the value of a board with these vertices, these workers and these events, given the caches that were handed in
+-- what contracts see of a board with these vertices, workers and events; `first` has the rows of the caches that were handed in
 abbrev pub seen : VerticesValue → List Row → WorkersValue → List Event → BoardValue
 seen vs first ws events = record {
   build = vs.build;

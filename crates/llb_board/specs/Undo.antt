@@ -98,7 +98,7 @@ pub record IsStepped (b : BoardValue) (w : ℕ) (saved : Saved) (trees : List Tr
   pub count : length trees ≡ length x.places
   pub keys : map (λ (p : Instance). p.key) x.places ≡ map key_of (needs_at (slice_get b.build.graph.vertices x.vertex))
 
--- after a settle or a cancel: worker w is idle, `left` has its vertex's supplies and cache keys, and `lent` is a lease of its instances, with memory reserved
+-- after a settle or cancel: worker w is idle; `left` has the supplies and keys of the vertex that w ran; `lent` is a prepared lease of the vertex's instances
 pub record IsLeft (b : BoardValue) (w : ℕ) (left : Left) (lent : Option LentValue) : Type 0 where
   pub idle : slice_get b.state.workers w ≡ Some Idle
   pub supplies : left.supplies ≡ supplies_for (slice_get b.build.graph.vertices left.execution.vertex)

@@ -140,7 +140,7 @@ Runs workers locals io status =
     ⊎ (((status ≡ 2) × IsKept io.output × TellsWhy (IsNotRun workers locals) io.input.before io.errors)
     ⊎ ((status ≡ 3) × (IsKept io.output ⊎ IfSome io.input.before (YieldsPart workers locals io.output)))))
 
--- the text of the graph of the bytes is written, and nothing else
+-- the bytes are loaded as a graph, whose text is written, and nothing else
 abbrev pub DrawsAll : Stream → List ℕ → Type 0
 DrawsAll output bytes = (g : Numbered) × IsGraphIn bytes g × IsWritten output (graph_text g)
 

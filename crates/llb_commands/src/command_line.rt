@@ -204,7 +204,7 @@ fn file_in<'a>(command: Command, matches: &ArgMatches<'a>) -> Option<&'a str>
     }
 }
 
-// Returns the `Line` with this command, and with the workers, the file and the local sources in its matches.
+// Returns the `Line` with this command, and with the number of workers, the file and the local sources that `clap` found in the words (`matches`).
 fn line_of<'a>(
     alloc: Global,
     command: Command,

@@ -56,7 +56,7 @@ AreLike R (File m a) (Dir n) = ⊥
 abbrev pub AreAlike : (List ℕ → List ℕ → Type 0) → TreeMap → TreeMap → Type 0
 AreAlike R t u = (p : List (List ℕ)) → BothOptions (AreLike R) (finite.get t p) (finite.get u p)
 
--- two mounts that are equal, except that their trees need only be alike
+-- two mounts that are equal, except that the contents of files may differ: R relates the contents at each path (`AreAlike`)
 pub record AreAlikeMounts (R : List ℕ → List ℕ → Type 0) (m n : Shown) : Type 0 where
   pub dest : m.dest ≡ n.dest
   pub selector : m.selector ≡ n.selector
@@ -107,7 +107,7 @@ AreAlikeWorkspaces R (Layers inputs t) (Layers others u) = BothLists (AreAlike R
 AreAlikeWorkspaces R (Mounted mounts caches last) (Mounted others numbers status) = AreAlikeViews R mounts others × (caches ≡ numbers) × (last ≡ status)
 AreAlikeWorkspaces R _ _ = ⊥
 
--- two works (a workspace, and the trees of its cache instances) that are equal, except that their trees need only be alike
+-- two works (a workspace, and the trees of its cache instances) that are equal, except that contents of files may differ: R relates them (`AreAlike`)
 pub record AreAlikeWorks (R : List ℕ → List ℕ → Type 0) (x y : Work) : Type 0 where
   pub own : AreAlikeWorkspaces R x.own y.own
   pub trees : BothLists (AreAlike R) x.trees y.trees
@@ -117,7 +117,7 @@ pub record AreAlikeLefts (R : List ℕ → List ℕ → Type 0) (x y : Left) : T
   pub work : AreAlikeWorks R x.work y.work
   pub fault : x.fault ≡ y.fault
 
--- R relates to itself each content that a micro-step writes without reading it from a file; if digests are made, R relates digests of related contents
+-- R relates to itself each content that the micro-step writes without reading it from a file; if it makes digests, R relates digests of related contents
 abbrev pub RelatesStep : (List ℕ → List ℕ → Type 0) → MicroStep → Type 0
 RelatesStep R (Act action) = RelatesBody R action.kind
 RelatesStep R (Run setting command ends) = RelatesTexts R setting command.command

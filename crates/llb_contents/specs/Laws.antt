@@ -78,7 +78,7 @@ HandsRelationsOn g = (test : List ℕ → List ℕ → Bool) → IsKept (By test
 abbrev pub ExpandsTo : (List ℕ → Option (List ℕ)) → List ℕ → List ℕ → Type 0
 ExpandsTo expand a b = expand a ≡ Some b
 
--- `HandsOn` holds for each expansion that appending keeps: if contents of sources expand to others, so do the contents of the outcomes
+-- for each `expand` that expands joined contents to joined expansions (`IsKept`): if the sources' contents expand to others, so do the outcomes' (`HandsOn`)
 abbrev pub HandsExpansionsOn : Numbered → Type 0
 HandsExpansionsOn g = (expand : List ℕ → Option (List ℕ)) → IsKept (ExpandsTo expand) → HandsOn (ExpandsTo expand) g
 

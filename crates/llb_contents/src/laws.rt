@@ -11,7 +11,8 @@ use llb_loader::Graph;
 use llb_ops::Action;
 use llb_tree::Tree;
 
-/// Proves that laying alike trees over alike trees results in alike trees.
+/// Proves that laying alike trees over alike trees results in alike trees. (Alike trees differ only in the contents of files, and the two contents at each
+/// path are related.)
 pub fn lays_alike(lower: &Tree, upper: &Tree)
     ensures { LaysAlike lower.now upper.now }
 {
@@ -29,8 +30,9 @@ pub fn acts_alike(action: &Action, base: &Tree, second: &Tree)
     let _ = second;
 }
 
-/// Proves that a command on two alike views fails on both, or results in alike views. The premises: appending keeps the relation; each text that the command
-/// itself writes is related to itself; and if the command writes digests, digests of related contents are related.
+/// Proves that a command on two alike views fails on both, or results in alike views. (Alike views differ only in the contents of files, which are related.)
+/// The premises: appending keeps the relation; each text that the command itself writes is related to itself; and if the command writes digests, digests of
+/// related contents are related.
 pub fn runs_alike(setting: &Setting, view: &View, command: &Command)
     ensures { RunsAlike setting.now view.now command.now }
 {

@@ -1,4 +1,4 @@
-//! The micro-steps of a vertex: the one place where code says what a vertex does. A `Steps` borrows nothing. Nothing here does a micro-step.
+//! The micro-steps of a vertex as a list, `Steps`, which borrows nothing. Only this code says which micro-steps a vertex has; it does none of them.
 
 ghost use Rattle.std.specs.Prelude.{◌≡◌, ◌<◌, ◌^◌, [], IfOk, length, map, option_map, slice_get, unwrap_or};
 ghost use Rattle.llb_loader.specs.Graph.{IsVertexOf};

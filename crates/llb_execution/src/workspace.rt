@@ -229,7 +229,7 @@ impl Workspace {
     {
         match &mut self.own {
             WorkState::Layers(inputs, laid) => lay_input(alloc, laid, inputs, input),
-            // No program of a vertex gets here: only a merge lays inputs.
+            // This case does not occur in the program of a vertex: only a merge lays inputs.
             _ => Ok(()),
         }
     }
@@ -294,7 +294,7 @@ impl Workspace {
                 *last = status;
                 Ok(exit_of(k, status, later))
             }
-            // No program of a vertex gets here: only an exec has commands.
+            // This case does not occur in the program of a vertex: only an exec has commands.
             _ => Ok(None),
         }
     }

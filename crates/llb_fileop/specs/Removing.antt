@@ -36,7 +36,7 @@ matching pattern t = filter (path_matches pattern) (finite.keys t)
 abbrev pub is_below_any : List (List (List ℕ)) → List (List ℕ) → Bool
 is_below_any ps q = list_any (λ p. is_within p q) ps
 
--- the tree without the paths that match a pattern and what is below these paths
+-- the tree without what is at or below each path that matches the pattern
 abbrev pub left : List (List Item) → TreeMap → TreeMap
 left pattern t = finite.retain_keys t (λ q. not (is_below_any (matching pattern t) q))
 

@@ -9,7 +9,7 @@ use Rattle.llb_glob.specs.declared.item.Item.TheVariants.{Run, One}
 use Rattle.llb_glob.specs.declared.item.Letter.TheVariants.{Any, Only, In}
 use Rattle.llb_glob.specs.ClassValue.{ClassValue}
 
--- a text that consists of a text with the property `First`, followed by a text with the property `Rest`
+-- the text consists of a text with the property `First`, followed by a text with the property `Rest`
 abbrev pub Then : (List ℕ → Type 0) → (List ℕ → Type 0) → List ℕ → Type 0
 Then First Rest text = (front : List ℕ) × (rest : List ℕ) × (text ≡ front ++ rest) × First front × Rest rest
 

@@ -12,6 +12,6 @@ use Rattle.std.specs.Prelude.{◌⊎◌}
 abbrev pub IsGraphOf : List Row → Numbered → Type 0
 IsGraphOf rows g = (ops : List Op) × AreOps rows ops × GraphOf rows ops g
 
--- e is the refusal of the rows: a row can't be read as an op; or all rows are read as ops, and the rows with these ops are refused
+-- e is the refusal of a row that can't be read as an op; or all rows are read as ops, and e is the refusal of the rows with these ops
 abbrev pub IsRefusalOf : List Row → LoadFault → Type 0
 IsRefusalOf rows e = RefusesRow rows e ⊎ ((ops : List Op) × AreOps rows ops × Refused rows ops e)

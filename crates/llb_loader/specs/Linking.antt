@@ -130,7 +130,7 @@ pub record IsWhole (p : Plan) (order : List ℕ) : Type 0 where
 
 -- ---- the refusals
 
--- of the reached rows whose op has an unsupported feature, row k has the least number, and f is the first such feature of its op
+-- of the rows on which the result depends and whose op has an unsupported feature, row k has the least number; f is the first such feature of its op
 pub record IsUnsupported (p : Plan) (k : ℕ) (f : Feature) : Type 0 where
   pub reached : ReachedRow p k
   pub feature : feature_of (op_at p.ops k) ≡ Some f
@@ -189,7 +189,7 @@ numbered_of p order = record {
   result = edge_of p order (input_at (op_at p.ops p.terminal) 0);
 }
 
--- no refusal applies to the rows, which are read as these ops; g is the graph of their plan, and `order` has the reached rows by vertex number
+-- no refusal applies to the rows, which are read as these ops; g is the graph of their plan; `order` has the rows that become vertices, by vertex number
 pub record GraphOf (rows : List Row) (ops : List Op) (g : Numbered) : Type 0 where
   pub order : List ℕ
   pub whole : IsWhole (plan_of rows ops) order

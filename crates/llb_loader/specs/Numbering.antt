@@ -1,4 +1,4 @@
--- How the reached rows get their vertex numbers. `g` has for each row the rows that its inputs name; `start` is the row of the result.
+-- How the rows that are reached from `start`, the row of the result, get their vertex numbers. `g` has for each row the rows that its inputs name.
 use Rattle.std.specs.Prelude.{ℕ, suc, ◌<◌, ◌≤◌, ◌==◌, cond, List, [], ◌∷◌, length, take, slice_index}
 use Rattle.std.specs.List.{All, Contains}
 use Rattle.llb_loader.specs.Rows.{inputs, HasEdge, Reached}

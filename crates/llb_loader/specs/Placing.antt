@@ -1,4 +1,4 @@
--- An unnumbered row is put among the ready rows, or in the list of rows that wait for one row. A `Waiter` is a row, and how many of its inputs were checked.
+-- A row without a number is ready to be numbered, or waits for a row that one of its inputs names. A `Waiter`: a row, and how many of its inputs were checked.
 use Rattle.std.specs.Prelude.{◌≡◌, ℕ, ◌<◌, ◌≤◌, Bool, true, false, cond, List, [], ◌∷◌, ◌++◌, ◌⊎◌, length, slice_index, slice_index_or, slice_set, ◌==◌}
 use Rattle.std.specs.List.{All}
 use Rattle.llb_loader.specs.declared.numbering.Waiter.{Waiter}

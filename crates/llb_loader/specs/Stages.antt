@@ -36,7 +36,7 @@ pub record AreNames (rows : List Row) (ops : List Op) (n : Names) : Type 0 where
   pub seen : length n.seen.items ≡ length rows
   pub exact : (k : ℕ) → IsMarked n.seen.items k ↔ ReachedRow (plan rows ops n.terminal n.start) k
 
--- `IsLinked` holds of l, and `IsApart` of the rows. Row k is read as op k of l, and has the same digest text as row k of l.
+-- `IsLinked` holds of l; the rows are not all the same, and none collide (`IsApart`). Row k is read as op k of l, and has the digest text of row k of l.
 pub record IsLinkedFrom (rows : List Row) (l : Linked) : Type 0 where
   pub ops : AreOps rows l.ops.items
   pub len : length l.rows.items ≡ length rows

@@ -108,8 +108,8 @@ fn first_open(named: &[usize], from: usize, done: &[bool]) -> usize
     named.len()
 }
 
-// Puts the waiter's row among the ready rows if all rows that its inputs name are numbered. If not, lets the waiter's row wait for the first of these rows that
-// is not numbered.
+// Puts a row that has no vertex number (a `Waiter`) among the rows that can be numbered, `ready`, if all rows that its inputs name have numbers. If not, puts
+// it into the list of the rows that wait for the first of these rows without a number.
 fn place(
     rows: &[Vec<usize>],
     done: &[bool],

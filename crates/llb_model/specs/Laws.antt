@@ -90,7 +90,7 @@ abbrev pub EachIn : (State → Event → Type 0) → Build → State → List Ev
 EachIn C b s [] = Unit {0}
 EachIn C b s (e ∷ es) = C s e × ((a : State × Reply) → table b s e ≡ Some a → EachIn C b a.0 es)
 
--- e is the chosen event of the state
+-- e is the chosen event of the state: the event that a run on one thread does next (`chosen`)
 abbrev pub IsChosen : Build → State → Event → Type 0
 IsChosen b s e = chosen b s ≡ Some e
 

@@ -34,7 +34,7 @@ pub record Named : Type 0 where
   pub instances : List ℕ
   pub cut : Option ℕ
 
--- the claim with these fields
+-- a claim: its vertex, the numbers of its instances, and, if it is cancelled, after how many micro-steps
 abbrev pub named : ℕ → List ℕ → Option ℕ → Named
 named v numbers cut = record { vertex = v; instances = numbers; cut = cut }
 

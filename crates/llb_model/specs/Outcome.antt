@@ -71,7 +71,7 @@ outcomes b = by_number (next_outcome b) [] b.graph.vertices
 abbrev pub outcome : Build → ℕ → Option Outcome
 outcome b v = slice_get (outcomes b) v
 
--- whether a vertex mounts no cache and has only plain inputs, given which of the vertices with lower numbers are plain
+-- whether a vertex is plain (no cache mount is at or before it), given for each vertex with a lower number whether that vertex is plain
 abbrev pub next_plain : List Bool → Vertex → Bool
 next_plain before v = not (has_cache v) && list_all (λ (e : Edge). unwrap_or (slice_get before e.vertex) false) v.inputs
 

@@ -379,8 +379,8 @@ tree_for i [] mounts = empty_tree
 tree_for i (n ∷ numbers) [] = empty_tree
 tree_for i (n ∷ numbers) (m ∷ mounts) = if is_output i n then m.tree else tree_for i numbers mounts
 
--- output i of a program after all its micro-steps. File op: the result of the action with that output number. Source: the tree that is read. Merge: the tree
--- that is laid. Exec: the whole tree of the mount with that output number.
+-- output i of a program after all its micro-steps. File op: the result of the action with the output number i. Source: the tree that is read. Merge: the tree
+-- that is laid. Exec: the whole tree of the mount with the output number i.
 abbrev pub output_from : Program → Workspace → ℕ → TreeMap
 output_from p (Files inputs results) i = result_for i p.steps results
 output_from p (LocalTree t) zero = t

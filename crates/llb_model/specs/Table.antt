@@ -201,7 +201,7 @@ cancelled s w None = Err cancel.NoWorker
 cancelled s w (Some Idle) = Err cancel.NotRunning
 cancelled s w (Some (Runs x)) = Ok (cancel_with s w x.vertex x.done)
 
--- the result of the cancel of worker w: the next state and the reply, or why it is refused
+-- the result of the cancel of worker w: the next state and the reply, or why the cancel is refused
 abbrev pub cancel_grant : State → ℕ → Result (State × Reply) CancelFault
 cancel_grant s w = cancelled s w (slice_get s.workers w)
 

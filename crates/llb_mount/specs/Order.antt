@@ -45,7 +45,7 @@ pub record AtRoot (ds : List (List (List ℕ))) (rows : List Row) : Type 0 where
   pub there : 0 < length rows
   pub root : dest_of ds rows 0 ≡ []
 
--- position p, which is `above_of rows j`, is before j and at or after k, and the dest at k is a prefix of the dest at p
+-- the position `above_of rows j` is before j, and is k or after k; the dest at k is a prefix of the dest at that position
 pub record IsAbove (ds : List (List (List ℕ))) (rows : List Row) (j k : ℕ) : Type 0 where
   pub up : above_of rows j < j
   pub kept : k ≤ above_of rows j

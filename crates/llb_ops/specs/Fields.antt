@@ -40,7 +40,7 @@ bytes_of (message row inner rest) = set_bytes row.1.number (bytes_of inner) ++ b
 abbrev pub may_follow : ℕ → Bool → NamedField → Bool
 may_follow last set f = (nat_lt last f.number || (f.repeated && (last == f.number))) && not (f.member && set)
 
--- message m has this row under the row's field number, and the row's field may come after the field with the number `last`; `set` is as in `may_follow`
+-- message m has this row under the row's field number, and the row's field may come after field `last`; `set`: a member of m's oneof has occurred before it
 pub record IsNext (m : MessageName) (last : ℕ) (set : Bool) (row : Row) : Type 0 where
   pub known : by_number row.1.number (rows_of m) ≡ Some row
   pub follows : may_follow last set row.1 ≡ true
@@ -86,7 +86,7 @@ only_unnamed m (Err f) = false
 unfoldable pub are_unnamed : MessageName → List ℕ → Bool
 are_unnamed m more = only_unnamed m (parts (shape_of m) more)
 
--- canonical bytes of message m may have these fields after the field with the number `last`; `set` is as in `may_follow`
+-- canonical bytes of message m may have these fields after the field with the number `last`; `set` says whether a member of m's oneof has occurred before
 abbrev pub AreFields : MessageName → ℕ → Bool → Fields → Type 0
 AreFields m last set (extra more) = AreUnnamed m more
 AreFields m last set (number row v rest) =

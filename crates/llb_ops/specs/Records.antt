@@ -195,7 +195,7 @@ is_other members n r = is_member members r && not (r.number == n)
 abbrev pub member : List ℕ → ℕ → List Record → List Record
 member members n rs = all n (since (is_other members n) rs)
 
--- the value of member n of a oneof, read from the records of that member; none if no n is given, as no member is set; or the first fault
+-- the value of member n of a oneof, read from the records of that member; none if no member is set (then there is no n); or the first fault
 abbrev pub member_of : {A : Type 0} → List ℕ → (ℕ → List Record → Result A OpFault) → Option ℕ → List Record → Result (Option A) OpFault
 member_of members read None rs = Ok None
 member_of members read (Some n) rs = read n (member members n rs) >>= λ a. Ok (Some a)

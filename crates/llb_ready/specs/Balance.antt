@@ -4,7 +4,7 @@ use mathlib.Core.Option.{some}
 use lib.ListN.{get_elem?}
 use Rattle.llb_ready.specs.declared.hand.Hand.{Hand}
 
--- The fraction of the pass is weight / unit. A pass with fraction 0 has put and taken nothing; every other pass has the queue's room as its `room`.
+-- The pass v is the fraction weight / unit of the whole pass. If the fraction is 0, v has put and taken nothing; else v has the queue's room as its `room`.
 pub record IsPart (unit room weight : ℕ) (v : Hand) : Type 0 where
   pub whole : 0 < v.den
   pub is : weight * v.den ≡ v.num * unit

@@ -37,7 +37,7 @@ const TELL: usize = 0x2000_0000_0000_0000;
 /// The limit on the number of a call's growths: a call that has this many ends the test.
 pub(crate) const MOST: usize = 100_000;
 
-/// Makes the `k`-th later growth fail, and only that one. Has no effect if the library is not loaded.
+/// Makes the `k`-th request for memory after this call fail, and only that one. Has no effect if `refuse.c` (see the head of this file) is not loaded.
 pub(crate) fn refuse(alloc: Global, k: usize) {
     let _ = Vec::<u8>::with_capacity(alloc, ASK | k);
 }

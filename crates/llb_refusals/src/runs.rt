@@ -147,8 +147,8 @@ pub(crate) fn printed_alone(rt: &impl Abort, alloc: Global, board: Board) -> Str
     printed_end(rt, alloc, &alone(board))
 }
 
-// Runs a board in threads while growth `k` is refused. Checks that the run ends with a fault that the row has, or completes without that memory; that the
-// record is right (`is_replayed`); and that `run_alone` completes the run's board. Returns whether the growth was refused.
+// Runs a board in threads while the `k`-th request for memory is refused. Checks that the run ends with a fault that the row has, or completes without that
+// memory; that the record is right (`is_replayed`); and that `run_alone` completes the run's board. Returns whether this request was made and refused.
 fn is_growth<R: Abort + Threads + Wait + Sync>(rt: &R, alloc: Global, row: &Row, k: usize) -> bool {
     let (_, on, lacks, wanted) = *row;
     let board = board_on(rt, alloc, &board_in(rt, on));

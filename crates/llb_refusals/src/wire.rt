@@ -6,7 +6,7 @@ use llb_wire::{Memory, Wire, write_record, write_varint};
 use std::alloc::Global;
 use std::process::Abort;
 
-// Bytes to which a number or a record is appended.
+// A call that appends a number or a record to the bytes `out`, the length of these bytes before the call, and the result of the latest call.
 #[derive(Drop)]
 struct OnBytes {
     call: &'static str,

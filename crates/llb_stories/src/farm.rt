@@ -186,7 +186,8 @@ fn a_record_of_threads_on_caches_is_replayed(rt: HostRuntime) {
     is_so(&rt, stop.is_some() && are_same(stepper.board(), &end.board));
 }
 
-// The gate counts the passes at vertices 0 to 3 and those at the other vertices: 4 and 5, which mount the shared cache, and 6, the merge.
+// The gate counts how often it lets a worker begin with one of the vertices 0 to 3, and how often with one of the others: 4 and 5, which mount the shared
+// cache, and 6, the merge.
 #[test]
 fn each_vertex_passes_the_gate_once(rt: HostRuntime) {
     let gate = Counting::new(4);

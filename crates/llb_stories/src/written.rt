@@ -82,7 +82,7 @@ pub(crate) fn key_of(rt: &impl Abort, alloc: Global, row: &CacheRow) -> Key {
     Key { id, seed, mode }
 }
 
-// Returns a need for each key. A new instance of the key begins with the empty tree.
+// Returns a `Need` for the key of each row. By each `Need`, a new instance of its key begins with the empty tree.
 pub(crate) fn needs_of(rt: &impl Abort, alloc: Global, rows: &[CacheRow]) -> Vec<Need> {
     let mut needs = Vec::new(alloc);
     for row in rows {

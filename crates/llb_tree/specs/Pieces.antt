@@ -61,7 +61,7 @@ tidied j ps = tidied_by (get_or ps j []) j ps
 abbrev pub without : List ℕ → Pairs → Pairs
 without n = where_key name_cmp (λ m. not (eq_by_cmp name_cmp n m))
 
--- the children `es` after the child with this name gets the given tree, or is added with that tree; if no tree is given, after that child is removed
+-- the children `es` after a change of the child with this name: it gets the given tree, or is added with that tree; if no tree is given, it is removed
 abbrev pub change : List ℕ → Option TreeMap → Pairs → Pairs
 change n (Some t) es = finite.put name_cmp n t es
 change n None es = without n es

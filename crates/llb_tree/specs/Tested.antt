@@ -56,7 +56,7 @@ module _ {X : Type 0} (passes : X → List ℕ → Bool) where
     pub order : AreSorted old → AreSorted (unwrap_or new old)
     pub looks : (n : List ℕ) (q : List (List ℕ)) → look_kids (unwrap_or new old) n q ≡ unless_goes ts (n ∷ q) (look_kids old n q)
 
-  -- `new` is the children `old`, and then `kid` without its paths at or below a selected path; `gone` is whether `kid` has such paths; sorted names stay sorted
+  -- `new` is `old`, and then `kid` without what is at or below a path that passes the tests; `gone`: whether `kid` has such paths; sorted names stay sorted
   pub record Keeps (ts : List X) (kid : Child) (gone : Bool) (old new : List Child) : Type 0 where
     pub any : gone ≡ list_any (goes ts) (map (λ e. e.0) (below kid))
     pub order : (later : Pairs) → T (finite.is_sorted name_cmp (map pair_of old ++ pair_of kid ∷ later))

@@ -63,7 +63,7 @@ pub(crate) fn covers(upper: &[Piece], lower: &[Piece]) -> bool
     are_alike(upper, lower) || has_all(Children::of(upper), Children::of(lower))
 }
 
-// Returns whether each name of the lower children is a name of an upper child, by one pass over the lower and the upper children.
+// Returns whether each name of the lower children is a name of an upper child. Goes once through the lower and the upper children, both sorted by name.
 fn has_all(upper: Children<'_>, lower: Children<'_>) -> bool
     ensures { IsTrue result → Covers (left_in upper.entry) (left_in lower.entry) }
 {

@@ -136,7 +136,8 @@ fn is_put_below(alloc: Global, growing: &mut Growing<'_>, parts: &Parts<'_>) -> 
     }
 }
 
-// Adds a directory to a tree, and keeps the directory apart; `None` if memory is refused.
+// Adds an empty directory to a tree, but keeps the directory apart as a tree of its own, to which the files that follow are added; `None` if memory is
+// refused.
 fn opened<'a>(
     alloc: Global,
     above: Tree,

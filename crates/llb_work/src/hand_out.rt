@@ -39,7 +39,8 @@ pub(crate) struct GivenBack<S: Ledger> {
 }
 
 impl<'x, S: Gated + Send + Sync, G: Gate + Sync, R: Threads + Wait + Sync> Crew<'x, S, G, R> {
-    /// Starts a thread for each worker, with a part of the pass, a share of the ledger and a list. Joins all threads, and returns what the workers give back.
+    /// Starts a thread for each worker, with a part of the queue's pass, a share of the ledger (which counts events) and a list for numbers of vertices. Joins
+    /// all threads, and returns what the workers give back.
     pub(crate) fn all_serve<E>(self, scope: &Scope<'x, E>, out: HandOut<S>) -> GivenBack<S>
         requires stop { AllowsStops G.may_stop S.may_stop }
         requires out { IsHandedOut self.queue.now out }

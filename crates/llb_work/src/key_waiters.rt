@@ -42,7 +42,7 @@ impl KeyWaiters {
         Ok(KeyWaiters { rows, after })
     }
 
-    // Returns the index of a key's row.
+    // Returns the index of a key's row; `None` if the key has no row.
     fn place_of(&self, key: &Key) -> Option<usize> {
         self.rows.iter().position(|row| row.key == *key)
     }

@@ -1,4 +1,5 @@
-//! The reasons that a worker notes under the lock for ending a run early, and the ledger of a run.
+//! The reasons that a worker notes under the lock for ending a run early; and a trait for the type of a run's ledger, which counts the events that the
+//! workers do.
 
 ghost use Rattle.std.specs.Prelude.{ℕ, Bool, true};
 ghost use Rattle.llb_board.specs.Seen.{BoardValue};

@@ -122,8 +122,8 @@ fn ended(board: Board, made: [u64; 64], noted: Option<Noted>) -> RunEnd
     RunEnd { board, made, fault }
 }
 
-// Finishes a run after its threads have ended, and returns the fault of the run. If nothing is noted, does the chosen events until the board
-// is complete; if something is noted or memory is refused, cancels what workers still run.
+// Finishes a run after its threads have ended, and returns the fault of the run. If no reason for an early end is noted, does the chosen events (see
+// `Board::chosen`) until the board is complete; if a reason is noted, or memory is refused, cancels what workers still run.
 fn finish(board: &mut Board, noted: Option<Noted>) -> Option<RunFault>
     ensures goes { GoesOn board.old board.new }
     ensures own { is_foreign result ≡ false }

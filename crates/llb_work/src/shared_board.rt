@@ -279,8 +279,8 @@ impl<S: Gated> SharedBoard<S> {
         }
     }
 
-    // Lets a number wait for a key that another worker holds. If the number had waited for a different key before, adds the next number that waits for that
-    // different key to `news`.
+    // Lets the vertex number `v` wait for a key whose instance another worker holds. If `v` had waited for a different key before, adds to `news` the next
+    // number that waits for that different key.
     fn wait_for(&mut self, key: Key, v: u32, news: &mut Vec<u32>) -> Task
         ensures { (w : ℕ) → IsHere S.start w result }
     {

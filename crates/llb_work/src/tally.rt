@@ -9,7 +9,8 @@ ghost use Rattle.llb_model.specs.Run.{events_by};
 use llb_board::{Board, Event};
 use std::sync::ledger::{Book, Ledger, Share};
 
-/// A worker's count of the events that it has made, and the worker's share of the ledger, which has the same amount.
+/// How many events a worker has made, kept twice: as the number `made`, and as the amount of the worker's share of the ledger. (A ledger makes sure that the
+/// workers' counts add up.)
 #[derive(Drop)]
 pub(crate) struct Tally<S: Ledger> {
     pub made: u64,

@@ -82,8 +82,8 @@ pub(crate) fn growths_of(
     Ok(growths)
 }
 
-// Returns the number of the row of the last locked key that a vertex mounts; `None` if no such row exists. Fails with the first locked key of the vertex whose
-// instance a lease has. Does not allocate.
+// Returns the number of the row of the last locked key that a vertex mounts; `None` if the vertex mounts no locked key, or if that key has no row. If leases
+// have instances of locked keys that the vertex mounts, fails with the first such key. Does not allocate.
 fn last_locked<'a>(caches: &Caches, vertex: &'a Vertex) -> Result<Option<usize>, KeyRef<'a>>
     requires { HasEdges vertex.now }
     ensures { MatchResult result (λ _. first_held_key caches.now.out (needs_of vertex.now) ≡ None)
@@ -234,7 +234,7 @@ fn instance_numbers(alloc: Global, places: &[Instance]) -> Result<Vec<u32>, Clai
     Ok(numbers)
 }
 
-// Copies the trees of the instances, or for a new instance the tree of its seed.
+// Copies the tree of the instance of each wanted cache or, if the instance is a new one, the tree of its seed.
 fn first_trees(
     alloc: Global,
     inputs: &[Tree],

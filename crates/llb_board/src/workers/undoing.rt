@@ -165,8 +165,8 @@ impl Workers {
         }
     }
 
-    /// Puts back what an event displaced in the workers and the caches. Returns the vertex whose status changes, with its status before the event; `None`
-    /// for a step. Does not allocate.
+    /// Puts back into the workers and the caches what an event displaced there, as `undo` has it. Returns the vertex whose status changes, with its status
+    /// before the event; `None` for a step. Does not allocate.
     pub(crate) fn put_back(&mut self, undo: Undo) -> Option<Change>
         requires { CanPutBack undo self.old }
         ensures workers { self.new.workers ≡ workers_before undo.back self.old.workers }

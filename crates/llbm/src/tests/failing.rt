@@ -220,7 +220,8 @@ fn ends_after<R: Abort + Threads + Wait + Sync>(
     tried(rt, alloc, SESSION, rooms).is(end.0, text.as_str(), end.1)
 }
 
-// The session has 49 bytes, and nothing is read after `quit`.
+// The session has 49 bytes, each read by one call. The reader fails after `room` reads; only lines that were read whole have replies. Nothing is read after
+// `quit`, so a reader that would fail after 49 reads does not fail.
 #[test]
 fn commands_that_fail_have_their_whole_lines_answered(rt: HostRuntime) {
     let alloc = rt.alloc();
