@@ -157,8 +157,8 @@ fn empty(alloc: Global, count: usize) -> Result<Vec<Vec<u32>>, AllocError>
     Ok(lists)
 }
 
-// Appends vertex `v` to the list of each vertex that one of the edges leads to, and returns how many such vertices there are. The number `v` is above all
-// numbers in the lists.
+// Appends vertex `v` to the list of each vertex that one of the edges leads to, and returns how many such vertices there are. The number `v` must be above all
+// numbers that the lists have before the call.
 fn enter(users: &mut Vec<Vec<u32>>, v: u32, edges: &[Edge]) -> Result<u32, AllocError>
     requires below { All (λ (e : edge.Edge). e.vertex < length users.old.items) edges.now }
     requires few { length users.old.items < 2 ^ 32 }
