@@ -89,7 +89,7 @@ impl Links {
         }
     }
 
-    /// Returns whether no input of a vertex is open; false past the last vertex. Does not allocate.
+    /// Returns whether a vertex has no open input (an edge to a vertex that is not done); false past the last vertex. Does not allocate.
     pub(crate) fn has_inputs(&self, v: u32) -> bool
         ensures { result ≡ has_inputs self.now v }
     {
@@ -194,7 +194,7 @@ fn lower(counts: &mut [u32], users: &[u32])
     }
 }
 
-// Increments the count of each listed vertex, once for each time that it is listed.
+// Increments the count (of open inputs) of each listed vertex, once for each time that it is listed.
 fn raise(counts: &mut [u32], users: &[u32])
     requires below { All (λ x. x < length counts.old) users.now }
     requires few { (x : ℕ) → get_or counts.old x 0 + length users.now < 2 ^ 32 }

@@ -35,7 +35,7 @@ abbrev pub ActsAlike : Option ActionKind → TreeMap → TreeMap → Type 0
 ActsAlike a t v = (test : List ℕ → List ℕ → Bool) (u w : TreeMap) → RelatesBody (By test) a → AreAlike (By test) t u → AreAlike (By test) v w
     → BothResults (AreAlike (By test)) (act a t v) (act a u w)
 
--- a command on two alike views fails both times, or leaves alike views, if appending keeps the relation, and `RelatesTexts` holds of the command
+-- on two views alike by a relation, a command fails on both or leaves alike views, if appending keeps the relation and `RelatesTexts` holds of the command
 abbrev pub RunsAlike : Setting → List Shown → Command → Type 0
 RunsAlike s v c = (test : List ℕ → List ℕ → Bool) (w : List Shown) → IsKept (By test) → RelatesTexts (By test) s c → AreAlikeViews (By test) v w
     → BothOptions (AreAlikeViews (By test)) (run s v c) (run s w c)
