@@ -78,8 +78,8 @@ impl Lesson<u32, Hand> for Takes {
     ghost fact = { Knows };
 }
 
-/// What is known of the queue if the pass is whole (no part of it is given away). Each number was put as often as it was taken and is in the queue, both counts
-/// added; and the queue holds no more numbers than it has room for.
+/// What is known of the queue if the pass is whole (no part of it is given away). For each number, how often it was taken and how often it is in the queue add
+/// up to how often it was put; and the queue holds no more numbers than it has room for.
 pub(crate) struct Learns;
 
 impl Lesson<u32, Hand> for Learns {

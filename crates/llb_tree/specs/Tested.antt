@@ -20,7 +20,7 @@ module _ {X : Type 0} (passes : X → List ℕ → Bool) where
   passes_all (t ∷ ts) [] = false
   passes_all (t ∷ ts) (n ∷ q) = passes t n && passes_all ts q
 
-  -- whether a path is at or below a selected path (it has as many names as there are tests, and each name passes its test)
+  -- whether a path is at or below a selected path: there are at least as many names as tests, and the first names pass the tests, in order
   abbrev pub goes : List X → List (List ℕ) → Bool
   goes [] q = true
   goes (t ∷ ts) [] = false
