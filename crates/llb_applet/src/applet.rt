@@ -1,4 +1,4 @@
-//! The applets, and their names.
+//! The applets (the thirteen small commands that a script can call), and their names.
 
 ghost use Rattle.std.specs.Prelude.{◌≡◌, option_map};
 ghost use Rattle.std.specs.List.{find};

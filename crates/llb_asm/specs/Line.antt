@@ -112,7 +112,7 @@ behind here f = record {
   ended = false;
 }
 
--- the context after the line of the extra bytes, which has to be the last item of its message
+-- the context after the line of the extra bytes; no other item of the same message may come after this line
 abbrev pub at_end : Here → Here
 at_end here = record { message = here.message; last = here.last; set = here.set; count = here.count; ended = true }
 

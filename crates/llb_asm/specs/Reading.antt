@@ -108,7 +108,7 @@ IsWhole (unclosed line next number sub inner) = ⊥
 abbrev pub item : Here → Held → Item
 item next held = record { next = next; held = held }
 
--- each line of the items is read, in the message that is current at that line, as the item that is given with the line
+-- each line of these items is read as the item that is given beside it; a line is read in the message that is current there, the first one in `hand`
 abbrev pub AreItems : List (List ℕ) → Hand → Items → Type 0
 AreItems labels hand done = Unit {0}
 AreItems labels hand (single line next bytes rest) = (item_at labels hand line ≡ Ok (item next (Record bytes))) × AreItems labels (beyond hand next bytes) rest

@@ -23,7 +23,7 @@ pub enum Begun {
     Structured,
 }
 
-/// Returns what a line begins, without a check of the limits.
+/// Returns what a line begins, a raw entry or an op, or why the line is refused; does not check the limits.
 fn begun_by(alloc: Global, line: &[u8]) -> Result<Result<Begun, Refusal>, Memory>
     ensures { IfOk result (λ r. r ≡ begun_by line.now (parted line.now)) }
 {

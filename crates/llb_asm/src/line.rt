@@ -57,7 +57,7 @@ pub struct Item {
     pub held: Held,
 }
 
-// Returns the context at the start of a message.
+// Returns the context (`Here`) of the first line of a message.
 pub(crate) fn inside(message: MessageName) -> Here
     ensures { result ≡ inside message }
 {
@@ -90,7 +90,7 @@ impl Here {
         }
     }
 
-    // Returns the context after the extra bytes.
+    // Returns the context after the line of the extra bytes: no other item of the same message may come after this line.
     fn at_end(self) -> Here
         ensures { result ≡ at_end self }
     {

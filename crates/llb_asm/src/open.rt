@@ -38,7 +38,7 @@ pub enum Closed {
 }
 
 #[tactic(auto, using(crate::proofs::Lengths::no_room, crate::proofs::Lengths::turned_below))]
-// Returns whether the entry is within the limits if the current message has `size` bytes and all messages are closed.
+// Returns whether the entry would be within the limits if the current message had `size` bytes and all open messages were closed after it.
 fn has_room(earlier: &Earlier, below: &[Frame], size: usize) -> bool
     ensures { result ≡ room_in (is_within earlier.now) (reverse below.now) size }
 {

@@ -63,8 +63,8 @@ not_running end.Cancel = walk.Cancel no_cancel.NotRunning
 
 -- ---- what an event displaces: what it changes, and what has to be kept to take the event back
 
--- For a claim: the worker, the vertex, and what the claim's lease added to the caches. For a step: the worker, what the step can change in the workspace, and
--- the trees of the worker's instances. For a settle or a cancel: which of the two, the worker, what the worker ran, and a prepared lease if it held instances.
+-- What is kept to undo an event. For a claim: the worker, the vertex, what its lease added to the caches. For a step: the worker, what the step can change in
+-- the workspace, and the trees of its instances. For a settle or a cancel: which it was, the worker, what it ran, and a prepared lease if it held instances.
 pub data Back : Type 0 where
   Unclaim : ℕ → ℕ → List Growth → Back
   Unstep : ℕ → Saved → List TreeMap → Back

@@ -41,7 +41,7 @@ abbrev pub lent_if : cache.CachesValue → Option LentValue → Option ℕ × ca
 lent_if c None = (None, c)
 lent_if c (Some l) = (Some (cache.free_lease c.out), lent_again c l.places)
 
--- the result of making a lease, with the number of the lease as an option
+-- the result of making a lease, with the number of the lease in a `Some`
 abbrev pub some_lease : Result (ℕ × cache.CachesValue) LeaseFault → Result (Option ℕ × cache.CachesValue) LeaseFault
 some_lease (Ok (l, c)) = Ok (Some l, c)
 some_lease (Err e) = Err e

@@ -49,8 +49,8 @@ kept_next b (Some (s, rows)) e = option_map (λ (a : State × Reply). (a.0, rows
 abbrev pub kept_along : Build → State → List Row → List Event → Option (State × List Row)
 kept_along b s rows es = fold (kept_next b) (Some (s, rows)) es
 
--- The table replays the record from the opening state to the board's state, and the record's events turn the rows that were handed in into the
--- rows of the board.
+-- The table replays the record from the opening state to the board's state. The record's events turn the rows of the caches with which the board was opened
+-- into the rows that the board has now.
 pub record Replays (b : BoardValue) : Type 0 where
   pub replies : List Reply
   pub leads : run b.build (opening b.build b.opening) b.events ≡ Some (b.state, replies)

@@ -89,7 +89,7 @@ impl Links {
         }
     }
 
-    /// Returns whether no input of a vertex is open; false past the last vertex. Does not allocate.
+    /// Returns whether a vertex has no open input (an edge to a vertex that is not done); false past the last vertex. Does not allocate.
     pub(crate) fn has_inputs(&self, v: u32) -> bool
         ensures { result ≡ has_inputs self.now v }
     {
@@ -157,8 +157,8 @@ fn empty(alloc: Global, count: usize) -> Result<Vec<Vec<u32>>, AllocError>
     Ok(lists)
 }
 
-// Appends vertex `v` to the list of each vertex that one of the edges leads to, and returns how many such vertices there are. The number `v` is above all
-// numbers in the lists.
+// Appends vertex `v` to the list of each vertex that one of the edges leads to, and returns how many such vertices there are. The number `v` must be above all
+// numbers that the lists have before the call.
 fn enter(users: &mut Vec<Vec<u32>>, v: u32, edges: &[Edge]) -> Result<u32, AllocError>
     requires below { All (λ (e : edge.Edge). e.vertex < length users.old.items) edges.now }
     requires few { length users.old.items < 2 ^ 32 }
@@ -194,7 +194,7 @@ fn lower(counts: &mut [u32], users: &[u32])
     }
 }
 
-// Increments the count of each listed vertex, once for each time that it is listed.
+// Increments the count (of open inputs) of each listed vertex, once for each time that it is listed.
 fn raise(counts: &mut [u32], users: &[u32])
     requires below { All (λ x. x < length counts.old) users.now }
     requires few { (x : ℕ) → get_or counts.old x 0 + length users.now < 2 ^ 32 }

@@ -29,7 +29,7 @@ same_seeds None (Some t) = false
 same_seeds (Some s) None = false
 same_seeds (Some s) (Some t) = same_seed s t
 
--- the seed with this digest text and this index
+-- the seed with this digest text and this output index
 abbrev pub seed_by : List ℕ → ℕ → Seed
 seed_by digest index = record { digest = digest; index = index }
 

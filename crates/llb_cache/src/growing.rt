@@ -126,7 +126,7 @@ fn unmark(rows: &Rows, marks: &mut Vec<Marks>, place: &Instance)
     }
 }
 
-// Adds a lease under the least free number, and returns the number. The list of leases has room for one more.
+// Adds a lease under the least free number, and returns the number. The list of leases must have room for one more.
 pub(crate) fn take_lease(out: &mut Vec<Option<Many<Instance>>>, places: Many<Instance>) -> u32
     requires room { vec_len out.old < vec_capacity out.old }
     requires short { length out.old.items ≤ 65536 }

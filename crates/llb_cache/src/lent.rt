@@ -101,7 +101,7 @@ impl Caches {
     }
 }
 
-// Marks instances whose keys have rows.
+// Marks these instances, each of which must exist. `rooms` must have, for each of them in order, a list that is long enough for its mark and has no mark yet.
 fn mark_all(rows: &Rows, marks: &mut Vec<Marks>, places: &[Instance], rooms: Vec<Marks>)
     requires order { AreOrdered rows.now }
     requires each { length marks.old.items ≡ length rows.now.entries.items }

@@ -39,7 +39,7 @@ PerformsAs files Disassemble line locals io = Disassembles io
 abbrev pub Performs : Shelf → Line → List Local → Io → ℕ → Type 0
 Performs files line = PerformsAs files line.command line
 
--- The words are refused: the line of the fault is written, and below it the page that the words ask for, if any.
+-- The words of the command line are refused: the line of the fault is written, and below it the page of text that the words ask for, if any.
 pub record IsRefusedByWords (words : List Text) (io : Io) (status : ℕ) : Type 0 where
   pub fault : WordsFault
   pub page : Text

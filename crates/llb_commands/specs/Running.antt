@@ -1,4 +1,4 @@
--- The steps of a run, and what the result of each step says of the input's bytes.
+-- Loading the input, opening a board, running it and writing the result: what the result of each of these calls says of the input's bytes.
 use Rattle.std.specs.Prelude.{◌≡◌, ◌⊎◌, ℕ, List, [], length, Option, Some, None, Result, Ok, Err, IfSome, ⊤, if◌then◌else◌}
 use Rattle.llb_tree.specs.Tree.{TreeMap}
 use Rattle.llb_loader.specs.Graph.{Numbered}

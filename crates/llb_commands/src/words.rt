@@ -137,8 +137,8 @@ impl From<AllocError> for Refusal<'_> {
     }
 }
 
-/// Writes the line of refused words, and below it the page that they ask for; returns the fault's status, or 3 if the line and
-/// the page can't be written.
+/// Writes the line with the fault of refused words, and below it the page that the words ask for. Returns the fault's exit status, or
+/// 3 if the line and the page can't be written.
 pub(crate) fn tell_refusal<E: Write>(refusal: &Refusal<'_>, err: &mut E) -> u8
     ensures { TellsWithPage (E.contents err.old) (E.contents err.new) refusal.now.fault refusal.now.page.now result }
 {

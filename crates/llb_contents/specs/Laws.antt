@@ -35,7 +35,7 @@ abbrev pub ActsAlike : Option ActionKind → TreeMap → TreeMap → Type 0
 ActsAlike a t v = (test : List ℕ → List ℕ → Bool) (u w : TreeMap) → RelatesBody (By test) a → AreAlike (By test) t u → AreAlike (By test) v w
     → BothResults (AreAlike (By test)) (act a t v) (act a u w)
 
--- a command on two alike views fails both times, or leaves alike views, if appending keeps the relation, and `RelatesTexts` holds of the command
+-- on two views alike by a relation, a command fails on both or leaves alike views, if appending keeps the relation and `RelatesTexts` holds of the command
 abbrev pub RunsAlike : Setting → List Shown → Command → Type 0
 RunsAlike s v c = (test : List ℕ → List ℕ → Bool) (w : List Shown) → IsKept (By test) → RelatesTexts (By test) s c → AreAlikeViews (By test) v w
     → BothOptions (AreAlikeViews (By test)) (run s v c) (run s w c)
@@ -97,7 +97,7 @@ spelled_from table (b ∷ bytes) zero n =
 spelled_from table (b ∷ bytes) (suc zero) n = option_map (λ rest. table (n * 256 + b) ++ rest) (spelled_from table bytes 0 0)
 spelled_from table (b ∷ bytes) (suc (suc left)) n = spelled_from table bytes (suc left) (n * 256 + b)
 
--- what a content with tokens expands to, given a table of the contents by token number
+-- what a content expands to: each token in it (the byte 255 and a number) is replaced by the content that the table has for the number; none if a token is cut
 abbrev pub spelled : (ℕ → List ℕ) → List ℕ → Option (List ℕ)
 spelled table bytes = spelled_from table bytes 0 0
 
@@ -159,18 +159,18 @@ step_writes_mark (Run setting command ends) = writes_mark setting command.comman
 step_writes_mark ReadLocal = false
 step_writes_mark (LayInput i) = false
 
--- no vertex at or before vertex v makes a listing, or writes the byte that begins tokens
+-- no vertex at or before vertex v has a micro-step that may write the byte 255, which begins a token (a number in place of a content); `listing` may write it
 abbrev pub WritesNoMark : Numbered → ℕ → Type 0
 WritesNoMark g v = (k : ℕ) (x : Vertex) → Reached (links g.vertices) v k → slice_get g.vertices k ≡ Some x
     → list_any step_writes_mark (program_of x).steps ≡ false
 
--- two equal contents without the byte that begins tokens: such a content is given by value, not by a token
+-- two equal contents without the byte 255, which begins a token (a number in place of a content): so each of them expands to itself
 pub record IsLiteral (a b : List ℕ) : Type 0 where
   pub same : a ≡ b
   pub plain : has_mark a ≡ false
 
--- a condition on each vertex at or before vertex v that makes a digest: each local source at or before that vertex has equal trees in both lists of local trees
--- (or none in both), and no content in these trees has the byte that begins tokens
+-- a condition on each vertex k at or before v whose program makes a digest: each local source at or before k has equal trees in both lists of local trees
+-- (or none in both), and no content in these trees has the byte 255, which begins a token (a number in place of a content)
 abbrev pub DigestsLiterals : Numbered → List Local → List Local → ℕ → Type 0
 DigestsLiterals g ls ms v = (k : ℕ) (x : Vertex) → Reached (links g.vertices) v k → slice_get g.vertices k ≡ Some x
     → (list_any step_digests (program_of x).steps ≡ false) ⊎ HaveAlikeSources IsLiteral g k ls ms

@@ -59,7 +59,7 @@ role_in (part.ResultOf a) = ResultOf a
 role_in part.Laid = Laid
 role_in (part.MountAt dest) = MountAt dest.now
 
--- the role of an input's tree
+-- the role of the tree of an input, in a workspace
 abbrev pub input_role : TreeMap → Role
 input_role t = Input
 

@@ -73,7 +73,7 @@ impl Workspace {
     }
 }
 
-// Returns the role of tree `i` of a source.
+// Returns what tree `i` of a source's workspace is, as a `Part`: tree 0 is the local tree; `None` for any other number.
 fn local_part<'a>(i: usize) -> Option<Part<'a>>
     ensures { option_map role_in result ≡ slice_get (Local ∷ []) i }
 {
@@ -97,7 +97,7 @@ fn file_part<'a>(inputs: &[Tree], results: &[Tree], i: usize) -> Option<Part<'a>
     None
 }
 
-// Returns the role of tree `i` of a merge.
+// Returns what tree `i` of a merge's workspace is, as a `Part`: first come the trees of the inputs, then the result so far; `None` past the end.
 fn merge_part<'a>(inputs: &[Tree], i: usize) -> Option<Part<'a>>
     ensures { option_map role_in result ≡ slice_get (map input_role inputs.now ++ Laid ∷ []) i }
 {

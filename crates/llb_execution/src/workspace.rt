@@ -156,8 +156,8 @@ impl Workspace {
         }
     }
 
-    /// Returns the outputs of the vertex, from its workspace after all micro-steps. `outputs` has an empty tree for each
-    /// output, which the caller makes by `empty_trees`; the outputs replace these trees. Does not allocate.
+    /// Returns the outputs of the vertex, from its workspace after all micro-steps. `outputs` must have an empty tree for each
+    /// output (the caller makes them by `empty_trees`); the outputs replace these trees. Does not allocate.
     pub fn into_outputs(self, outputs: Vec<Tree>, vertex: &Vertex) -> Vec<Tree>
         requires { outputs.items ≡ replicate vertex.now.outputs empty_tree }
         ensures { result.items ≡ outputs_of (program_of vertex.now) self }

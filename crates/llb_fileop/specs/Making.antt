@@ -21,7 +21,7 @@ kept_or_made m p None t = put_dir t p m
 kept_or_made m p (Some (Dir n)) t = Ok t
 kept_or_made m p (Some (File n bytes)) t = Err NotDir
 
--- the tree after directories are made at those of these paths at which nothing is, one after another; or the fault `NotDir` at the first file
+-- the tree after a directory is made at each of these paths, in order, unless a directory is there; or the first fault: at a file, `NotDir`
 abbrev pub make_all : MetaValue → List (List (List ℕ)) → TreeMap → Result TreeMap TreeFault
 make_all m [] t = Ok t
 make_all m (p ∷ ps) t = kept_or_made m p (finite.get t p) t >>= make_all m ps

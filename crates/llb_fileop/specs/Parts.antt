@@ -28,7 +28,7 @@ all_below here depth [] = Ok tt
 all_below here depth (e ∷ es) =
     if nat_lt 128 (depth + length e.0) then Err BadName else (meets (finite.get here e.0) e.1 >>= λ _. all_below here depth es)
 
--- what is at a path after a copied entry, if there is one, is put over `there`, which the tree had at the path; if both are directories, `there` stays as it is
+-- what is at a path after a copied entry is put there; what was there before, `there`, stays if both are directories, or if there is no copied entry
 abbrev pub laid : (MetaValue → MetaValue) → Option Entry → Option Entry → Option Entry
 laid given there None = there
 laid given there (Some e) = Some (landed given there e)

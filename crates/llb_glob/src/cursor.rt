@@ -10,7 +10,7 @@ use crate::item::{Item, Letter};
 /// The stage of the reader in a part.
 #[derive(Clone, Copy)]
 pub enum Stage {
-    /// In no class.
+    /// The reader is in no class of the part.
     Outside,
     /// Right after the `[` of a class.
     Opened,

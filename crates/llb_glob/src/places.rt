@@ -22,8 +22,8 @@ pub fn matches_letters(items: &[Item], name: &[char]) -> bool
     places[0]
 }
 
-// Changes the set of positions `places` as one more item is taken: afterwards a position is in the set if this item, followed by the items that were taken
-// before, matches the name from this position to the name's end.
+// Puts one more item before some items. Before the call, a position is in the set `places` if those items match the name from this position to its end; after
+// the call, if this item followed by those items does.
 fn step_back(item: &Item, name: &[char], places: &mut [bool])
     requires { length name.now < length places.old }
     ensures { (rest : List Item) → AreStarts rest name.now places.old → AreStarts (item.now ∷ rest) name.now places.new }

@@ -13,7 +13,7 @@ use Rattle.llb_loader.specs.declared.fault.Rule.TheVariants as rule
 use Rattle.llb_loader.specs.declared.fault.LoadFault.{LoadFault}
 use Rattle.llb_loader.specs.declared.fault.LoadFault.TheVariants as fault
 
--- whether a fault is `Memory`, with which a call fails if memory is refused; no definition of a refusal has this fault
+-- whether a fault is `Memory`, with which a call fails if memory is refused; the definitions that say what is refused never name this fault
 abbrev pub is_memory : LoadFault → Bool
 is_memory fault.Memory = true
 is_memory _ = false

@@ -46,11 +46,11 @@ plan rows ops terminal start = record { rows = rows; ops = ops; terminal = termi
 abbrev pub start_in : List Row → List Op → ℕ
 start_in rows ops = unwrap_or (row_named rows (terminal_in rows) (input_at (op_at ops (terminal_in rows)) 0).digest) 0
 
--- the plan of rows that are read as these ops
+-- the `Plan` (what a graph is made from) for rows that are read as these ops
 abbrev pub plan_of : List Row → List Op → Plan
 plan_of rows ops = plan rows ops (terminal_in rows) (start_in rows ops)
 
--- p is the plan of these rows, which are read as these ops
+-- p is the `Plan` for these rows, which are read as these ops
 pub record IsPlanOf (rows : List Row) (ops : List Op) (p : Plan) : Type 0 where
   pub same : p ≡ plan_of rows ops
 

@@ -42,7 +42,7 @@ pub(crate) fn key_of<'a>(inputs: &'a [Input], mount: &'a Mount) -> Option<Key<'a
     Some(Key { id, mode, seed })
 }
 
-// Returns the input that names the seed of the mount's cache; `None` if there is no such input, as for -1.
+// Returns the input that names the seed of the mount's cache: the input with the mount's input number; `None` if no input has this number (-1: no input).
 fn seed_in<'a>(inputs: &'a [Input], mount: &Mount) -> Option<&'a Input>
     ensures { seed_by (option_copied result) ≡ seed_of inputs.now mount.now.input }
 {

@@ -25,7 +25,8 @@ use llb_wire::{Bytes, Memory};
 use std::alloc::Global;
 use std::collections::BTreeMap;
 
-// Rows with their ops, and with the rows that the inputs of these ops name. Each input of a reached row names a row. The bytes of the rows are empty.
+// Rows with their ops, and with the rows that the inputs of these ops name. Each input of the row `start`, and of each row to which inputs lead from there,
+// names a row. The field `bytes` of each row is empty.
 struct Linked {
     rows: Vec<Row>,
     ops: Vec<Op>,

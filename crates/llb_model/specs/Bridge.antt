@@ -64,7 +64,7 @@ asked inputs needs = map (λ (n : Need). record { key = n.key; tree = base_in n.
 abbrev pub places_taken : Leases → List Need → List Instance
 places_taken out needs = map (λ (n : Need). cache.place_for out n.key) needs
 
--- what a lease of one need adds to the rows: a new instance, a new row with its first instance, or nothing
+-- what a lease of one need adds to the rows of the caches: a new instance, a new row with its first instance, or nothing
 abbrev pub growth_for : cache.CachesValue → Need → Growth
 growth_for c n = growth_at c.rows (cache.place_for c.out n.key)
 

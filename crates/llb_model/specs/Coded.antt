@@ -24,7 +24,7 @@ abbrev pub packed_seed : Option Seed → Option (List ℕ × ℕ)
 packed_seed None = None
 packed_seed (Some s) = Some (s.digest, s.index)
 
--- the seed with this digest and index
+-- the seed of a key, made back from the pair of its digest and its index; nothing for nothing
 abbrev pub unpacked_seed : Option (List ℕ × ℕ) → Option Seed
 unpacked_seed None = None
 unpacked_seed (Some p) = Some (record { digest = p.0; index = p.1 })

@@ -184,7 +184,7 @@ are_ands (c ∷ cs) = is_run c.join 0 && all_and cs
 abbrev pub in_turn : Setting → Joined → MicroStep
 in_turn setting c = Run setting (record { join = Then; command = c.command }) true
 
--- the first k commands have the same result as their `in_turn` micro-steps; if that result has no fault, command k runs
+-- the first k commands have the same result as if each ran whatever the last status is, and the first failure ended the exec; if none fails, command k runs
 pub record RunsInTurn (setting : Setting) (cs : List Joined) (work : Work) (k : ℕ) : Type 0 where
   pub leaves : part (runs_of setting cs) work k ≡ part (map (in_turn setting) cs) work k
   pub runs : (c : Joined) → (part (runs_of setting cs) work k).fault ≡ None → slice_get cs k ≡ Some c

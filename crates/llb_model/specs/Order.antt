@@ -43,7 +43,7 @@ abbrev pub done_of : Option ℕ → List MicroStep → Work → Left
 done_of None steps work = whole steps work
 done_of (Some k) steps work = part steps work k
 
--- the status of the vertex after its claim: settled, or waiting again after a cancel
+-- the status of a vertex once the work of its claim has ended: it is settled or, if the claim was cancelled, it waits again
 abbrev pub stands_after : Option ℕ → Program → Left → Status
 stands_after None p left = Settled (ending p left)
 stands_after (Some k) p left = Waiting
@@ -59,7 +59,7 @@ abbrev pub whole_at : Build → Order → ℕ → Start → List Instance → Op
 whole_at b o v start ps cut =
     left_by o v ps (program_of start.vertex) cut (done_of cut (program_of start.vertex).steps (begin_at b o.store start ps))
 
--- the state after a claim, given the `Start` of its vertex; without a `Start` (the vertex is not Ready) the state is unchanged
+-- the state after a claim and its work, given the `Start` of the claim's vertex; without a `Start` (the vertex is not Ready) the state before the claim
 abbrev pub run_whole : Build → Order → Named → Option Start → Order
 run_whole b o c None = o
 run_whole b o c (Some start) = whole_at b o c.vertex start (places_by (needs_of start.vertex) c.instances) c.cut
@@ -81,7 +81,7 @@ claims_in (HasStepped r ∷ rs) = claims_in rs
 claims_in (HasSettled r ∷ rs) = claims_in rs
 claims_in (HasCancelled r ∷ rs) = claims_in rs
 
--- a vertex that is settled in s has the same status in o, the state of a claim order; an instance that no worker holds in s has the same contents in o
+-- o is a state after claims and their work, one after another; each vertex settled in s has the same status in o, and each instance not held in s the same tree
 pub record StandsIn (s : State) (o : Order) : Type 0 where
   pub endings : (v : ℕ) (e : Ending) → slice_get s.statuses v ≡ Some (Settled e) → slice_get o.statuses v ≡ Some (Settled e)
   pub contents : (p : Instance) → IsFree s.workers p → content s.store p ≡ content o.store p

@@ -86,7 +86,7 @@ owed_from k (v ∷ vs) (s ∷ statuses) rs = owed_by v s (cancels_in k rs) + owe
 abbrev pub owed : Build → List Status → List Reply → ℕ
 owed b statuses rs = owed_from 0 b.graph.vertices statuses rs
 
--- the room that the claim of a waiting vertex reserves, if the vertex was cancelled n times before; 0 if there is no vertex
+-- for how many events the claim of a waiting vertex reserves room in the record, if the vertex was cancelled n times before; 0 if there is no vertex
 abbrev pub owed_at : Option Vertex → ℕ → ℕ
 owed_at None n = 0
 owed_at (Some v) n = owed_by v Waiting n

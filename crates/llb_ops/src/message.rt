@@ -24,7 +24,7 @@ pub trait Message: Drop {
 
     ghost reading: { List Read → Result Self OpFault };
 
-    /// Reads the message from its records, whose strings are UTF-8. Fails with the first fault, or with 14 `Memory`.
+    /// Reads the message from its records; their strings must be UTF-8. Fails with the first fault, or with 14 `Memory`.
     fn read(alloc: Global, records: &[Record<'_>]) -> Result<Self, OpFault>
         requires { texts_fit shape (views records.now) ≡ true }
         ensures { Gives (λ m. m) result (reading (views records.now)) };

@@ -43,8 +43,8 @@ impl Drop for Op {
     }
 }
 
-/// What an op does. For a build or a diff, the joined payloads are kept unread. `ExecOp` and `SourceOp`, which are
-/// large, are on the heap, so that an op of another kind is small.
+/// What an op does. A build or a diff is not read: its value is the joined payloads of the records of its field. `ExecOp` and
+/// `SourceOp`, which are large, are on the heap, so that an op of another kind is small.
 #[derive(Drop)]
 pub enum Kind {
     Exec(Boxed<ExecOp>),

@@ -42,7 +42,7 @@ halved v = hand v.num (2 * v.den) v.room v.put v.taken
 abbrev pub other_half : Hand → Hand
 other_half v = hand v.num (2 * v.den) v.room [] []
 
--- Two passes joined to one: their fractions are added, the second's list of numbers put is appended to the first's, and so is its list of numbers taken.
+-- Two passes joined to one: its fraction is the sum of theirs; its numbers put are the first's and then the second's, and so are its numbers taken.
 abbrev pub together : Hand → Hand → Hand
 together v w = hand (v.num * w.den + w.num * v.den) (v.den * w.den) v.room (v.put ++ w.put) (v.taken ++ w.taken)
 

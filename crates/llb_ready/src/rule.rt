@@ -78,8 +78,8 @@ impl Lesson<u32, Hand> for Takes {
     ghost fact = { Knows };
 }
 
-/// What is known with the whole pass: how often each number was put is how often it was taken plus how often it is in the queue, and the queue holds no more
-/// numbers than it has room for.
+/// What is known of the queue if the pass is whole (no part of it is given away). For each number, how often it was taken and how often it is in the queue add
+/// up to how often it was put; and the queue holds no more numbers than it has room for.
 pub(crate) struct Learns;
 
 impl Lesson<u32, Hand> for Learns {

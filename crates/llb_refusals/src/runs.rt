@@ -240,8 +240,9 @@ fn run_by(board: &Board, k: usize) -> Option<u32> {
     }
 }
 
-// Runs a board while the start of thread `k` is refused. Checks that the run then has the row's fault; that the vertex which the thread's worker ran before
-// the run is done; that the record is right (`is_replayed`); and that `run_alone` completes the run's board. Returns whether the start was refused.
+// Runs a board while the start of thread `k` is refused. Checks that the run then has the row's fault; that the record is right (`is_replayed`); that no worker
+// runs anything in the end; and that `run_alone` completes the run's board. If the thread's worker already runs a vertex when the run begins, checks that this
+// vertex is done in the end. Returns whether the start was refused.
 fn is_thread<R: Abort + Threads + Wait + Sync>(rt: &R, alloc: Global, row: &Row, k: usize) -> bool {
     let (_, on, fault, wanted) = *row;
     let written = board_in(rt, on);

@@ -60,7 +60,7 @@ Grants ask.Quit s text t = (t ≡ s) × (text ≡ [])
 
 -- ---- a request that is refused, but not for want of memory
 
--- the request is refused with this fault, but not for want of memory; this happens only to events and to `back`
+-- the request is refused with this fault, for another cause than want of memory; only an event and `back` can be refused so
 abbrev pub Refuses : Request → Stepping → StepperFault → Type 0
 Refuses (ask.Event e) s fault = done_of s e ≡ Err fault
 Refuses ask.Back s fault = (s.past ≡ []) × (fault ≡ NothingBefore)

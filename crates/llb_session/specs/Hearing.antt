@@ -22,7 +22,7 @@ IsSaid p t out (Err (Unending interrupted)) = ⊥
 IsSaid p t out (Err Memory) = ⊥
 IsSaid p t out (Err TooLong) = ⊥
 
--- what is written, at the end of the input, for the last line, which has no line end: the reply, or a prefix of it; nothing if the line is empty or `quit`
+-- what is written at the end of the input for a last line without a line end: its reply (with the fault `Write` a prefix); nothing if it is empty or `quit`
 abbrev pub IsLast : Standing → Stepping → Stream → Result (Unit {0}) SessionFault → Type 0
 IsLast p t out (Ok u) =
     ((text : List ℕ) × Talks p.session p.number (last_line p.line) text t × IsWritten out text)

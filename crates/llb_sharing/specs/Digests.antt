@@ -18,7 +18,7 @@ abbrev pub DoNotCollide : List ℕ → List ℕ → Type 0
 DoNotCollide d e = (xs ys : List (List ℕ)) → definition_of d ≡ Ok xs → definition_of e ≡ Ok ys
     → (x y : List ℕ) → Contains xs x → Contains ys y → digest_text x ≡ digest_text y → x ≡ y
 
--- these two definitions are loaded as these two graphs, and the definitions do not collide
+-- these two definitions are loaded as these two graphs; and an entry of one and an entry of the other with the same digest have the same bytes
 pub record LoadWithoutCollision (d : List ℕ) (g : Numbered) (e : List ℕ) (h : Numbered) : Type 0 where
   pub first : IsGraphIn d g
   pub second : IsGraphIn e h

@@ -28,9 +28,9 @@ pub fn outcome_by_sources(graph: &Graph)
     graph.is_graph();
 }
 
-/// Proves a law for two boards over the graphs of definitions that do not collide. If two vertices with the same digest are done or failed, one on each board,
-/// they ended alike (with the same outputs or the same fault). The premises: no cache mount is at or before them, and the sources at or before them have the
-/// same trees. This holds for any workers and any order of events, whatever caches other vertices share.
+/// Proves a law for two boards over the graphs of definitions that do not collide (entries with the same digest have the same bytes). If two vertices with the
+/// same digest are done or failed, one on each board, they ended alike (with the same outputs or the same fault). The premises: no cache mount is at or before
+/// them, and the sources at or before them have the same trees. This holds for any workers and any order of events, whatever caches other vertices share.
 pub fn boards_settle_alike(first: &[u8], board: &Board, second: &[u8], other: &Board)
     ensures { LoadWithoutCollision first.now board.now.build.graph second.now other.now.build.graph → SettleAlike board.now other.now }
 {
@@ -63,9 +63,10 @@ pub fn one_digest_one_job(first: &[u8], graph: &Graph, second: &[u8], other: &Gr
     other.is_graph();
 }
 
-/// Proves that an outcome of a vertex of another graph can be landed on the board for a worker, if the worker has done no micro-step of its vertex, the two
-/// vertices have the same digest, the sources at or before them have the same trees, and no cache mount is at or before them. The definitions of the two graphs
-/// must not collide. Once the numbers of this worker and its vertex are put into the outcome's job, the outcome meets the condition of `Board::land_known`.
+/// Proves that an outcome of a vertex of another graph can be landed on the board for a worker. The premises: the worker has done no micro-step of its vertex;
+/// this vertex and the other have the same digest; the sources at or before them have the same trees; no cache mount is at or before them; and entries of the
+/// two graphs' definitions with the same digest have the same bytes. Once the numbers of this worker and its vertex are put into the outcome's job, the outcome
+/// meets the condition of `Board::land_known`.
 pub fn worked_elsewhere_lands(first: &[u8], graph: &Graph, second: &[u8], board: &Board)
     ensures { LoadWithoutCollision first.now graph.now second.now board.now.build.graph → WorkedElsewhereLands graph.now board.now }
 {

@@ -71,7 +71,7 @@ meets e r (stop.Claims v) = claims v e
 meets e r (stop.Settles v) = settles v r
 meets e r stop.Fails = has_failed r
 
--- whether an event meets one of the breakpoints, given the board and the reply to which the event leads; false if there are none, as the event is refused
+-- whether an event meets one of the breakpoints, given the board and the reply to which it leads; false for a refused event, which leads to no board
 abbrev pub meets_by : List Break → Event → Option (BoardValue × Reply) → Bool
 meets_by breaks e None = false
 meets_by breaks e (Some p) = list_any (meets e p.1) breaks

@@ -37,8 +37,8 @@ fn worker_of(event: Event) -> u32 {
     }
 }
 
-// Returns the expected reply to the last of these events. In `ANSWERS`, the row is that of the vertex which the event's worker claimed last; the position in
-// the row is the number of events that the worker has done since that claim.
+// Returns the expected reply to the last of these events. It is in the row of `ANSWERS` for the vertex that the event's worker claimed last. Its position in
+// this row, from 0, is how many events the worker has done since that claim.
 fn answer_to(events: &[Event]) -> &'static str {
     let mut place = 0usize;
     let worker = events.last().map(|event| worker_of(*event));

@@ -59,9 +59,9 @@ const WALKED: &[(&str, &str)] = &[
     ),
 ];
 
-// Runs a board to its end and takes the run back. Returns whether the run completes the board; whether the board, once the run is taken back, equals a copy
-// that was made before the run; whether the board and the copy, both run to their ends, are equal; and whether calls on the complete board have the results in
-// `ended`.
+// Runs a board to its end and takes the run back. Returns four answers: whether the run completes the board; whether the board is then, with the run taken
+// back, equal to a copy that was made before the run; whether the board and the copy are equal after both are run to their ends; and whether calls on the
+// complete board have the results in `ended`.
 fn is_walked(rt: &impl Abort, alloc: Global, definition: &str, ended: &str) -> [bool; 4] {
     let mut board = board_of(rt, alloc, definition, "", 2);
     let mut fresh = copy_of(&board).expect(rt, "memory");

@@ -20,7 +20,7 @@ module _ {X : Type 0} (passes : X → List ℕ → Bool) where
   passes_all (t ∷ ts) [] = false
   passes_all (t ∷ ts) (n ∷ q) = passes t n && passes_all ts q
 
-  -- whether a path is at or below a selected path
+  -- whether a path is at or below a selected path: there are at least as many names as tests, and the first names pass the tests, in order
   abbrev pub goes : List X → List (List ℕ) → Bool
   goes [] q = true
   goes (t ∷ ts) [] = false
@@ -45,12 +45,12 @@ module _ {X : Type 0} (passes : X → List ℕ → Bool) where
   abbrev pub unless_goes : List X → List (List ℕ) → Option Entry → Option Entry
   unless_goes ts q o = cond (not (goes ts q)) o None
 
-  -- `new` is the tree `old` without the paths at or below a selected path; it is nothing if `old` has no such path
+  -- `new` is the tree `old` without the paths at or below a path that the tests `ts` select; it is nothing if `old` has no such path
   pub record Thins (ts : List X) (old : TreeMap) (new : Option TreeMap) : Type 0 where
     pub any : is_some new ≡ any_goes ts old
     pub looks : (q : List (List ℕ)) → finite.get (unwrap_or new old) q ≡ unless_goes ts q (finite.get old q)
 
-  -- `new` is the children `old` without the paths at or below a selected path; it is nothing if `old` has no such path
+  -- `new` is the children `old` without the paths at or below a path that the tests `ts` select; it is nothing if `old` has no such path
   pub record KeepsAll (ts : List X) (old : List Child) (new : Option (List Child)) : Type 0 where
     pub any : is_some new ≡ list_any (goes ts) (map (λ e. e.0) (flat old))
     pub order : AreSorted old → AreSorted (unwrap_or new old)

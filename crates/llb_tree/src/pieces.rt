@@ -169,7 +169,8 @@ fn some_piece(pieces: &mut Vec<Piece>, alloc: Global) -> Result<(), AllocError>
     Ok(())
 }
 
-// Makes room for a child with this name in the piece that the name belongs to, and returns the index of that piece.
+// Makes room for one more child in the piece that the name belongs to: splits the piece if it is full, or adds an empty piece if there are no pieces. Returns
+// the index of the piece that the name then belongs to.
 pub(crate) fn make_room(
     pieces: &mut Vec<Piece>,
     alloc: Global,

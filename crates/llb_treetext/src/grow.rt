@@ -155,7 +155,8 @@ fn opened<'a>(
     })
 }
 
-// Adds an entry to the whole tree; `None` if memory is refused.
+// Adds an entry to a tree: puts a file into the tree, but keeps a new directory beside the tree at first, as a tree of its own (`opened`). Returns `None` if
+// memory is refused.
 fn with_row<'a>(alloc: Global, mut tree: Tree, row: Row, text: &'a str) -> Option<Growing<'a>>
     ensures { IsTree tree → finite.get tree row.path ≡ None → text.now ≡ names_text row.path
         → put_row tree (pair_of row) ≡ Ok (finite.insert tree row.path (pair_of row).1)

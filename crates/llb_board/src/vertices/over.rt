@@ -11,7 +11,7 @@ use crate::vertices::build::Build;
 use crate::vertices::marks::is_marked;
 use crate::vertices::stage::Stage;
 
-/// Returns whether a vertex waits and has no open input.
+/// Returns whether a vertex waits and has no open input (an input is open if its vertex is not done).
 pub(crate) fn is_ready(stages: &[Stage], links: &Links, v: u32) -> bool
     ensures { result ≡ (is_waiting (slice_get (map status_of stages.now) v) && has_inputs links.now v) }
 {

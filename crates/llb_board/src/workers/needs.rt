@@ -270,7 +270,7 @@ fn seed_tree(alloc: Global, inputs: &[Tree], input: i64) -> Result<Tree, ClaimFa
     }
 }
 
-// Makes the needs of a lease of these caches.
+// Makes a `Need` for each cache that a vertex mounts: the cache's key, and the tree that a new instance begins with.
 fn asked(alloc: Global, inputs: &[Tree], wanted: &[Wanted<'_>]) -> Result<Vec<Need>, ClaimFault>
     ensures { GivesClaim (λ ns. ns.items) result (Ok (asked inputs.now (map need_of wanted.now))) }
 {

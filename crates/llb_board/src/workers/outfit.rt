@@ -18,7 +18,7 @@ pub(crate) struct Outfit {
     pub steps: Steps,
 }
 
-/// Makes the outfit for a vertex. Fails with 141 `Memory` alone.
+/// Makes the `Outfit` for a vertex: what a claim prepares from the vertex alone. Fails with 141 `Memory` alone.
 pub(crate) fn outfit_for(alloc: Global, vertex: &Vertex) -> Result<Outfit, ClaimFault>
     ensures { GivesClaim outfit_as result (Ok (outfit_of vertex.now)) }
 {

@@ -89,8 +89,8 @@ pub(crate) fn vacate(seats: &mut Vec<Seat>, w: u32) -> (Option<Lease>, Execution
     }
 }
 
-/// Takes back the last micro-step of a worker: the worker's count, fault and workspace are again as they were before the micro-step. Returns the worker's
-/// lease, if any.
+/// Takes back the last micro-step of a worker: its number of micro-steps done, its fault and its workspace are again as they were before it. Returns the
+/// worker's lease, if any.
 pub(crate) fn step_back(seats: &mut Vec<Seat>, w: u32, saved: Saved) -> Option<Lease>
     requires { w < length seats.old.items }
     ensures before { seats.new.items ≡ slice_set seats.old.items w (seat_before saved (slice_get seats.old.items w)) }
