@@ -51,8 +51,8 @@ pub record Aim (text definition : List ℕ) (entries : List (List ℕ)) (graph :
   pub plain : AfterAll graph SettledArePlain
   -- if the text is read as the entries of the definition, the bytes that the text is assembled to are loaded as the definition's graph
   pub one_graph : LoadsAsOne text definition entries graph
-  -- The stepper is on the same graph. The table leads, by the stepper's record, to the stepper's state. Taking k events back with `back` leads to the
-  -- board after the record without its last k events. The lines of the record, and those that a session's `go` prints, are the run's events and replies.
+  -- The stepper is on the same graph. The table leads, by the stepper's record, to the stepper's state. If `back` takes k events back, the board is the one to
+  -- which the record without its last k events leads. The lines of the record, and those that a session's `go` prints, are the run's events and replies.
   pub stepper_state : Replays stepper.board
   pub stepper_past : PastIsTheRecords stepper
   pub stepper_lines : RecordIsTheRun stepper
