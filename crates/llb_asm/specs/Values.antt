@@ -103,7 +103,7 @@ abbrev pub Continues : Escape → List ℕ → Option (ℕ × Bor (List ℕ)) �
 Continues e text None = string_from e text ≡ None
 Continues e text (Some x) = (string_from e text ≡ after_it x.0 (string_from closed x.1.now)) × (length x.1.now < length text)
 
--- as `Continues`, for a text outside an escape; but if nothing is given, the text may also be the closing quote alone
+-- the text, outside an escape, spells the given byte and then what the given shorter text spells; or nothing is given, and it is `"` or spells no string
 abbrev pub Leads : List ℕ → Option (ℕ × Bor (List ℕ)) → Type 0
 Leads text None = (text ≢ 34 ∷ []) → string_from closed text ≡ None
 Leads text (Some x) = (string_from closed text ≡ after_it x.0 (string_from closed x.1.now)) × (length x.1.now < length text)

@@ -23,7 +23,7 @@ abbrev pub taken : ℕ → ℕ → ℕ
 taken events zero = 0
 taken events (suc n) = events
 
--- the room that a claim of vertex v reserves, if the vertex takes at most `events` events
+-- the room that a claim of vertex v reserves: if v was cancelled before, room for `events` (the most events that the claim can lead to); else 0
 abbrev pub taken_by : ℕ → ℕ → Space → ℕ
 taken_by v events s = taken events (get_or s.cancels v 0)
 

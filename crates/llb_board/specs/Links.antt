@@ -50,7 +50,7 @@ pub record Linked : Type 0 where
   pub users : List (List ℕ)
   pub counts : List ℕ
 
--- the list of the vertices that a mark has reached while it spreads (`reached`) is empty, and has room for `count` numbers
+-- the list `reached` (it takes the vertices that are marked when a mark spreads downstream) is empty, and has room for `count` numbers
 pub record HasRoom (count : ℕ) (reached : List ℕ) (room : ℕ) : Type 0 where
   pub none : reached ≡ []
   pub fits : count ≤ room

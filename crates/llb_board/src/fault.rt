@@ -120,14 +120,14 @@ impl From<TreeFault> for Memory {
     }
 }
 
-/// Converts the fault of copying a workspace.
+/// Converts the fault with which copying a workspace fails, refused memory, into this crate's `Memory`.
 impl From<llb_wire::Memory> for Memory {
     fn from(_: llb_wire::Memory) -> Memory {
         Memory
     }
 }
 
-/// Converts the fault of copying a graph and local trees.
+/// Converts the fault with which copying a graph or local trees fails, refused memory, into this crate's `Memory`.
 impl From<llb_loader::Memory> for Memory {
     fn from(_: llb_loader::Memory) -> Memory {
         Memory

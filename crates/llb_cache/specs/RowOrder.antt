@@ -26,7 +26,7 @@ has_key rows i key = nat_lt i (length rows) && same_key key (key_at rows i)
 abbrev pub is_before : List Row → ℕ → Key → Bool
 is_before rows i key = is_lt (key_cmp (key_at rows i) key)
 
--- the number of the row at position j of the order
+-- the row number at position j of `order`, the list of the rows' numbers in the order of their keys
 abbrev pub row_at : List ℕ → ℕ → ℕ
 row_at order j = slice_index_or order j 0
 

@@ -104,10 +104,10 @@ impl Caches {
         keys_differ(needs)
     }
 
-    /// Leases an instance for each need, or none at all: for a shared or a locked key instance 0, for a private key the lowest-numbered instance that no
-    /// lease has. An instance that does not exist is made with the tree of its need. The keys of the needs have to be distinct, and fewer than 65,536 leases
-    /// may be current. Fails with 111 `Held` and the first locked key whose instance a lease has; if there is no such key, fails with 112 `Memory` alone.
-    /// After a refusal the caches are unchanged.
+    /// Leases an instance for each need, or none at all: for a shared or a locked key instance 0, for a private key the lowest-numbered instance that no lease
+    /// has. An instance that does not exist is made with the tree of its need. The keys of the needs must be distinct, and fewer than 65,536 leases must be
+    /// current. Fails with 111 `Held` and the first locked key whose instance a lease has; if there is no such key, fails with 112 `Memory` alone. After a
+    /// refusal the caches are unchanged.
     pub fn lease(&mut self, needs: Many<Need>) -> Result<Lease, LeaseFault>
         requires differ { AllPairs (λ n m. n.key ≢ m.key) needs }
         requires few { leases self.old.out < 65536 }

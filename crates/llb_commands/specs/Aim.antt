@@ -40,9 +40,9 @@ pub record Aim (text definition : List ℕ) (entries : List (List ℕ)) (graph :
   -- the machine's board has 1 to 64 workers
   pub some_workers : 0 < length board.state.workers
   pub few_workers : length board.state.workers ≤ 64
-  -- After every interleaving of atomic steps the machine's state and replies are the written table's on the recorded events: the table leads, by the record,
-  -- from the opening state to the board's state, with a reply to each event. A call that does an event returns a reply (clause `gives`); in the run of the
-  -- record after the call, this is the reply to the record's last event.
+  -- After every interleaving of atomic steps the machine's state and replies are those that the table has for the events in the record: by the table, these
+  -- events lead from the opening state to the board's state, with a reply to each event. A call that does an event returns a reply (clause `gives`); in the run
+  -- of the record after the call, this is the reply to the record's last event.
   pub replays : Replays board
   pub replies : RepliesAreRecorded board
   -- no two executions hold one locked cache at once
@@ -51,8 +51,8 @@ pub record Aim (text definition : List ℕ) (entries : List (List ℕ)) (graph :
   pub plain : AfterAll graph SettledArePlain
   -- if the text is read as the entries of the definition, the bytes that the text is assembled to are loaded as the definition's graph
   pub one_graph : LoadsAsOne text definition entries graph
-  -- The stepper is on the same graph. The table leads, by the stepper's record, to the stepper's state. Taking k events back with `back` leads to the
-  -- board after the record without its last k events. The lines of the record, and those that a session's `go` prints, are the run's events and replies.
+  -- The stepper is on the same graph. The table leads, by the stepper's record, to the stepper's state. If `back` takes k events back, the board is the one to
+  -- which the record without its last k events leads. The lines of the record, and those that a session's `go` prints, are the run's events and replies.
   pub stepper_state : Replays stepper.board
   pub stepper_past : PastIsTheRecords stepper
   pub stepper_lines : RecordIsTheRun stepper

@@ -49,7 +49,7 @@ abbrev pub HasPage : Kinds → List Text → WordsFault → Text → Type 0
 HasPage kinds words (Words None) page = (k : ErrorKind) × IsAmong k kinds × (page ≡ page_for k (named_first words))
 HasPage kinds words _ page = page ≡ []
 
--- what the result of reading the words says: if it is a line, `clap` accepts the words; if it is a refusal, `Refuses` and `HasPage` say its fault and page
+-- what the result of reading the words says: a `Line`, that `clap` accepts the words; a `Refusal`, that `Refuses` and `HasPage` hold of its fault and its page
 abbrev pub IsByWordsWithPage : Kinds → List Text → List Text → Result Line Refusal → Type 0
 IsByWordsWithPage kinds locals words (Ok line) = kinds ≡ []
 IsByWordsWithPage kinds locals words (Err r) = Refuses kinds locals r.fault × HasPage kinds words r.fault r.page.now

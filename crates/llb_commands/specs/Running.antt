@@ -80,7 +80,7 @@ Shows board output tree (Ok Printed) = (t : TreeMap) × (tree ≡ Some t) × IsW
 Shows board output tree (Ok (Failed b)) = (b ≡ board) × (tree ≡ None) × IsKept output
 Shows board output tree (Err e) = (¬ IsRefusal e) × ((t : TreeMap) × (tree ≡ Some t) × IsPartWritten output (tree_text t))
 
--- b is a board on which a run of the graph of these bytes has ended, and the run's result is no tree
+-- b is a board on which a run of the graph of these bytes has ended, and the run has no tree as its result
 abbrev pub YieldsNoneOn : ℕ → List Local → BoardValue → List ℕ → Type 0
 YieldsNoneOn workers locals b bytes = (y : YieldsNone workers locals bytes) × (y.state ≡ b.state) × (build_of locals y.graph ≡ b.build)
 

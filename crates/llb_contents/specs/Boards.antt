@@ -18,7 +18,7 @@ abbrev pub SettleAlike : BoardValue → BoardValue → Type 0
 SettleAlike b c = (test : List ℕ → List ℕ → Bool) → IsKept (By test) → (v : ℕ) (d e : Ending) → AreSettled b c v d e
     → RelatesWritten (By test) b.build.graph v → HaveAlikeSources (By test) b.build.graph v b.build.locals c.build.locals → AreAlikeEndings (By test) d e
 
--- the boards settled a vertex alike, if no digest is made at or before the vertex, and the trees of sources there differ only by replaced pieces of contents
+-- v's endings on the two boards differ only by replaced pieces of contents, if the trees of sources at or before v do, and no digest is made at or before v
 abbrev pub SettleExchanged : BoardValue → BoardValue → Type 0
 SettleExchanged b c = (pairs : List (List ℕ × List ℕ)) (v : ℕ) (d e : Ending) → AreSettled b c v d e
     → MakesNoDigest b.build.graph v → HaveAlikeSources (AreExchanged pairs) b.build.graph v b.build.locals c.build.locals

@@ -31,7 +31,7 @@ pub(crate) fn take(it: &mut Llb, alloc: Global) -> Option<Box<Held>>
     Some(kept.into_box(alloc))
 }
 
-/// Puts a value into the handle. The handle's former value, if there was one, has to be taken out before.
+/// Puts a value into the handle. If the handle holds a value already, the caller must take it out before.
 pub(crate) fn put(it: &mut Llb, held: Box<Held>)
     ensures sound { IsSound it.new }
     ensures holds { held_in it.new ≡ Some held.value }

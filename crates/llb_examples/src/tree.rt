@@ -25,8 +25,7 @@ fn printed(rt: &impl Abort, alloc: Global, start: Option<&str>, text: &str) -> S
     printed
 }
 
-// The path from which a text is read, if it is not the root; the text; and the path that the text is read as, or 26, the
-// number of the fault.
+// The path at which a relative text begins, if it is not the root; the text; and the path that the text is read as, or 26, the number of the fault.
 const TEXTS: &[(Option<&str>, &str, &str)] = &[
     (None, "/usr//./local/../bin/", "/usr/bin"),
     (None, "usr/bin", "/usr/bin"),

@@ -67,7 +67,7 @@ input_role t = Input
 abbrev pub mount_role : Shown → Role
 mount_role m = MountAt m.dest
 
--- the roles of these trees, which are the results of action `a` and the actions after it
+-- the role of each tree of a list that has the results of action `a` and of the actions after it: the first is the result of `a`, the next of `a` + 1, ..
 abbrev pub results_from : ℕ → List TreeMap → List Role
 results_from a [] = []
 results_from a (t ∷ trees) = ResultOf a ∷ results_from (a + 1) trees

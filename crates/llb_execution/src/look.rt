@@ -110,7 +110,7 @@ fn merge_part<'a>(inputs: &[Tree], i: usize) -> Option<Part<'a>>
     None
 }
 
-// Returns the role of tree `i` of an exec.
+// Returns the role of tree `i` of an exec: that it is the tree of mount `i`, with this mount's dest. Returns `None` past the last mount.
 fn mount_part(mounts: &Mounts, i: usize) -> Option<Part<'_>>
     ensures { option_map role_in result ≡ slice_get (map mount_role mounts.now) i }
 {

@@ -15,7 +15,8 @@ use llb_mount::Shown;
 use llb_ops::{Action, Kind, Mount};
 use llb_tree::Tree;
 
-/// Returns the outputs of a vertex, from the data of its workspace after all micro-steps; the result is `outputs` with its empty trees replaced.
+/// Returns the outputs of a vertex, from the data of its workspace after all micro-steps. `outputs` must have an empty tree for each output; in the result each
+/// output that the workspace has is in place of its empty tree.
 pub(crate) fn outputs_of(own: WorkState, outputs: Vec<Tree>, vertex: &Vertex) -> Vec<Tree>
     requires { outputs.items ≡ replicate (length outputs.items) empty_tree }
     ensures { result.items ≡ outputs_of (record (program_of vertex.now) { outputs = length outputs.items }) (own_of own) }

@@ -48,7 +48,7 @@ impl From<ScriptFault> for NoMemory {
     }
 }
 
-/// Converts the fault of making or copying a view of mounts.
+/// Converts the fault with which making or copying a view of mounts fails, refused memory, into `NoMemory`.
 impl From<llb_mount::Memory> for NoMemory {
     fn from(_: llb_mount::Memory) -> NoMemory {
         NoMemory

@@ -71,8 +71,8 @@ impl Model for Workspace {
 }
 
 impl Workspace {
-    /// Makes the workspace of a vertex before its first micro-step. `inputs` has the trees of the vertex's inputs, and `caches`
-    /// has the numbers of the vertex's cache mounts, in ascending order. Fails with 5 `Memory` alone.
+    /// Makes the workspace of a vertex before its first micro-step. `inputs` has the trees of the vertex's inputs; `caches` must have the numbers of the
+    /// vertex's cache mounts, in ascending order. Fails with 5 `Memory` alone.
     pub fn on(
         alloc: Global,
         locals: &Locals,

@@ -75,7 +75,7 @@ meets (Some (Dir m)) (File n bytes) = Err Conflict
 meets (Some (File m old)) (Dir n) = Err Conflict
 meets (Some (File m old)) (File n bytes) = Ok tt
 
--- succeeds if each of these entries can be put at its path; else fails with the fault of the first entry that can't
+-- succeeds if each of these entries can be put at its path in the tree `t`; else fails with the fault of the first entry that can't
 abbrev pub all_land : TreeMap → List (List (List ℕ) × Entry) → Result (Unit {0}) TreeFault
 all_land t [] = Ok tt
 all_land t (e ∷ es) = fits e.0 >>= λ _. meets (finite.get t e.0) e.1 >>= λ _. all_land t es

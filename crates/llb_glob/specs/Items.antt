@@ -92,7 +92,7 @@ item_by (Add c) class = None
 item_by (Extend c) class = None
 item_by Close class = Some (One (In class))
 
--- the current class after an effect; empty again after a class is closed
+-- the class that is being read, after a character with this effect; after a character that closes the class, a new class without items
 abbrev pub class_by : Effect → ClassValue → ClassValue
 class_by Nothing class = class
 class_by (Whole item) class = class

@@ -78,7 +78,7 @@ impl Class {
         Ok(())
     }
 
-    /// Sets the high end of the last item, if there is one.
+    /// Sets the high end of the class's last item, a range of characters; does nothing if the class has no items.
     pub fn extend(&mut self, high: char)
         ensures { self.new ≡ record self.old { spans = extended self.old.spans high } }
     {

@@ -91,7 +91,7 @@ fn at(stage: Stage) -> Cursor
     }
 }
 
-// Returns the cursor after a literal character, which matches itself, and the effect of the character.
+// Returns the cursor after a literal character (one that matches itself), and the `Effect` of the character on the part that is read.
 fn literal(stage: Stage, letter: char) -> (Cursor, Effect)
     ensures { result ≡ literal stage letter }
 {

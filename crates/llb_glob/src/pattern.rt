@@ -126,7 +126,8 @@ struct Walk {
 impl Walk {
     ghost use Rattle.llb_glob.specs.Walk.{Stands, Enters};
 
-    // Applies one part of a text to the counts, as the definition `enter` of `llb_tree` applies a part to a path; returns false if `enter` refuses the part.
+    // Applies the next part of a text: changes the two counts as the part changes the path, by the definition `enter` of `llb_tree`. Returns false if `enter`
+    // refuses the part.
     fn enter(&mut self, part: &str) -> bool
         ensures { (path : List (List ℕ)) → Stands path self.old → Enters (enter path part.now) result self.new }
     {

@@ -71,7 +71,7 @@ pub record HasInput (p : Plan) (k i : ℕ) : Type 0 where
   pub reached : ReachedRow p k
   pub here : i < length (op_at p.ops k).inputs
 
--- row k is reached, and its input i names no row
+-- row k is reached from the row of the result (`ReachedRow`), and its input i names no row
 pub record IsUnknown (p : Plan) (k i : ℕ) : Type 0 where
   pub input : HasInput p k i
   pub unknown : input_row p k i ≡ None
@@ -92,7 +92,7 @@ pub record IsApart (rows : List Row) : Type 0 where
   pub several : ¬ AllSame rows
   pub apart : (k : ℕ) → ¬ Collides rows k
 
--- `IsApart` holds of the rows, the terminal is the first row that equals the last row, and the terminal's op has an input.
+-- `IsApart` holds, so no two different entries have the same digest; the terminal is the first row that equals the last row, and its op has an input.
 pub record HasResult (p : Plan) : Type 0 where
   pub apart : IsApart p.rows
   pub terminal : IsTerminal p.rows p.terminal

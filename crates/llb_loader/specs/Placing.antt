@@ -8,7 +8,7 @@ use Rattle.llb_loader.specs.Rows.{inputs, HasEdge}
 abbrev pub IsMarked : List Bool → ℕ → Type 0
 IsMarked marks k = slice_index_or marks k false ≡ true
 
--- `done` marks the numbered rows. The waiter's row has at least `checked` inputs, and the first `checked` of these inputs name rows that `done` marks.
+-- `done` marks the rows that have numbers. The row of w has at least `w.checked` inputs, and the first `w.checked` of them name rows that have numbers.
 pub record IsChecked (g : List (List ℕ)) (done : List Bool) (w : Waiter) : Type 0 where
   pub within : w.checked ≤ length (inputs g w.row)
   pub passed : (i : ℕ) → i < w.checked → IsMarked done (slice_index (inputs g w.row) i)
@@ -20,7 +20,7 @@ pub record GoesToReady (g : List (List ℕ)) (done : List Bool) (w : Waiter) (re
   pub added : (q : ℕ) → next_ready q ≡ cond (w.row == q) true (ready q)
   pub same : next_waiting ≡ waiting
 
--- an input of the waiter's row names row b, which `done` does not mark, and the waiter's row now waits for row b
+-- an input of the row of w names row b, which has no number yet (`done` does not mark b), and the row of w now waits for row b
 pub record GoesToWaiting (g : List (List ℕ)) (done : List Bool) (w : Waiter) (ready next_ready : ℕ → Bool)
     (waiting next_waiting : List (List Waiter)) (b : ℕ) (next : Waiter) : Type 0 where
   pub edge : HasEdge g w.row b

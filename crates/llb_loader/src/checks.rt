@@ -23,7 +23,7 @@ use llb_ops::{Input, Op};
 use std::alloc::{AllocError, Global};
 use std::collections::BTreeMap;
 
-// Checks that each input of a marked row names a row. Fails with 86 `UnknownDigest` alone.
+// Checks that each input of the rows that `seen` marks names a row. Fails with 86 `UnknownDigest` alone.
 pub(crate) fn check_names(
     rows: &[Row],
     index: &BTreeMap<&str, usize>,
@@ -89,7 +89,7 @@ fn first_unknown(
     None
 }
 
-// Checks that no marked row has an unsupported feature. Fails with 88 `Unsupported` alone.
+// Checks that no row that `seen` marks has an unsupported feature. Fails with 88 `Unsupported` alone.
 pub(crate) fn check_features(ops: &[Op], seen: &[bool]) -> Result<(), LoadFault>
     requires len { length seen.now ≡ length ops.now }
     requires few { length ops.now ≤ 65_536 }

@@ -100,7 +100,7 @@ fn bytes_of(alloc: Global, rows: &[Row]) -> Result<Vec<Bytes>, Memory>
     Ok(entries)
 }
 
-// Links rows whose field `bytes` is empty; `entries` has the bytes of the rows. Fails as `link` does.
+// Links rows whose field `bytes` must be empty; `entries` must have the bytes of each row's entry. Fails as `link` does.
 pub(crate) fn link_entries(
     alloc: Global,
     rows: Vec<Row>,

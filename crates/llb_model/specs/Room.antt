@@ -32,7 +32,7 @@ counts_from k (v ∷ vs) rs = cancels_in k rs ∷ counts_from (k + 1) vs rs
 abbrev pub cancel_counts : Build → List Reply → List ℕ
 cancel_counts b rs = counts_from 0 b.graph.vertices rs
 
--- the most events of a run for the vertices from number k up: for each vertex, the most events of one claim times (1 + the number of the vertex's cancels)
+-- the most events of a run for the vertices from number k up: the sum over these vertices of (most events of one claim) times (1 + number of cancels)
 abbrev pub most_from : ℕ → List Vertex → List Reply → ℕ
 most_from k [] rs = 0
 most_from k (v ∷ vs) rs = events_of v * (1 + cancels_in k rs) + most_from (k + 1) vs rs
@@ -76,7 +76,7 @@ owed_by v Waiting (suc n) = events_of v
 owed_by v (Running w) n = 0
 owed_by v (Settled e) n = 0
 
--- the sum of the room that the next claims of the vertices from number k up reserve
+-- the total room, in events, that is reserved by the next claims of the vertices whose numbers are k or above
 abbrev pub owed_from : ℕ → List Vertex → List Status → List Reply → ℕ
 owed_from k [] statuses rs = 0
 owed_from k (v ∷ vs) [] rs = 0

@@ -16,7 +16,7 @@ use std::marker::Model;
 use std::mem;
 use std::sync::Arc;
 
-// The greatest number of mounts for which no order of the dests is made: comparing a path with each dest then costs less.
+// The greatest number of mounts for which the dests are not sorted (`order` is `None`): with so few mounts, comparing a path with each dest costs less.
 const FEW: usize = 8;
 
 /// Mounts with distinct dests, one of which is the root. Contracts see the list of the mounts.
@@ -150,8 +150,8 @@ impl View {
     }
 
     /// Returns the number of the mount with the longest dest that is a prefix of the path, by names, and how many names that dest has; the caller drops these
-    /// names from the front of the path. Does not allocate. With an order of the dests the call compares the path with about log2 N dests (N is the number of
-    /// mounts), and then only with dests that are prefixes of one dest. Without an order, as for at most eight mounts, it compares the path with all dests.
+    /// names from the front of the path. Does not allocate. If `make` has sorted the dests, the call compares the path with about log2 N dests (N is the number
+    /// of mounts), and then only with dests that are prefixes of one dest. If `make` has not, as for at most eight mounts, the path is compared with all dests.
     pub fn route(&self, path: &Path) -> (u32, u32)
         ensures route { result ≡ route self.now path.now }
         ensures longest { IsRoute self.now path.now result }

@@ -1,4 +1,5 @@
-//! The invariant of the queue, and how each kind of step changes a pass. These types are for contracts; no code here runs.
+//! The invariant of the queue, and how a pass changes when a queue is made, when passes are split or joined, and when a number is put or taken. These types
+//! are for contracts; no code here runs.
 
 use crate::hand::Hand;
 use crossbeam_queue::protocol::{Join, Lesson, Outcome, Protocol, Split};

@@ -269,7 +269,7 @@ const GONE_ON: &[(&str, &str, &str)] = &[
     // The refused `next` did not settle the vertex.
     (LOOKED, "171 141 or 174", "none\n"),
     (SETTLED, "174", ""),
-    // The refused `next` did no event.
+    // The first `next` was refused and did no event, so the second one does the claim.
     (
         "",
         "171 141 or 174",

@@ -5,7 +5,7 @@ use llb_loader::Locals;
 use llb_wire::Text;
 use std::alloc::Global;
 
-// The local tree `p` alone, which is empty.
+// One local tree, `p`, which is empty.
 const EMPTY_P: &str = "== p\nd 0755 0 0 /\n";
 
 /// The local tree `p`, which has a file `/old`, and `q`, which has a file `/f`.
@@ -63,7 +63,7 @@ fn is_added(locals: &mut Locals, alloc: Global, name: &str, text: &str) -> bool 
     }
 }
 
-/// Returns the local trees of a text; `None` if one of them can't be read or added.
+/// Returns the local trees that a text has, each below a line with `== ` and the name of its source; `None` if one of the trees can't be read or added.
 pub fn locals_of(alloc: Global, given: &str) -> Option<Locals> {
     let mut locals = Locals::new(alloc);
     for local in given.split("== ") {

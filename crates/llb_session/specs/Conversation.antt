@@ -66,12 +66,12 @@ pub record Answered (p : Standing) (bytes : List ℕ) (t : Stepping) (out : Stre
   pub same : t ≡ at.session
   pub printed : IsWritten out text
 
--- the replies to the lines whose line ends are among these bytes are written; the line that is being read ends the session, and has no reply
+-- the reply to each line whose line end is among these bytes is written; the line that is being read (without its line end) ends the session, without a reply
 pub record Quit (p : Standing) (bytes : List ℕ) (t : Stepping) (out : Stream) : Type 0 where
   pub before : Answered p bytes t out
   pub quits : Quits before.at.line
 
--- the replies to the lines whose line ends are among these bytes are written, and then a prefix of the reply to the line that is being read
+-- the reply to each line whose line end is among these bytes is written, and after these replies a prefix of the reply to the line that is being read
 pub record CutShort (p : Standing) (bytes : List ℕ) (t : Stepping) (out : Stream) : Type 0 where
   pub text : List ℕ
   pub at : Standing

@@ -49,7 +49,7 @@ IsHeard p heard unheard q out (Err (Failed kind)) = ⊥
 IsHeard p heard unheard q out (Err (Unending interrupted)) = ⊥
 IsHeard p heard unheard q out (Err TooLong) = ⊥
 
--- the bytes are used from the start, as `IsHeard` says; some bytes at the end may remain unused
+-- the session uses the bytes from the first one on, as `IsHeard` says; if it ends or fails before the last byte, the later bytes remain unused
 pub record Hears (p : Standing) (bytes : List ℕ) (q : Standing) (out : Stream) (result : Result Bool SessionFault) : Type 0 where
   pub heard : List ℕ
   pub unheard : List ℕ

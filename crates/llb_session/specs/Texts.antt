@@ -85,7 +85,7 @@ unfoldable pub role_lines : List Role → ℕ → List ℕ
 role_lines roles zero = []
 role_lines roles (suc i) = role_lines roles i ++ role_line_of i (slice_get roles i)
 
--- the lines for the trees that a worker works on, given the roles of these trees; the line `none` if there are no trees
+-- a line for each tree that a worker works on, given the role of each tree (input, mount ..: see `role_text`); the line `none` if there are no trees
 abbrev pub part_lines : List Role → List ℕ
 part_lines roles = if length roles == 0 then codes "none\n" else role_lines roles (length roles)
 

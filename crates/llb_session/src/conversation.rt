@@ -67,7 +67,8 @@ fn hear<W: Write>(
     Ok(goes_on)
 }
 
-// Uses bytes one by one, up to the end of a line that ends the session. Returns false if there is such a line.
+// Uses bytes one by one as input of the session, which replies to each line at the line's end. Stops after the first line that ends the session, and then
+// returns false; returns true if there is no such line.
 fn hear_all<W: Write>(
     alloc: Global,
     session: &mut Stepper,

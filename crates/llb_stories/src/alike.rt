@@ -1,4 +1,4 @@
-//! Tests which boards are equal by value: boards with the same events, boards that differ in one thing, and copies of boards.
+//! Tests which boards are equal by value. Boards with the same events are compared, boards that differ in one thing, and boards with their copies.
 
 use super::calls::{are_done, are_same, copy_of};
 use super::checks::row_holds;

@@ -104,8 +104,8 @@ pub(crate) fn worked_out<G: Gate>(alloc: Global, job: Job, gate: &G) -> Result<O
     }
 }
 
-// Claims vertex `v` for worker `w`, and works on the job as `worked_out` does. Returns the outcome, or the number of the fault; the number is 0 if the claim
-// is refused.
+// Claims vertex `v` for worker `w`, and works on the job, with a gate that may stop the work. Returns the outcome, or the number of the fault: 0 if the claim
+// is refused, 143 if the gate stopped the work, 142 if memory was refused.
 pub(crate) fn worked<G: Gate>(
     alloc: Global,
     board: &mut Board,

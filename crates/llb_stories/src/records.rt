@@ -128,8 +128,9 @@ const WHOLE: Stop = Stop {
     at_break: false,
 };
 
-// Replays the record of the board `ended`, and runs the vertices by one worker in the order of the record's claims. Returns whether the replay does 24
-// events, leads to an equal board, and has the lines of `line_of`; and whether the run by one worker completes, and leaves the same trees.
+// Replays the record of the board `ended` on a stepper, and runs the vertices by one worker in the order of the record's claims. Returns whether the replay
+// does 24 events, leads to an equal board, and has for each event the line that `line_of` returns; and whether the run by one worker completes, and leaves the
+// same trees.
 fn is_record(rt: &impl Abort, alloc: Global, ended: &Board, workers: u32) -> [bool; 5] {
     let events = ended.events().as_slice();
     let mut stepper = Stepper::new(alloc, board_by(rt, alloc, workers));

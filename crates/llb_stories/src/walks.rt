@@ -12,7 +12,8 @@ use llb_stepper::{Break, Stepper, Stop};
 use std::alloc::Global;
 use std::process::Abort;
 
-// Does the chosen events, at most `most` of them, and takes all of them back. Returns whether the board was complete before the events were taken back.
+// Does the events that a run on one thread does (`Board::chosen`), at most `most` of them, and takes all of them back. Returns whether the board was complete
+// before the events were taken back.
 fn there_and_back(board: &mut Board, most: u32) -> bool
     ensures { board.new ≡ board.old }
 {

@@ -90,7 +90,7 @@ fn set_rows(
     }
 }
 
-// Does what `set_in` does, in the piece that the name belongs to.
+// Does what `set_in` does (it replaces or removes what is at a path below the child `name`), in the piece of the children to which `name` belongs.
 #[cycle(set)]
 fn set_piece(
     pieces: &mut Vec<Piece>,

@@ -12,7 +12,7 @@ abbrev pub Spells : List ℕ → Option Parts → Type 0
 Spells line None = (row : List (List ℕ) × Entry) → IsRow row → line ≢ row_text row
 Spells line (Some x) = (row : List (List ℕ) × Entry) × IsRow row × (line ≡ row_text row) × (parts_seen x ≡ parts_from row)
 
--- the bytes are the line of an entry, which has these fields, followed by the given bytes; or nothing is given, and the bytes begin with no entry's line
+-- if x, fields with some bytes, is given: the bytes are an entry's line with the fields `x.0`, and then `x.1`; else the bytes begin with no entry's line
 abbrev pub BeginsWith : List ℕ → Option (Parts × Bor (List ℕ)) → Type 0
 BeginsWith bytes None = (row : List (List ℕ) × Entry) → ¬ Begins bytes row
 BeginsWith bytes (Some x) = (row : List (List ℕ) × Entry) × IsRow row × (bytes ≡ line_of row ++ x.1.now) × (parts_seen x.0 ≡ parts_from row)

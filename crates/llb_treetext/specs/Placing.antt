@@ -50,8 +50,8 @@ rank b = if b == 47 then 0 else b
 abbrev pub trail_cmp : List ℕ → List ℕ → Ordering
 trail_cmp p q = slice_cmp nat_cmp (map rank p) (map rank q)
 
--- whether a text A is the path of a directory, if the path of the last entry is A followed by the given bytes. If there are no bytes, A is the path
--- of the last entry, and `dir` is whether that entry is a directory; else A is the path of a directory exactly if the bytes begin with a slash.
+-- whether a beginning of the last entry's path is the path of a directory; the given bytes are the rest of that path. If there is no rest, `dir` (whether the
+-- last entry is a directory) is the answer; else the beginning is the path of a directory exactly if the rest begins with a slash.
 abbrev pub opens : List ℕ → Bool → Bool
 opens [] dir = dir
 opens (b ∷ later) dir = b == 47

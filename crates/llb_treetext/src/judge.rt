@@ -108,8 +108,8 @@ pub(crate) fn first_line(bytes: &[u8]) -> Result<Line<'_>, TextFault>
     })
 }
 
-// Reads the line at the start of `rest`; the line's number is `number`, and `last` is the `Place` of the line before. Fails with the first of 31 `BadLine`,
-// 32 `Order` and 33 `NoParent` that applies. Does not allocate.
+// Reads the line at the start of `rest`. The line's number is `number`, and `last` is the `Place` of the line before: its path, and whether a directory is at
+// that path. Fails with the first of 31 `BadLine`, 32 `Order` and 33 `NoParent` that applies. Does not allocate.
 pub(crate) fn next_line<'a>(
     last: &Place<'_>,
     rest: &'a [u8],

@@ -78,7 +78,7 @@ own_text I64 value payload = to_le_bytes w64 value
 own_text Len value payload = payload
 own_text I32 value payload = to_le_bytes w32 value
 
--- the record that is written, with the shortest varints: a LEN gets the given payload; any other wire type gets the given value, which has to fit the type
+-- the record that is written, with the shortest varints: a LEN gets the given payload; any other wire type gets the given value, which must fit the type
 abbrev pub written_record : ℕ → Wire → ℕ → List ℕ → Record
 written_record number wire value payload = record {
   number = number;

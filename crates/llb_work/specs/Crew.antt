@@ -49,7 +49,7 @@ CancelsNothing old new = count_by is_cancel new.events ≡ count_by is_cancel ol
 abbrev pub AreIdle : State → Type 0
 AreIdle s = (w : ℕ) → runs (slice_get s.workers w) ≡ None
 
--- a build without vertices, for the board `nothing`
+-- a build without vertices and without local trees: the build of the board `nothing` below
 abbrev pub no_build : Build
 no_build = record { graph = record { vertices = []; result = record { vertex = 0; index = 0 } }; locals = [] }
 

@@ -1,5 +1,6 @@
-//! What the workers are supplied with before any thread starts: the queue with the number of every ready vertex, a list for each worker, room
-//! for the threads and for the numbers of vertices that wait for a locked key, and which vertices have no cache mount at or before them.
+//! What the workers are supplied with before any thread starts: the queue with the number of every ready vertex, for each worker a list (of vertex numbers that
+//! it still has to put into the queue), room for the threads and for the numbers of vertices that wait for a locked key, and which vertices have no cache mount
+//! at or before them.
 
 ghost use Rattle.std.specs.Prelude.{◌≡◌, ◌≤◌, vec_len, IfOk, IfSome};
 ghost use Rattle.llb_work.specs.Passes.{IsUncut};

@@ -19,7 +19,7 @@ pub(crate) struct Tally<S: Ledger> {
     pub ghost counted: { share.amount ≡ made },
 }
 
-/// Makes a tally of no events.
+/// Makes a worker's tally that has counted no events. `share` must be one part of the ledger, with the amount 0.
 pub(crate) fn make_tally<S: Ledger>(share: Share<S>) -> Tally<S>
     requires part { share.parts ≡ 1 }
     requires empty { share.amount ≡ 0 }

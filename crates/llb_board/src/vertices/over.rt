@@ -35,8 +35,8 @@ pub(crate) fn is_ended(stages: &[Stage], stop_marks: &[bool], v: u32) -> bool
     }
 }
 
-/// Returns a number `n` at or after `from`, such that no vertex whose number is below `n` can be claimed now or later. The caller has to know that no vertex
-/// whose number is below `from` can be claimed now or later.
+/// Returns a number `n`, which is `from` or above, such that no vertex whose number is below `n` can be claimed now or later. The given number `from` must
+/// already be such a number.
 pub(crate) fn first_open(
     build: &Build,
     stages: &[Stage],

@@ -77,7 +77,7 @@ impl Model for Undo {
 }
 
 impl Undo {
-    // Returns what the event displaced.
+    // Returns what the event changed in the workers and the caches, to be put back.
     fn into_back(self) -> Back
         ensures { back_in result ≡ self.back }
     {

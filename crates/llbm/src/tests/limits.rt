@@ -116,8 +116,8 @@ fn merge_of(rt: &impl Abort, alloc: Global, head: &str, count: usize) -> Bytes {
     with_entry(rt, alloc, entry.as_str())
 }
 
-// The head is the tag of field 6 of an op, which is a merge, and the length of the merge's message: 13,312 bytes for 1,024 inputs, and 13,325 bytes for 1,025
-// inputs.
+// The bytes before the inputs are the tag of field 6 (`merge`) of an op, and the length of the merge's message: 13,312 bytes for 1,024 inputs, and 13,325 bytes
+// for 1,025 inputs.
 #[test]
 fn a_merge_has_1024_inputs_at_most(rt: HostRuntime) {
     let alloc = rt.alloc();
