@@ -93,7 +93,7 @@ unfoldable pub first_free : Leases → Key → ℕ → ℕ → ℕ
 first_free out key n zero = n
 first_free out key n (suc more) = if is_held out (place key n) then first_free out key (n + 1) more else n
 
--- the instance number of a new lease: 0 for a shared or locked key; else the least number whose instance no lease has, at most the number of leases
+-- the number of a new lease's instance: 0 for a shared or locked key; else the least number whose instance no lease has (at most the number of leases)
 abbrev pub number_for : Leases → Key → Mode → ℕ
 number_for out key Shared = 0
 number_for out key Locked = 0
