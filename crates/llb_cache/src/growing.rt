@@ -40,7 +40,7 @@ pub(crate) fn places_for(alloc: Global, readies: &[Ready]) -> Result<Many<Instan
     Ok(Many::new(places))
 }
 
-// Makes an instance, if it does not exist, and marks it. The lists of rows and of marks have room for one more row.
+// Makes an instance, if it does not exist, and marks it. The lists of rows and of marks must have room for one more row.
 fn make(rows: &mut Rows, marks: &mut Vec<Marks>, ready: Ready)
     requires order { AreOrdered rows.old }
     requires spare { HasRoom rows.old 1 }
