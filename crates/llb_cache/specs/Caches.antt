@@ -47,7 +47,7 @@ with_trees (r ∷ rows) key trees = if same_key key r.0 then (r.0, trees) ∷ ro
 abbrev pub tree_at : List Row → Instance → Option TreeMap
 tree_at rows p = slice_get (trees_of rows p.key) p.number
 
--- the rows, with the tree of an instance replaced by this tree; the instance exists
+-- the rows, with the tree of an instance replaced by this tree; the instance must exist
 abbrev pub put : List Row → Instance → TreeMap → List Row
 put rows p tree = with_trees rows p.key (slice_set (trees_of rows p.key) p.number tree)
 

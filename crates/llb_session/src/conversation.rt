@@ -42,7 +42,8 @@ fn say<W: Write>(
     }
 }
 
-// Uses one more byte of the commands. Returns false if the byte completes a line that ends the session.
+// Takes in one more byte of the commands: adds it to the line that is being read or, if it ends this line, writes the reply to the line. Returns false if the
+// line ends the session.
 fn hear<W: Write>(
     alloc: Global,
     session: &mut Stepper,
@@ -67,7 +68,7 @@ fn hear<W: Write>(
     Ok(goes_on)
 }
 
-// Uses bytes one by one, up to the end of a line that ends the session. Returns false if there is such a line.
+// Takes in bytes one by one, as `hear` does, up to the end of a line that ends the session. Returns false if there is such a line.
 fn hear_all<W: Write>(
     alloc: Global,
     session: &mut Stepper,
