@@ -18,7 +18,7 @@ use llb_tree::Tree;
 use llb_wire::Many;
 use std::alloc::Global;
 
-// What is prepared for a need: the instance, the row that is tried first for the key, the tree that a new instance begins with,
+// What is prepared for a need: the instance, the row at which the search for the key begins, the tree that a new instance begins with,
 // and room for this tree and for the instance's mark.
 #[derive(Drop)]
 pub(crate) struct Ready {

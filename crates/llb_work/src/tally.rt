@@ -26,8 +26,8 @@ pub(crate) fn make_tally<S: Ledger>(share: Share<S>) -> Tally<S>
     Tally { made: 0, share }
 }
 
-/// Adds `after - before`, the number of events that a worker has just added to the record, to the total of all workers' events, which the ledger `calls`
-/// keeps, and to the worker's own count and share in `mine`.
+/// Adds `after - before`, the number of events that a worker has just added to the record, to the total of all workers' events in `calls`, the book of
+/// the ledger, and to the worker's own count and share in `mine`.
 pub(crate) fn count<S: Ledger>(
     calls: &mut Book<S>,
     mine: &mut Tally<S>,
