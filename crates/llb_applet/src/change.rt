@@ -63,7 +63,7 @@ pub fn put_file(
     put_there(alloc, view, spot, meta, content)
 }
 
-// Puts a file at a spot, as `put_file` does, but even if the spot is a mount's dest and no entry is there.
+// Puts a file at a spot, as `put_file` does. Unlike `put_file`, does not refuse a spot that is a mount's dest at which there is no entry.
 fn put_there(
     alloc: Global,
     view: &mut View,

@@ -17,7 +17,7 @@ fn is_word_byte(byte: u8) -> bool
         || byte >= 128
 }
 
-/// Returns the join of the call after a separator; `None` for any other word.
+/// Returns how a separator joins the call after it to the call before it; `None` if the word is no separator.
 pub fn join_of(word: &str) -> Option<Join>
     ensures { result ≡ join_of word.now }
 {

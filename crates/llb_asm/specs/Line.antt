@@ -102,7 +102,7 @@ held_in labels row text = held_by labels row row.1.kind text
 abbrev pub inside : MessageName → Here
 inside m = record { message = m; last = 0; set = false; count = 0; ended = false }
 
--- the context of the line after a line of field f
+-- the context of the next line (what came before it in its message, `Here`) after a line of field f
 abbrev pub behind : Here → NamedField → Here
 behind here f = record {
   message = here.message;
@@ -134,7 +134,7 @@ extra_in here text = do
   _ ← guard (Breaks BadValue) (are_unnamed here.message bytes)
   Ok (record { next = at_end here; held = Record bytes })
 
--- the item of a line with this name and value, by the field of the message that has the name; or why the line is refused
+-- the `Item` (what the line adds, and the context of the next line) of a line with this field name and this value; or why the line is refused
 abbrev pub field_in : List (List ℕ) → Here → List ℕ × List ℕ → Result Item Refusal
 field_in labels here p = do
   row ← or_else (Breaks UnknownField) (row_named here.message p.0)

@@ -61,7 +61,7 @@ item_at labels hand line = do
   _ ← guard (Breaks OverLimit) (hand.room (length hand.bytes + added i.held))
   Ok i
 
--- the current message after these bytes are added to it; `next` is the context of its next line
+-- the current message after these bytes are added to it; `next` is the context of its next line (what came before that line in the message, `Here`)
 abbrev pub beyond : Hand → Here → List ℕ → Hand
 beyond hand next bytes = record { here = next; bytes = hand.bytes ++ bytes; room = hand.room }
 

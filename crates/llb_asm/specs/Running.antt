@@ -31,7 +31,7 @@ pub record OpenOp : Type 0 where
   pub bytes : List ℕ
   pub below : List Frame
 
--- the open op that the code keeps as an `Open`, in which the messages around the current one are in the opposite order: the innermost is last
+-- the value of an op that is open (the code's `Open`): of the messages around the current one, the code has the innermost last, this value has it first
 abbrev pub open_op_of : Open → OpenOp
 open_op_of s = record { here = s.here; bytes = s.bytes; below = reverse s.below }
 
@@ -62,7 +62,7 @@ pub data Ending : Type 0 where
   whole : List ℕ → Ending
   still : OpenOp → Ending
 
--- the state after a message with these bytes ends, given the messages around it
+-- the state after the current message ends, given the bytes of this message and the messages around it
 abbrev pub closing_on : List ℕ → List Frame → Ending
 closing_on bytes [] = whole bytes
 closing_on bytes (f ∷ below) = still (record { here = f.here; bytes = f.bytes ++ set_bytes f.number bytes; below = below })

@@ -28,7 +28,8 @@ impl Refusal {
 }
 
 #[tactic(auto, using(crate::proofs::Room::begun_room))]
-/// Reads the first line of an entry: appends a raw entry to the earlier entries, or returns the op that the line opens, or why the line is refused.
+/// Reads the first line of an entry. If the line is `raw HEX`, appends this entry to the earlier entries; if it is `op {`, returns an open op without items.
+/// Otherwise returns why the line is refused.
 fn begin(
     alloc: Global,
     earlier: &mut Earlier,

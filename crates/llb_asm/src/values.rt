@@ -139,7 +139,7 @@ fn string_behind(alloc: Global, text: &[u8]) -> Result<Option<Bytes>, Memory>
     Ok(None)
 }
 
-/// Reads a string between quotes; `None` for any other text. `\"`, `\\`, and `\x` with two lower-case digits up to 7f are one byte each.
+/// Reads a string between quotes; `None` for any other text. `\"`, `\\`, and `\x` with two lower-case hexadecimal digits (at most 7f) are one byte each.
 pub(crate) fn string_in(alloc: Global, text: &[u8]) -> Result<Option<Bytes>, Memory>
     ensures { IfOk result (λ o. o ≡ string_in text.now) }
 {

@@ -152,7 +152,7 @@ abbrev pub AreHeldOnce : List WorkerStatus → Type 0
 AreHeldOnce workers = (w u : ℕ) (x y : Execution) (p : Instance) → slice_get workers w ≡ Some (Runs x) → slice_get workers u ≡ Some (Runs y)
     → Has x.places p → Has y.places p → IsExclusive p.key.mode → w ≡ u
 
--- `IsBehind` holds; and before the event, each instance that a worker held existed, and no two workers held one instance of a locked or a private key
+-- the event's worker is as the event left it (`IsBehind`); before the event, each held instance existed, and no two workers held one of a locked or private key
 pub record CanPutBack (u : Displaced) (ws : WorkersValue) : Type 0 where
   pub behind : IsBehind u.back ws.workers
   pub there : AreHeldThere (workers_before u.back ws.workers) (rows_before u.back ws.workers ws.rows)

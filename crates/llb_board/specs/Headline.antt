@@ -42,7 +42,7 @@ StandsInClaimOrder b = StandsIn b.state (order b.build (at_first b.build b.openi
 
 -- what holds of every board
 pub record Headline (b : BoardValue) : Type 0 where
-  -- the table replays the record from the opening state to the board's state, with a reply for each event, in whatever order the workers did the events
+  -- by the table, the record's events lead from the opening state to the board's state, with a reply for each event, in whatever order the workers did them
   pub replays : Replays b
   -- no two running workers hold the same locked cache at once, nor the same instance of a private cache
   pub locked_once : LockedOnce b

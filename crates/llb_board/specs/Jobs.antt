@@ -40,12 +40,12 @@ pub record IsBegun (w : ℕ) (x : Execution) (job : Job) : Type 0 where
   pub done : job.done ≡ x.done
   pub clean : x.fault ≡ None
 
--- the job is what remains for the worker (`job_now`), and no micro-step has faulted
+-- the job is what now remains of the job that worker w works on (`job_now`), and no micro-step of w has faulted
 pub record IsRunOf (b : Build) (store : Store) (w : ℕ) (x : Execution) (job : Job) : Type 0 where
   pub clean : x.fault ≡ None
   pub same : job ≡ job_now b store w x
 
--- the seat of a worker after n more micro-steps, which left this fault and this workspace
+-- the `Seat` of a worker (what the worker runs) after n more micro-steps, which left this fault and this workspace
 abbrev pub seat_left : ℕ → Option VertexFault → Workspace → Option Seat → Seat
 seat_left n fault view (Some (seat.Runs l x)) = seat.Runs l (record x { done = x.done + n; fault = fault; view = view })
 seat_left n fault view (Some seat.Idle) = seat.Idle

@@ -20,14 +20,14 @@ runs_shared (Some (Runs x)) = has_shared x
 runs_shared (Some Idle) = false
 runs_shared None = false
 
--- `job` is the job that remains for worker w, which holds no instance of a shared cache
+-- `job` is what now remains of the job that worker w works on (`IsRunOf`), and w holds no instance of a shared cache
 pub record CanLand (b : BoardValue) (w : ℕ) (job : Job) : Type 0 where
   pub x : Execution
   pub runs : slice_get b.state.workers w ≡ Some (Runs x)
   pub alone : has_shared x ≡ false
   pub own : IsRunOf b.build b.state.store w x job
 
--- worker w runs a vertex and holds no instance of a shared cache, but `job` is not the job that remains for w
+-- worker w runs a vertex and holds no instance of a shared cache, but `job` is not what now remains of the job that w works on (`IsRunOf`)
 pub record RunsAlone (b : BoardValue) (w : ℕ) (job : Job) : Type 0 where
   pub x : Execution
   pub runs : slice_get b.state.workers w ≡ Some (Runs x)

@@ -90,7 +90,7 @@ pub record IsLast (u : Displaced) (b : BoardValue) : Type 0 where
 pub record IsBegun (b : BoardValue) (w v : ℕ) : Type 0 where
   pub runs : slice_get b.state.statuses v ≡ Some (Running w)
 
--- after a step: worker w runs a vertex v; `saved`, put back, yields v's number of mounts; w's instances have v's keys, and `trees` has a tree for each of them
+-- after a step: worker w runs a vertex v; with `saved` put back, w's workspace has as many mounts as v; w's instances have v's keys, and each a tree in `trees`
 pub record IsStepped (b : BoardValue) (w : ℕ) (saved : Saved) (trees : List TreeMap) : Type 0 where
   pub x : Execution
   pub runs : slice_get b.state.workers w ≡ Some (Runs x)
@@ -111,7 +111,7 @@ StandsBehind (Unclaim w v growths) b = IsBegun b w v
 StandsBehind (Unstep w saved trees) b = IsStepped b w saved trees
 StandsBehind (Resume e w left lent) b = IsLeft b w left lent
 
--- the table replays the record of the board before the event; the event is the last event of b's record; and `StandsBehind` holds of b
+-- the table replays the record of the board before the event; the event is the last of b's record; its worker and vertex are as it left them (`StandsBehind`)
 pub record CanUndo (u : Displaced) (b : BoardValue) : Type 0 where
   pub replays : Replays (undone u b)
   pub last : IsLast u b

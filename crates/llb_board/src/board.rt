@@ -137,7 +137,7 @@ impl Board {
         }
     }
 
-    // Opens a board on vertices that all wait. Fails with 123 `Memory` alone.
+    // Opens a board on these vertices, all of which must wait. Fails with 123 `Memory` alone.
     fn open_on(
         alloc: Global,
         vertices: Vertices,

@@ -47,7 +47,7 @@ with_trees (r ∷ rows) key trees = if same_key key r.0 then (r.0, trees) ∷ ro
 abbrev pub tree_at : List Row → Instance → Option TreeMap
 tree_at rows p = slice_get (trees_of rows p.key) p.number
 
--- the rows, with the tree of an instance replaced by this tree; the instance exists
+-- the rows, with the tree of an instance replaced by this tree; the instance must exist
 abbrev pub put : List Row → Instance → TreeMap → List Row
 put rows p tree = with_trees rows p.key (slice_set (trees_of rows p.key) p.number tree)
 
@@ -93,7 +93,7 @@ unfoldable pub first_free : Leases → Key → ℕ → ℕ → ℕ
 first_free out key n zero = n
 first_free out key n (suc more) = if is_held out (place key n) then first_free out key (n + 1) more else n
 
--- the instance number of a new lease: 0 for a shared or locked key; else the least number whose instance no lease has, at most the number of leases
+-- the number of a new lease's instance: 0 for a shared or locked key; else the least number whose instance no lease has (at most the number of leases)
 abbrev pub number_for : Leases → Key → Mode → ℕ
 number_for out key Shared = 0
 number_for out key Locked = 0

@@ -50,7 +50,7 @@ unmade rows (p ∷ ps) (g ∷ gs) = unmade_one (unmade rows ps gs) p g
 abbrev pub taken_back : CachesValue → ℕ → List Growth → CachesValue
 taken_back c lease gs = record (given_back c lease) { rows = unmade c.rows (places_of c.out lease) gs }
 
--- the value of a prepared lease: its instances, and the number of leases for which its prepared list has room
+-- the value of a prepared lease: its instances, and for how many leases the list that was allocated for it has room
 pub record LentValue : Type 0 where
   pub places : List Instance
   pub room : ℕ

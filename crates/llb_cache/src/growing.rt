@@ -18,7 +18,7 @@ use llb_tree::Tree;
 use llb_wire::Many;
 use std::alloc::Global;
 
-// What is prepared for a need: the instance, the row that is tried first for the key, the tree that a new instance begins with,
+// What is prepared for a need: the instance, the row at which the search for the key begins, the tree that a new instance begins with,
 // and room for this tree and for the instance's mark.
 #[derive(Drop)]
 pub(crate) struct Ready {
@@ -40,7 +40,7 @@ pub(crate) fn places_for(alloc: Global, readies: &[Ready]) -> Result<Many<Instan
     Ok(Many::new(places))
 }
 
-// Makes an instance, if it does not exist, and marks it. The lists of rows and of marks have room for one more row.
+// Makes an instance, if it does not exist, and marks it. The lists of rows and of marks must have room for one more row.
 fn make(rows: &mut Rows, marks: &mut Vec<Marks>, ready: Ready)
     requires order { AreOrdered rows.old }
     requires spare { HasRoom rows.old 1 }

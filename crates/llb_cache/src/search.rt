@@ -174,7 +174,7 @@ fn found_in(rows: &Rows, row: usize, number: u32, is_held: bool) -> Found<'_>
     }
 }
 
-// Returns the row that is tried first for the need with this number; `None` if no row is given for the need.
+// Returns the row that the list `rows` has for the need with this number: the row at which the search for the need's key begins. `None` if it has none.
 fn row_for(rows: &[Option<usize>], need: usize) -> Option<usize>
     ensures { result ≡ slice_index_or rows.now need None }
 {

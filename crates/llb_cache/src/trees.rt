@@ -82,7 +82,7 @@ impl Trees {
         self.items.get(number as usize)
     }
 
-    // Returns the tree with this number, which exists.
+    // Returns the tree with this number, which must exist.
     pub(crate) fn at(&self, number: u32) -> &Tree
         requires { number < length self.now }
         ensures { slice_get self.now number ≡ Some result.now }

@@ -183,7 +183,7 @@ fn locals_in<'a>(alloc: Global, matches: &ArgMatches<'a>) -> Result<Many<Local<'
     }
 }
 
-// Returns the number of workers in the matches of a command; if they have none, 2 for `step` and 1 for any other command.
+// Returns the number of workers in what `clap` found for a command (`matches`); if it found none, 2 for `step` and 1 for any other command.
 fn workers_in(command: Command, matches: &ArgMatches<'_>) -> u32
     ensures { IsWorkers command (rows_of (found_of matches.now)) result }
 {
@@ -194,7 +194,7 @@ fn workers_in(command: Command, matches: &ArgMatches<'_>) -> u32
     }
 }
 
-// Returns the file that the matches of `step` name; `None` for any other command.
+// Returns the file that `clap` found for the command `step`; `None` for any other command.
 fn file_in<'a>(command: Command, matches: &ArgMatches<'a>) -> Option<&'a str>
     ensures { IsFile command (rows_of (found_of matches.now)) result }
 {

@@ -1,5 +1,6 @@
-//! The pages of help and of the version. If words ask for a page, the page is written below the line that refuses the words. `clap` can render these pages, but
-//! no contract says what `clap` renders. So the pages are constants here, and a test of the program compares them with the pages that `clap` renders.
+//! The pages of help and of the version. If the words of the command line ask for a page, the program writes a line that refuses the words, and then the page.
+//! `clap` can render these pages, but no contract says what `clap` renders. So the pages are constants here, and a test of the program compares them with the
+//! pages that `clap` renders.
 
 ghost use Rattle.std.specs.Prelude.{◌≡◌, map};
 ghost use Rattle.llb_commands.specs.Pages.{command_named, help_page, named_first, page_for};

@@ -215,9 +215,9 @@ pub fn run_over<R: Read, W: Write, E: Write>(
     print_end(alloc, finished(opened), out, err)
 }
 
-/// Does what `run_over` does with this number of workers; if there are several, each has a thread, and the call waits for them. If no cache is mounted, the
-/// tree that is printed is the result's tree by the plain outcomes, for any number of workers. The status is 2 also if the number of workers is 0, or more than
-/// 64 (`fault 122`), and 3 also if a thread could not be started (`fault 153`).
+/// Does what `run_over` does, but with this number of workers; if there are several, each has a thread, and the call waits for them. If no cache is mounted,
+/// the printed tree is the tree that the result has by the plain outcomes, for any number of workers. Two statuses have a further cause: 2 if the number of
+/// workers is 0 or more than 64 (`fault 122`), and 3 if a thread could not be started (`fault 153`).
 pub fn run_many_over<T: Threads + Wait + Sync, R: Read, W: Write, E: Write>(
     rt: &T,
     alloc: Global,

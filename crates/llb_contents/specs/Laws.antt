@@ -42,8 +42,8 @@ RunsAlike s v c = (test : List ℕ → List ℕ → Bool) (w : List Shown) → I
 
 -- ---- a law for each relation between contents
 
--- `RelatesStep` holds of each micro-step of each vertex at or before v: each content that is written and not read from a file is related to itself by R, and
--- if digests are made, R relates digests of related contents
+-- `RelatesStep` holds of each micro-step of each vertex at or before v: R relates each content that the micro-step writes without reading it from a file to
+-- itself and, if the micro-step makes digests, R relates the digests of related contents
 abbrev pub RelatesWritten : (List ℕ → List ℕ → Type 0) → Numbered → ℕ → Type 0
 RelatesWritten R g v = (k : ℕ) (x : Vertex) → Reached (links g.vertices) v k → slice_get g.vertices k ≡ Some x → All (RelatesStep R) (program_of x).steps
 

@@ -4,8 +4,8 @@
 //!
 //! Types: none; `specs/Alike.antt` has the relation on trees, views and outcomes.
 //! Promise: `laws::contents_are_handed_on` (`tokens`, `contents`): if the sources have tokens in place of contents, the outcome of a vertex has tokens that
-//! expand to the contents of its outcome without tokens. The premises: no exec at or before the vertex makes a listing, nothing there writes the byte 255, and
-//! the sources at or before each exec that makes a digest have no tokens.
+//! expand to the contents that the outcome has if the sources have the contents themselves. The premises: at or before the vertex, no exec makes a listing
+//! and no op writes the byte 255; and the sources at or before each exec that makes a digest have no tokens.
 //! `laws::boards_settle_alike`: the outputs of a vertex that two boards have settled differ only in related contents.
 //!
 //! A caller:

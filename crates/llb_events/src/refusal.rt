@@ -175,7 +175,7 @@ impl From<llb_cache::Memory> for ClaimFault {
     }
 }
 
-/// Converts the fault of making a lease. The caller knows that no key is held, so the lease fails only for want of memory.
+/// Converts the fault of making a lease. The lease's locked keys must all have been found free before: then a lease fails only for want of memory.
 impl From<llb_cache::LeaseFault> for ClaimFault {
     ghost use Rattle.std.specs.Prelude.{◌≡◌};
     ghost use Rattle.llb_events.specs.declared.refusal.ClaimFault.TheVariants.{Memory};

@@ -1,7 +1,7 @@
-//! Calls of transcripts (module `stage`) that run scripts on a view. `mount DEST SELECTOR` moves this tree (module `trees`) into a new mount. The mount is
-//! read-only if the word `read-only` follows. `run CWD TEXT` runs the script TEXT in the directory CWD, on a view of copies of the mounts. The call `run`
-//! prints the statuses of the script's commands (`-` for a command that is skipped), and then for each mount a bar and the mount's tree. If TEXT is no
-//! script, the call prints the fault of TEXT.
+//! Calls of transcripts (module `stage`) that run scripts on a view. `mount DEST SELECTOR` moves one of the two trees, the one that the module `trees` calls
+//! this tree, into a new mount. The mount is read-only if the word `read-only` follows. `run CWD TEXT` runs the script TEXT in the directory CWD, on a view of
+//! copies of the mounts. The call `run` prints the statuses of the script's commands (`-` for a command that is skipped), and then for each mount a bar and
+//! the mount's tree. If TEXT is no script, the call prints the fault of TEXT.
 
 use super::printed::{say, say_fault, say_number, say_tree};
 use super::trees::{Trees, word_and_rest};

@@ -36,7 +36,7 @@ tree_or own trees (Some k) = slice_get trees k
 abbrev pub next_place : ℕ → ℕ → ℕ → Option ℕ → Option ℕ
 next_place i m k place = if m == i then Some k else place
 
--- the last tree whose number, at the same position of the list of numbers, is i; `own` if there is no such tree
+-- the numbers and the trees are paired by position: the tree of the last pair whose number is i; `own` if there is no such pair
 abbrev pub last_tree : ℕ → List ℕ → List TreeMap → Option TreeMap → Option TreeMap
 last_tree i [] trees own = own
 last_tree i (m ∷ ms) [] own = own

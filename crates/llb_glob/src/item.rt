@@ -26,7 +26,7 @@ pub enum Letter {
 }
 
 impl Letter {
-    /// Returns whether this letter matches a character.
+    /// Returns whether this `Letter` matches the character `letter`.
     pub fn takes(&self, letter: char) -> bool
         ensures { IsTrue result ↔ Takes self.now letter }
     {

@@ -72,7 +72,7 @@ impl Pattern {
         all_match(&self.parts, path.names())
     }
 
-    /// Returns the parts, from the root down. Each is a test of the name at its index.
+    /// Returns the parts, from the root down. Part `i` is a test of the name that a path has at index `i`.
     pub fn parts(&self) -> &[Part]
         ensures { result.now ≡ self.now }
     {

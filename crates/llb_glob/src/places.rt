@@ -34,7 +34,7 @@ fn step_back(item: &Item, name: &[char], places: &mut [bool])
     }
 }
 
-// Takes a `*`: adds to the set of positions each position that is before a position of the set.
+// Takes an item `*`: adds to the set `places` each position that is before some position of the set.
 fn widen(last: usize, places: &mut [bool])
     requires { last < length places.old }
     ensures { (i : ℕ) → i ≤ last → IsIn places.new i ↔ Reaches places.old last i }

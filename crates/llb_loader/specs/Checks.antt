@@ -56,11 +56,11 @@ pub record FirstBad (counts named : List ℕ) (op : Op) (n i : ℕ) : Type 0 whe
   pub bad : ¬ IsBelow (count_there counts named i) (input_at op i).index
   pub before : FitsAll counts named op i
 
--- the number of inputs of row k whose index is checked: all of them if row k is reached; 1, the first, if row k is the terminal and not reached; else 0
+-- how many inputs of row k have their index checked: all if row k is reached; only the first (1) if row k is the terminal and not reached; else none (0)
 abbrev pub asked_of : List Op → List Bool → ℕ → ℕ → ℕ
 asked_of ops seen terminal k = cond (slice_index_or seen k false) (length (op_at ops k).inputs) (cond (k == terminal) 1 0)
 
--- e is `BadIndex` (90) with the first row that has a checked input (`asked_of`) that names no existing output, and with the first such input of that row
+-- an input is bad if it is checked (`asked_of`) and names no existing output; e is `BadIndex` (90) with the first row that has one, and its first bad input
 abbrev pub RefusesIndex : List Op → List (List ℕ) → List ℕ → List Bool → ℕ → LoadFault → Type 0
 RefusesIndex ops links counts seen t e = (k : ℕ) × (i : ℕ) × (e ≡ BadIndex k i) × (k < length ops)
     × FirstBad counts (inputs links k) (op_at ops k) (asked_of ops seen t k) i

@@ -234,7 +234,7 @@ abbrev pub Breaks : List Input → Option Kind → List Rule → Rule → Type 0
 Breaks inputs kind [] broken = ⊥
 Breaks inputs kind (r ∷ rs) broken = ((broken ≡ r) × (¬ Meets inputs kind r)) ⊎ (Meets inputs kind r × Breaks inputs kind rs broken)
 
--- the fault with which the words of an exec are not a script; if they are a script, or for another kind, a fault that is not used
+-- the fault of reading an exec's words as a script; if they are a script, or if the op is no exec, this is some fault, which is not used
 abbrev pub kind_fault : Option Kind → ScriptFault
 kind_fault (Some (Exec x)) = script_fault x.meta
 kind_fault _ = script_fault None

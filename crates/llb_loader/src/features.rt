@@ -1,4 +1,4 @@
-//! Finds the unsupported features of ops. Each function looks at ops of one kind, and looks for features in the order of the definition `features`.
+//! Finds the unsupported features of ops. Each function looks at ops of one kind, and looks for features in the order of the list `features` in `specs/`.
 
 ghost use Rattle.std.specs.Prelude.{◌≡◌};
 ghost use Rattle.std.specs.List.{list_any, find};

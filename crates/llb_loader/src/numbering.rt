@@ -13,8 +13,8 @@ use std::alloc::{AllocError, Global};
 use std::collections::BTreeSet;
 use std::mem;
 
-/// A row that has no vertex number yet. The first `checked` inputs of the row name rows that have vertex numbers. A waiter in a list of waiters waits for the
-/// row that its next input, at index `checked`, names.
+/// A row that has no vertex number yet. Its first `checked` inputs name rows that have vertex numbers. If the waiter is in a list of waiters, it waits for the
+/// row that its next input, the one at index `checked`, names.
 #[derive(Clone, Copy)]
 struct Waiter {
     row: usize,

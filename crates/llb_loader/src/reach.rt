@@ -5,7 +5,8 @@ ghost use Rattle.llb_loader.specs.Rows.{lists, InRange, Reached};
 
 use std::alloc::{AllocError, Global};
 
-/// Returns for each row whether it is reached from the row `start`; `rows` has for each row the rows that its inputs name.
+/// Returns for each row whether it is reached from the row `start`: whether it is this row, or an input of a reached row names it. `rows` has for each row the
+/// rows that its inputs name.
 pub(crate) fn reached(
     alloc: Global,
     rows: &[Vec<usize>],

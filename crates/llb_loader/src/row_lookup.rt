@@ -172,8 +172,8 @@ fn rows_named_by(
     Ok(named)
 }
 
-// Returns for each row the rows that its inputs name. The first guess for a row is the row before it, since many entries come right after the entry that their
-// first input names.
+// Returns for each row the rows that its inputs name. To find the row that a row's first input names, the call looks first at the row before, since many
+// entries come right after the entry that their first input names.
 pub(crate) fn links_of(
     alloc: Global,
     rows: &[Row],

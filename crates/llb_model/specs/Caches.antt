@@ -34,11 +34,11 @@ no_instances = finite.empty
 unfoldable pub content : Store → Instance → Option TreeMap
 content s p = finite.get s p
 
--- the contents after this tree is put in one instance, which exists from then on
+-- the store after this tree is put in one instance, which exists from then on
 unfoldable pub put : Store → Instance → TreeMap → Store
 put s p t = finite.insert s p t
 
--- the contents after each of these trees is put in the instance at the same position of the list of instances
+-- the store after each of these trees is put in the instance at the same position of the list of instances
 abbrev pub put_all : Store → List Instance → List TreeMap → Store
 put_all s [] ts = s
 put_all s (p ∷ ps) [] = s

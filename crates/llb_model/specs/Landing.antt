@@ -48,11 +48,11 @@ left_so_far x trees = record { work = record { own = x.own; trees = trees }; fau
 
 -- ---- the state after these events
 
--- a worker's execution after n further micro-steps with this result
+-- a worker's execution after n further micro-steps, whose result is `left`
 abbrev pub with_steps : Execution → ℕ → Left → Execution
 with_steps x n left = record x { done = x.done + n; fault = left.fault; own = left.work.own }
 
--- the state after n steps of worker w with this result
+-- the state after n steps of worker w, which runs x; `left` is the result of the steps
 abbrev pub after_steps : State → ℕ → Execution → ℕ → Left → State
 after_steps s w x n left = record s { workers = slice_set s.workers w (Runs (with_steps x n left)); store = put_all s.store x.places left.work.trees }
 

@@ -45,7 +45,7 @@ pub record Opening : Type 0 where
   pub workers : ℕ
   pub store : Store
 
--- the state at the opening: every vertex waits, every worker is idle, and the caches have the contents of the opening
+-- the state at the opening: every vertex waits, every worker is idle, and the store is the one that the board is opened with
 abbrev pub opening : Build → Opening → State
 opening b o = record { statuses = replicate (length b.graph.vertices) Waiting; workers = replicate o.workers Idle; store = o.store }
 

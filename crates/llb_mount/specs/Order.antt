@@ -51,7 +51,7 @@ pub record IsAbove (ds : List (List (List ℕ))) (rows : List Row) (j k : ℕ) :
   pub kept : k ≤ above_of rows j
   pub within : is_within (dest_of ds rows k) (dest_of ds rows (above_of rows j)) ≡ true
 
--- `IsAbove` holds for each j below `count` and each k before j such that the dest at k is a prefix of the dest at j; so going up from j does not pass over k
+-- for each j below `count` and each earlier position k whose dest is a prefix of the dest at j: `IsAbove` holds, so going up from j (`above_of`) never skips k
 abbrev pub Climbs : List (List (List ℕ)) → List Row → ℕ → Type 0
 Climbs ds rows count = (j k : ℕ) → k < j → j < count → is_within (dest_of ds rows k) (dest_of ds rows j) ≡ true → IsAbove ds rows j k
 

@@ -316,7 +316,7 @@ exec_op_in rs = do
     extra = unnamed exec_op_shape rs;
   }) else Err OverLimit
 
--- the `ExecOp` that bytes are read as, or the first fault: of its records, of its `Meta`, of its mounts in order, `OverLimit` for too many mounts or secrets
+-- the `ExecOp` that bytes are read as, or the first fault: of its records, then of its `Meta`, then of a mount, then `OverLimit` (too many mounts or secrets)
 abbrev pub exec_op_of : List ℕ → Result ExecOp OpFault
 exec_op_of = message_of exec_op_shape exec_op_in
 

@@ -102,11 +102,11 @@ parts shape bytes = records_from shape 0 bytes >>= λ rs. if texts_fit shape rs 
 
 -- ---- the records that bytes spell
 
--- whether each record of a field that the table has for the message has this field's wire type
+-- whether each of these records has a wire type that its field may have; if the table lacks the field for the message, any wire type is allowed
 abbrev pub wires_fit : Shape → List Record → Bool
 wires_fit shape rs = list_all (λ r. wire_fits (form_of shape r.number) r.wire) rs
 
--- these records, if each record of a field of the table has this field's wire type and all strings are UTF-8; else the fault
+-- these records, if each has a wire type that its field may have (`wires_fit`) and all strings are UTF-8; else the fault
 abbrev pub fitting : Shape → List Record → Result (List Record) OpFault
 fitting shape rs = if wires_fit shape rs then (if texts_fit shape rs then Ok rs else Err NotUtf8) else Err WrongWireType
 

@@ -187,10 +187,10 @@ impl Message for Op {
 
 /// Reads an entry as an op.
 ///
-/// Fails with the first fault: 13 `OverLimit` for an entry of more than 16,777,216 bytes; then the faults of the message Op, in this order: 1 to 4 `Wire` or 11
-/// `WrongWireType` at the first faulty record from left to right (11 only for a field of the table); 12 `NotUtf8` for a string; the faults of nested messages,
-/// in the order of their field numbers, and within each message in this same order; 13 `OverLimit` for a field that has more than 1,024 records. Fails with
-/// 14 `Memory` if memory is refused.
+/// Fails with the first fault: 13 `OverLimit` for an entry of more than 16,777,216 bytes; then the faults of the message Op, in this order: at the first faulty
+/// record from left to right, 1 to 4 `Wire` if it can't be read, or 11 `WrongWireType` if the table of messages has its field with another wire type; 12
+/// `NotUtf8` for a string; the faults of nested messages, in the order of their field numbers, and within each message in this same order; 13 `OverLimit`
+/// for a field that has more than 1,024 records. Fails with 14 `Memory` if memory is refused.
 #[tactic(auto, unfolding(crate::specs::Messages::op_of))]
 pub fn read_op(alloc: Global, bytes: &[u8]) -> Result<Op, OpFault>
     ensures gives { Gives (λ op. op) result (op_of bytes.now) }

@@ -105,7 +105,7 @@ impl Message for UserOpt {
     }
 }
 
-/// A user or a group, by name (the joined payloads of a message that is not read) or by number.
+/// A user or a group: by name, as the bytes of a message `NamedUserOpt` that is kept but not read (the payloads of its records, joined); or by number.
 #[derive(Drop)]
 pub enum User {
     ByName(Bytes),

@@ -228,8 +228,8 @@ pub fn last_bytes(alloc: Global, records: &[Record<'_>], number: u32) -> Result<
     Bytes::from_slice(alloc, last_payload(records, number))
 }
 
-/// Returns the value of a string field; empty if the field has no record. The caller ensures that the payloads of string fields
-/// are UTF-8. Fails with 5 `Memory` alone.
+/// Returns the value of a string field; empty if the field has no record. In these records the payloads of all string fields must be UTF-8.
+/// Fails with 5 `Memory` alone.
 pub fn last_text(
     alloc: Global,
     message: MessageName,

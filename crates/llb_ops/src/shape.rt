@@ -1,6 +1,6 @@
 //! How the payloads of fields are read, and the limits of a definition.
 
-/// How the payload of a field of the table is read.
+/// How the payload of a field is read, if the table of messages (module `table`) has the field.
 #[derive(Clone, Copy)]
 pub enum Form {
     /// A varint.

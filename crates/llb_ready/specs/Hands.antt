@@ -38,7 +38,7 @@ with_taken v x = hand v.num v.den v.room v.put (v.taken ++ x ∷ [])
 abbrev pub halved : Hand → Hand
 halved v = hand v.num (2 * v.den) v.room v.put v.taken
 
--- The second pass of a split has the other half of the fraction, and has put and taken nothing.
+-- The second pass of a split has the other half of the fraction that the split pass had, and has put and taken nothing.
 abbrev pub other_half : Hand → Hand
 other_half v = hand v.num (2 * v.den) v.room [] []
 

@@ -67,8 +67,9 @@ pub(crate) fn is_lack(printed: &str, lacks: &str) -> bool {
     false
 }
 
-// Makes the call of a row while growth `k` of the call is refused. Returns the result in words, or `None` if the call has no such growth. Ends the test if
-// the refused call changes what it was made on, or if the same call, made again, does not have the row's last text as its result.
+// Makes the call of a row while growth `k` of the call (its request for memory with the number `k`) is refused. Returns the result in words, or `None` if the
+// call makes no such request. Ends the test if the refused call changes what it was made on, or if the same call, made again, does not have the row's last
+// text as its result.
 fn told_at<T: Trial>(rt: &impl Abort, alloc: Global, row: &Row, k: usize) -> Option<String> {
     let (call, on, lacks, wanted) = *row;
     let mut trial = T::ready(rt, alloc, row);

@@ -48,8 +48,8 @@ pub record Standing : Type 0 where
 abbrev pub opening : Stepping → Standing
 opening s = record { session = s; number = 1; line = [] }
 
--- The bytes lead from state p to state q. The text is the replies to the lines whose line ends are among these bytes, and the bytes after the last line end
--- belong to the line that is being read.
+-- The bytes lead from state p to state q. The text is the replies to the lines that end within these bytes. The bytes after the last line end belong to the
+-- line that is being read.
 pub record Talked (p : Standing) (bytes text : List ℕ) (q : Standing) : Type 0 where
   pub lines : List (List ℕ)
   pub spelled : Spelled lines q.line (p.line ++ bytes)
@@ -58,7 +58,7 @@ pub record Talked (p : Standing) (bytes text : List ℕ) (q : Standing) : Type 0
 
 -- ---- what is written when a conversation ends
 
--- the replies to the lines whose line ends are among these bytes are written, and nothing else
+-- what is written is the reply to each line that ends within these bytes, and nothing else
 pub record Answered (p : Standing) (bytes : List ℕ) (t : Stepping) (out : Stream) : Type 0 where
   pub text : List ℕ
   pub at : Standing
@@ -66,12 +66,12 @@ pub record Answered (p : Standing) (bytes : List ℕ) (t : Stepping) (out : Stre
   pub same : t ≡ at.session
   pub printed : IsWritten out text
 
--- the reply to each line whose line end is among these bytes is written; the line that is being read (without its line end) ends the session, without a reply
+-- what is written is the reply to each line that ends within these bytes; the line that is being read ends the session, and has no reply
 pub record Quit (p : Standing) (bytes : List ℕ) (t : Stepping) (out : Stream) : Type 0 where
   pub before : Answered p bytes t out
   pub quits : Quits before.at.line
 
--- the reply to each line whose line end is among these bytes is written, and after these replies a prefix of the reply to the line that is being read
+-- what is written is the reply to each line that ends within these bytes, and then a prefix of the reply to the line that is being read
 pub record CutShort (p : Standing) (bytes : List ℕ) (t : Stepping) (out : Stream) : Type 0 where
   pub text : List ℕ
   pub at : Standing

@@ -42,7 +42,8 @@ fn say<W: Write>(
     }
 }
 
-// Uses one more byte of the commands. Returns false if the byte completes a line that ends the session.
+// Takes in one more byte of the commands: adds it to the line that is being read or, if it ends this line, writes the reply to the line. Returns false if the
+// line ends the session.
 fn hear<W: Write>(
     alloc: Global,
     session: &mut Stepper,

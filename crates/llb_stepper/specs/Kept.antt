@@ -14,7 +14,7 @@ abbrev pub past_of : BoardValue → List Walked → List BoardValue
 past_of b [] = []
 past_of b (w ∷ ws) = undone w.undo b ∷ past_of (undone w.undo b) ws
 
--- the value of a stepper in contracts, given its board, the list of what undoes each event that the stepper did, and its breakpoints
+-- the value of a stepper in contracts, given its board, its list `walked` (for each event that it did, what takes the event back), and its breakpoints
 abbrev pub stepping : BoardValue → List Walked → List Break → Stepping
 stepping b walked breaks = record { board = b; past = past_of b (reverse walked); breaks = breaks }
 

@@ -26,7 +26,7 @@ struct Kinds {
 /// Breakpoints, in the order in which they were added. In contracts they are a list.
 #[derive(Drop)]
 pub(crate) struct Breakpoints {
-    /// The list that is the value in contracts; the code searches `kinds` instead.
+    /// The breakpoints as the list that contracts see; the code searches `kinds` instead.
     list: Vec<Break>,
     kinds: Kinds,
 }

@@ -16,6 +16,6 @@ pub enum Break {
 pub struct Stop {
     /// How many events were done.
     pub events: u64,
-    /// Whether the last of these events meets a breakpoint.
+    /// Whether the last of the events that were done meets a breakpoint.
     pub at_break: bool,
 }

@@ -1,5 +1,5 @@
 //! Runs of at most 31 vertices by 1 to 64 workers. Of 64 workers, most have nothing to do and sleep. Some runs go to the end, some are stopped by a gate, and
-//! some begin in the middle.
+//! some begin on a board that already has events.
 
 use super::calls::{are_same, is_event_done, replayed};
 use super::checks::row_holds;

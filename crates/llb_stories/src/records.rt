@@ -86,7 +86,8 @@ fn are_lines(rt: &impl Abort, alloc: Global, stepper: &Stepper, events: &[Event]
     true
 }
 
-// Claims vertex `v` for worker 0, and does the chosen events up to the settle of the vertex. Returns whether all these events were granted.
+// Claims vertex `v` for worker 0, and does the events that `Board::chosen` returns, up to the settle of the vertex. Returns whether all these events were
+// granted.
 fn is_run(board: &mut Board, v: u32) -> bool {
     let mut done = is_event_done(board, Event::Claim(0, v));
     for _ in 0..9 {

@@ -86,7 +86,7 @@ AreSorted ks = T (finite.is_sorted name_cmp (map pair_of ks))
 abbrev pub child : List ℕ → List Child → Option TreeMap
 child n ks = finite.find name_cmp n (map pair_of ks)
 
--- the entry at a path in a tree, if there is one
+-- the entry at a path in a tree; none if no tree is given, or if it has no entry there
 abbrev pub look_in : Option TreeMap → Look
 look_in None q = None
 look_in (Some t) q = finite.get t q

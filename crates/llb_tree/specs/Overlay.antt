@@ -31,7 +31,7 @@ is_mode (Some mode) = if nat_lt 4095 mode then false else true
 abbrev pub settings_of : Option ℕ → Option ℕ → Option ℕ → Bool → Option SettingsValue
 settings_of mode uid gid keeps = if is_mode mode then Some (record { mode = mode; uid = uid; gid = gid; keeps = keeps }) else None
 
--- the mode and the owner of an upper entry in the result: what `w` sets, else what the entry has
+-- the mode and the owner that an upper entry has in the result: what the settings `w` set, else what the entry had
 abbrev pub laid_meta : SettingsValue → MetaValue → MetaValue
 laid_meta w m = record { mode = unwrap_or w.mode m.mode; uid = unwrap_or w.uid m.uid; gid = unwrap_or w.gid m.gid }
 

@@ -14,12 +14,12 @@ use Rattle.llb_tree.specs.declared.node.Piece.{Piece}
 abbrev pub row_pairs : Piece → Pairs
 row_pairs p = map pair_of (rows_in p)
 
--- the pairs of the children of all pieces, one piece after another
+-- the children of all pieces, piece after piece, as pairs of a name and a tree
 abbrev pub joined : List Pairs → Pairs
 joined [] = []
 joined (p ∷ ps) = p ++ joined ps
 
--- the pairs of the children of all pieces, given the pieces as values of the code's type `Piece`
+-- the children of all pieces as pairs of a name and a tree, given the pieces as values of the code's type `Piece`
 abbrev pub pairs_of : List Piece → Pairs
 pairs_of ps = joined (map row_pairs ps)
 

@@ -191,8 +191,8 @@ impl Node {
         }
     }
 
-    // Checks that each proper prefix of these names is a directory. Fails with 21 `NotFound` or 22 `NotDir` at the first prefix that is no
-    // directory.
+    // Checks that there is a directory at each proper prefix of these names. Fails at the first prefix at which there is none: with 21 `NotFound` if nothing is
+    // there, with 22 `NotDir` if a file is there.
     pub(crate) fn walked(&self, names: &[Name]) -> Result<(), TreeFault>
         ensures walks { result ≡ walk (finite.get self.now) names.now }
         ensures known { IfErr result (λ e. is_memory e ≡ false) }

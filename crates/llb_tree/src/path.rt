@@ -183,7 +183,7 @@ pub(crate) fn push_names(names: &mut Vec<Name>, more: &[Name]) -> Result<(), Tre
     Ok(())
 }
 
-// Returns how many names a path of `start` names has after the parts of a text are applied to it. Fails with 26
+// Returns how many names a path of `start` names has after the parts of a text are applied to it (`depth_after`). Fails with 26
 // `BadName` as `read` does. Does not allocate.
 fn depth_of(start: usize, text: &str) -> Result<usize, TreeFault>
     ensures depth { (path : List (List ℕ)) → length path ≡ start → result ≡ depth (follow path (parts_of text.now)) }
@@ -196,8 +196,8 @@ fn depth_of(start: usize, text: &str) -> Result<usize, TreeFault>
     Ok(names)
 }
 
-// Returns how many names a path of `names` names has after one part of a text is applied to it. Fails with 26 `BadName`
-// alone. Does not allocate.
+// Returns how many names a path of `names` names has after one part of a text is applied to it: a name is appended, `..` removes the last name, and an empty
+// part or `.` changes nothing. Fails with 26 `BadName` alone. Does not allocate.
 pub(crate) fn depth_after(names: usize, part: &str) -> Result<usize, TreeFault>
     ensures depth { (path : List (List ℕ)) → length path ≡ names → result ≡ depth (enter path part.now) }
     ensures known { IfErr result (λ e. is_memory e ≡ false) }

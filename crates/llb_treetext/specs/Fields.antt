@@ -68,7 +68,7 @@ dir_parts m path = if is_path path then Some (m, None, path) else None
 abbrev pub file_parts : MetaValue → List ℕ → List ℕ → Option Fields
 file_parts m digits path = if is_hex digits && is_path path && not (nat_lt (length path) 2) then Some (m, Some digits, path) else None
 
--- the fields of a line; nothing if the line is not spelled as the lines of entries are written
+-- the fields of a line; nothing if the line does not have the form of an entry's line
 abbrev pub parts_in : List ℕ → Option Fields
 parts_in line = on (cut_at 32 line) (λ k. on (meta_in k.1) (λ m.
     if pointwise nat_eq k.0 (codes "d") then dir_parts m.0 m.1

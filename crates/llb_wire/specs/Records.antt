@@ -16,11 +16,11 @@ pub record Record : Type 0 where
   pub payload : List ℕ
   pub text : List ℕ
 
--- the record that was read as the `Field` f at the start of the given bytes; the record has its payload and its text, f only the positions of the payload
+-- the record that was read as the `Field` f at the start of the given bytes: f has only the payload's positions; the record has the payload and all its bytes
 abbrev pub record_of : List ℕ → Field → Record
 record_of bytes f = record { number = f.number; wire = f.wire; value = f.value; payload = drop f.start (take f.«end» bytes); text = take f.«end» bytes }
 
--- the record that was read as the `Field` f at position `at` of the given bytes; the record has its payload and its text, f only the positions of the payload
+-- the record that was read as the `Field` f at position `at` of the given bytes: f has only the payload's positions; the record the payload and all its bytes
 abbrev pub record_at : List ℕ → ℕ → Field → Record
 record_at bytes at f = record {
   number = f.number;

@@ -44,7 +44,7 @@ abbrev pub StopsAsNoted : Option Noted → Option RunFault → Type 0
 StopsAsNoted noted fault = (may_stop : ℕ → ℕ → Bool) (given : BoardValue) → may_be may_stop given noted ≡ true → fault ≡ Some Stopped
     → StopsSomewhere may_stop given
 
--- each stop that the gate may cause (`by_gate`) may be noted (`by_note`)
+-- for each w and v: if the gate may stop worker w at vertex v (`by_gate`), then such a stop may be noted as the reason for which the run ends (`by_note`)
 abbrev pub AllowsStops : (ℕ → ℕ → Bool) → (ℕ → ℕ → Bool) → Type 0
 AllowsStops by_gate by_note = (w v : ℕ) → IsTrue (by_gate w v) → by_note w v ≡ true
 

@@ -10,7 +10,7 @@ abbrev pub ArePlain : Build → List Bool → Type 0
 ArePlain b marks = (v : ℕ) → unwrap_or (slice_get marks v) false ≡ is_plain b v
 
 module _ {L : Type 0} where
-  -- what n workers need: the whole pass of the queue; for each worker a list and room for a thread; for each vertex whether no cache mount is at or before it
+  -- what n workers need: the queue's pass (no part is given away yet); n lists; room for n threads; for each vertex whether no cache mount is at or before it
   pub record IsSupplyFor (b : Build) (n : ℕ) (s : Supply L) : Type 0 where
     pub pass : IsUncut s.queue s.pass
     pub lists : vec_len s.lists ≡ n

@@ -30,7 +30,7 @@ pub(crate) struct HandOut<S: Ledger> {
     pub threads: Vec<WorkerThread<S>>,
 }
 
-/// What all workers have given back: their shares of the ledger, how many events each has made, and the whole pass.
+/// What all workers have given back: their shares of the ledger (which counts events), how many events each has made, and the whole pass of the queue.
 #[derive(Drop)]
 pub(crate) struct GivenBack<S: Ledger> {
     pub share: Share<S>,

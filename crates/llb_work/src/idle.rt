@@ -36,7 +36,7 @@ impl Idle {
         }
     }
 
-    /// Returns the argument for `wait`: the low 32 bits of the number of wakes. A worker has to call this before it looks into the queue.
+    /// Returns the argument for `wait`: the low 32 bits of the number of wakes. A worker must call this before it looks into the queue.
     pub(crate) fn wakes(&self) -> u32 {
         (self.wakes.load(Ordering::SeqCst) & 0xffff_ffff) as u32
     }

@@ -79,7 +79,7 @@ impl KeyWaiters {
         true
     }
 
-    // Adds a row with one number. Returns false if there is no room for the row.
+    // Adds a row for a key, for which one vertex waits: the vertex with the number `v`. Returns false if there is no room for the row.
     fn push_row(&mut self, key: Key, v: u32) -> bool {
         if self.rows.len() >= self.rows.capacity() {
             return false;

@@ -19,8 +19,8 @@ pub(crate) enum Noted {
     Thread,
 }
 
-/// The ledger of a run. For use in clauses, its type also has the board that the run was given (`start`), and at which vertices the run's gate may stop which
-/// workers (`may_stop`).
+/// The ledger of a run, which counts the run's events. For use in clauses, its type also has the board that the run was given (`start`), and at which vertices
+/// the run's gate may stop which workers (`may_stop`).
 pub(crate) trait Gated: Ledger {
     ghost may_stop: { ℕ → ℕ → Bool };
 

@@ -195,7 +195,8 @@ impl<S: Gated> SharedBoard<S> {
         (task, owners)
     }
 
-    // Does what a worker has to do, by its report. Returns the worker's next task.
+    // Does, under the lock, what a worker's report asks for: goes on with the worker's vertex, claims a vertex, lands an outcome, or gives up what the worker
+    // runs. Returns the worker's next task.
     fn act(&mut self, w: u32, report: Report, news: &mut Vec<u32>) -> Task
         requires { IsReport S.may_stop S.start w report }
         ensures { IsHere S.start w result }
@@ -269,7 +270,8 @@ impl<S: Gated> SharedBoard<S> {
         }
     }
 
-    // Adds to `news`, for each cache instance that a worker holds, one of the numbers that wait for the instance's key. The worker's vertex is about to end.
+    // For each cache instance that a worker holds: adds to the list `news` one of the vertices' numbers that wait for the instance's key. The worker's vertex
+    // must be about to end.
     fn release(&mut self, w: u32, news: &mut Vec<u32>) {
         let SharedBoard { board, waiters, .. } = self;
         for place in board.places(w) {

@@ -27,7 +27,8 @@ pub(crate) fn make_tally<S: Ledger>(share: Share<S>) -> Tally<S>
     Tally { made: 0, share }
 }
 
-/// Adds `after - before`, the number of events that a worker has added to a record, to the total of the ledger and to the worker's tally.
+/// Adds `after - before`, the number of events that a worker has just added to the record, to the total of all workers' events in `calls`, the book of
+/// the ledger, and to the worker's own count and share in `mine`.
 pub(crate) fn count<S: Ledger>(
     calls: &mut Book<S>,
     mine: &mut Tally<S>,

@@ -1,5 +1,5 @@
-//! One worker: it takes the lock for a moment, then works away from the lock, and so on. Away from the lock it puts the numbers that
-//! it has noted into the queue, takes a number from the queue, passes the gate, or works on a job.
+//! One worker: it takes the lock for a moment, then works away from the lock, and so on. Away from the lock it puts the vertices' numbers that it
+//! has noted into the queue, takes a number from the queue, passes the gate, or works on a job.
 
 ghost use Rattle.std.specs.Prelude.{◌≡◌, true, IfSome};
 ghost use Rattle.llb_work.specs.Passes.{IsPassFor};

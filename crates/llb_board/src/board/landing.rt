@@ -45,8 +45,8 @@ impl Board {
         Ok(self.settle(w).unwrap())
     }
 
-    /// Lands an outcome as `land` does, but compares nothing. The caller has to know that the outcome's job is the one that the worker's claim handed out, that
-    /// no cache mount is at or before the vertex, and that the worker has done no micro-step of the vertex on the board. Does not allocate.
+    /// Lands an outcome as `land` does, but does not compare the outcome's job with what the worker runs. The job must be the one that the worker's claim
+    /// handed out, no cache mount may be at or before the vertex, and the worker must have done no micro-step of the vertex on the board. Does not allocate.
     pub fn land_known(&mut self, w: u32, outcome: Outcome) -> Settled
         requires known { IsKnown self.old w outcome.job }
         ensures gives { Lands self.old w outcome self.new (HasSettled result) }

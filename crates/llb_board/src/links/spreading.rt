@@ -4,8 +4,8 @@ ghost use Rattle.std.specs.Prelude.{◌≡◌, ◌<◌, ◌≤◌, ◌+◌, [], 
 ghost use Rattle.std.specs.List.{All};
 ghost use Rattle.llb_board.specs.Links.{Spreads, Visits, unmarked};
 
-/// Marks a vertex and everything downstream of it. The caller has to know that everything downstream of a marked vertex is marked. The list `reached` is
-/// empty before and after the call, and has room for all vertices.
+/// Marks a vertex and everything downstream of it. Everything downstream of a vertex that is already marked must be marked too. The list `reached` must be
+/// empty, and must have room for all vertices; it is empty again after the call.
 pub(crate) fn spread(users: &[Vec<u32>], reached: &mut Vec<u32>, marks: &mut [bool], v: u32)
     requires count { length users.now ≡ length marks.old }
     requires low { v < length marks.old }
