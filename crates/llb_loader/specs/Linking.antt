@@ -149,7 +149,7 @@ pub record HasNoStart (p : Plan) (k i : ℕ) : Type 0 where
   pub row : k ≡ p.terminal
   pub input : i ≡ 0
 
--- e is the refusal of the plan; each case below also requires that no earlier refusal applies
+-- the plan (rows, their ops, the rows of the terminal and of the result) is refused with this fault; each case also requires that no earlier refusal applies
 abbrev pub Refuses : Plan → LoadFault → Type 0
 Refuses p TooFew = AllSame p.rows
 Refuses p (Collision k) = (¬ AllSame p.rows) × Least (Collides p.rows) k
