@@ -123,7 +123,7 @@ pub record IsValid (p : Plan) (order : List ℕ) : Type 0 where
   pub supported : IsSupported p order
   pub valid : (k : ℕ) → ReachedRow p k → MeetsRules (op_at p.ops k)
 
--- No refusal applies: `IsValid` holds, and each input of a reached row, and the terminal's first input, names an output that exists.
+-- No refusal applies: `IsValid` holds (no earlier one applies); and each input of a reached row, and the terminal's first input, names an output that exists.
 pub record IsWhole (p : Plan) (order : List ℕ) : Type 0 where
   pub valid : IsValid p order
   pub indexes : (k i : ℕ) → ¬ IsBadIndex p k i
