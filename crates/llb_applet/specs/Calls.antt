@@ -30,7 +30,7 @@ pair (a ∷ []) = None
 pair (a ∷ b ∷ []) = Some (a, b)
 pair (a ∷ b ∷ c ∷ ws) = None
 
--- the command c, whose call has no words after the name, if the list is empty; nothing if the list has words
+-- the command c, if the list of the words after the applet's name is empty; else nothing
 abbrev pub no_words : List Word → Command → Option Command
 no_words [] c = Some c
 no_words (w ∷ ws) c = None

@@ -100,7 +100,7 @@ is_kind Dir e = is_dir e
 abbrev pub line_of : TreeMap → List (List ℕ) → List ℕ → List ℕ
 line_of t p name = name ++ (if is_dir (finite.get t (p ++ name ∷ [])) then codes "/" else []) ++ 10 ∷ []
 
--- the lines for these names in a directory
+-- the lines for these names in the directory at path p: each has the name, `/` if the name leads to a directory, and a line end
 abbrev pub listed : TreeMap → List (List ℕ) → List (List ℕ) → List ℕ
 listed t p names = flat_map (line_of t p) names
 

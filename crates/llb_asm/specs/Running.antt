@@ -39,7 +39,7 @@ open_op_of s = record { here = s.here; bytes = s.bytes; below = reverse s.below 
 abbrev pub at_front : OpenOp
 at_front = record { here = inside named.Op; bytes = []; below = [] }
 
--- whether the entry is within the limits if the message inside these open messages has `size` bytes and all are then closed; `room` tests the entry's size
+-- whether the entry's size passes the test `room` (it is within the limits), if the message inside these open messages has `size` bytes and all are then closed
 abbrev pub room_in : (ℕ → Bool) → List Frame → ℕ → Bool
 room_in room [] size = room size
 room_in room (f ∷ below) size = room_in room below (length f.bytes + record_length f.number size)

@@ -71,7 +71,7 @@ pub(crate) fn inside(message: MessageName) -> Here
 }
 
 impl Here {
-    // Returns the context after a line of this field. The caller ensures that the value of the line is within the limit of repeated fields.
+    // Returns the context after a line of this field. With this line the message must not have more values of the field than the limit of repeated fields.
     fn behind(self, field: NamedField) -> Here
         requires { has_room self field ≡ true }
         ensures { result ≡ behind self field }

@@ -23,7 +23,7 @@ job_from b w v start = job_on w v start.vertex (begin b start []) []
 abbrev pub plain_job : Build → ℕ → ℕ → Option Job
 plain_job b w v = option_map (job_from b w v) (plain_start b (slice_get b.graph.vertices v))
 
--- a worker's execution has no fault and holds no instances, and the job that remains for the worker is the plain job
+-- a worker's execution has no fault and holds no instances, and its remaining job is `plain_job`: the one that the build, the worker and the vertex determine
 pub record IsBegunPlainly (b : BoardValue) (w : ℕ) (x : Execution) : Type 0 where
   pub clean : x.fault ≡ None
   pub bare : x.places ≡ []

@@ -8,7 +8,7 @@ use Rattle.llb_events.specs.Faults.{claim_text, step_text, settle_text, cancel_t
 use Rattle.llb_board.specs.declared.fault.WalkFault.{WalkFault}
 use Rattle.llb_board.specs.declared.fault.WalkFault.TheVariants as walk
 
--- the text of a refusal of `walk`, for any event
+-- the text of a refusal of `Board::walk`, which does any one event: the text of the event's refusal, or 141 for refused memory
 abbrev pub walk_text : WalkFault → List ℕ
 walk_text (walk.Claim e) = claim_text e
 walk_text (walk.Step e) = step_text e
@@ -25,7 +25,7 @@ claim_refused claim.NoVertex = walk.Claim claim.NoVertex
 claim_refused claim.NotReady = walk.Claim claim.NotReady
 claim_refused (claim.Held k) = walk.Claim (claim.Held k)
 
--- what `walk` returns if a step is refused for this cause
+-- what `Board::walk`, which does any one event, returns if a step is refused for this cause; it has one fault `Memory` for events of all kinds
 abbrev pub step_refused : StepFault → WalkFault
 step_refused step.Memory = walk.Memory
 step_refused step.NoWorker = walk.Step step.NoWorker

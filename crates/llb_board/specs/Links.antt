@@ -66,7 +66,7 @@ pub record IsLinked (vs : List Vertex) (done : ℕ → Bool) (l : Linked) : Type
 abbrev pub users_at : Linked → ℕ → List ℕ
 users_at l u = get_or l.users u []
 
--- whether the count of a vertex's open inputs is 0; false if there is no such vertex
+-- whether, by the counts in the links, all inputs of vertex v are done; false if there is no such vertex
 abbrev pub has_inputs : Linked → ℕ → Bool
 has_inputs l v = get_or l.counts v 1 == 0
 

@@ -11,7 +11,7 @@ pub record Outfitted : Type 0 where
   pub outputs : List TreeMap
   pub steps : List model.MicroStep
 
--- the value that contracts see of an outfit
+-- what contracts see of an `Outfit` of the code: what a claim prepares from the vertex alone
 abbrev pub outfit_as : Outfit → Outfitted
 outfit_as o = record { program = o.program; outputs = o.outputs.items; steps = o.steps }
 

@@ -8,7 +8,7 @@ use Rattle.llb_events.specs.declared.refusal.SettleFault.{SettleFault}
 use Rattle.llb_events.specs.declared.refusal.CancelFault.{CancelFault}
 use Rattle.llb_board.specs.Seen.{BoardValue, recorded}
 
--- the board and the reply after a claim, which is appended to the record; or the table's refusal
+-- the board after a claim, with the claim appended to its record, and the reply; or the table's refusal
 abbrev pub claim_of : BoardValue → ℕ → ℕ → Result (BoardValue × Reply) ClaimFault
 claim_of b w v = recorded b (Claim w v) (claim_grant b.build b.state w v)
 

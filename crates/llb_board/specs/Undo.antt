@@ -105,7 +105,7 @@ pub record IsLeft (b : BoardValue) (w : ℕ) (left : Left) (lent : Option LentVa
   pub keys : map (λ (p : Instance). p.key) left.execution.places ≡ left.supplies.keys
   pub ready : lent ≡ lent_of left.execution.places (length b.state.workers + 1)
 
--- one of the three definitions above, by the kind of the event
+-- worker and vertex are as the event left them, and what is put back fits: `IsBegun` after a claim, `IsStepped` after a step, `IsLeft` after a settle or cancel
 abbrev pub StandsBehind : Back → BoardValue → Type 0
 StandsBehind (Unclaim w v growths) b = IsBegun b w v
 StandsBehind (Unstep w saved trees) b = IsStepped b w saved trees

@@ -65,8 +65,8 @@ AreCounted true false users old new = AreRaised users old new
 AreCounted false false users old new = new ≡ old
 AreCounted true true users old new = new ≡ old
 
--- What else the code keeps agrees with the build and the statuses. A vertex is marked if it has failed or is downstream of one that has. The links count the
--- inputs that are not done. No vertex whose number is below `first_open` can be claimed now or later. Each vertex has a status, and all outputs if it is done.
+-- What else the code keeps agrees with the build and the statuses. `stop_marks` marks each vertex that has failed or is downstream of one that has. `links` has
+-- each vertex's count of inputs not done. No vertex below `first_open` can be claimed now or later. Each vertex has a status, and all outputs if it is done.
 pub record IsInStep (b : Build) (statuses : List Status) (stop_marks : List Bool) (links : Linked) (first_open : ℕ) : Type 0 where
   pub graph : IsGraph b.graph
   pub count : length statuses ≡ length b.graph.vertices

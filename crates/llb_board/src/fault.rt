@@ -113,7 +113,7 @@ impl From<llb_cache::Memory> for Memory {
     }
 }
 
-/// Converts the fault of copying a tree, which fails only for want of memory.
+/// Converts the fault with which copying a tree fails, refused memory, into `Memory`.
 impl From<TreeFault> for Memory {
     fn from(_: TreeFault) -> Memory {
         Memory
@@ -152,7 +152,7 @@ impl From<Memory> for WalkFault {
     }
 }
 
-/// Converts the fault of copying the parts of a workspace that a step can change.
+/// Converts the fault with which copying the changeable parts of a workspace fails, refused memory, into `WalkFault::Memory`.
 impl From<llb_wire::Memory> for WalkFault {
     ghost use Rattle.std.specs.Prelude.{◌≡◌};
     ghost use Rattle.llb_board.specs.declared.fault.WalkFault.TheVariants as walk;

@@ -157,7 +157,7 @@ pub(crate) fn reserve(rows: &mut Rows, more: usize) -> Result<(), Memory>
     Ok(())
 }
 
-// Adds a row for a key that has none. Both lists of `rows` have room for one more item.
+// Adds a row for a key that has none. Both lists of `rows` must have room for one more item.
 pub(crate) fn add_row(rows: &mut Rows, key: Key, trees: Trees)
     requires order { AreOrdered rows.old }
     requires room { HasRoom rows.old 1 }

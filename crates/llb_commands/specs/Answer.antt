@@ -44,7 +44,7 @@ pub record IsAlone (b : Build) (s : State) (events : List Event) : Type 0 where
   pub only : (es : List Event) (t : State) → EndsInClaimOrder b (run_opening 1) es t → t ≡ s
 
 -- A state in which a run of a build by this number of workers ends: granted events lead to it, and every vertex is done, failed or blocked. Without caches each
--- vertex has its plain outcome in this state, for any number of workers; with one worker the events are as `IsAlone` says.
+-- vertex has its plain outcome in this state, for any number of workers. With one worker the events are the chosen ones, and all such runs end in s: `IsAlone`.
 pub record IsEnd (workers : ℕ) (b : Build) (s : State) : Type 0 where
   pub events : List Event
   pub replies : List Reply

@@ -41,12 +41,12 @@ abbrev pub IsDefinitionOf : List ℕ → Result (List ℕ) ProgramFault → Type
 IsDefinitionOf text (Ok definition) = IsAssembled text definition
 IsDefinitionOf text (Err e) = IsRefusal e → IsNoText e text
 
--- the result of assembling an input: the definition; or a fault (if the fault is a refusal, `IsNoText` says its cause). Without known bytes this says nothing.
+-- the result of assembling an input: the definition, or a fault; a refusal has its cause in the input (`IsNoText`). Without known bytes this says nothing.
 abbrev pub IsDefinitionIn : Option (List ℕ) → Result (List ℕ) ProgramFault → Type 0
 IsDefinitionIn input (Ok definition) = IfSome input (λ text. IsAssembled text definition)
 IsDefinitionIn input (Err e) = TellsRefusal IsNoText input e
 
--- the result of reading an input as a definition: the entries; or a fault (if the fault is a refusal, `IsUnread` says its cause in the input)
+-- the result of reading an input as a definition: the entries, or a fault; if the fault is a refusal, its cause is in the input (`IsUnread`)
 abbrev pub AreEntriesIn : Option (List ℕ) → Result (List (List ℕ)) ProgramFault → Type 0
 AreEntriesIn input (Ok entries) = IfSome input (λ bytes. definition_of bytes ≡ Ok entries)
 AreEntriesIn input (Err e) = TellsRefusal IsUnread input e

@@ -11,7 +11,7 @@ use Rattle.llb_commands.specs.Faults.{TellsLine, source_text}
 use Rattle.llb_commands.specs.declared.sources.SourceFault.{SourceFault}
 use Rattle.llb_commands.specs.declared.sources.SourceFault.TheVariants.{Read, TooLong, Text, Reading, Adding}
 
--- the most bytes that an input may have: the text of a tree, a definition, a text of entries, or the commands of a session
+-- the most bytes that an input may have, whether it is the text of a tree, a definition, a text of entries, or the commands of a session
 abbrev pub limit : ℕ
 limit = 67108864
 

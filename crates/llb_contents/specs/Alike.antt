@@ -112,7 +112,7 @@ pub record AreAlikeWorks (R : List ℕ → List ℕ → Type 0) (x y : Work) : T
   pub own : AreAlikeWorkspaces R x.own y.own
   pub trees : BothLists (AreAlike R) x.trees y.trees
 
--- two results of micro-steps: their works are alike, and both have the same fault or both have none
+-- two results of micro-steps: their workspaces and their trees of cache instances are alike, and both have the same fault or both have none
 pub record AreAlikeLefts (R : List ℕ → List ℕ → Type 0) (x y : Left) : Type 0 where
   pub work : AreAlikeWorks R x.work y.work
   pub fault : x.fault ≡ y.fault

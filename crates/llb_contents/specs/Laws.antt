@@ -68,13 +68,13 @@ HasAlikeOutcomes R g ls ms v = BothOptions (AreAlikeOutcomes R) (outcome (record
 abbrev pub HandsOn : (List ℕ → List ℕ → Type 0) → Numbered → Type 0
 HandsOn R g = (ls ms : List Local) (v : ℕ) → RelatesWritten R g v → HaveAlikeSources R g v ls ms → HasAlikeOutcomes R g ls ms v
 
--- `HandsOn` holds for every relation that a test decides and that appending keeps
+-- `HandsOn` (alike sources lead to alike plain outcomes) holds for every relation that a test decides and that is kept when related contents are appended
 abbrev pub HandsRelationsOn : Numbered → Type 0
 HandsRelationsOn g = (test : List ℕ → List ℕ → Bool) → IsKept (By test) → HandsOn (By test) g
 
 -- ---- a law for contents that expand to others
 
--- content `a` expands to content `b`
+-- the function `expand` makes the content `b` of the content `a`
 abbrev pub ExpandsTo : (List ℕ → Option (List ℕ)) → List ℕ → List ℕ → Type 0
 ExpandsTo expand a b = expand a ≡ Some b
 
@@ -82,7 +82,7 @@ ExpandsTo expand a b = expand a ≡ Some b
 abbrev pub HandsExpansionsOn : Numbered → Type 0
 HandsExpansionsOn g = (expand : List ℕ → Option (List ℕ)) → IsKept (ExpandsTo expand) → HandsOn (ExpandsTo expand) g
 
--- a tree expands to at most one tree: so the outcome on short contents determines the outcome on the contents that these expand to
+-- if trees u and w both are t with each content expanded by `expand`, they are equal: so an outcome on contents determines the one on the expanded contents
 abbrev pub ExpandsToOne : TreeMap → Type 0
 ExpandsToOne t = (expand : List ℕ → Option (List ℕ)) (u w : TreeMap) → AreAlike (ExpandsTo expand) t u → AreAlike (ExpandsTo expand) t w → u ≡ w
 
@@ -101,7 +101,7 @@ spelled_from table (b ∷ bytes) (suc (suc left)) n = spelled_from table bytes (
 abbrev pub spelled : (ℕ → List ℕ) → List ℕ → Option (List ℕ)
 spelled table bytes = spelled_from table bytes 0 0
 
--- whether a content has the byte that begins tokens
+-- whether a content has the byte 255, with which each token begins (a token is five bytes that name another content by a number)
 abbrev pub has_mark : List ℕ → Bool
 has_mark bytes = list_any (λ b. b == 255) bytes
 
@@ -186,7 +186,7 @@ HandsTokensOn g = (table : ℕ → List ℕ) (ls ms : List Local) (v : ℕ) → 
 abbrev pub MakesNoDigest : Numbered → ℕ → Type 0
 MakesNoDigest g v = (k : ℕ) (x : Vertex) → Reached (links g.vertices) v k → slice_get g.vertices k ≡ Some x → list_any step_digests (program_of x).steps ≡ false
 
--- the same law as `HandsOn`, but with another premise in place of `RelatesWritten`: no digest is made at or before the vertex
+-- the law of `HandsOn` (alike sources lead to alike plain outcomes), if no digest is made at or before the vertex; this premise replaces `RelatesWritten`
 abbrev pub HandsOnUndigested : (List ℕ → List ℕ → Type 0) → Numbered → Type 0
 HandsOnUndigested R g = (ls ms : List Local) (v : ℕ) → MakesNoDigest g v → HaveAlikeSources R g v ls ms → HasAlikeOutcomes R g ls ms v
 

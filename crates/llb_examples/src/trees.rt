@@ -93,7 +93,8 @@ pub(crate) fn edit(alloc: Global, tree: &mut Tree, call: &str) -> Result<(), Tre
     }
 }
 
-// Returns the tree by which `copy`, `subtree` or `below` replaces the other tree.
+// Returns the tree that the test's call `copy`, `subtree` or `below` makes of the given tree: a copy of it, its subtree at the path, or a tree that has it at
+// the path. The caller puts this tree in place of the second one of its two trees (`Trees`).
 fn taken(alloc: Global, tree: &Tree, name: &str, path: &str) -> Result<Tree, TreeFault> {
     let path = Path::read(alloc, path)?;
     if name == "subtree" {

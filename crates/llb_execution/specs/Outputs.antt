@@ -31,7 +31,7 @@ abbrev pub placed : ℤ → TreeMap → List TreeMap → List TreeMap
 placed (pos i) t trees = slice_set trees i t
 placed (negsuc i) t trees = trees
 
--- the same as `placed` if there is an output number; else the list unchanged
+-- the list of trees with the tree at the output number replaced by t; the same list if there is no output number, or no tree at this number
 abbrev pub placed_by : Option ℤ → TreeMap → List TreeMap → List TreeMap
 placed_by (Some n) t trees = placed n t trees
 placed_by None t trees = trees

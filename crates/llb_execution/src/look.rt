@@ -60,7 +60,7 @@ impl Workspace {
         }
     }
 
-    /// Returns the role of tree `i`; `None` past the last tree. Does not allocate.
+    /// Returns the role of tree `i`: whether it is a local tree, an input, a result or a mount's tree. Returns `None` past the last tree. Does not allocate.
     pub fn part(&self, i: usize) -> Option<Part<'_>>
         ensures { option_map role_in result ≡ slice_get (roles_of self.now) i }
     {

@@ -1,4 +1,4 @@
--- The steps in which copied entries are put into a tree: whether each entry can be put at its path, and what is at each path after a directory is merged in.
+-- Parts of the rule by which copied entries are put into a tree: whether each can be put at its path, and what is at each path after a directory is merged in.
 use Rattle.std.specs.Prelude.{◌≡◌, ℕ, ◌+◌, nat_lt, List, [], ◌∷◌, length, Option, Some, None, Result, Ok, Err, if◌then◌else◌}
 use Rattle.std.specs.FinMap as finite
 use Rattle.llb_wire.specs.Answer.{◌>>=◌}

@@ -1,4 +1,4 @@
-//! How a part of a pattern is read: character by character, in one pass. The effect of a character depends on the stage of the
+//! How a part of a pattern is read: character by character, once from left to right. The effect of a character depends on the stage of the
 //! reader and on whether a `\` quotes the character, and on nothing further back.
 
 ghost use Rattle.std.specs.Prelude.{◌≡◌};

@@ -123,7 +123,7 @@ pub record IsValid (p : Plan) (order : List ℕ) : Type 0 where
   pub supported : IsSupported p order
   pub valid : (k : ℕ) → ReachedRow p k → MeetsRules (op_at p.ops k)
 
--- No refusal applies: `IsValid` holds, and each input of a reached row, and the terminal's first input, names an output that exists.
+-- No refusal applies: `IsValid` holds (no earlier one applies); and each input of a reached row, and the terminal's first input, names an output that exists.
 pub record IsWhole (p : Plan) (order : List ℕ) : Type 0 where
   pub valid : IsValid p order
   pub indexes : (k i : ℕ) → ¬ IsBadIndex p k i
@@ -149,7 +149,7 @@ pub record HasNoStart (p : Plan) (k i : ℕ) : Type 0 where
   pub row : k ≡ p.terminal
   pub input : i ≡ 0
 
--- e is the refusal of the plan; each case below also requires that no earlier refusal applies
+-- the plan (rows, their ops, the rows of the terminal and of the result) is refused with this fault; each case also requires that no earlier refusal applies
 abbrev pub Refuses : Plan → LoadFault → Type 0
 Refuses p TooFew = AllSame p.rows
 Refuses p (Collision k) = (¬ AllSame p.rows) × Least (Collides p.rows) k

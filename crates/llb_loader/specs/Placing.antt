@@ -13,7 +13,7 @@ pub record IsChecked (g : List (List ℕ)) (done : List Bool) (w : Waiter) : Typ
   pub within : w.checked ≤ length (inputs g w.row)
   pub passed : (i : ℕ) → i < w.checked → IsMarked done (slice_index (inputs g w.row) i)
 
--- `done` marks all rows that the inputs of the waiter's row name, and the waiter's row joins the ready rows
+-- `done` marks all rows that the inputs of row `w.row` name, and this row joins the ready rows (a `Waiter` is a row, and how many of its inputs were checked)
 pub record GoesToReady (g : List (List ℕ)) (done : List Bool) (w : Waiter) (ready next_ready : ℕ → Bool)
     (waiting next_waiting : List (List Waiter)) : Type 0 where
   pub all : All (IsMarked done) (inputs g w.row)

@@ -52,8 +52,8 @@ pub(crate) fn check_names(
     Ok(())
 }
 
-// Returns the index of the op's first input that names no row; `None` if each input names one. `named` has the rows that the inputs name; if there are as many
-// of these rows as inputs, no input is looked up.
+// Returns the index of the op's first input that names no row; `None` if each input names one. `named` has the rows that the op's inputs name. If there are as
+// many of these rows as inputs, each input names a row, and none is looked up.
 fn unnamed_in(
     rows: &[Row],
     index: &BTreeMap<&str, usize>,

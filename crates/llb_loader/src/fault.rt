@@ -139,7 +139,7 @@ impl fmt::Display for Feature {
     }
 }
 
-/// The rules that ops must meet, in the order in which they are checked. A fault with one of these variants says that the op breaks its rule.
+/// The rules that ops must meet, in the order in which they are checked. A fault with one of these variants says that an op breaks the rule of this variant.
 #[derive(Drop)]
 pub enum Rule {
     /// The op must have a kind.

@@ -169,7 +169,7 @@ pub record StandsByLastStatus (cs : List Joined) (steps : List MicroStep) (x : E
   pub finished : is_finished steps x ≡ (nat_le (length cs) x.done || (not (last_of x.own == 0) && all_and (drop x.done cs)))
   pub fails : is_finished steps x ≡ true → x.fault ≡ fault_of (x.done - 1) (last_of x.own)
 
--- `StandsByLastStatus` holds for every worker that runs an exec, whatever other workers do to shared instances meanwhile
+-- `StandsByLastStatus` holds of each exec that a worker runs: the last status decides when it ends, and its fault, whatever others do to shared instances
 abbrev pub ExecsEndByLastStatus : Build → Type 0
 ExecsEndByLastStatus b = (s : State) → IsReached b s → (w : ℕ) (x : Execution) (v : Vertex) (e : ExecOp) → slice_get s.workers w ≡ Some (Runs x)
     → slice_get b.graph.vertices x.vertex ≡ Some v → v.op.kind ≡ Some (kind.Exec e)

@@ -54,7 +54,7 @@ stands_after (Some k) p left = Waiting
 abbrev pub left_by : Order → ℕ → List Instance → Program → Option ℕ → Left → Order
 left_by o v ps p cut left = record { statuses = slice_set o.statuses v (stands_after cut p left); store = put_all o.store ps left.work.trees }
 
--- the state after a claim of vertex v and its work, given the `Start` of the vertex (its inputs' trees) and the instances that the claim takes
+-- the state after a claim of vertex v and its work (up to the cancel that `cut` has, if any), given its `Start` (the inputs' trees) and the claim's instances
 abbrev pub whole_at : Build → Order → ℕ → Start → List Instance → Option ℕ → Order
 whole_at b o v start ps cut =
     left_by o v ps (program_of start.vertex) cut (done_of cut (program_of start.vertex).steps (begin_at b o.store start ps))

@@ -19,7 +19,7 @@ pub record IsUnderWay (b : Build) (x : Execution) : Type 0 where
   pub so_far : part (program_of vertex).steps (begin b (start_with vertex trees) []) x.done ≡ left_of x
   pub bare : x.places ≡ []
 
--- for each plain vertex: if it is settled, it has ended with its plain outcome; if it runs, `IsUnderWay` holds for its execution
+-- each settled vertex with no cache mount at or before it has its plain outcome; each running one has worked on its inputs' plain outcomes (`IsUnderWay`)
 pub record StandsByOutcomes (b : Build) (s : State) : Type 0 where
   pub settled : (v : ℕ) (e : Ending) → is_plain b v ≡ true → slice_get s.statuses v ≡ Some (Settled e) → outcome b v ≡ Some (Ended e)
   pub working : (w : ℕ) (x : Execution) → is_plain b x.vertex ≡ true → slice_get s.workers w ≡ Some (Runs x) → IsUnderWay b x

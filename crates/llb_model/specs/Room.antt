@@ -69,7 +69,7 @@ still_to_come b s = all_to_come b.graph.vertices s.statuses + all_left b s.worke
 
 -- ---- room in the record
 
--- the room in the record, in events, that the next claim of a vertex reserves: 0, unless the vertex waits after a cancel
+-- for how many events the next claim of a vertex reserves room in the record: for all events of the claim if the vertex waits after a cancel, else for none
 abbrev pub owed_by : Vertex → Status → ℕ → ℕ
 owed_by v Waiting zero = 0
 owed_by v Waiting (suc n) = events_of v

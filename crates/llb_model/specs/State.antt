@@ -166,7 +166,7 @@ abbrev pub first_free : List Instance → Key → ℕ → ℕ → ℕ
 first_free ps k n zero = n
 first_free ps k n (suc tries) = if is_in ps (place k n) then first_free ps k (n + 1) tries else n
 
--- the number of the instance of a key that a claim takes while `ps` are held: 0 or, for a private key, the least number whose instance is not held
+-- the number of the instance that a claim takes for a key while the instances `ps` are held: 0; for a private key the least number whose instance is not held
 abbrev pub number_for : List Instance → Key → Mode → ℕ
 number_for ps k Shared = 0
 number_for ps k Locked = 0

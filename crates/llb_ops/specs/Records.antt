@@ -36,7 +36,7 @@ views rs = map view rs
 
 -- ---- the records, read from left to right; a record is refused if it can't be read, or if the table has its field with another wire type
 
--- the form of the field with this number, if the shape has such a field
+-- the form of the field with this number (whether its payload is read as a number, as bytes, or as a text), if the shape has such a field
 abbrev pub form_of : Shape → ℕ → Option Form
 form_of shape number = option_map (λ n. n.1) (find (λ n. n.0 == number) shape)
 

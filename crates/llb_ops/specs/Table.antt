@@ -191,7 +191,7 @@ form_of_kind String = form.Text
 form_of_kind Bytes = form.Bytes
 form_of_kind (Message m) = form.Bytes
 
--- the shape of a message: the numbers and the forms of its fields
+-- the shape of a message: for each field its number and its form (whether the field's payload is read as a number, as bytes, or as a text)
 abbrev pub shape_of : MessageName → List (ℕ × Form)
 shape_of m = map (λ r. (r.1.number, form_of_kind r.1.kind)) (rows_of m)
 

@@ -15,7 +15,7 @@ pub(crate) type Row = (&'static str, &'static str, &'static str, &'static str);
 
 /// A call that can be made more than once, with the values that the call is made on and the result of the latest call.
 pub(crate) trait Trial: Sized + Drop {
-    /// Makes what the call of a row needs.
+    /// Makes the values with which the call of a test's row is made.
     fn ready(rt: &impl Abort, alloc: Global, row: &Row) -> Self;
 
     /// Makes the call and nothing else.

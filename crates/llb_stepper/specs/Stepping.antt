@@ -112,7 +112,7 @@ at_first b = record b { state = opening b.build b.opening; rows = b.first; event
 abbrev pub IsReplayed : BoardValue → Type 0
 IsReplayed b = run_on (at_first b) b.events ≡ Some b
 
--- Board k of the past, counted from 0, is the board after all events of the record but the last k + 1.
+-- Board k of the list `past` (the earlier boards, the latest first), counted from 0, is the board after all events of the record but the last k + 1.
 abbrev pub PastIsTheRecords : Stepping → Type 0
 PastIsTheRecords s = (k : ℕ) (c : BoardValue) → slice_get s.past k ≡ Some c
     → run_on (at_first s.board) (take (length s.board.events - (k + 1)) s.board.events) ≡ Some c

@@ -36,7 +36,7 @@ meets_told e r (stop.Claims v) = claims v e
 meets_told e r (stop.Settles v) = settles_told v r
 meets_told e r stop.Fails = failed_told r
 
--- the text that is printed for a reply of `walk`; for a claim, the kind of the claimed vertex's op and the vertex's number of micro-steps
+-- the text for a reply of `Board::walk`, which does any one event; for a claim, the kind of the claimed vertex's op and the vertex's number of micro-steps
 abbrev pub told_text : List Vertex → Event → Reply → List ℕ
 told_text vertices e reply.Claimed = claimed_text (slice_get vertices (vertex_of e))
 told_text vertices e (reply.Stepped s) = step_text s

@@ -34,7 +34,7 @@ impl Counting {
         }
     }
 
-    /// Returns how often workers have passed at the vertices below `from`, and how often at the other vertices.
+    /// Returns how often the gate has let a worker pass for a vertex with a number below `from`, and how often for any other vertex.
     pub(crate) fn passed(&self) -> (u64, u64) {
         let below = self.below.load(Ordering::SeqCst);
         (below, self.others.load(Ordering::SeqCst))

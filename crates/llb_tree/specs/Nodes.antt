@@ -133,7 +133,7 @@ pub record IsWhole (root : TreeMap) (depth : ℕ) : Type 0 where
   pub deep : base.height root ≤ depth + 1
   pub short : depth ≤ 128
 
--- the children in a value of the code's type `Children`: the rest of one piece, and the pieces after that piece
+-- the children that a `Children` of the code still has: those left of the current piece, and those of the later pieces (a directory keeps children in pieces)
 abbrev pub left_in : Children → List Child
 left_in c = c.rows.now ++ kids_in c.pieces.now
 

@@ -26,7 +26,7 @@ module _ {X : Type 0} (passes : X → List ℕ → Bool) where
   goes (t ∷ ts) [] = false
   goes (t ∷ ts) (n ∷ q) = passes t n && goes ts q
 
-  -- whether some path of a tree is at or below a selected path
+  -- whether some path of a tree is at or below a selected path (a selected path has one name for each test, and each name passes its test)
   abbrev pub any_goes : List X → TreeMap → Bool
   any_goes ts t = list_any (goes ts) (finite.keys t)
 
@@ -41,7 +41,7 @@ module _ {X : Type 0} (passes : X → List ℕ → Bool) where
 
   -- ---- nodes
 
-  -- the entry at a path, unless the path is at or below a selected path
+  -- the entry that is given for a path; nothing if the path is at or below a selected path (one with a name for each test, where each name passes its test)
   abbrev pub unless_goes : List X → List (List ℕ) → Option Entry → Option Entry
   unless_goes ts q o = cond (not (goes ts q)) o None
 

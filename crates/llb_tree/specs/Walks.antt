@@ -42,7 +42,7 @@ left (Some node) p ls = map (moved 0 p) (finite.entries node.now) ++ behind p (l
 abbrev pub AreShort : List (List (List ℕ) × Entry) → Type 0
 AreShort = All (λ e. length e.0 ≤ 128)
 
--- unless the walk has ended, `AreBehind` holds of the children that the walk has not visited, and each path not yet passed has at most 128 names
+-- unless the walk has ended: for each name of the path the unvisited children are sorted and after that name; each path not yet passed has at most 128 names
 abbrev pub GoesOn : Option (Bor Node) → List (List ℕ) → List Children → Type 0
 GoesOn None p ls = Unit {0}
 GoesOn (Some node) p ls = AreBehind p (levels_of ls) × AreShort (left (Some node) p ls)

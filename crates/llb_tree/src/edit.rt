@@ -69,7 +69,8 @@ fn set_in(
     }
 }
 
-// Does what `set_in` does, in a piece. If the children of the piece are shared, they are copied first.
+// Does in a piece (some of a directory's children) what `set_in` does in a list of children: replaces or removes the node at a path. If the children of the
+// piece are shared with another tree, they are copied first.
 #[cycle(set)]
 fn set_rows(
     rows: &mut Arc<Vec<Child>>,

@@ -59,7 +59,7 @@ pub record IsRecord (r : Record) : Type 0 where
   pub tagged : IsVarint tag (8 * r.number + code_of r.wire)
   pub payload : IsPayload r.wire behind r.value r.payload
 
--- the bytes of these records, one record after another, are exactly the given bytes; and `IsRecord` holds of each record
+-- the bytes of these records, one record after another, are exactly the given bytes; and each record's bytes are its tag and its payload (`IsRecord`)
 pub record SpellRecords (bytes : List ℕ) (rs : List Record) : Type 0 where
   pub whole : bytes ≡ flat_map (λ r. r.text) rs
   pub each : AllByRecursion IsRecord rs

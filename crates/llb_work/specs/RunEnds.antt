@@ -32,7 +32,7 @@ StopsSomewhere may_stop b = (w : ℕ) × (v : ℕ) × (w < length b.state.worker
 abbrev pub is_of : BoardValue → ℕ → ℕ → Bool
 is_of b w v = nat_lt w (length b.state.workers) && nat_lt v (length b.build.graph.vertices)
 
--- whether a run can note this reason for its end: that worker w was stopped at vertex v, if the board has both and the gate may stop w at v; any other, always
+-- whether a run can end with this note: a stop of worker w at vertex v only if the board has both and the gate may stop w at v; any other note, or none, always
 abbrev pub may_be : (ℕ → ℕ → Bool) → BoardValue → Option Noted → Bool
 may_be may_stop b None = true
 may_be may_stop b (Some noted.Memory) = true

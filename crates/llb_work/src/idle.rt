@@ -27,7 +27,7 @@ pub(crate) struct Idle {
 }
 
 impl Idle {
-    /// Makes the counts for a run in which nobody waits yet.
+    /// Makes the state at the start of a run: there were no wakes, there are no sleepers, and the run is not over.
     pub(crate) fn new() -> Idle {
         Idle {
             wakes: AtomicU64::new(0),

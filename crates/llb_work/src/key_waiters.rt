@@ -6,8 +6,9 @@
 use llb_cache::Key;
 use std::alloc::{AllocError, Global};
 
-// The numbers that wait for one key: the first and the last of them in the order in which they came, and the number, if any, that was put into the queue again
-// and whose claim is still to be tried (`put`). The field `after` of `KeyWaiters` says which number follows which.
+// The vertices, by number, that wait for one locked key: the first and the last of them, in the order in which they came. `put` is the vertex that waited for
+// this key, was put into the queue again, and whose claim is still to be tried, if there is such a vertex. The field `after` of `KeyWaiters` says which vertex
+// follows which.
 #[derive(Drop)]
 struct Row {
     key: Key,
@@ -27,12 +28,12 @@ impl Row {
 #[derive(Drop)]
 pub(crate) struct KeyWaiters {
     rows: Vec<Row>,
-    // For each number the next one that waits for the same key.
+    // For each vertex, by number, the number of the next vertex that waits for the same key.
     after: Vec<Option<u32>>,
 }
 
 impl KeyWaiters {
-    /// Makes a table in which no number waits, for the numbers below `count`. Fails if memory is refused.
+    /// Makes a table for the vertices with numbers below `count`, none of which waits for a key yet. Fails if memory is refused.
     pub(crate) fn new(alloc: Global, count: u32) -> Result<KeyWaiters, AllocError> {
         let rows = Vec::with_capacity(alloc, count as usize)?;
         let mut after = Vec::with_capacity(alloc, count as usize)?;
@@ -108,15 +109,15 @@ impl KeyWaiters {
         row.put
     }
 
-    /// Takes a number that waits for a key, which is about to be free. Returns `None` if no number waits, or if an earlier number that waited for this key was
-    /// put into the queue again and its claim is still to be tried.
+    /// Takes the number of the next vertex that waits for a key that is about to be free. Returns `None` if no vertex waits for this key. Returns `None` too if
+    /// an earlier vertex that waited for this key was put into the queue again, and its claim is still to be tried.
     pub(crate) fn next_of(&mut self, key: &Key) -> Option<u32> {
         let at = self.place_of(key)?;
         self.next_at(at)
     }
 
-    /// Notes that the claim of the number `v` was granted, or was refused for the key `refused`. If `v` was refused for another key than the one that `v` had
-    /// waited for, returns the next number that waits for the earlier key, which may be free.
+    /// Notes how the claim of vertex `v` was answered: refused because the locked key `refused` is held, or granted (`refused` is `None`). If `v` had waited
+    /// for one key and is now refused for another, the earlier key may be free: then returns the number of the next vertex that waits for the earlier key.
     pub(crate) fn answered(&mut self, v: u32, refused: Option<&Key>) -> Option<u32> {
         let at = self.rows.iter().position(|row| row.put == Some(v))?;
         let row = self.rows.get_mut(at)?;

@@ -85,7 +85,7 @@ impl Events {
         self.room = self.room.saturating_sub(more);
     }
 
-    /// Returns a copy of the events, with room for as many events. Fails with 141 `Memory` alone.
+    /// Returns a copy of the events. The copy has memory for as many events as the original has memory for. Fails with 141 `Memory` alone.
     pub(crate) fn with_same(&self, alloc: Global) -> Result<Events, Memory>
         ensures list { IfOk result (λ e. e.list ≡ self.now.list) }
         ensures room { IfOk result (λ e. e.room ≡ self.now.room) }

@@ -1,4 +1,5 @@
-//! Execs that calls of transcripts name in their definitions. They are written in the same way as the entries in `definitions`.
+//! Execs for tests. A transcript has calls of the program, and a call names the entries of its definition; some of these entries are the execs here. They are
+//! written as the entries in the module `definitions` are.
 
 pub(crate) const EXECUTIONS: &str = r#"
 == COPIES: An exec on the first two entries with three mounts, of which two give an output.

@@ -1,4 +1,4 @@
-//! Tests each message field by field: a call has the bytes of an entry, and `dis` writes the entry's text.
+//! Tests each message field by field: a call of `dis` reads the bytes of an entry (in hexadecimal, after `< =`), and writes the entry's text.
 
 use super::transcripts::is_transcript;
 
