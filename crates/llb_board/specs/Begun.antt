@@ -38,7 +38,7 @@ abbrev pub ClaimsArePlain : BoardValue → Type 0
 ClaimsArePlain b = (w v : ℕ) (t : State) (job : Job) → is_plain b.build v ≡ true → table b.build b.state (Claim w v) ≡ Some (t, Claimed job)
     → plain_job b.build w v ≡ Some job
 
--- worker w runs a vertex with no cache mount at or before it, and no micro-step of the vertex is done yet; the job is the plain job
+-- worker w runs a vertex with no cache mount at or before it, and no micro-step of it is done yet; the job is the `plain_job` of w and the vertex
 pub record IsKnown (b : BoardValue) (w : ℕ) (job : Job) : Type 0 where
   pub x : Execution
   pub plain : is_plain b.build x.vertex ≡ true

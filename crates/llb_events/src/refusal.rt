@@ -139,7 +139,7 @@ impl<T: Drop> From<AllocFailed<T>> for ClaimFault {
     }
 }
 
-/// Converts the fault of a call on a tree; such a call fails only for want of memory.
+/// Converts the fault of a claim's call on a tree into `Memory`: the calls on trees that a claim makes fail only for want of memory.
 impl From<TreeFault> for ClaimFault {
     ghost use Rattle.std.specs.Prelude.{◌≡◌};
     ghost use Rattle.llb_events.specs.declared.refusal.ClaimFault.TheVariants.{Memory};
