@@ -174,7 +174,7 @@ pub record IsSolid (t : List ℕ) : Type 0 where
   pub plain : list_all (λ b. nat_le 32 b) t ≡ true
   pub utf8 : is_utf8 t ≡ true
 
--- `IsSolid` holds of the text that is written for any value
+-- the text that is written for any value is UTF-8 without bytes below 0x20, and has no blank at either end (`IsSolid`)
 pub record ValuesAreSolid : Type 0 where
   pub number_solid : (kind : FieldKind) (v : ℕ) → IsNumberOf kind v → IsSolid (number_text kind v)
   pub string_solid : (s : List ℕ) → is_utf8 s ≡ true → IsSolid (string_text s)
