@@ -39,7 +39,7 @@ pub record Went (p : Standing) (bytes : List ℕ) (q : Standing) (out : Stream) 
   pub talked : Talked p bytes text q
   pub printed : IsWritten out text
 
--- after the bytes `heard` were used, state q and output `out` are right for this result; the bytes `unheard` were not used, and for true there are none of them
+-- what is written to `out` for this result, after the bytes `heard` were used; the bytes `unheard` after these were not used, and for true there are none
 abbrev pub IsHeard : Standing → List ℕ → List ℕ → Standing → Stream → Result Bool SessionFault → Type 0
 IsHeard p heard unheard q out (Ok true) = (unheard ≡ []) × Went p heard q out
 IsHeard p heard unheard q out (Ok false) = AtLineEnd heard (λ bytes. Quit p bytes q.session out)
