@@ -22,7 +22,7 @@ separator Then = codes ";"
 separator And = codes "&&"
 separator Or = codes "||"
 
--- the words of calls that are not the first, each with the separator before it
+-- the words of the calls after a text's first call, with a separator before the words of each call
 abbrev pub after_separators : List Call → List (List ℕ)
 after_separators [] = []
 after_separators (call ∷ calls) = separator call.join ∷ call.words ++ after_separators calls

@@ -43,7 +43,7 @@ pub enum Command {
     Concat { out: Text, parts: Many<Text> },
     /// `chmod MODE P`: sets the mode of the entry at P.
     Chmod { mode: Mode, path: Text },
-    /// `test -e P`, `test -f P`, `test -d P`: succeeds if something, a file, or a directory is at P.
+    /// `test -e P` succeeds if there is an entry at P, `test -f P` if it is a file, `test -d P` if it is a directory.
     Test { kind: Kind, path: Text },
     /// `listing P OUT`: writes a line for each name in directory P to file OUT.
     Listing { path: Text, out: Text },

@@ -52,8 +52,8 @@ fn bad_in(called: bool, word: &str) -> Option<usize>
     word.as_bytes().iter().position(|byte| !is_word_byte(*byte))
 }
 
-// Returns whether the last word up to the end of this part belongs to a call: the part is a word and no separator, or the part is
-// empty and the last word before it belongs to a call (`called`).
+// Returns whether the last word so far belongs to a call. If the part is not empty, it is that word: true unless it is a separator. An empty part is no word,
+// so for it the call returns what held before it (`called`).
 fn called_after(called: bool, part: &str) -> bool
     ensures { result ≡ called_after called part.now }
 {

@@ -102,7 +102,7 @@ abbrev pub HaveForms : List Formed → Type 0
 HaveForms [] = Unit {0}
 HaveForms (x ∷ xs) = HasForm x.0 x.1 × HaveForms xs
 
--- `xs` has the entries in their order, each with its form
+-- `xs` has the entries in their order, each with the form in which it is written
 pub record AreFormed (entries : List (List ℕ)) (xs : List Formed) : Type 0 where
   pub same : map (λ x. x.0) xs ≡ entries
   pub forms : HaveForms xs

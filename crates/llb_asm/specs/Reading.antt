@@ -140,7 +140,7 @@ abbrev pub begun_size : Begun → ℕ
 begun_size (Raw bytes) = length bytes
 begun_size Structured = 0
 
--- what a line begins, if the earlier entries and the new one together are within the limits of a definition; else a refusal
+-- what a line begins (a raw entry or an op); a refusal if it begins no entry, or if the earlier entries and this one together exceed a definition's limits
 unfoldable pub begun_in : List (List ℕ) → List ℕ → Result Begun Refusal
 begun_in earlier line = do
   b ← begun_by line (parted line)

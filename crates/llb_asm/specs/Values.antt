@@ -98,7 +98,7 @@ lower_digit b = where_so (is_lower b) (digit_of b)
 abbrev pub escape_of : ℕ → ℕ → Option ℕ
 escape_of a b = where_so (is_lower a && is_lower b && nat_lt (digit_of a) 8) (16 * digit_of a + digit_of b)
 
--- if a byte and a shorter text are given, the text spells, from this state, that byte and then what the shorter text spells; else the text spells no string
+-- e: how much of an escape is read. If a byte and a shorter text are given, the text spells that byte and then what that text spells; else it spells no string
 abbrev pub Continues : Escape → List ℕ → Option (ℕ × Bor (List ℕ)) → Type 0
 Continues e text None = string_from e text ≡ None
 Continues e text (Some x) = (string_from e text ≡ after_it x.0 (string_from closed x.1.now)) × (length x.1.now < length text)
@@ -174,7 +174,7 @@ pub record IsSolid (t : List ℕ) : Type 0 where
   pub plain : list_all (λ b. nat_le 32 b) t ≡ true
   pub utf8 : is_utf8 t ≡ true
 
--- `IsSolid` holds of the text that is written for any value
+-- the text that is written for any value is UTF-8 without bytes below 0x20, and has no blank at either end (`IsSolid`)
 pub record ValuesAreSolid : Type 0 where
   pub number_solid : (kind : FieldKind) (v : ℕ) → IsNumberOf kind v → IsSolid (number_text kind v)
   pub string_solid : (s : List ℕ) → is_utf8 s ≡ true → IsSolid (string_text s)

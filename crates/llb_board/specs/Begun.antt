@@ -29,7 +29,7 @@ pub record IsBegunPlainly (b : BoardValue) (w : ℕ) (x : Execution) : Type 0 wh
   pub bare : x.places ≡ []
   pub job : plain_job b.build w x.vertex ≡ Some (job_now b.build b.state.store w x)
 
--- if worker w runs a vertex with no cache mount at or before it, and no micro-step of the vertex is done yet, `IsBegunPlainly` holds of w and its execution
+-- if no cache mount is at or before a running vertex, and no micro-step of it is done, its worker has no fault and no instances, and its job is the `plain_job`
 abbrev pub BegunArePlain : BoardValue → Type 0
 BegunArePlain b = (w : ℕ) (x : Execution) → is_plain b.build x.vertex ≡ true → slice_get b.state.workers w ≡ Some (Runs x) → x.done ≡ 0 → IsBegunPlainly b w x
 
@@ -38,7 +38,7 @@ abbrev pub ClaimsArePlain : BoardValue → Type 0
 ClaimsArePlain b = (w v : ℕ) (t : State) (job : Job) → is_plain b.build v ≡ true → table b.build b.state (Claim w v) ≡ Some (t, Claimed job)
     → plain_job b.build w v ≡ Some job
 
--- worker w runs a vertex with no cache mount at or before it, and no micro-step of the vertex is done yet; the job is the plain job
+-- worker w runs a vertex with no cache mount at or before it, and no micro-step of it is done yet; the job is the `plain_job` of w and the vertex
 pub record IsKnown (b : BoardValue) (w : ℕ) (job : Job) : Type 0 where
   pub x : Execution
   pub plain : is_plain b.build x.vertex ≡ true

@@ -55,7 +55,7 @@ pub record IsFound (c : cache.CachesValue) (w : Wanted) : Type 0 where
   pub number : w.found.number ≡ cache.number_for c.out w.key w.key.mode
   pub tree : option_map (λ t. t.now) w.found.tree ≡ slice_get (cache.trees_of c.rows w.key) w.found.number
 
--- the instance that a lease would take for a wanted cache: the wanted key with the number that was found for it
+-- the instance that a lease would take of a cache that an exec mounts (w): the cache's key, with the number of the instance that was looked up
 abbrev pub place_found : Wanted → Instance
 place_found w = place w.key w.found.number
 

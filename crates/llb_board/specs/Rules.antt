@@ -16,7 +16,7 @@ claim_of b w v = recorded b (Claim w v) (claim_grant b.build b.state w v)
 abbrev pub step_of : BoardValue → ℕ → Result (BoardValue × Reply) StepFault
 step_of b w = recorded b (Step w) (step_grant b.build b.state w)
 
--- the board and the reply after a settle, which is appended to the record; or the table's refusal
+-- the board after a settle, which is the last event of its record, and the reply to the settle; or the table's refusal
 abbrev pub settle_of : BoardValue → ℕ → Result (BoardValue × Reply) SettleFault
 settle_of b w = recorded b (Settle w) (settle_grant b.build b.state w)
 

@@ -22,7 +22,7 @@ pub record Supplies : Type 0 where
   pub shown : List ℕ
   pub keys : List Key
 
--- the supplies that an execution of the code holds
+-- the supplies that a value of the code's type `Execution` holds
 abbrev pub supplies_of : own.Execution → Supplies
 supplies_of x = record {
   outputs = x.outputs.items;

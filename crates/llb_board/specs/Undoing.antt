@@ -17,7 +17,7 @@ pub record Left : Type 0 where
 abbrev pub left_in : own.Execution → Left
 left_in x = record { execution = execution_of x; supplies = supplies_of x }
 
--- the seat before the last micro-step: one micro-step fewer is done, there is no fault, and the copies in `saved` are back in the workspace
+-- what a worker ran before its last micro-step: one micro-step fewer is done, there is no fault, and the copies in `saved` are back in the workspace
 abbrev pub seat_before : Saved → Option Seat → Seat
 seat_before saved (Some (seat.Runs l x)) = seat.Runs l (record x { done = x.done - 1; fault = None; view = put_back saved x.view })
 seat_before saved (Some seat.Idle) = seat.Idle

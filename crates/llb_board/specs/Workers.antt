@@ -45,7 +45,7 @@ claim_in vs ws w v = (claim_grant vs.build (state_in vs ws) w v)
 abbrev pub step_in : VerticesValue → WorkersValue → ℕ → Result (State × Reply) StepFault
 step_in vs ws w = (step_grant vs.build (state_in vs ws) w)
 
--- the reply in the table's result of an event, without the state
+-- the table's result of an event without the new state: the reply, or the refusal
 abbrev pub reply_of : {S E : Type 0} → Result (S × Reply) E → Result Reply E
 reply_of (Ok p) = Ok p.1
 reply_of (Err e) = Err e

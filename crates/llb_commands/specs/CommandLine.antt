@@ -140,7 +140,7 @@ abbrev pub matches_named : Option (Text × List Row) → List Row
 matches_named None = []
 matches_named (Some p) = p.1
 
--- the line is what the words ask for, by the subcommand that `clap` found in the words
+-- the `Line` has what `clap` found in the words: a command with its matches; if `clap` found no command, `run` with one worker and no local sources
 abbrev pub Says : Option (Text × List Row) → Line → Type 0
 Says met line = SaysCommand (named met) (matches_named met) line
 

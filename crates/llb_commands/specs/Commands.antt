@@ -35,7 +35,7 @@ PerformsAs files Step line locals io = StepsAt files line.file line.workers loca
 PerformsAs files Assemble line locals io = Assembles io
 PerformsAs files Disassemble line locals io = Disassembles io
 
--- the command of the line has ended on these local trees with this status
+-- the command that the words ask for (in `line`) has ended on these local trees with this status
 abbrev pub Performs : Shelf → Line → List Local → Io → ℕ → Type 0
 Performs files line = PerformsAs files line.command line
 

@@ -10,7 +10,7 @@ use std::io::{ErrorKind, Read};
 /// The most bytes that an input may have: a definition, the text of a tree, a text of entries, or the commands of a session.
 pub(crate) const LIMIT: usize = 67_108_864;
 
-/// The most reads that may be made of one of these inputs; the read that meets the end counts too.
+/// The most reads that may be made of an input to which `LIMIT` applies; the read that meets the end counts too.
 pub(crate) const READS: u64 = 134_217_728;
 
 const PIECE: usize = 4096;

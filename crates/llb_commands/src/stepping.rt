@@ -66,12 +66,13 @@ pub(crate) fn session_over<C: Read, W: Write, E: Write>(
     }
 }
 
-/// Reads a definition from `file`, and replies to the lines of `commands` on a board with this number of workers and caches without instances:
-/// the replies, also the refusals of commands, go to `out`, line by line. A refusal of the definition goes to `err`, as a line. Returns
-/// the exit status: 0 if the session ended, by a line `quit` or with the commands; 2 if the definition is refused (81 to 90), a local source has
-/// no tree (121), or the number of workers is 0 or more than 64 (122), and nothing is written to `out`; 2 also if the commands have more than
-/// 67,108,864 bytes (185), and the lines within this bound get their replies; 3 if a read (181), a write (182) or memory (91, 123, 184) failed,
-/// and nothing, or a prefix of the replies, is written.
+/// Reads a definition from `file`, and replies to the lines of `commands` on a board with this number of workers and caches without instances.
+/// The replies, also the refusals of commands, go to `out`, line by line. If the call fails, the line of the fault goes to `err`.
+///
+/// Returns the exit status. It is 0 if the session ended, by a line `quit` or with the commands. It is 2 if the definition is refused (81 to 90),
+/// a local source has no tree (121), or the number of workers is 0 or more than 64 (122); then nothing is written to `out`. It is also 2 if the
+/// commands have more than 67,108,864 bytes (185); then the lines within this bound get their replies. It is 3 if a read (181), a write (182) or
+/// memory (91, 123, 184) failed; then nothing, or a prefix of the replies, is written. It is also 3 if the line of a fault can't be written.
 pub fn step_over<R: Read, C: Read, W: Write, E: Write>(
     alloc: Global,
     file: &mut R,

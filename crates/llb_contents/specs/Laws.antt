@@ -144,7 +144,7 @@ writes_mark setting (command.Concat out parts) = false
 writes_mark setting (command.Chmod mode path) = false
 writes_mark setting (command.Test kind path) = false
 
--- whether an action writes the byte that begins tokens
+-- whether an action writes the byte 255, with which each token (a number that stands for a content) begins
 abbrev pub body_has_mark : Option ActionKind → Bool
 body_has_mark (Some (kind.MkFile m)) = has_mark m.body
 body_has_mark (Some (kind.MkDir m)) = false
@@ -175,7 +175,7 @@ abbrev pub DigestsLiterals : Numbered → List Local → List Local → ℕ → 
 DigestsLiterals g ls ms v = (k : ℕ) (x : Vertex) → Reached (links g.vertices) v k → slice_get g.vertices k ≡ Some x
     → (list_any step_digests (program_of x).steps ≡ false) ⊎ HaveAlikeSources IsLiteral g k ls ms
 
--- the outcome of a vertex on local trees with tokens expands to its outcome on the expanded trees, if `WritesNoMark` and `DigestsLiterals` hold of the vertex
+-- if `WritesNoMark` and `DigestsLiterals` hold of a vertex, and the tokens (numbers for contents) in its local trees are expanded, its outcome is just expanded
 abbrev pub HandsTokensOn : Numbered → Type 0
 HandsTokensOn g = (table : ℕ → List ℕ) (ls ms : List Local) (v : ℕ) → WritesNoMark g v → DigestsLiterals g ls ms v
     → HaveAlikeSources (ExpandsTo (spelled table)) g v ls ms → HasAlikeOutcomes (ExpandsTo (spelled table)) g ls ms v

@@ -139,7 +139,7 @@ impl<T: Drop> From<AllocFailed<T>> for ClaimFault {
     }
 }
 
-/// Converts the fault of a call on a tree; such a call fails only for want of memory.
+/// Converts the fault of a claim's call on a tree into `Memory`: the calls on trees that a claim makes fail only for want of memory.
 impl From<TreeFault> for ClaimFault {
     ghost use Rattle.std.specs.Prelude.{◌≡◌};
     ghost use Rattle.llb_events.specs.declared.refusal.ClaimFault.TheVariants.{Memory};
@@ -163,7 +163,7 @@ impl From<llb_wire::Memory> for ClaimFault {
     }
 }
 
-/// Converts the fault of copying a key.
+/// Converts the fault of copying a key, which is refused memory, into `Memory`.
 impl From<llb_cache::Memory> for ClaimFault {
     ghost use Rattle.std.specs.Prelude.{◌≡◌};
     ghost use Rattle.llb_events.specs.declared.refusal.ClaimFault.TheVariants.{Memory};
@@ -199,7 +199,8 @@ impl From<TreeFault> for StepFault {
     }
 }
 
-/// Converts the fault of the call that does a micro-step. The call fails only for want of memory; if the micro-step itself faults, the call returns that fault.
+/// Converts the fault of the call that does a micro-step into `Memory`. The call fails only for want of memory; if the micro-step itself has a fault, the call
+/// succeeds, and that fault is part of what it returns.
 impl From<llb_wire::Memory> for StepFault {
     ghost use Rattle.std.specs.Prelude.{◌≡◌};
     ghost use Rattle.llb_events.specs.declared.refusal.StepFault.TheVariants.{Memory};

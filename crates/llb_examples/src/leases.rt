@@ -190,7 +190,7 @@ fn ask(rt: &impl Abort, alloc: Global, text: &mut String, stage: &mut Stage, wor
     say_asked(rt, text, stage, asked);
 }
 
-// Requests a lease as `ask` does, but looks for each key in the given row first.
+// Requests a lease as `ask` does. But the first word is the number of a row, and the key of each need is looked for in that row first.
 fn ask_near(rt: &impl Abort, alloc: Global, text: &mut String, stage: &mut Stage, words: &str) {
     let (row, needs) = word_and_rest(words);
     let row = row.parse::<usize>().ok();

@@ -1,4 +1,5 @@
-//! Tests of laying one tree over another with an `OverlaySettings`, which sets modes and owners. The stories show the entries of the resulting tree.
+//! Tests of laying one tree over another with an `OverlaySettings`, which sets modes and owners. Most tests are stories: texts of commands, which make two
+//! trees and lay one over the other, and of the entries that the resulting tree has to have.
 
 use super::printed::{Row, is_so, made, row_holds};
 use super::stage::are_transcripts;

@@ -15,7 +15,7 @@ pub record IsMadeParent (t u : TreeMap) (goal q : List (List ℕ)) : Type 0 wher
   pub is : finite.get u q ≡ Some (Dir new_dir_meta)
 
 -- After the copy each entry at or below the source is at its new path (the target, and then the names that its path has after the source), with the mode and
--- the owner that `copied` makes of its own; but a directory that was there stays as it was. Nothing else changes; but missing parents may have been made.
+-- the owner that the action sets or keeps (`copied`). But a directory that was there stays as it was. Nothing else changes, but missing parents may be made.
 pub record IsCopied (c : CopyFile) (second t u : TreeMap) (s goal : List (List ℕ)) : Type 0 where
   pub files : (q : List (List ℕ)) (m : MetaValue) (bytes : List ℕ)
       → finite.get second (s ++ q) ≡ Some (File m bytes) → finite.get u (goal ++ q) ≡ Some (File (copied c.mode c.owner m) bytes)

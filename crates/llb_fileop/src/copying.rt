@@ -1,5 +1,5 @@
-//! Copies from a second tree. The texts are read first; then the sources are copied one after another in path order, each to its target.
-//! The changes are made to a copy of the tree, so a fault leaves the tree unchanged.
+//! Does a copy action, from a second tree into a tree. The texts are read first; then the sources are copied one after another in path order, each
+//! to its target. The changes are made to a copy of the tree, so a fault leaves the tree unchanged.
 
 ghost use Rattle.std.specs.Prelude.{◌≡◌, ◌≤◌, ◌++◌, length, IsSome};
 ghost use Rattle.std.specs.FinMap as finite;

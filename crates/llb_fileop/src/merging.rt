@@ -136,7 +136,8 @@ fn may_meet(here: &Tree, source: &Tree) -> Result<(), TreeFault>
     Ok(())
 }
 
-// Checks the entries of `source` one by one, and fails with the fault of the first entry that can't be put below the path `goal`, over the subtree `here`.
+// Checks that each entry of `source` can be put at its path below the path `goal`, at and below which the tree now has `here`. Fails with the fault of the
+// first entry that can't be put there.
 fn first_fault(here: &Tree, source: &Tree, goal: &Path) -> Result<(), TreeFault>
     ensures { Gives (λ u. u) result (all_below here.now (length goal.now) (finite.entries source.now)) }
 {

@@ -17,7 +17,7 @@ use Rattle.llb_glob.specs.Class.{none_yet, one_alone, extended}
 
 -- ---- the effect of a character, which includes the cursor after the character
 
--- the reader's cursor at this stage, with no `\` that quotes the next character
+-- the cursor (the stage of reading, and whether a `\` quotes the next character) at this stage, without such a `\`
 abbrev pub at : Stage → Cursor
 at stage = record { stage = stage; quotes = false }
 

@@ -10,7 +10,7 @@ use Rattle.llb_glob.specs.declared.fault.PatternFault.TheVariants.{BadPattern}
 use Rattle.llb_glob.specs.declared.item.Item.{Item}
 use Rattle.llb_glob.specs.Items.{items_of}
 
--- the parts of the pattern with these names, each name read as items; or the first fault
+-- the parts of a pattern: each of these names, which a path's text was cut into, read as items; or the first fault
 abbrev pub each_cut : List (List ℕ) → Result (List (List Item)) PatternFault
 each_cut [] = Ok []
 each_cut (name ∷ names) = items_of (chars name) >>= λ part. each_cut names >>= λ parts. Ok (part ∷ parts)

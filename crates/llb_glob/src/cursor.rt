@@ -139,7 +139,8 @@ fn inside(stage: Stage, letter: char) -> Result<(Cursor, Effect), PatternFault>
     }
 }
 
-// Returns the cursor after a `]`, and the effect of the `]`: it closes the class. Fails with 41 `BadPattern` if the class has no item or an open range.
+// Returns the cursor after a `]`, and the effect of the `]`: it closes the class. Fails with 41 `BadPattern` if the class has no item, or if a `-` is right
+// before the `]`, as in `[a-]`.
 fn closed(stage: Stage) -> Result<(Cursor, Effect), PatternFault>
     ensures { result ≡ closed stage }
 {

@@ -27,7 +27,7 @@ pub record FirstUnknown (rows : List Row) (t : ℕ) (op : Op) (i : ℕ) : Type 0
   pub unknown : row_named rows t (input_at op i).digest ≡ None
   pub before : NamesAll rows t op i
 
--- e is `UnknownDigest` (86) with the first marked row that has an input that names no row, and with the first such input of that row
+-- e is `UnknownDigest` (86) with k and i: of the marked rows that have an input that names no row, row k is the first, and input i is its first such input
 abbrev pub RefusesUnknown : List Row → ℕ → List Op → (ℕ → Type 0) → LoadFault → Type 0
 RefusesUnknown rows t ops Marked e = (k : ℕ) × (i : ℕ) × (e ≡ UnknownDigest k i) × Marked k × FirstUnknown rows t (op_at ops k) i
     × ((j : ℕ) → j < k → Marked j → NamesAll rows t (op_at ops j) (length (op_at ops j).inputs))

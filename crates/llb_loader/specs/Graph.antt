@@ -121,7 +121,7 @@ pub record IsExecVertex (v : Vertex) (x : ExecOp) : Type 0 where
   pub steps : v.steps ≡ length commands
   pub outputs : v.outputs ≡ count_outputs (mount_outputs x.mounts)
 
--- the vertex is of a supported kind, and meets the definition above for this kind
+-- the vertex is of a supported kind, and the definition for this kind holds of it: `IsSourceVertex`, `IsFileVertex`, `IsMergeVertex` or `IsExecVertex`
 abbrev pub IsVertexOf : Vertex → Option Kind → Type 0
 IsVertexOf v (Some (Source s)) = IsSourceVertex v s
 IsVertexOf v (Some (File f)) = IsFileVertex v f

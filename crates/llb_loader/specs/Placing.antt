@@ -31,7 +31,7 @@ pub record GoesToWaiting (g : List (List ℕ)) (done : List Bool) (w : Waiter) (
   pub below : b < length waiting
   pub pushed : next_waiting ≡ slice_set waiting b (slice_index_or waiting b [] ++ next ∷ [])
 
--- the waiter's row joins the ready rows, or waits for a row that one of its inputs names and that has no number yet
+-- the row of `w`, which has no number yet, joins the ready rows, or waits for a row that has no number yet and that one of its inputs names
 abbrev pub IsPlacing : List (List ℕ) → List Bool → Waiter → (ℕ → Bool) → (ℕ → Bool) → List (List Waiter) → List (List Waiter) → Type 0
 IsPlacing g done w ready next_ready waiting next_waiting =
     GoesToReady g done w ready next_ready waiting next_waiting

@@ -30,7 +30,7 @@ use Rattle.llb_loader.specs.Mounts.{bind, cache, tmpfs, dests_of, keys_of, AreAp
 abbrev pub none : ℤ
 none = negsuc 0
 
--- whether a number is the number of an output: it is not -1
+-- whether a field `output` has the number of an output: it is not -1
 abbrev pub is_output : ℤ → Bool
 is_output (negsuc zero) = false
 is_output _ = true
@@ -85,7 +85,7 @@ pub record IsBelow (n : ℕ) (i : ℤ) : Type 0 where
 abbrev pub ActionInputs : ℕ → List Action → Type 0
 ActionInputs n actions = (a : ℕ) (d : Action) → a < length actions → IsInput (n + a) (slice_index_or actions a d).input
 
--- the second input of an action: for a copy a number from 0 to n - 1, or -1 for none; for any other action it is not used and may be any number
+-- whether an action may have this `secondaryInput`: a copy that can name n trees may have 0 to n - 1, or -1 for the empty tree; any other action any number
 abbrev pub TakesSecond : ℕ → Option ActionKind → ℤ → Type 0
 TakesSecond n (Some (Copy c)) second = IsInput n second
 TakesSecond n _ second = ⊤

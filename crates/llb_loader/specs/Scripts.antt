@@ -20,7 +20,7 @@ abbrev pub fault_or_none : Result (List Joined) ScriptFault → ScriptFault
 fault_or_none (Err f) = f
 fault_or_none (Ok cs) = ShellSyntax 0
 
--- the fault with which the words of a `Meta` are not a script; if they are a script, a fault that is not used
+-- the fault of reading the words of a `Meta` as a script; if they are a script, or if there is no `Meta`, a fault that is not used
 abbrev pub script_fault : Option Meta → ScriptFault
 script_fault (Some m) = fault_or_none (script_of m.args)
 script_fault None = ShellSyntax 0

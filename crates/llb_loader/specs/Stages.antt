@@ -16,7 +16,7 @@ use Rattle.llb_loader.specs.Linking.{Plan, plan, IsPlanOf, IsApart, IsNamed, Rea
 abbrev pub plan_in : Linked → Plan
 plan_in l = plan l.rows.items l.ops.items l.terminal l.start
 
--- The terminal and the row of the result in l are those of the plan of l's rows; each input of a reached row names a row; `seen` marks the reached rows.
+-- In l the terminal, the row of the result and the links are those of l's rows and ops; each input of a reached row names a row; `seen` marks the reached rows.
 pub record IsLinked (l : Linked) : Type 0 where
   pub few : length l.rows.items ≤ 65_536
   pub len : length l.ops.items ≡ length l.rows.items

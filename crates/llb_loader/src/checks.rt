@@ -106,7 +106,7 @@ pub(crate) fn check_features(ops: &[Op], seen: &[bool]) -> Result<(), LoadFault>
     Ok(())
 }
 
-// Checks that no marked row breaks a rule. Fails with 89 `Invalid`, or with 91 `Memory`.
+// Checks that no reached row (`seen` marks these rows) breaks a rule. Fails with 89 `Invalid`, or with 91 `Memory`.
 pub(crate) fn check_rules(alloc: Global, ops: &[Op], seen: &[bool]) -> Result<(), LoadFault>
     requires len { length seen.now ≡ length ops.now }
     requires few { length ops.now ≤ 65_536 }
@@ -136,7 +136,8 @@ pub(crate) fn counts_of(alloc: Global, ops: &[Op]) -> Result<Vec<usize>, AllocEr
     Ok(counts)
 }
 
-// Checks that each input of a marked row, and the terminal's first input, names an output that exists. Fails with 90 `BadIndex` alone.
+// Checks that each input of a reached row (`seen` marks these rows), and the terminal's first input, names an output that exists. Fails with 90 `BadIndex`
+// alone.
 pub(crate) fn check_indexes(
     ops: &[Op],
     links: &[Vec<usize>],

@@ -33,7 +33,7 @@ unpacked_seed (Some p) = Some (record { digest = p.0; index = p.1 })
 abbrev pub packed : Instance → Packed
 packed p = ((p.number, mode_place p.key.mode), (p.key.id, packed_seed p.key.seed))
 
--- the instance whose plain form this is
+-- the instance that these pairs represent: the reverse of `packed`
 abbrev pub unpacked : Packed → Instance
 unpacked p = record { number = p.0.0; key = record { id = p.1.0; seed = unpacked_seed p.1.1; mode = mode_at p.0.1 } }
 

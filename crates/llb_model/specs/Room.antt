@@ -91,7 +91,7 @@ abbrev pub owed_at : Option Vertex → ℕ → ℕ
 owed_at None n = 0
 owed_at (Some v) n = owed_by v Waiting n
 
--- the room that an event reserves, after these replies: only the claim of a vertex that was cancelled reserves any
+-- for how many further events an event makes room in the record, after these replies: 0, except for the claim of a vertex that was cancelled before
 abbrev pub room_taken : Build → List Reply → Event → ℕ
 room_taken b rs (Claim w v) = owed_at (slice_get b.graph.vertices v) (cancels_in v rs)
 room_taken b rs (Step w) = 0

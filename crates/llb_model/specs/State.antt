@@ -186,7 +186,7 @@ is_locked_and_held ps k Locked = is_in ps (place k 0)
 is_locked_and_held ps k Private = false
 is_locked_and_held ps k Shared = false
 
--- the first locked key among these needs whose instance is held; none if there is no such key
+-- the first locked key among these needs whose instance is one of the held instances `ps`; none if there is no such key
 abbrev pub held_key : List Instance → List Need → Option Key
 held_key ps [] = None
 held_key ps (n ∷ needs) = if is_locked_and_held ps n.key n.key.mode then Some n.key else held_key ps needs

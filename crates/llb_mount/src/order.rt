@@ -39,7 +39,8 @@ fn place_of(mounts: &[Shown], rows: &[Row], path: &Path) -> usize
     low
 }
 
-// Returns the index of the longest dest that is a prefix of a path: the dest at index `from`, or a dest that the links lead to from there.
+// Returns the index in `rows` of the longest dest that is a prefix of a path. This is the first such dest from index `from` along the links: the link of a row,
+// `above`, is the index of the longest other dest that is a prefix of the row's dest.
 fn nearest(mounts: &[Shown], rows: &[Row], from: usize, path: &Path) -> usize
     requires rises { Rises (dests mounts.now) rows.now }
     requires root { AtRoot (dests mounts.now) rows.now }
@@ -71,7 +72,7 @@ fn sorted(alloc: Global, mounts: &[Shown]) -> Result<Vec<Row>, Memory>
     Ok(rows)
 }
 
-// Sets the link of each entry: the index of the longest other dest that is a prefix of the entry's dest.
+// Sets the link `above` of each row but the first: the index in `rows` of the longest other dest that is a prefix of the row's dest.
 fn link(mounts: &[Shown], rows: &mut [Row])
     requires view { IsView mounts.now }
     requires rises { Rises (dests mounts.now) rows.old }

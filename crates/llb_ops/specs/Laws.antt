@@ -22,6 +22,6 @@ pub record IsReadOfRecords (bytes : List ℕ) : Type 0 where
   pub op_found : (op : Op) → op_of bytes ≡ Ok op → (rs : List Record) × SpellRecords bytes rs × (fitting op_shape rs ≡ Ok rs) × (op_in rs ≡ Ok op)
   pub op_spelled : (rs : List Record) → SpellRecords bytes rs → length bytes ≤ entry_limit → op_of bytes ≡ (fitting op_shape rs >>= op_in)
 
--- entries that were read from the bytes of a definition are read again from their canonical bytes
+-- if these entries were read from the bytes of a definition, the same entries are read from the canonical bytes of a definition that has them
 abbrev pub AreReadAgain : List (List ℕ) → Type 0
 AreReadAgain entries = (bytes : List ℕ) → AreBytes bytes → definition_of bytes ≡ Ok entries → definition_of (definition_bytes entries) ≡ Ok entries

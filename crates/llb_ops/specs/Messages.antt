@@ -71,7 +71,7 @@ user_opt_in rs = do
 abbrev pub user_opt_of : List ℕ → Result UserOpt OpFault
 user_opt_of = message_of user_opt_shape user_opt_in
 
--- the shape of a `ChownOpt` message: `user` (1) and `group` (2)
+-- the shape (the fields in the table) of a `ChownOpt` message: `user` (1) and `group` (2)
 abbrev pub chown_opt_shape : Shape
 chown_opt_shape = shape_of message.ChownOpt
 
@@ -298,7 +298,7 @@ mount_in rs = do
 abbrev pub mount_of : List ℕ → Result Mount OpFault
 mount_of = message_of mount_shape mount_in
 
--- the shape of an `ExecOp` message: `meta`, `mounts`, `network`, `security` and `secretenv` (1 to 5)
+-- the shape (the fields in the table) of an `ExecOp` message: `meta`, `mounts`, `network`, `security` and `secretenv` (1 to 5)
 abbrev pub exec_op_shape : Shape
 exec_op_shape = shape_of message.ExecOp
 

@@ -58,7 +58,7 @@ impl Drop for Attribute {
     }
 }
 
-/// An entry of the map of attributes, which is a message: field 1 is the key, field 2 the value.
+/// An entry of the map of attributes. The entry is a message: its field 1 is the key, and its field 2 the value.
 #[derive(Drop)]
 pub struct AttributeEntry {
     pub key: Text,

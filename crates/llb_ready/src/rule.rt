@@ -49,7 +49,7 @@ impl Join<Hand> for Joins {
     ghost spent = { spent };
 }
 
-/// The step in which a number is put.
+/// How putting a number into the queue changes the pass with which it is put.
 pub(crate) struct Puts;
 
 impl Outcome<u32, Hand> for Puts {
@@ -58,7 +58,7 @@ impl Outcome<u32, Hand> for Puts {
     ghost then = { GainsPut };
 }
 
-/// The step in which a number is taken.
+/// How taking a number from the queue changes the pass with which it is taken.
 pub(crate) struct Takes;
 
 impl Outcome<u32, Hand> for Takes {

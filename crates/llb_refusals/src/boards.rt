@@ -169,7 +169,8 @@ struct OnParts {
 }
 
 impl OnParts {
-    // Returns the parts for the next opening: the parts that `ready` made or, if the latest opening was refused memory, the parts that this opening returned.
+    // Returns the parts (graph, local trees and caches) for the next opening: those that `ready` made or, if the latest opening was refused memory, those that
+    // its fault holds.
     fn taken(&mut self) -> Option<Parts> {
         let answer = mem::replace(&mut self.answer, Answer::None);
         match answer {

@@ -34,10 +34,10 @@ const START: usize = 0x3000_0000_0000_0000;
 
 const TELL: usize = 0x2000_0000_0000_0000;
 
-/// The limit on the number of a call's growths: a call that has this many ends the test.
+/// The limit on the number of growths (requests for memory) of one call: a call that has this many ends the test.
 pub(crate) const MOST: usize = 100_000;
 
-/// Makes the `k`-th request for memory after this call fail, and only that one. Has no effect if `refuse.c` (see the head of this file) is not loaded.
+/// Makes the `k`-th growth (request for memory) from now on fail, and only that one. Has no effect if the library `refuse.c` is not loaded.
 pub(crate) fn refuse(alloc: Global, k: usize) {
     let _ = Vec::<u8>::with_capacity(alloc, ASK | k);
 }
@@ -125,7 +125,8 @@ fn growths<T: Trial>(rt: &impl Abort, alloc: Global, row: &Row) -> Vec<String> {
     panic!(rt; "no end of growths");
 }
 
-/// Prints how many growths were refused, the row's faults (`none` for a call that does not allocate), the call, and what the call is made on.
+/// Prints how many growths (requests for memory) were refused, the row's faults (`none` for a call that does not allocate), the call, and what the call is made
+/// on.
 pub(crate) fn print_count(rt: &impl Print, count: usize, row: &Row) {
     let (call, on, lacks, _) = *row;
     let number = if lacks.is_empty() { "none" } else { lacks };

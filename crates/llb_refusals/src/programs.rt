@@ -447,8 +447,8 @@ fn run_many<R: Threads + Wait + Sync>(
     *status = run_many_over(rt, alloc, &mut input, out, err, locals, workers);
 }
 
-// Runs a definition by two workers while growth `k` is refused. Ends the test unless the run fails with a fault that the row has, or prints the right result
-// without that memory. Returns whether the growth was refused.
+// Runs a definition by two workers, and refuses growth `k` of the run (its request for memory with this number). Ends the test unless the run fails with a
+// fault that the row has, or prints the right result without that memory. Returns whether the growth was refused.
 fn is_growth<R: Abort + Threads + Wait + Sync>(rt: &R, alloc: Global, row: &Row, k: usize) -> bool {
     let (_, on, lacks, wanted) = *row;
     let input = input_of(rt, alloc, "run_many_over", on);

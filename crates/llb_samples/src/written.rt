@@ -110,7 +110,7 @@ pub fn entries_of(alloc: Global, written: &str) -> Option<Entries> {
     entries_in(alloc, text.as_str())
 }
 
-/// Returns the definition that has the entries of a short text; `None` if the assembler refuses one of them.
+/// Returns the definition whose entries are in `written`, in short form with `; ` between them; `None` if the assembler refuses one of them.
 pub fn definition_of(alloc: Global, written: &str) -> Option<Bytes> {
     let entries = entries_of(alloc, written)?;
     write_definition(alloc, &entries).ok()

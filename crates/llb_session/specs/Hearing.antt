@@ -12,7 +12,7 @@ use Rattle.llb_session.specs.Conversation.{Talks, Talked, Standing, Answered, Qu
 abbrev pub standing : Stepping → Pending → Standing
 standing s p = record { session = s; number = p.answered + 1; line = p.line.items }
 
--- what is written once the end of the line of state p is read: the reply; nothing if the line ends the session; with the fault `Write` a prefix of the reply
+-- what is written once the line that p has begun is complete: the reply; nothing if the line ends the session; with the fault `Write` a prefix of the reply
 abbrev pub IsSaid : Standing → Stepping → Stream → Result Bool SessionFault → Type 0
 IsSaid p t out (Ok true) = (text : List ℕ) × Answers p.session p.number p.line text t × IsWritten out text
 IsSaid p t out (Ok false) = Quits p.line × (t ≡ p.session) × IsKept out
@@ -39,7 +39,7 @@ pub record Went (p : Standing) (bytes : List ℕ) (q : Standing) (out : Stream) 
   pub talked : Talked p bytes text q
   pub printed : IsWritten out text
 
--- what is written, for each result, after the bytes `heard` were used; the bytes `unheard`, which follow them, were not used (with true there are none)
+-- what is written to `out` for this result, after the bytes `heard` were used; the bytes `unheard` after these were not used, and for true there are none
 abbrev pub IsHeard : Standing → List ℕ → List ℕ → Standing → Stream → Result Bool SessionFault → Type 0
 IsHeard p heard unheard q out (Ok true) = (unheard ≡ []) × Went p heard q out
 IsHeard p heard unheard q out (Ok false) = AtLineEnd heard (λ bytes. Quit p bytes q.session out)

@@ -25,15 +25,15 @@ pub enum Request {
     Back,
     /// Prints the statuses of the vertices.
     Status,
-    /// Prints an output of a vertex as text: the number of the vertex, and the number of the output.
+    /// Prints as text output `i` of vertex `v`, for `Tree(v, i)`.
     Tree(u32, u32),
-    /// Prints a line for each tree that a worker works on, by the number of the worker.
+    /// Prints a line for each tree that worker `w` works on, for `Work(w)`.
     Work(u32),
-    /// Prints a tree that a worker works on as text: the number of the worker, and the number of the tree.
+    /// Prints as text tree `i`, counted from 0, of the trees that worker `w` works on, for `WorkTree(w, i)`.
     WorkTree(u32, u32),
     /// Prints a line for each key of the caches.
     Caches,
-    /// Prints the tree of an instance of a cache as text: the number of the key, and the number of the instance.
+    /// Prints as text the tree of instance `i` of the cache key with the number `k`, for `Cache(k, i)`.
     Cache(u32, u32),
     /// Ends the session.
     Quit,

@@ -42,8 +42,9 @@ pub fn boards_settle_alike(first: &[u8], board: &Board, second: &[u8], other: &B
     settled_are_plain(other);
 }
 
-/// Proves that two definitions do not collide if all their entries are entries of one loaded definition. So a definition does not collide with itself, nor with
-/// one that has further entries.
+/// Proves that two definitions do not collide if all their entries are entries of one loaded definition. (They collide if an entry of the one and an entry
+/// of the other have the same digest and different bytes.) So a loaded definition collides neither with itself nor with a definition that has only some of its
+/// entries.
 pub fn parts_do_not_collide(definition: &[u8], graph: &Graph)
     ensures { PartsDoNotCollide definition.now graph.now }
 {

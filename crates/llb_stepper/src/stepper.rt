@@ -284,8 +284,8 @@ pub fn there_and_back(stepper: &Stepper)
     let _ = &stepper.board;
 }
 
-/// Proves for each `n`, if the stepper did the last `n` events: the board before these events is the board to which the record without them leads, however the
-/// events were done.
+/// Proves that the record also leads to the earlier boards. If the stepper did the last `n` events of the record, the record without these events leads to the
+/// board as it was before them, however the events were done.
 pub fn past_is_the_records(stepper: &Stepper)
     ensures { PastIsTheRecords stepper.now }
 {

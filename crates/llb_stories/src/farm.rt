@@ -157,7 +157,7 @@ const ON_CACHES: &str =
     "locked: write /c/a x; locked: write /c/b y; private: write /c/a x; private: write /c/b y; \
     shared: append /c/l a && append /c/l b; shared: append /c/l c && append /c/l d";
 
-// Returns a board over the `count` entries of a short text and a merge of their outputs.
+// Returns a board over a definition with `count` entries and then a merge of their outputs. The entries are in the text `entries`, with `; ` between them.
 pub(crate) fn merge_on(
     rt: &impl Abort,
     alloc: Global,

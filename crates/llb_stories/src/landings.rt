@@ -60,7 +60,7 @@ fn outcome_from<G: Gate>(
     worked(alloc, &mut board, w, 0, gate)
 }
 
-// Works as `outcome_from` does. Returns how many micro-steps were done and whether the last one failed, or the number of the fault.
+// Works on a vertex as `outcome_from` does. Returns how many micro-steps were done, and whether the last one failed; or the number of the fault of the work.
 fn counted<G: Gate>(
     rt: &impl Abort,
     alloc: Global,

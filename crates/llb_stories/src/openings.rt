@@ -149,7 +149,7 @@ fn a_board_that_is_left_in_the_middle_gives_its_caches_to_the_next(rt: HostRunti
     is_so(&rt, is_answered(&rt, alloc, &mut board, BEHIND));
 }
 
-// Returns whether the opening is refused because of the number of workers, and returns caches equal to these.
+// Returns whether the fault refuses the number of workers, and holds caches equal to `caches`.
 fn has_caches(fault: &OpenFault, caches: &Caches) -> bool {
     match fault {
         OpenFault::Workers(_, _, back) => back.same(caches),

@@ -1,4 +1,4 @@
--- What each step of laying one tree over another returns, for a node, for a list of children or for a list of pieces.
+-- What each step of laying one tree over another returns, for a node, for a list of children, or for a list of pieces (a piece has some children of a node).
 use Rattle.std.specs.Prelude.{◌≡◌, ◌<◌, ◌^◌, ℕ, zero, suc, true, false, List, [], ◌∷◌, map, Option, Some, None, is_some, Vec}
 use Rattle.std.specs.declared.alloc.Global.{Global}
 use Rattle.std.specs.FinMap as finite

@@ -57,7 +57,7 @@ abbrev pub pieces_of : Kind → List Piece
 pieces_of (kind.File m c) = []
 pieces_of (kind.Dir m pieces) = (arc_value pieces).items
 
--- the children of a directory, one piece after another; a file has none
+-- the children of a directory, in the order of the pieces in which they are kept; a file has none
 abbrev pub kids_of : Kind → List Child
 kids_of k = kids_in (pieces_of k)
 

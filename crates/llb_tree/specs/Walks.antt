@@ -20,7 +20,7 @@ past (e ∷ es) = where_key path_cmp (λ q. not (is_within e.0 q)) es
 abbrev pub levels_of : List Children → List (List Child)
 levels_of = map left_in
 
--- the entries at and below the children in these lists, each with its path from the root; the list of the deepest directory comes first
+-- the entries at and below the children in these lists, each with its path from the root. Each directory on a path has a list; the deepest one's comes first
 abbrev pub behind : List (List ℕ) → List (List Child) → List (List (List ℕ) × Entry)
 behind [] ls = []
 behind (n ∷ p) [] = []

@@ -145,7 +145,8 @@ fn lay_all(
     }
 }
 
-// Lays upper pieces over lower ones, and returns the upper pieces with a changed copy in place of each piece that changes; `None` if no piece changes.
+// Lays upper pieces over lower ones; a piece has some of the children of a directory. Returns the upper pieces with a changed copy in place of each piece that
+// changes; `None` if no piece changes.
 #[cycle(lay)]
 fn laid_all(
     kids: &[Piece],

@@ -58,8 +58,9 @@ fn put_piece(pieces: &mut Vec<Piece>, alloc: Global, child: Child) -> Result<(),
     put_in(&mut piece.rows, alloc, child)
 }
 
-// Puts children among the children of a directory, each in place of the child with the same name, if there is one. The children go into copies of the pieces,
-// and the copies replace the old pieces at the end. So a piece that no child goes into stays shared, and a refusal changes nothing.
+// Puts children among the children of a directory, each in place of the child with the same name, if there is one. A directory keeps its children
+// in pieces. The new children go into copies of the pieces, and the copies replace the old pieces at the end. So a piece that no child goes into stays shared,
+// and a refusal changes nothing.
 pub(crate) fn put_all(
     kids: &mut Arc<Vec<Piece>>,
     alloc: Global,

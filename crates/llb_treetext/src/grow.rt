@@ -53,7 +53,7 @@ pub(crate) fn started<'a>(alloc: Global, meta: Meta) -> Option<Growing<'a>>
     Some(Growing { tree, open: None })
 }
 
-// Puts back the directory that is kept apart, and returns the whole tree; `None` if memory is refused.
+// Returns the whole tree. If a directory is kept apart as a tree of its own, this tree is put back at the directory's path. `None` if memory is refused.
 fn whole(growing: Growing<'_>) -> Option<Tree>
     ensures { (t : TreeMap) → IsGrown growing.entry t → IsIfAny result t }
 {
@@ -107,8 +107,9 @@ fn path_of_name(alloc: Global, text: &str) -> Result<Option<Path>, Memory>
     }
 }
 
-// If a line is the line of a file directly below the directory that is kept apart, puts the file into that directory by its name, and returns true; else
-// returns false and changes nothing. If memory is refused, the result is an error and not `false`, so that the refusal is reported.
+// If a line is the line of a file directly below the directory that is kept apart (as a tree of its own, which is put into the whole tree later), puts the file
+// into that directory by its name, and returns true; else returns false and changes nothing. If memory is refused, the result is an error and not `false`, so
+// that the refusal is reported.
 fn is_put_below(alloc: Global, growing: &mut Growing<'_>, parts: &Parts<'_>) -> Result<bool, Memory>
     ensures put { IfOk result (λ is_put. is_put ≡ true → (t : TreeMap) → IsGrown growing.old t → (row : List (List ℕ) × TreeEntry)
         → Follows t row parts.now → IsGrown growing.new (finite.insert t row.0 row.1)) }

@@ -1,6 +1,6 @@
--- Read Alone first (what one driver does to a board, and how it leaves a board that it runs to the end), then Crew (what workers that share one lock may do to
--- a board) and RunEnds (what a run returns, with Faults). Tasks says what a worker is to do next. Passes, Threads, Supplies and HandOuts say what each worker
--- is given and gives back.
+-- Read Alone first (what a run on one thread does to a board, and how it leaves a board that it runs to the end), then Crew (what workers that share one lock
+-- may do to a board) and RunEnds (what a run returns, with Faults). Tasks says what a worker is to do next. Passes, Threads, Supplies and HandOuts say what
+-- each worker is given and gives back.
 pub mod Alone
 pub mod Crew
 pub mod RunEnds

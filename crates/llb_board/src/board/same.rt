@@ -1,5 +1,5 @@
-//! Compares two boards by value: what they were opened with, the state of each vertex, worker and cache, and the record. The room of
-//! a record and the numbers of leases are not compared. Nothing here allocates.
+//! Compares two boards by value: what they were opened with, the state of each vertex, worker and cache, and the record. How much memory
+//! is reserved for a record, and the numbers of leases, are not compared. Nothing here allocates.
 
 ghost use Rattle.std.specs.Prelude.{◌≡◌, ◌↔◌, IsTrue};
 

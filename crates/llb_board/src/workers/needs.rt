@@ -40,7 +40,7 @@ pub(crate) struct Taking {
     /// The trees of the instances; for an instance that does not exist yet, the tree with which the instance will begin.
     pub trees: Vec<Tree>,
     pub needs: Vec<Need>,
-    /// The rows in which the keys of the needs were found.
+    /// For each need, the index of the row that has the need's key; `None` if no row has it.
     pub rows: Vec<Option<usize>>,
 }
 
@@ -283,7 +283,7 @@ fn asked(alloc: Global, inputs: &[Tree], wanted: &[Wanted<'_>]) -> Result<Vec<Ne
     Ok(needs)
 }
 
-// Returns the rows in which the keys of these caches were found.
+// Returns for each of these caches the index of the row that has the cache's key; `None` if no row has it.
 fn rows_found(alloc: Global, wanted: &[Wanted<'_>]) -> Result<Vec<Option<usize>>, ClaimFault>
     ensures { GivesClaim (λ rs. rs.items) result (Ok (map row_found wanted.now)) }
 {
