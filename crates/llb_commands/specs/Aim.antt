@@ -40,7 +40,7 @@ pub record Aim (text definition : List ℕ) (entries : List (List ℕ)) (graph :
   -- the machine's board has 1 to 64 workers
   pub some_workers : 0 < length board.state.workers
   pub few_workers : length board.state.workers ≤ 64
-  -- After every interleaving of atomic steps the machine's state and replies are the written table's on the recorded events: the table leads, by the record,
+  -- After every interleaving of atomic steps the machine's state and replies follow from the written table and the record: the table leads, by the record,
   -- from the opening state to the board's state, with a reply to each event. A call that does an event returns a reply (clause `gives`); in the run of the
   -- record after the call, this is the reply to the record's last event.
   pub replays : Replays board

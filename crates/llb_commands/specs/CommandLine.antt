@@ -135,7 +135,7 @@ pub record SaysCommand (name : Text) (rows : List Row) (line : Line) : Type 0 wh
   pub file : IsFile line.command rows line.file
   pub locals : AreSplit (local_words rows) line.locals
 
--- the matches of the named command; none if no command is named
+-- the matches that `clap` found for the subcommand that the words name; none if they name no subcommand
 abbrev pub matches_named : Option (Text × List Row) → List Row
 matches_named None = []
 matches_named (Some p) = p.1

@@ -128,7 +128,7 @@ step_digests ReadLocal = false
 step_digests (Act action) = false
 step_digests (LayInput i) = false
 
--- whether a command may write the byte that begins tokens; a listing may, since names of files can have that byte, and a digest never has it
+-- whether a command may write the byte 255, which begins tokens (numbers for contents); a listing may, as names of files can have it; a digest never has it
 abbrev pub writes_mark : Setting → Command → Bool
 writes_mark setting (command.Write path word) = has_mark (line word)
 writes_mark setting (command.Append path word) = has_mark (line word)

@@ -32,7 +32,7 @@ abbrev pub tree_or : Option TreeMap → List TreeMap → Option ℕ → Option T
 tree_or own trees None = own
 tree_or own trees (Some k) = slice_get trees k
 
--- the last position so far at which a list of numbers has i: k if m, the number at position k, is i; else `place`, the last such position before k
+-- the last position, of those up to k, at which a list of numbers has i; m is the number at position k, and `place` the last such position before k
 abbrev pub next_place : ℕ → ℕ → ℕ → Option ℕ → Option ℕ
 next_place i m k place = if m == i then Some k else place
 

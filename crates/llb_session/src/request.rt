@@ -27,9 +27,9 @@ pub enum Request {
     Status,
     /// Prints an output of a vertex as text: the number of the vertex, and the number of the output.
     Tree(u32, u32),
-    /// Prints a line for each tree that a worker works on, by the number of the worker.
+    /// Prints a line for each tree that the worker with this number works on.
     Work(u32),
-    /// Prints a tree that a worker works on as text: the number of the worker, and the number of the tree.
+    /// Prints as text one of the trees that a worker works on. The first number is the worker's, the second the tree's.
     WorkTree(u32, u32),
     /// Prints a line for each key of the caches.
     Caches,
