@@ -44,7 +44,7 @@ abbrev pub room_in : (ℕ → Bool) → List Frame → ℕ → Bool
 room_in room [] size = room size
 room_in room (f ∷ below) size = room_in room below (length f.bytes + record_length f.number size)
 
--- the current message of an open op; `room` says whether an entry of a given size is within the limits
+-- what is known of the current message of an op that is not closed yet (`Hand`); `room` says whether an entry of a given size is within the limits
 abbrev pub hand_of : (ℕ → Bool) → OpenOp → Hand
 hand_of room s = record { here = s.here; bytes = s.bytes; room = room_in room s.below }
 

@@ -48,7 +48,7 @@ impl KeyWaiters {
         self.rows.iter().position(|row| row.key == *key)
     }
 
-    // Sets which number waits after the number `v`; `None` if no number does.
+    // Notes that `next` is the number that waits right after the number `v`; `next` is `None` if no number waits after it.
     fn set_after(&mut self, v: u32, next: Option<u32>) {
         if let Some(after) = self.after.get_mut(v as usize) {
             *after = next;
