@@ -105,7 +105,7 @@ abbrev pub progresses : List (List ℕ) → Result (Option Open) Refusal → Res
 progresses earlier (Ok current) = Ok (progress_of earlier current)
 progresses earlier (Err e) = Err e
 
--- the progress after a message with these bytes ends; or the refusal of the op's entry, if this message is the op itself
+-- the progress after a message with these bytes ends; but if this message is the op itself, and the op's entry is refused, this refusal
 abbrev pub closed_on : List (List ℕ) → List ℕ → List Frame → Result Progress Refusal
 closed_on earlier bytes [] = entry_in earlier bytes >>= λ entry. Ok (between (earlier ++ entry ∷ []))
 closed_on earlier bytes (f ∷ below) = Ok (amid earlier (record { here = f.here; bytes = f.bytes ++ set_bytes f.number bytes; below = below }))

@@ -56,7 +56,7 @@ pub record FirstBad (counts named : List ℕ) (op : Op) (n i : ℕ) : Type 0 whe
   pub bad : ¬ IsBelow (count_there counts named i) (input_at op i).index
   pub before : FitsAll counts named op i
 
--- the number of inputs of row k whose index is checked: all of them if row k is reached; 1, the first, if row k is the terminal and not reached; else 0
+-- of how many inputs of row k the index is checked: of all if row k is reached; of 1, the first, if row k is the terminal and is not reached; else of none
 abbrev pub asked_of : List Op → List Bool → ℕ → ℕ → ℕ
 asked_of ops seen terminal k = cond (slice_index_or seen k false) (length (op_at ops k).inputs) (cond (k == terminal) 1 0)
 
