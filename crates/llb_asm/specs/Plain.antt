@@ -21,7 +21,7 @@ use Rattle.llb_wire.specs.Texts.{is_text}
 abbrev pub label_for : List (List ℕ) → List ℕ → Option ℕ
 label_for labels digest = position (is_text digest) labels
 
--- the value that is written for a string: the label of entry k if a number k is given, else the string between quotes
+-- the value that is written for a string: the label of entry k (`%` and k) if a number k is given, else the string between quotes
 abbrev pub labelled_text : List ℕ → Option ℕ → List ℕ
 labelled_text string None = string_text string
 labelled_text string (Some k) = label_text k

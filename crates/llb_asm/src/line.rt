@@ -18,7 +18,7 @@ use llb_ops::{
 use llb_wire::{Bytes, Memory, Text, write_varint};
 use std::alloc::Global;
 
-/// Why a line is refused: it breaks a rule, or its label names no earlier entry.
+/// Why a line is refused: it breaks a rule, or its label (`%` and a number) names no earlier entry.
 #[derive(Clone, Copy)]
 pub enum Refusal {
     /// The line breaks this rule.

@@ -18,7 +18,7 @@ pub record HistoryValue : Type 0 where
   pub list : List Event
   pub space : Space
 
--- the room that a claim reserves for a vertex that takes at most `events` events and was cancelled n times: 0 if n is 0, else room for `events` events
+-- the room, in events, that a claim of a vertex reserves, if the vertex takes at most `events` events and was cancelled n times: `events`, but 0 if n is 0
 abbrev pub taken : ℕ → ℕ → ℕ
 taken events zero = 0
 taken events (suc n) = events

@@ -279,7 +279,8 @@ impl Same for Vertices {
     }
 }
 
-// Makes what `Vertices` keeps besides the build when every vertex waits: the states, the marks and the links. Fails for want of memory alone.
+// Makes what `Vertices` keeps besides the build when every vertex waits: the states, the marks, and the links (the users of each vertex, and counts). Fails for
+// want of memory alone.
 fn at_first(alloc: Global, build: &Build) -> Result<(Vec<Stage>, Vec<bool>, Links), AllocError>
     ensures stages { IfOk result (λ r. r.0.items ≡ replicate (length build.now.graph.vertices) stage.Waiting) }
     ensures marks { IfOk result (λ r. r.1.items ≡ replicate (length build.now.graph.vertices) false) }
@@ -323,8 +324,8 @@ fn output_at(stages: &[Stage], v: u32, i: u32) -> Option<&Tree>
     }
 }
 
-// Updates a count of each user of vertex `v`: how many vertices that are not done the user has an edge to. Given is whether vertex `v` was done before, and
-// whether it is done now.
+// Updates a count of each user of vertex `v`: how many vertices that are not done the user has an edge to. `was_done` and `is_done` say whether vertex `v` was
+// done before, and is done now.
 fn count(links: &mut Links, v: u32, was_done: bool, is_done: bool)
     requires low { v < length links.old.users }
     requires below { All (λ x. x < length links.old.counts) (users_at links.old v) }

@@ -151,7 +151,7 @@ Refuses kinds words (Words None) = kinds ≢ []
 Refuses kinds words (Words (Some w)) = (kinds ≡ []) × IsUnsplit words w.now
 Refuses kinds words Memory = Unit {0}
 
--- what the result of reading the words says of them: if it is a line, `clap` accepts the words; if it is a fault, the cause is as `Refuses` says
+-- what the result of reading the words says of them: if it is a `Line`, `clap` accepts the words; if it is a fault, the cause is as `Refuses` says
 abbrev pub IsByWords : Kinds → List Text → Result Line WordsFault → Type 0
 IsByWords kinds words (Ok line) = kinds ≡ []
 IsByWords kinds words (Err e) = Refuses kinds words e

@@ -63,7 +63,7 @@ role_in (part.MountAt dest) = MountAt dest.now
 abbrev pub input_role : TreeMap → Role
 input_role t = Input
 
--- the role of a mount's tree: the tree of the mount at this dest
+-- the role of a mount's tree, which names the mount by its dest
 abbrev pub mount_role : Shown → Role
 mount_role m = MountAt m.dest
 
