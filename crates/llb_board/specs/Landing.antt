@@ -20,7 +20,7 @@ runs_shared (Some (Runs x)) = has_shared x
 runs_shared (Some Idle) = false
 runs_shared None = false
 
--- `job` is the job that remains for worker w, which holds no instance of a shared cache
+-- worker w runs a vertex, no micro-step of which has faulted; `job` is what remains of it (`IsRunOf`); and worker w holds no instance of a shared cache
 pub record CanLand (b : BoardValue) (w : ℕ) (job : Job) : Type 0 where
   pub x : Execution
   pub runs : slice_get b.state.workers w ≡ Some (Runs x)
