@@ -52,7 +52,7 @@ pub record Refuses (e : ScriptFault) (rule : Result (Unit {0}) ScriptFault) : Ty
   pub known : is_memory e ≡ false → rule ≡ Err e
   pub last : is_memory e ≡ true → names_word rule ≡ true
 
--- the check of one more part succeeds, and the first fault of the text stays the same; or the check fails with this fault, or with `Memory` (see `Refuses`)
+-- `part`, what is between two spaces, is checked; this succeeds, and the text's first fault stays the same, or fails with this fault or `Memory` (`Refuses`)
 abbrev pub Judges : Result (Unit {0}) ScriptFault → List ℕ → List (List ℕ) → Begun → Begun → Type 0
 Judges (Ok _) part call old new = (next : List (List ℕ)) × IsBegun next new
     × ((rest : List (List ℕ)) → judged old.number call (some_word part ++ rest) ≡ judged new.number next rest)

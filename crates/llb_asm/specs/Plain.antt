@@ -21,7 +21,7 @@ use Rattle.llb_wire.specs.Texts.{is_text}
 abbrev pub label_for : List (List ℕ) → List ℕ → Option ℕ
 label_for labels digest = position (is_text digest) labels
 
--- the value that is written for a string: the label of entry k if a number k is given, else the string between quotes
+-- the value that is written for a string: the label of entry k (`%` and k) if a number k is given, else the string between quotes
 abbrev pub labelled_text : List ℕ → Option ℕ → List ℕ
 labelled_text string None = string_text string
 labelled_text string (Some k) = label_text k
@@ -93,11 +93,11 @@ abbrev pub entry_lines : List (List ℕ) → List ℕ → Form → List PlainLin
 entry_lines labels entry (structured op has) = item_line 0 (codes "op") opening ∷ (field_lines labels 1 (without_empty has.fields) ++ (closing_line 0 ∷ []))
 entry_lines labels entry raw = item_line 0 (codes "raw") (hex_text entry) ∷ []
 
--- an entry with its form
+-- an entry with its form: how the entry is written, as an op or as raw bytes
 abbrev pub Formed : Type 0
 Formed = List ℕ × Form
 
--- each of these entries has the form that is given with it
+-- each of these entries has the form (an op, or raw bytes) with which it is paired
 abbrev pub HaveForms : List Formed → Type 0
 HaveForms [] = Unit {0}
 HaveForms (x ∷ xs) = HasForm x.0 x.1 × HaveForms xs

@@ -204,7 +204,7 @@ AreClosed (raw line bytes rest) = AreClosed rest
 AreClosed (op line items entry rest) = AreClosed rest
 AreClosed (open_op line items) = ⊥
 
--- the lines of each entry are read as this entry, given the entries before it
+-- the lines of each entry are read as this entry, given the entries before it; the last entry may be an op without its closing line, and then is only begun
 abbrev pub AreEntries : List (List ℕ) → Entries → Type 0
 AreEntries earlier none = Unit {0}
 AreEntries earlier (raw line bytes rest) = (begun_in earlier line ≡ Ok (Raw bytes)) × AreEntries (earlier ++ bytes ∷ []) rest

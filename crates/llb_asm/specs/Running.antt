@@ -44,7 +44,7 @@ abbrev pub room_in : (ℕ → Bool) → List Frame → ℕ → Bool
 room_in room [] size = room size
 room_in room (f ∷ below) size = room_in room below (length f.bytes + record_length f.number size)
 
--- the current message of an open op; `room` says whether an entry of a given size is within the limits
+-- what is known of the current message of an op that is not closed yet (`Hand`); `room` says whether an entry of a given size is within the limits
 abbrev pub hand_of : (ℕ → Bool) → OpenOp → Hand
 hand_of room s = record { here = s.here; bytes = s.bytes; room = room_in room s.below }
 
@@ -105,7 +105,7 @@ abbrev pub progresses : List (List ℕ) → Result (Option Open) Refusal → Res
 progresses earlier (Ok current) = Ok (progress_of earlier current)
 progresses earlier (Err e) = Err e
 
--- the progress after a message with these bytes ends; or the refusal of the op's entry, if this message is the op itself
+-- the progress after a message with these bytes ends; but if this message is the op itself, and the op's entry is refused, this refusal
 abbrev pub closed_on : List (List ℕ) → List ℕ → List Frame → Result Progress Refusal
 closed_on earlier bytes [] = entry_in earlier bytes >>= λ entry. Ok (between (earlier ++ entry ∷ []))
 closed_on earlier bytes (f ∷ below) = Ok (amid earlier (record { here = f.here; bytes = f.bytes ++ set_bytes f.number bytes; below = below }))

@@ -1,4 +1,4 @@
-//! The first line of an entry, and the end of an op.
+//! Reads the first line of an entry. Makes the entry of an op when the op's closing line has been read.
 
 ghost use Rattle.std.specs.Prelude.{◌≡◌, IfOk};
 ghost use Rattle.llb_asm.specs.Line.{parted};

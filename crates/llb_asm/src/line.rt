@@ -18,7 +18,7 @@ use llb_ops::{
 use llb_wire::{Bytes, Memory, Text, write_varint};
 use std::alloc::Global;
 
-/// Why a line is refused: it breaks a rule, or its label names no earlier entry.
+/// Why a line is refused: it breaks a rule, or its label (`%` and a number) names no earlier entry.
 #[derive(Clone, Copy)]
 pub enum Refusal {
     /// The line breaks this rule.
@@ -128,7 +128,7 @@ fn space(line: &[u8]) -> Option<usize>
     line.iter().position(|b| *b == b' ')
 }
 
-// Splits an item, at its first space, into the name and the value; `None` if there is no space or the line is not
+// Splits a line, at its first space, into the name and the value of an item; `None` if the line has no space or is not
 // UTF-8.
 #[tactic(auto, unfolding(crate::specs::Line::parted))]
 pub(crate) fn parted(line: &[u8]) -> Option<(&[u8], &[u8])>

@@ -102,8 +102,8 @@ fn push_number_line(
     Ok(())
 }
 
-// Appends the value of a String field: in a field `digest`, the label of the earlier entry with this digest text, if there
-// is one; else the string between quotes.
+// Appends the value of a String field: in a field `digest`, the label (`%` and a number) of the earlier entry with this
+// digest text, if there is one; else the string between quotes.
 fn push_text(
     alloc: Global,
     out: &mut Vec<u8>,

@@ -92,7 +92,7 @@ step_before saved (Some (Runs x)) = Runs (with_view_back saved x)
 step_before saved (Some Idle) = Idle
 step_before saved None = Idle
 
--- the statuses of the workers before the event, given their statuses after the event
+-- the statuses of the workers before an event, given what the event displaced (`Back`) and the statuses after it
 abbrev pub workers_before : Back → List WorkerStatus → List WorkerStatus
 workers_before (Unclaim w v growths) workers = slice_set workers w Idle
 workers_before (Unstep w saved trees) workers = slice_set workers w (step_before saved (slice_get workers w))

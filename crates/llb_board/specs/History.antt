@@ -18,7 +18,7 @@ pub record HistoryValue : Type 0 where
   pub list : List Event
   pub space : Space
 
--- the room that a claim reserves for a vertex that takes at most `events` events and was cancelled n times: 0 if n is 0, else room for `events` events
+-- the room, in events, that a claim of a vertex reserves, if the vertex takes at most `events` events and was cancelled n times: `events`, but 0 if n is 0
 abbrev pub taken : ℕ → ℕ → ℕ
 taken events zero = 0
 taken events (suc n) = events
@@ -31,7 +31,7 @@ taken_by v events s = taken events (get_or s.cancels v 0)
 abbrev pub claimed : ℕ → ℕ → Space → Space
 claimed v events s = record s { room = s.room + taken_by v events s }
 
--- the reserved room after a claim of vertex v is taken back
+-- the reserved room, as a number of events, after a claim of vertex v is taken back
 abbrev pub unclaimed : ℕ → ℕ → Space → Space
 unclaimed v events s = record s { room = s.room - taken_by v events s }
 
@@ -53,7 +53,7 @@ front xs = take (length xs - 1) xs
 abbrev pub last_of : {A : Type 0} → List A → Option A
 last_of xs = slice_get xs (length xs - 1)
 
--- the room and the counts of cancels before the last event (an event of vertex v), given those after this event: what the event added is subtracted
+-- the reserved room (in events) and the counts of cancels before the last event: what this event of vertex v added is subtracted from those after the event
 abbrev pub space_back : Option Event → ℕ → ℕ → Space → Space
 space_back (Some (Claim w u)) v events s = unclaimed v events s
 space_back (Some (Step w)) v events s = s

@@ -1,4 +1,4 @@
--- The invariant of a board: the table replays the record, and the record's room, the counts of cancels and the workers' supplies are right.
+-- The invariant of a board: by the table, the record leads to the board's state; room enough is reserved; cancels are counted; each worker has its supplies.
 use Rattle.std.specs.Prelude.{◌+◌, ◌≡◌}
 use Rattle.llb_model.specs.Room.{most_events, owed, cancel_counts}
 use Rattle.llb_board.specs.Workers.{WorkersValue, Fits}

@@ -22,6 +22,6 @@ abbrev pub cached_by : Store → ℕ → Option Key → Option TreeMap
 cached_by s i None = None
 cached_by s i (Some key) = content s (place key i)
 
--- the tree of instance i of key k of these rows; none if there is no such key or instance
+-- the tree of instance i of the key in row k of these rows; none if there is no such row or instance
 abbrev pub cached_at : List Row → Store → ℕ → ℕ → Option TreeMap
 cached_at rows s k i = cached_by s i (slice_get (keys_of rows) k)

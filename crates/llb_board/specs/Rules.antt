@@ -12,7 +12,7 @@ use Rattle.llb_board.specs.Seen.{BoardValue, recorded}
 abbrev pub claim_of : BoardValue → ℕ → ℕ → Result (BoardValue × Reply) ClaimFault
 claim_of b w v = recorded b (Claim w v) (claim_grant b.build b.state w v)
 
--- the board and the reply after a step, which is appended to the record; or the table's refusal
+-- the board after a step, with the step appended to the record, and the reply; or the table's refusal
 abbrev pub step_of : BoardValue → ℕ → Result (BoardValue × Reply) StepFault
 step_of b w = recorded b (Step w) (step_grant b.build b.state w)
 

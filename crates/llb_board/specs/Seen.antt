@@ -60,7 +60,7 @@ pub record Replays (b : BoardValue) : Type 0 where
 abbrev pub after_event : BoardValue → Event → State → BoardValue
 after_event b e s = record b { state = s; rows = rows_after b.rows s (worker_of e); events = b.events ++ e ∷ [] }
 
--- the board and the reply after an event, which is appended to the record; or, if the event is refused, the cause as a fault
+-- the board after an event, with the event appended to the record, and the reply; or, if the event is refused, the cause as a fault
 abbrev pub recorded : {F : Type 0} → BoardValue → Event → Result (State × Reply) F → Result (BoardValue × Reply) F
 recorded b e (Ok (s, r)) = Ok (after_event b e s, r)
 recorded b e (Err cause) = Err cause

@@ -53,7 +53,7 @@ GivesWalk = answer.Gives walk_memory
 
 -- ---- the board before the event
 
--- the statuses of the vertices before the event
+-- the statuses of the vertices before an event, given what the event displaced (`Back`) and the statuses after it
 abbrev pub statuses_before : Back → List Status → List Status
 statuses_before (Unclaim w v growths) statuses = slice_set statuses v Waiting
 statuses_before (Unstep w saved trees) statuses = statuses

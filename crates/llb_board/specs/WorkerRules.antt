@@ -66,7 +66,7 @@ worked steps x trees = worked_by x trees (next_step steps x)
 abbrev pub Written : Type 0
 Written = Execution × List Row × Reply
 
--- the result of a micro-step after the trees of the execution's instances are written to the rows
+-- the result of a micro-step, with the rows of all caches after the trees that it left in the execution's instances, `ps`, are written to them
 abbrev pub written_by : List Row → List Instance → Result Worked StepFault → Result Written StepFault
 written_by rows ps (Ok w) = Ok (w.execution, put_each rows ps w.trees, w.reply)
 written_by rows ps (Err e) = Err e

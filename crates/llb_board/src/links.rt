@@ -130,7 +130,7 @@ impl Links {
         raise(counts, &users[v as usize]);
     }
 
-    /// Marks a vertex and everything downstream of it. The caller has to know that everything downstream of a marked vertex is marked. Does not allocate.
+    /// Marks a vertex and everything downstream of it. Before the call, everything downstream of a marked vertex must be marked too. Does not allocate.
     pub(crate) fn spread(&mut self, marks: &mut [bool], v: u32)
         requires count { (length self.old.users ≡ length marks.old) × (length self.old.counts ≡ length marks.old) }
         requires low { v < length marks.old }

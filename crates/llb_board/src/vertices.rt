@@ -1,6 +1,6 @@
 //! The vertices: the graph with its local trees, and the state of each vertex. Some things that follow from these are kept too, so that they are not computed
-//! at each call: which vertices have failed or are downstream of one that has, the number of open inputs of each vertex, and where the search for a Ready
-//! vertex begins.
+//! at each call: which vertices have failed or are downstream of one that has; for each vertex, how many vertices that are not done it has an edge to; and
+//! where the search for a Ready vertex begins.
 
 ghost use Rattle.std.specs.Prelude.{◌≡◌, ◌<◌, ◌^◌, ◌||◌, IfOk, IfErr, length, option_map, replicate, slice_get, false, is_ok, true, Some, Err};
 ghost use Rattle.std.specs.Prelude.{MatchResult, map, ℕ, ◌+◌, All, get_or};
@@ -279,7 +279,8 @@ impl Same for Vertices {
     }
 }
 
-// Makes what `Vertices` keeps besides the build when every vertex waits: the states, the marks and the links. Fails for want of memory alone.
+// Makes what `Vertices` keeps besides the build when every vertex waits: the states, the marks, and the links (the users of each vertex, and counts). Fails for
+// want of memory alone.
 fn at_first(alloc: Global, build: &Build) -> Result<(Vec<Stage>, Vec<bool>, Links), AllocError>
     ensures stages { IfOk result (λ r. r.0.items ≡ replicate (length build.now.graph.vertices) stage.Waiting) }
     ensures marks { IfOk result (λ r. r.1.items ≡ replicate (length build.now.graph.vertices) false) }
@@ -323,7 +324,8 @@ fn output_at(stages: &[Stage], v: u32, i: u32) -> Option<&Tree>
     }
 }
 
-// Updates the counts of open inputs of the users of a vertex, given whether the vertex was done before and whether it is done now.
+// Updates a count of each user of vertex `v`: how many vertices that are not done the user has an edge to. `was_done` and `is_done` say whether vertex `v` was
+// done before, and is done now.
 fn count(links: &mut Links, v: u32, was_done: bool, is_done: bool)
     requires low { v < length links.old.users }
     requires below { All (λ x. x < length links.old.counts) (users_at links.old v) }

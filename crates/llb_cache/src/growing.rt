@@ -178,7 +178,7 @@ fn trim(out: &mut Vec<Option<Many<Instance>>>)
     out.truncate(kept);
 }
 
-// Ends a lease, which is then no longer current, and trims the list of leases.
+// Ends a lease, which is then no longer current, and removes each `None` after the last current lease from the list of leases.
 pub(crate) fn take_back(out: &mut Vec<Option<Many<Instance>>>, lease: u32)
     requires { lease < length out.old.items }
     ensures { out.new.items ≡ trimmed (slice_set out.old.items lease None) }

@@ -76,7 +76,7 @@ impl Caches {
     }
 }
 
-// Removes what was added to the rows for an instance: nothing, the last instance of its key, or the last row.
+// Removes what a lease added to the rows for an instance, as `growth` says: nothing, the last instance of its key, or the last row.
 fn unmake(rows: &mut Rows, marks: &mut Vec<Marks>, place: &Instance, growth: Growth)
     requires order { AreOrdered rows.old }
     requires each { length marks.old.items ≡ length rows.old.entries.items }

@@ -39,7 +39,7 @@ HasFaultyLine p text = (e : AsmFault) × (refuses_a_line e ≡ true) × asm.Asse
 abbrev pub IsNoText : ProgramFault → List ℕ → Type 0
 IsNoText p text = ((limit < length text) × (p ≡ fault.TooLong)) ⊎ HasFaultyLine p text
 
--- the text that is written for the entries of a definition
+-- `text` is what is written for the entries of the definition with these bytes
 pub record IsDisassembled (definition text : List ℕ) : Type 0 where
   pub entries : List (List ℕ)
   pub read : definition_of definition ≡ Ok entries

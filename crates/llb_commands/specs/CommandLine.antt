@@ -135,7 +135,7 @@ pub record SaysCommand (name : Text) (rows : List Row) (line : Line) : Type 0 wh
   pub file : IsFile line.command rows line.file
   pub locals : AreSplit (local_words rows) line.locals
 
--- the matches of the named command; none if no command is named
+-- the matches that `clap` found for the subcommand that the words name; none if they name no subcommand
 abbrev pub matches_named : Option (Text × List Row) → List Row
 matches_named None = []
 matches_named (Some p) = p.1
@@ -151,7 +151,7 @@ Refuses kinds words (Words None) = kinds ≢ []
 Refuses kinds words (Words (Some w)) = (kinds ≡ []) × IsUnsplit words w.now
 Refuses kinds words Memory = Unit {0}
 
--- what the result of reading the words says of them: if it is a line, `clap` accepts the words; if it is a fault, the cause is as `Refuses` says
+-- what the result of reading the words says of them: if it is a `Line`, `clap` accepts the words; if it is a fault, the cause is as `Refuses` says
 abbrev pub IsByWords : Kinds → List Text → Result Line WordsFault → Type 0
 IsByWords kinds words (Ok line) = kinds ≡ []
 IsByWords kinds words (Err e) = Refuses kinds words e

@@ -21,8 +21,8 @@ use Rattle.llb_commands.specs.declared.words.WordsFault.TheVariants.{Words}
 abbrev pub Shelf : Type 0
 Shelf = List ℕ → Option (List ℕ)
 
--- How `step` ends. If the words name a file, it ends as `Steps` says. If the words name no file, nothing is written to the output, the line `fault 183` is
--- written to standard error, and the status is 2 (3 if the line could not be written).
+-- How `step` ends. If the command line names a file, it ends as `Steps` says. If the command line names no file, nothing is written to the output, the line
+-- `fault 183` is written to standard error, and the status is 2 (3 if the line could not be written).
 abbrev pub StepsAt : Shelf → Option (Bor (List ℕ)) → ℕ → List Local → Io → ℕ → Type 0
 StepsAt files None workers locals io status = IsKept io.output × TellsWords io.errors.before io.errors.after (Words None) status
 StepsAt files (Some file) workers locals io status = Steps workers locals (files file.now) io status

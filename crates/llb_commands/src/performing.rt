@@ -46,10 +46,10 @@ fn board_of<S: Sources>(
     }
 }
 
-// Does the command of the line on the local trees, which are the trees of the line's local sources, and returns the status of the command. For `step` the
-// definition is first read, to its end, from the file that the line names; then the commands of the session are read. If the line names no file, the program
-// writes `fault 183` and the status is 2; if the file can't be opened, it writes `fault 181` and the status is 3. The call may wait for threads if the command
-// is `run` with more than one worker.
+// Does the command that a command line (`line`) asks for, on the trees of its local sources, and returns the status of the command. For `step` the definition
+// is first read, to its end, from the file that the command line names; then the commands of the session are read. If the command line names no file, the
+// program writes `fault 183` and the status is 2; if the file can't be opened, it writes `fault 181` and the status is 3. The call may wait for threads if the
+// command is `run` with more than one worker.
 fn perform<T: Threads + Wait + Sync, S: Sources, R: Read, W: Write, E: Write>(
     rt: &T,
     alloc: Global,

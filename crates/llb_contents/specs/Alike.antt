@@ -73,7 +73,7 @@ AreAlikeViews R = BothLists (AreAlikeMounts R)
 abbrev pub AreLikeFiles : (List ℕ → List ℕ → Type 0) → MetaValue × List ℕ → MetaValue × List ℕ → Type 0
 AreLikeFiles R f g = (f.0 ≡ g.0) × R f.1 g.1
 
--- R relates to itself each text that a command writes without reading it from a file; if digests are written, R relates digests of related contents
+-- if a command writes a text that it does not read from a file, R relates this text to itself; if it writes digests, R relates digests of related contents
 abbrev pub RelatesTexts : (List ℕ → List ℕ → Type 0) → Setting → Command → Type 0
 RelatesTexts R setting (command.Write path word) = R (line word) (line word)
 RelatesTexts R setting (command.Append path word) = R (line word) (line word)

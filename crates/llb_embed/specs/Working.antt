@@ -78,8 +78,8 @@ Added name text old new status = (new.session ≡ old.session) × (new.lines ≡
 abbrev pub IsBegun : List ℕ → ℕ → Held → Held → Type 0
 IsBegun definition workers old new = (g : Numbered) × IsGraphIn definition g × (new.session ≡ Some (begun old.locals g workers)) × (new.lines ≡ 0)
 
--- Status 0: a session is begun. 2: no session is begun, and the messages have a line that says why. With status 2 or 3 a session that was open before is
--- unchanged.
+-- Status 0: a session is begun. 2 or 3: no session is begun, and a session that was open before is unchanged. With status 2 the messages have a line that says
+-- why.
 abbrev pub Opened : List ℕ → ℕ → Held → Held → ℕ → Type 0
 Opened definition workers old new status = (new.locals ≡ old.locals) × (new.output.items ≡ []) × (
     ((status ≡ 0) × (new.messages.items ≡ []) × IsBegun definition workers old new)

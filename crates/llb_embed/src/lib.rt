@@ -145,7 +145,7 @@ pub extern "C" fn llb_dis(alloc: Global, it: &mut Llb, definition: &[u8]) -> u8
     status
 }
 
-/// Copies as much of the last call's output as fits to the front of a buffer, and returns the length of the whole output.
+/// Copies the last call's output to the front of a buffer, or as many of its first bytes as the buffer has room for. Returns the length of the whole output.
 #[unsafe(no_mangle)]
 pub extern "C" fn llb_output(alloc: Global, it: &mut Llb, out: &mut [u8]) -> usize
     requires { IsSound it.old }

@@ -25,7 +25,7 @@ pub record OutcomeValue : Type 0 where
 abbrev pub begun_on : Job → Left
 begun_on j = record { work = j.work; fault = None }
 
--- from number `j.done` up exactly `count` micro-steps can be done, and `left` is their result; the number of mounts and the cache mounts are as before
+-- exactly `count` micro-steps, from number `j.done` on, can be done, and `left` is their result; the number of mounts and the cache mounts are as before
 pub record IsOutcome (j : Job) (count : ℕ) (left : Left) : Type 0 where
   pub few : j.done + count < 2 ^ 32
   pub all : AreLeft j.program.steps j.done (begun_on j) count

@@ -32,7 +32,7 @@ abbrev pub tree_or : Option TreeMap → List TreeMap → Option ℕ → Option T
 tree_or own trees None = own
 tree_or own trees (Some k) = slice_get trees k
 
--- the last position so far at which a list of numbers has i: k if m, the number at position k, is i; else `place`, the last such position before k
+-- the last position, of those up to k, at which a list of numbers has i; m is the number at position k, and `place` the last such position before k
 abbrev pub next_place : ℕ → ℕ → ℕ → Option ℕ → Option ℕ
 next_place i m k place = if m == i then Some k else place
 
@@ -63,7 +63,7 @@ role_in (part.MountAt dest) = MountAt dest.now
 abbrev pub input_role : TreeMap → Role
 input_role t = Input
 
--- the role of a mount's tree
+-- the role of a mount's tree, which names the mount by its dest
 abbrev pub mount_role : Shown → Role
 mount_role m = MountAt m.dest
 
@@ -72,7 +72,7 @@ abbrev pub results_from : ℕ → List TreeMap → List Role
 results_from a [] = []
 results_from a (t ∷ trees) = ResultOf a ∷ results_from (a + 1) trees
 
--- the roles of the trees that a workspace works on, in their order
+-- the role (local tree, input, result and so on) of each tree that a workspace works on, in the order of the trees
 abbrev pub roles_of : Workspace → List Role
 roles_of (LocalTree t) = Local ∷ []
 roles_of (Files inputs results) = map input_role inputs ++ results_from 0 results

@@ -104,7 +104,7 @@ abbrev pub parents_for : Bool → List (List ℕ) → TreeMap → Result TreeMap
 parents_for true p t = make_all new_dir_meta (parents p) t
 parents_for false p t = walk (finite.get t) p >>= λ _. Ok t
 
--- the tree after these entries are put at their paths, or the fault; `given` makes an entry's new mode and owner from its mode and owner in the second tree
+-- the tree after these copied entries are put at their paths, or the fault; `given` makes an entry's new mode and owner from those in the tree copied from
 abbrev pub land : (MetaValue → MetaValue) → List (List (List ℕ) × Entry) → TreeMap → Result TreeMap TreeFault
 land given es t = all_land t es >>= λ _. Ok (laid_on given t es)
 

@@ -22,7 +22,7 @@ abbrev pub all_meet : TreeMap → List (List (List ℕ) × Entry) → Result (Un
 all_meet here [] = Ok tt
 all_meet here (e ∷ es) = meets (finite.get here e.0) e.1 >>= λ _. all_meet here es
 
--- succeeds if each of these entries can be put below a path with `depth` names and the subtree `here`; else fails with the fault of the first that can't
+-- succeeds if each of these entries can be put below a path of `depth` names that has the tree `here`; else fails with the fault of the first that can't
 abbrev pub all_below : TreeMap → ℕ → List (List (List ℕ) × Entry) → Result (Unit {0}) TreeFault
 all_below here depth [] = Ok tt
 all_below here depth (e ∷ es) =

@@ -105,7 +105,7 @@ class_by Close class = none_yet
 abbrev pub behind : {A : Type 0} → List A → Result (List A) PatternFault → Result (List A) PatternFault
 behind before rest = rest >>= λ more. Ok (before ++ more)
 
--- whether the reader is in no class
+-- whether the next character is outside of all classes, given the stage to which a part of a pattern is read
 abbrev pub is_outside : Stage → Bool
 is_outside Outside = true
 is_outside Opened = false

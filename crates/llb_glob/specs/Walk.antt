@@ -15,7 +15,7 @@ pub record Stands (path : List (List ℕ)) (walk : Walk) : Type 0 where
   pub depth : walk.depth ≡ length path
   pub sound : walk.sound ≡ prefix_len is_part path
 
--- a part of a text is accepted exactly if the definition `enter` of `llb_tree` makes a path of it, not a fault; then the counts are right for that path
+-- one more part of a text is accepted (true) exactly if `enter` of `llb_tree` makes a path with it; the counts in `walk` are then right for this path
 abbrev pub Enters : Result (List (List ℕ)) TreeFault → Bool → Walk → Type 0
 Enters (Ok path) true walk = Stands path walk
 Enters (Ok path) false walk = ⊥

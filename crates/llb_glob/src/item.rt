@@ -10,7 +10,7 @@ use crate::class::Class;
 pub enum Item {
     /// `*`: any run of characters, also an empty one.
     Run,
-    /// One character that the letter matches.
+    /// One character, which the `Letter` has to match.
     One(Letter),
 }
 

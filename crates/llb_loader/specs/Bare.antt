@@ -20,7 +20,7 @@ with_bytes (r ∷ rows) (b ∷ entries) = record { digest = r.digest; bytes = b 
 abbrev pub AreBare : List Row → Type 0
 AreBare rows = (k : ℕ) → (row_at rows k).bytes ≡ []
 
--- the rows with the same digest texts, and with empty bytes
+-- these rows without their bytes: each row keeps its digest text, and its bytes are empty
 abbrev pub bared : List Row → List Row
 bared rows = map (λ r. record { digest = r.digest; bytes = [] }) rows
 

@@ -83,7 +83,7 @@ pub record IsFileVertex (v : Vertex) (f : FileOp) : Type 0 where
   pub steps : v.steps ≡ length f.actions
   pub outputs : v.outputs ≡ count_outputs (outputs_of f.actions)
 
--- each input number of a merge is the number of an input of the op, or -1
+-- vertex v of merge m: at most 1,024 numbers, each -1 or of an input of the op; an edge for each input of the op; a micro-step for each number; one output
 pub record IsMergeVertex (v : Vertex) (m : MergeOp) : Type 0 where
   pub few : length m.inputs ≤ 1_024
   pub merge_inputs : All (λ i. IsInput (length v.op.inputs) i.input) m.inputs

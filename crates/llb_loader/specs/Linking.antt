@@ -182,7 +182,7 @@ vertex_of p order k = record {
   outputs = output_count (op_at p.ops k);
 }
 
--- the graph of a plan; `order` has the reached rows in the order of their vertex numbers
+-- the graph of a plan (rows with their ops, the terminal's row and the result's row); `order` has the reached rows in the order of their vertex numbers
 abbrev pub numbered_of : Plan → List ℕ → Numbered
 numbered_of p order = record {
   vertices = map (vertex_of p order) order;

@@ -19,11 +19,11 @@ pub record IsNumbering (g : List (List ℕ)) (start : ℕ) (order : List ℕ) : 
   pub each : (i : ℕ) → i < length order → IsNext g start (take i order) (slice_index order i)
   pub whole : (k : ℕ) → Reached g start k → Contains order k
 
--- `rank` maps each row to a rank such that every edge from a reached row leads to a row of lower rank
+-- `rank` maps each row to a rank such that every edge from a row that is reached from row `start` leads to a row of lower rank
 abbrev pub GoesDown : List (List ℕ) → ℕ → (ℕ → ℕ) → Type 0
 GoesDown g start rank = (a b : ℕ) → Reached g start a → HasEdge g a b → rank b < rank a
 
--- the reached rows have a cycle: there are no ranks by which every edge from a reached row leads to a row of lower rank
+-- the rows that are reached from row `start` have a cycle: there are no ranks by which every edge from such a row leads to a row of lower rank
 abbrev pub HasCycle : List (List ℕ) → ℕ → Type 0
 HasCycle g start = (rank : ℕ → ℕ) → ¬ GoesDown g start rank
 

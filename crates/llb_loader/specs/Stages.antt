@@ -27,8 +27,8 @@ pub record IsLinked (l : Linked) : Type 0 where
   pub seen : length l.seen.items ≡ length l.rows.items
   pub exact : (k : ℕ) → IsMarked l.seen.items k ↔ ReachedRow (plan_in l) k
 
--- n is what the digest texts in the ops of these rows are resolved to. The terminal and the row of the result in n are those of the rows' plan;
--- `links` has for each row the rows that its inputs name; each input of a reached row names a row; `seen` marks the reached rows.
+-- n has the rows that the digest texts in the ops of these rows name. The fields `terminal` and `start` are the rows of the terminal and of the result; `links`
+-- has for each row the rows that its inputs name; each input of a reached row names a row; `seen` marks the reached rows.
 pub record AreNames (rows : List Row) (ops : List Op) (n : Names) : Type 0 where
   pub planned : IsPlanOf rows ops (plan rows ops n.terminal n.start)
   pub named : IsNamed (plan rows ops n.terminal n.start)

@@ -254,7 +254,7 @@ impl From<TreeFault> for Memory {
     }
 }
 
-/// Converts the fault of a copy of a text.
+/// Converts the fault with which copying a text fails, refused memory, into this crate's `Memory`.
 impl From<llb_wire::Memory> for Memory {
     fn from(_: llb_wire::Memory) -> Memory {
         Memory

@@ -79,7 +79,7 @@ fn first_stuck(seen: &[bool], done: &[bool]) -> Option<usize>
     None
 }
 
-// Makes `count` empty lists of waiters.
+// Makes `count` empty lists of waiters (rows that have no vertex number yet, and wait until other rows have theirs).
 fn empty_lists(alloc: Global, count: usize) -> Result<Vec<Vec<Waiter>>, AllocError>
     ensures len { IfOk result (λ all. length all.items ≡ count) }
     ensures empty { IfOk result (λ all. (b : ℕ) → slice_index_or (lists all.items) b [] ≡ []) }

@@ -54,6 +54,6 @@ abbrev pub coded_place : Coded Instance
 coded_place = code_by Packed
     (coded× (coded× coded_ℕ coded_ℕ) (coded× (coded_list coded_ℕ) (coded_option (coded× (coded_list coded_ℕ) coded_ℕ)))) packed unpacked unpacked-packed
 
--- stores can be turned into plain values and back
+-- stores can be turned into plain values (made of pairs, numbers and lists) and back
 abbrev pub coded_store : Coded Store
 coded_store = finite.code coded_place coded_tree

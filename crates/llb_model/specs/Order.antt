@@ -50,7 +50,7 @@ stands_after (Some k) p left = Waiting
 
 -- ---- the order
 
--- the state after vertex v gets its new status, and the trees of this result are written to the instances of its claim
+-- the state after vertex v gets its new status, and the trees that its micro-steps left (`left`) are written to the instances of its claim, the list `ps`
 abbrev pub left_by : Order → ℕ → List Instance → Program → Option ℕ → Left → Order
 left_by o v ps p cut left = record { statuses = slice_set o.statuses v (stands_after cut p left); store = put_all o.store ps left.work.trees }
 

@@ -80,7 +80,7 @@ pub record Start : Type 0 where
   pub vertex : Vertex
   pub inputs : List TreeMap
 
--- the `Start` of a vertex, given the trees of its inputs
+-- the `Start` of a vertex, which has the vertex and the trees of its inputs
 abbrev pub start_with : Vertex → List TreeMap → Start
 start_with v trees = record { vertex = v; inputs = trees }
 

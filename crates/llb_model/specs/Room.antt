@@ -47,7 +47,7 @@ to_come v Waiting = events_of v
 to_come v (Running w) = 0
 to_come v (Settled e) = 0
 
--- the most events still to come for all vertices that wait
+-- the most events still to come for all vertices that wait: the sum of `to_come` over the vertices
 abbrev pub all_to_come : List Vertex → List Status → ℕ
 all_to_come [] statuses = 0
 all_to_come (v ∷ vs) [] = 0
@@ -82,7 +82,7 @@ owed_from k [] statuses rs = 0
 owed_from k (v ∷ vs) [] rs = 0
 owed_from k (v ∷ vs) (s ∷ statuses) rs = owed_by v s (cancels_in k rs) + owed_from (k + 1) vs statuses rs
 
--- the room that the next claims of all vertices reserve
+-- the sum of the room in the record, in events, that the next claims of all vertices reserve
 abbrev pub owed : Build → List Status → List Reply → ℕ
 owed b statuses rs = owed_from 0 b.graph.vertices statuses rs
 

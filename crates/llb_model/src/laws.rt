@@ -1,4 +1,4 @@
-//! A law about the rules of the table.
+//! The law that no rule of the table refuses an event for want of memory.
 
 ghost use Rattle.std.specs.Prelude.{◌≡◌, ℕ, false, IfErr};
 ghost use Rattle.llb_events.specs.Faults.{claim_memory, step_memory};

@@ -8,7 +8,7 @@ use Rattle.llb_mount.specs.declared.order.Row.{Row}
 abbrev pub no_row : Row
 no_row = record { mount = 0; above = 0 }
 
--- the number of the mount in the row at a position
+-- the number of the mount to which the row at a position belongs
 abbrev pub mount_of : List Row → ℕ → ℕ
 mount_of rows j = (slice_index_or rows j no_row).mount
 

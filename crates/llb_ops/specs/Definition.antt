@@ -26,7 +26,7 @@ entries_fit entries =
     else if are_short entries then Ok entries
     else Err OverLimit
 
--- the entries of a definition's bytes, or the first fault of the bytes
+-- the entries of the definition that bytes are read as, or the first fault of the bytes
 unfoldable pub definition_of : List ℕ → Result (List (List ℕ)) OpFault
 definition_of bytes =
     if nat_lt definition_limit (length bytes) then Err OverLimit

@@ -123,8 +123,8 @@ AreFew last count (message row inner rest) =
 
 -- ---- the law of canonical bytes
 
--- An op's canonical bytes spell fields of the message Op, and no field occurs more than `field_limit` times. Without the empty keys
--- and values of map entries this limit still holds, and the bytes are not longer. If these bytes are within `entry_limit`, they are read as the same op.
+-- An op's canonical bytes spell fields of the message Op, none of which occurs more than `field_limit` times. If the empty keys and values of map entries
+-- are left out, this still holds, and the bytes that remain are not longer. If they are within `entry_limit`, the remaining bytes are read as the same op.
 pub record HasFields (op : Op) : Type 0 where
   pub fields : Fields
   pub are : AreFields named.Op 0 false fields

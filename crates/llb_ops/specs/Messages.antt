@@ -368,7 +368,7 @@ attribute_entry_of = message_of attribute_entry_shape attribute_entry_in
 abbrev pub source_op_shape : Shape
 source_op_shape = shape_of message.SourceOp
 
--- a `SourceOp` from its records, if its map has at most `field_limit` entries, else `OverLimit`; an entry whose key occurs again later counts too
+-- a `SourceOp` from its records; or the first fault: of an entry of its map, then `OverLimit` for more than `field_limit` entries, counting repeated keys too
 unfoldable pub source_op_in : List Record → Result SourceOp OpFault
 source_op_in rs = do
   entries ← each attribute_entry_of (all 2 rs)

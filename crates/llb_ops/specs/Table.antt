@@ -12,7 +12,7 @@ use Rattle.llb_ops.specs.declared.table.FieldKind.TheVariants.{Int64, Int32, Uin
 use Rattle.llb_ops.specs.declared.table.NamedField.{NamedField}
 use Rattle.llb_ops.specs.declared.table.FieldRow.{FieldRow}
 
--- a field with its name
+-- a row of the table of messages: the name of a field, and the field itself (its number, its kind and so on)
 abbrev pub Row : Type 0
 Row = List ℕ × NamedField
 

@@ -15,7 +15,7 @@ use llb_tree::Tree;
 use llb_wire::Many;
 use std::alloc::Global;
 
-// Runs the program of a vertex that mounts no cache on the trees of the vertex's inputs, and returns the outcome of the vertex.
+// Runs the program of a vertex, given the trees of the vertex's inputs, and returns the outcome of the vertex. The vertex must mount no cache.
 pub(crate) fn run(
     alloc: Global,
     vertex: &Vertex,

@@ -51,7 +51,7 @@ enum Answer {
     Looked(bool),
 }
 
-/// The parts of the text by which a row describes a board.
+/// What the text in a test's row says of a board: how it is opened, and the events that are then done on it.
 #[derive(Clone, Copy)]
 pub(crate) struct Written {
     pub workers: u32,

@@ -40,7 +40,7 @@ pub(crate) fn definition_of(rt: &impl Abort, alloc: Global, written: &str) -> By
     samples::definition_of(alloc, written).expect(rt, "a definition")
 }
 
-/// Returns the bytes of the definition that has these entries, in hexadecimal.
+/// Returns, in hexadecimal, the bytes of the definition that has these entries.
 pub(crate) fn printed_entries(rt: &impl Abort, alloc: Global, entries: &Entries) -> String {
     let bytes = write_definition(alloc, entries).expect(rt, "memory");
     printed_bytes(rt, alloc, bytes.as_slice())

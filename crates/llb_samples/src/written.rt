@@ -90,7 +90,8 @@ fn push_entry(text: &mut String, entry: &str) -> Result<(), AllocError> {
     }
 }
 
-/// Returns the assembler's text of the entries of a short text.
+/// Returns the entries of a short text, written in full as the assembler reads them. (A short text has entries with `; ` between them; the head of this file
+/// says how each is written.)
 pub fn entries_text(alloc: Global, written: &str) -> Result<String, AllocError> {
     let mut text = String::new(alloc);
     for entry in written.split("; ") {

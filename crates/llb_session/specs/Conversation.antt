@@ -98,7 +98,7 @@ pub record Concluded (s : Stepping) (input : List ℕ) (t : Stepping) (out : Str
 
 -- ---- how a conversation ends
 
--- a conversation: the most bytes that it may use, the most reads that it may make, the stepper before and after the conversation, and its two streams
+-- a conversation: the most bytes of commands that it may use, the most reads that it may make, the stepper before and after it, and its input and its output
 pub record Conversation : Type 0 where
   pub limit : ℕ
   pub reads : ℕ

@@ -1,4 +1,4 @@
-//! Why a conversation fails. Printing a fault writes its number, and does not allocate.
+//! Why a conversation (the lines that a session reads, and its replies) fails. Printing a fault writes its number, and does not allocate.
 
 use std::io::ErrorKind;
 use thiserror::Error;

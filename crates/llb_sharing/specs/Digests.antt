@@ -28,7 +28,7 @@ pub record LoadWithoutCollision (d : List ℕ) (g : Numbered) (e : List ℕ) (h 
 abbrev pub IsPartOf : List ℕ → List ℕ → Type 0
 IsPartOf d f = (xs zs : List (List ℕ)) → definition_of d ≡ Ok xs → definition_of f ≡ Ok zs → (x : List ℕ) → Contains xs x → Contains zs x
 
--- definitions whose entries are all entries of one loaded definition do not collide
+-- any two definitions whose entries are all entries of one loaded definition do not collide (`DoNotCollide`)
 abbrev pub PartsDoNotCollide : List ℕ → Numbered → Type 0
 PartsDoNotCollide f g = IsGraphIn f g → (d e : List ℕ) → IsPartOf d f → IsPartOf e f → DoNotCollide d e
 

@@ -72,7 +72,7 @@ impl Kinds {
         Ok(())
     }
 
-    // Empties the sets.
+    // Removes all breakpoints.
     fn clear(&mut self)
         ensures { AreKinds [] self.new }
     {

@@ -19,8 +19,8 @@ const IN_A_ROW_OPENED: Side = (IN_A_ROW, 2, "");
 
 const ON_A_CACHE: Side = ("locked: write /c/a x && false; RESULT_0", 2, "claim 0 0");
 
-// A board; the events that are done on it after it was copied; and another board. Then: whether the copy equals the other board, and whether the copy still
-// equals the first board.
+// A board; the events that are done on it after it was copied; and another board. Then: whether the copy equals the other board, and whether the copy equals
+// the first board after these events.
 type Copied = (Side, &'static str, Side, [bool; 2]);
 
 const COPIES: &[Copied] = &[

@@ -84,7 +84,7 @@ enum Shape {
     Failing,
     // All vertices use one locked cache.
     Locked,
-    // Each vertex uses two of three locked caches, in turn.
+    // Each vertex uses two of three locked caches, a different two from one vertex to the next.
     TwoOfThree,
     // The vertices use a shared, a private and a locked cache in turn.
     Mixed,

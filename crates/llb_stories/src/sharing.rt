@@ -1,4 +1,4 @@
-//! Stories of vertices that two definitions share. A line that begins with `@ ` has the entries of both definitions, with ` AND ` between them (`written`).
+//! Tests of vertices that two definitions share. A line that begins with `@ ` has the entries of both definitions, with ` AND ` between them (`written`).
 //! The lines below it have each pair of vertices with the same digest: the vertex's number in the first graph, and its number in the second.
 
 use super::sessions::{StoryKind, are_stories, wanted};

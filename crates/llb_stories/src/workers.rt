@@ -39,7 +39,7 @@ const END: &str = "
     f 0644 0 0 686f /b
     ";
 
-// All events that two workers can have on one vertex.
+// All events that workers 0 and 1 can do if there is only one vertex.
 const ON_ONE_VERTEX: [Event; 8] = [
     Event::Claim(0, 0),
     Event::Claim(1, 0),

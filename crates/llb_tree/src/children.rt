@@ -15,7 +15,7 @@ pub struct Children<'a> {
 }
 
 impl<'a> Children<'a> {
-    // Returns no children.
+    // Returns a `Children` that has no child.
     pub(crate) fn none() -> Children<'a>
         ensures { left_in result ≡ [] }
     {

@@ -10,7 +10,7 @@ use crate::name::Name;
 use crate::node::{Child, Piece};
 use std::cmp::Ordering;
 
-// Returns the children that come after the child with a name; `None` if no child has that name. Expects the children in the order of their names.
+// Returns the children that come after the child with this name; `None` if no child has the name. The children must be in the order of their names.
 fn after<'a>(kids: Children<'a>, name: &Name) -> Option<Children<'a>>
     ensures { IfSome result (λ more. HasLater name.now (left_in kids.entry) (left_in more)) }
 {

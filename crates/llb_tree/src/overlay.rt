@@ -116,7 +116,8 @@ fn lay_children(
     Ok(false)
 }
 
-// Lays upper children over lower ones; the upper ones have every name of the lower ones. Returns whether the result is the upper children, unchanged.
+// Lays upper children over lower ones. The upper ones must have every name of the lower ones, and the settings must leave every upper entry unchanged. Returns
+// whether the result is the upper children, unchanged.
 #[cycle(lay)]
 fn lay_all(
     kids: &mut Arc<Vec<Piece>>,

@@ -24,7 +24,7 @@ pub trait NameTest {
         ensures { result ≡ passes self.now name.now };
 }
 
-// Returns a node without the paths that pass the tests, and without what is below these paths; `None` if no path passes.
+// Returns the node without each path that passes the tests, and without what is below such a path. Returns `None` if no path passes, so nothing is removed.
 #[cycle(thin)]
 fn thinned<T: NameTest>(
     node: &Node,
@@ -48,7 +48,8 @@ fn thinned<T: NameTest>(
     }
 }
 
-// Returns children without the paths that pass the tests, and without what is below these paths; `None` if no path passes.
+// Returns the children without each path that passes the tests, and without what is below such a path. Returns `None` if no path passes, so nothing is
+// removed.
 #[cycle(thin)]
 fn thinned_children<T: NameTest>(
     kids: Children<'_>,

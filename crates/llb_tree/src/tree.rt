@@ -1,5 +1,6 @@
 //! The tree: a root directory, an upper bound of the number of names in its paths, and its allocator. Contracts see only the map from paths to entries. A copy
-//! of a tree shares everything; an edit copies the directories on its path before it changes the last one. The checks that can refuse an edit come first.
+//! of a tree shares everything with the tree. An edit first makes the checks that can refuse it; then it copies the directories on its path, and changes the
+//! last of them.
 
 ghost use Rattle.std.specs.Prelude.{◌≡◌, ◌++◌, ℕ, List, Ok, Err, MatchResult, IfOk, IfErr, OnOk, OnErr, false, option_map};
 ghost use Rattle.std.specs.FinMap as finite;

@@ -20,7 +20,7 @@ pub(crate) struct Place<'a> {
     pub is_dir: bool,
 }
 
-// A line: its fields, the `Place` of its entry, and the bytes after the line.
+// A line: its fields; the `Place` of its entry (the entry's path, and whether it is a directory); and the bytes after the line.
 #[derive(Clone, Copy)]
 pub(crate) struct Line<'a> {
     pub parts: Parts<'a>,

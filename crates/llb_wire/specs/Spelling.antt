@@ -18,7 +18,7 @@ Spells [] n = ⊥
 Spells (b ∷ []) n = (b < 128) × (n ≡ b)
 Spells (b ∷ c ∷ bs) n = (128 ≤ b) × (m : ℕ) × (n + 128 ≡ b + 128 * m) × Spells (c ∷ bs) m
 
--- The bytes are a varint of n: they spell n, which has at most 64 bits, and there are at most ten of them.
+-- The bytes are a varint of n: at most ten bytes, which spell n. The number n has at most 64 bits.
 pub record IsVarint (bytes : List ℕ) (n : ℕ) : Type 0 where
   pub spells : Spells bytes n
   pub short : length bytes ≤ 10

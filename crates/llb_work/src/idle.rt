@@ -57,7 +57,7 @@ impl Idle {
         self.sleepers.fetch_sub(1, Ordering::SeqCst);
     }
 
-    /// Wakes up to `count` sleepers, for numbers that were put into the queue before.
+    /// Wakes at most `count` sleepers. The numbers for which they are woken must be in the queue already.
     pub(crate) fn wake(&self, count: usize) {
         if count == 0 {
             return;

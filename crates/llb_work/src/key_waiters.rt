@@ -24,7 +24,8 @@ impl Row {
     }
 }
 
-/// The numbers that wait, by key. There are few rows: each has a key that a worker holds, or a number that was put into the queue again.
+/// The numbers that wait, in a row for each key that they wait for. A row is kept only while a worker holds its key, or while one of its numbers was put into
+/// the queue again and its claim is still to be tried; so there are few rows.
 #[derive(Drop)]
 pub(crate) struct KeyWaiters {
     rows: Vec<Row>,
@@ -48,7 +49,7 @@ impl KeyWaiters {
         self.rows.iter().position(|row| row.key == *key)
     }
 
-    // Sets which number waits after the number `v`; `None` if no number does.
+    // Notes that `next` is the number that waits right after the number `v`; `next` is `None` if no number waits after it.
     fn set_after(&mut self, v: u32, next: Option<u32>) {
         if let Some(after) = self.after.get_mut(v as usize) {
             *after = next;

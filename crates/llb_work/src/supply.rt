@@ -28,7 +28,7 @@ pub(crate) struct Supply<S: Ledger> {
     pub plain: Vec<bool>,
 }
 
-/// Makes the supply for n workers; returns `None` if memory is refused.
+/// Makes the `Supply` of a run of n workers: all that they need before a thread starts. Returns `None` if memory is refused.
 pub(crate) fn make_supply<S: Ledger>(alloc: Global, board: &Board, n: u32) -> Option<Supply<S>>
     ensures { IfSome result (IsSupplyFor board.now.build n) }
 {

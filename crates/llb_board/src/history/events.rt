@@ -63,7 +63,7 @@ impl Events {
         self.items.pop()
     }
 
-    /// Adds `more` to the number of events for which memory is reserved. Fails with 141 `Memory` alone; then the room is as it was.
+    /// Adds `more` to the number of events for which memory is reserved (the room). Fails with 141 `Memory` alone; then this number is as it was.
     pub(crate) fn take_room(&mut self, more: usize) -> Result<(), Memory>
         ensures list { self.new.list ≡ self.old.list }
         ensures room { OnOk result (self.new.room ≡ self.old.room + more) }

@@ -75,7 +75,7 @@ impl Model for Begun {
 }
 
 impl Begun {
-    // Returns the fields of a prepared claim, for `start`.
+    // Takes a prepared claim apart, and returns its fields, which the call `start` needs.
     fn into_parts(self) -> (Job, Execution, Vec<Need>, Vec<Option<usize>>)
         ensures job { result.0 ≡ self.job }
         ensures execution { execution_of result.1 ≡ self.execution }

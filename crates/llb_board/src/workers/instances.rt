@@ -86,8 +86,8 @@ pub(crate) fn take_back(caches: &mut Caches, lease: Option<Lease>, growths: &[Gr
     }
 }
 
-/// Prepares a lease of these instances, so that the later grant does not allocate. At the grant, fewer than `room` leases may be current. Returns `None` if
-/// there are no instances. Fails with 141 `Memory` alone.
+/// Prepares a lease of these instances, so that the later grant does not allocate. When the lease is granted, fewer than `room` leases must be current. Returns
+/// `None` if there are no instances. Fails with 141 `Memory` alone.
 pub(crate) fn lent_for(
     alloc: Global,
     places: &[Instance],

@@ -189,7 +189,8 @@ pub(crate) fn mount_numbers(alloc: Global, wanted: &[Wanted<'_>]) -> Result<Vec<
     Ok(numbers)
 }
 
-// Returns what a claim of these caches takes, given the trees of the inputs. Fails with 141 `Memory` alone.
+// Returns what the claim of a vertex with these cache mounts takes of the caches (`Taking`); `inputs` has the trees of the vertex's inputs. Fails with 141
+// `Memory` alone.
 pub(crate) fn taking_for(
     alloc: Global,
     inputs: &[Tree],

@@ -135,7 +135,7 @@ fn the_mounts_of_an_exec_are_judged_in_order(rt: HostRuntime) {
     is_transcript(&rt, rt.alloc(), MOUNTS);
 }
 
-// Execs of a script on three mounts: at `/` the tree of an input; at `/out` an empty tree, whose output is the result; at
+// Execs of a script on three mounts: at `/` the tree of an input; at `/out` a tree that is empty at first, and at the end is the result; at
 // `/tmp` a tmpfs.
 const OUTPUTS: &str = r#"
     > show < MAKES_A; INPUT_0 | MAKES_OUT_A | 0 / | -1 /out OUTPUT_1 | -1 /tmp NO_OUTPUT TMPFS | }; RESULT_1_1
