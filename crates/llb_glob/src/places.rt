@@ -8,8 +8,9 @@ ghost use Rattle.llb_glob.specs.Places.{IsIn, Reaches, AreStarts};
 
 use crate::item::{Item, Letter};
 
-/// Returns whether items match the characters of a name. Each item is compared at each position, and a class has at most as many items as its text has
-/// characters; so the number of comparisons is at most the number of the part's characters times the number of positions. Does not allocate.
+/// Returns whether items match the characters of a name. Each item is compared at each position of the name. A class is compared by its characters and ranges,
+/// which are at most as many as the characters that the class is written with; so the number of comparisons is at most the number of characters of the
+/// pattern's part, times the number of positions. Does not allocate.
 pub fn matches_letters(items: &[Item], name: &[char]) -> bool
     requires { length name.now ≤ 255 }
     ensures { IsTrue result ↔ MatchesName items.now name.now }

@@ -1,4 +1,5 @@
-//! File actions and merges while memory is refused. After a refused call, the trees on which the call was made are compared with equal trees.
+//! File actions and merges while memory is refused. After a refused call, each tree on which the call was made is compared with a second tree,
+//! which was equal to it before the call: the call must have changed nothing.
 
 use super::growths::{Row, Trial, are_refused};
 use super::printed::{printed_fault, printed_text, printed_tree, tree_or_fault};

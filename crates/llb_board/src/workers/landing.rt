@@ -1,5 +1,5 @@
-//! Compares a job by value with the job that remains for a worker, and puts the result of the job's micro-steps into the state of the worker and into the
-//! caches.
+//! Checks that a job equals, by value, what a worker still has to do by the board's state: program, workspace, cache trees. Puts what the micro-steps of a
+//! landed outcome left into the worker's state, and the outcome's trees into the caches.
 
 ghost use Rattle.std.specs.Prelude.{◌≡◌, ◌↔◌, ◌<◌, length, true, Some, slice_get, slice_set, is_some, IsTrue};
 ghost use Rattle.std.specs.Bool.{OnTrue, OnFalse};
@@ -25,7 +25,7 @@ use llb_execution::{Job, Outcome, Program};
 use llb_wire::Same;
 
 impl Workers {
-    /// Returns whether `job` is the job that remains for a worker, with the caches as they are now. Does not allocate.
+    /// Returns whether `job` equals what worker `w` still has to do, with the trees that the caches have now. Does not allocate.
     pub(crate) fn is_run_of(&self, vertices: &Vertices, w: u32, job: &Job) -> bool
         requires there { (x : machine.Execution) → slice_get self.now.workers w ≡ Some (Runs x)
             → is_some (slice_get vertices.now.build.graph.vertices x.vertex) ≡ true }
