@@ -53,7 +53,7 @@ texts_of text = map (λ w. w.bytes) (words_of text)
 abbrev pub only_ands : List (List ℕ) → Bool
 only_ands words = list_all (λ w. not (is_separator w) || is_and w) words
 
--- whether a call with this join runs whatever the last status is, as the first call does, and each call after `;`
+-- whether a call with this join runs whatever the last status is: true for the first call of a script and for each call after `;`
 abbrev pub follows_all : Join → Bool
 follows_all Then = true
 follows_all And = false

@@ -88,7 +88,7 @@ abbrev pub HasForm : List ℕ → Form → Type 0
 HasForm entry (structured op has) = (op_of entry ≡ Ok op) × (op_bytes op ≡ entry)
 HasForm entry raw = ¬ IsStructured entry
 
--- the lines of an entry: `op {`, the op's fields without empty keys and values of map entries, and `}`; or `raw` and the entry's bytes
+-- the lines of an entry: `op {`, the op's fields (in entries of maps, empty keys and values are left out), and `}`; or `raw` and the entry's bytes
 abbrev pub entry_lines : List (List ℕ) → List ℕ → Form → List PlainLine
 entry_lines labels entry (structured op has) = item_line 0 (codes "op") opening ∷ (field_lines labels 1 (without_empty has.fields) ++ (closing_line 0 ∷ []))
 entry_lines labels entry raw = item_line 0 (codes "raw") (hex_text entry) ∷ []

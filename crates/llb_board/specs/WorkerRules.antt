@@ -71,7 +71,7 @@ abbrev pub written_by : List Row → List Instance → Result Worked StepFault �
 written_by rows ps (Ok w) = Ok (w.execution, put_each rows ps w.trees, w.reply)
 written_by rows ps (Err e) = Err e
 
--- the result of the next micro-step of an execution, whose instances have the trees that the rows of the caches have
+-- the result of the next micro-step of an execution, on the trees that the rows of the caches have for its instances
 abbrev pub worked_in : Build → List Row → Execution → Result Written StepFault
 worked_in b rows x = written_by rows x.places (worked (program_in b x).steps x (trees_at (store_of rows) x.places))
 

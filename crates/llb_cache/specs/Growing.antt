@@ -27,7 +27,7 @@ pub record HasRoomFor (p : Instance) (marks : List Bool) : Type 0 where
   pub mark : p.number < length marks
   pub clear : (k : ℕ) → slice_index_or marks k false ≡ false
 
--- for each instance, in order, there is one prepared list of marks, which is long enough for the instance's mark and has no mark set (`HasRoomFor`)
+-- each instance, in order, has its own list of marks, made in advance: long enough for the instance's mark, and with no mark set (`HasRoomFor`)
 abbrev pub FitEach : List Instance → List (List Bool) → Type 0
 FitEach [] [] = Unit {0}
 FitEach [] (m ∷ rooms) = ⊥

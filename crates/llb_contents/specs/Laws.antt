@@ -30,7 +30,7 @@ By test a b = test a b ≡ true
 abbrev pub LaysAlike : TreeMap → TreeMap → Type 0
 LaysAlike t v = (test : List ℕ → List ℕ → Bool) (u w : TreeMap) → AreAlike (By test) t u → AreAlike (By test) v w → AreAlike (By test) (lay t v) (lay u w)
 
--- on trees alike to `t` and `v`, an action has the same fault as on `t` and `v`, or an alike result, if what it writes is related to itself (`RelatesBody`)
+-- if the test relates a mkfile's content to itself: on trees alike to `t` and `v`, the action has the same fault as on `t` and `v`, or an alike result
 abbrev pub ActsAlike : Option ActionKind → TreeMap → TreeMap → Type 0
 ActsAlike a t v = (test : List ℕ → List ℕ → Bool) (u w : TreeMap) → RelatesBody (By test) a → AreAlike (By test) t u → AreAlike (By test) v w
     → BothResults (AreAlike (By test)) (act a t v) (act a u w)

@@ -7,7 +7,7 @@ use Rattle.llb_glob.specs.declared.item.Letter.{Letter}
 use Rattle.llb_glob.specs.declared.item.Letter.TheVariants.{Any, Only, In}
 use Rattle.llb_glob.specs.Class.{ClassTakes, class_takes}
 
--- a letter, which is an item for one character, matches the character c
+-- a letter (the item of a pattern that matches exactly one character) matches the character c
 abbrev pub Takes : Letter → ℕ → Type 0
 Takes Any c = Unit {0}
 Takes (Only only) c = c ≡ only

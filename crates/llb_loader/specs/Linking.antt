@@ -161,7 +161,7 @@ Refuses p (Invalid k r) = (order : List ℕ) × IsSupported p order × IsInvalid
 Refuses p (BadIndex k i) = (order : List ℕ) × IsValid p order × Foremost (IsBadIndex p) k i
 Refuses p _ = ⊥
 
--- rows that are read as these ops are refused with the fault e
+-- the rows, if they are read as these ops, are refused with the fault e
 abbrev pub Refused : List Row → List Op → LoadFault → Type 0
 Refused rows ops e = Refuses (plan_of rows ops) e
 

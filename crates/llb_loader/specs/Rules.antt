@@ -239,7 +239,7 @@ abbrev pub kind_fault : Option Kind → ScriptFault
 kind_fault (Some (Exec x)) = script_fault x.meta
 kind_fault _ = script_fault None
 
--- the rules in the order in which they are checked; the argument of the rule `Script` is the fault with which the exec's words are not a script
+-- the rules in the order in which they are checked; the argument of the rule `Script` is the fault of reading the exec's words as a script
 abbrev pub rules_on : Option Kind → List Rule
 rules_on kind =
     rule.NoKind ∷ rule.LocalName ∷ rule.NoActions ∷ rule.ActionInput ∷ rule.ActionOutput

@@ -19,7 +19,7 @@ is_cancel_of v (HasStepped r) = false
 is_cancel_of v (HasSettled r) = false
 is_cancel_of v (HasCancelled r) = r.vertex == v
 
--- how often vertex v was cancelled, by these replies
+-- how often vertex v was cancelled, as these replies say
 abbrev pub cancels_in : ℕ → List Reply → ℕ
 cancels_in v rs = count_by (is_cancel_of v) rs
 

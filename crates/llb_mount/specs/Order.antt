@@ -24,7 +24,7 @@ dest_of ds rows j = slice_index_or ds (mount_of rows j) []
 abbrev pub is_before : List (List ℕ) → List (List ℕ) → Bool
 is_before p q = is_lt (path_cmp p q)
 
--- the row at each position has the number of a mount, and the dests of these mounts ascend from position to position
+-- each row has the number of a mount (an index into `ds`, the mounts' dests), and from each row to the next the dests of these mounts ascend
 pub record Rises (ds : List (List (List ℕ))) (rows : List Row) : Type 0 where
   pub within : (j : ℕ) → j < length rows → mount_of rows j < length ds
   pub rising : (j k : ℕ) → j < k → k < length rows → is_before (dest_of ds rows j) (dest_of ds rows k) ≡ true

@@ -187,7 +187,7 @@ kept p rs r = if p r then [] else rs ++ r ∷ []
 abbrev pub since : (Record → Bool) → List Record → List Record
 since p rs = fold (kept p) [] rs
 
--- whether the field of a record is a member of the oneof other than n
+-- whether a record's field is a member of the oneof, but not member n
 abbrev pub is_other : List ℕ → ℕ → Record → Bool
 is_other members n r = is_member members r && not (r.number == n)
 

@@ -1,6 +1,6 @@
 -- Read first Request (what a line asks for), Texts (what is printed) and Answers (the reply to each request, and the stepper after it), then Conversation
 -- (which lines some bytes spell, and how a conversation replies to them) with Streams (what streams hold before and after a call); Told says what a `go`
--- prints, in terms of the run of the whole record, and Hearing says how bytes are used one by one.
+-- prints: a line for each event that it does, with the table's reply, then `stop` or `end`; Hearing says how each byte changes a conversation's state.
 pub mod Request
 pub mod Streams
 pub mod Texts

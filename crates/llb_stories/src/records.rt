@@ -101,8 +101,8 @@ fn is_run(board: &mut Board, v: u32) -> bool {
     false
 }
 
-// Runs the vertices that these events claim to their ends, one by one in the order of the claims. Returns whether all events of these runs are granted, and
-// the board is then complete.
+// Runs to its end each vertex that these events claim, in the order of the claims. Returns whether all events of these runs are granted, and the board is
+// complete afterwards.
 fn are_run(board: &mut Board, events: &[Event]) -> bool {
     for event in events {
         if let Event::Claim(_, v) = event {

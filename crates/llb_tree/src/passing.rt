@@ -16,7 +16,7 @@ use crate::path::Path;
 use crate::tested::NameTest;
 use crate::tree::Tree;
 
-// Appends to `found` those paths at and below a node that pass the tests; `path` is the path of the node itself.
+// Appends to `found` the paths at and below a node that have one name for each of `tests`, each passing its test; `path` is the path of the node itself.
 #[cycle(find)]
 fn find<T: NameTest>(
     node: &Node,

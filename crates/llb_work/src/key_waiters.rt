@@ -24,8 +24,8 @@ impl Row {
     }
 }
 
-/// The numbers that wait, in a row for each key that they wait for. A row is kept only while a worker holds the row's key, or while the claim of the row's `put`
-/// vertex is still to be tried; so there are few rows.
+/// The numbers that wait, in a row for each key that they wait for. A row is kept only while a worker holds the row's key, or while the claim of the row's
+/// `put` vertex is still to be tried; so there are few rows.
 #[derive(Drop)]
 pub(crate) struct KeyWaiters {
     rows: Vec<Row>,

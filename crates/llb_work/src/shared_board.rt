@@ -73,7 +73,7 @@ pub(crate) enum Task {
     End,
 }
 
-/// Makes the value under the lock for a run of which no event is done yet.
+/// Makes the value that the lock guards, for a run of which no event is done yet.
 pub(crate) fn make_shared_board<S: Gated>(
     board: Board,
     start: Board,
