@@ -12,7 +12,7 @@ use std::{error, fmt};
 pub enum Rule {
     /// The line is not UTF-8, or no item can be recognized in it.
     Syntax,
-    /// The message that is open has no field of that name.
+    /// The open message has no field of the line's name.
     UnknownField,
     /// The field may not follow the field before it.
     Order,

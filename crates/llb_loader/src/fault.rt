@@ -230,7 +230,7 @@ impl fmt::Debug for Rule {
     }
 }
 
-/// 92: memory was refused for the trees of local sources, or for a copy.
+/// 92: memory was refused for local trees, or to copy them or a graph.
 #[derive(Clone, Copy, Debug, PartialEq, Eq, Error)]
 #[error("92")]
 pub struct Memory;
