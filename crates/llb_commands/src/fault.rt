@@ -78,7 +78,7 @@ pub enum ProgramFault {
     Text(AsmFault),
     /// 185: a text, or the commands of a session, have more than 67,108,864 bytes.
     TooLong,
-    /// 181: a read failed, or the bound on reads was met.
+    /// 181: a read failed, or 2^27 reads did not meet the end.
     Read,
     /// 184: memory was refused to the program itself.
     Memory,

@@ -18,7 +18,7 @@ use std::{error, fmt, io};
 /// Why a local source has no tree.
 #[derive(Clone, Copy, Debug)]
 pub enum SourceFault {
-    /// 181: a file of a local source was not opened, a read of it failed, or its bound on reads was met.
+    /// 181: a local source's file was not opened, a read of it failed, or 2^27 reads did not meet its end.
     Read,
     /// 185: the file of a local source has more than 67,108,864 bytes.
     TooLong,

@@ -9,7 +9,7 @@ pub enum SessionFault {
     /// 181: a read failed; the fault holds the error.
     #[error("181")]
     Failed(ErrorKind),
-    /// 181: the bound on reads was met; the fault has how many reads were interrupted.
+    /// 181: the allowed reads met no end; the fault has how many were interrupted.
     #[error("181")]
     Unending(u64),
     /// 182: the writer failed.
