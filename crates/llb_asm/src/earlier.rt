@@ -96,7 +96,7 @@ impl Earlier {
         size <= ENTRY_LIMIT && self.size + record_length(1, size) <= DEFINITION_LIMIT
     }
 
-    // Appends an entry. The caller ensures that `has_room` is true for the entry's length.
+    // Appends an entry. `has_room` must be true for the entry's length.
     pub(crate) fn push(&mut self, alloc: Global, entry: Bytes) -> Result<(), Memory>
         requires { is_within self.old (length entry) ≡ true }
         ensures { OnOk result (self.new ≡ self.old ++ entry ∷ []) }

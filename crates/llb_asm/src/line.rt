@@ -71,7 +71,8 @@ pub(crate) fn inside(message: MessageName) -> Here
 }
 
 impl Here {
-    // Returns the context after a line of this field. With this line the message must not have more values of the field than the limit of repeated fields.
+    // Returns the context (`Here`: what came before) of the line after a line of this field. With the line of this field the message must not have more values
+    // of the field than the limit of repeated fields.
     fn behind(self, field: NamedField) -> Here
         requires { has_room self field ≡ true }
         ensures { result ≡ behind self field }

@@ -13,7 +13,7 @@ pub record Space : Type 0 where
   pub room : ℕ
   pub cancels : List ℕ
 
--- the events in order, with the reserved room and the counts of cancels
+-- the events in order, for how many events memory is reserved, and for each vertex how often it was cancelled
 pub record HistoryValue : Type 0 where
   pub list : List Event
   pub space : Space
@@ -35,11 +35,11 @@ claimed v events s = record s { room = s.room + taken_by v events s }
 abbrev pub unclaimed : ℕ → ℕ → Space → Space
 unclaimed v events s = record s { room = s.room - taken_by v events s }
 
--- the counts of cancels after a cancel of vertex v
+-- the reserved room, and how often each vertex was cancelled, after a cancel of vertex v: the number for v is greater by 1
 abbrev pub cancelled : ℕ → Space → Space
 cancelled v s = record s { cancels = slice_set s.cancels v (get_or s.cancels v 0 + 1) }
 
--- the counts of cancels after a cancel of vertex v is taken back
+-- the reserved room, and how often each vertex was cancelled, after a cancel of vertex v is taken back: the number for v is lower by 1
 abbrev pub uncancelled : ℕ → Space → Space
 uncancelled v s = record s { cancels = slice_set s.cancels v (get_or s.cancels v 0 - 1) }
 
@@ -53,7 +53,7 @@ front xs = take (length xs - 1) xs
 abbrev pub last_of : {A : Type 0} → List A → Option A
 last_of xs = slice_get xs (length xs - 1)
 
--- the room and the counts of cancels before the last event (an event of vertex v), given those after this event: what the event added is subtracted
+-- the room, and how often each vertex was cancelled, before the last event (an event of vertex v), given both after it: what the event added is subtracted
 abbrev pub space_back : Option Event → ℕ → ℕ → Space → Space
 space_back (Some (Claim w u)) v events s = unclaimed v events s
 space_back (Some (Step w)) v events s = s

@@ -55,7 +55,7 @@ pub record HasRoom (count : ℕ) (reached : List ℕ) (room : ℕ) : Type 0 wher
   pub none : reached ≡ []
   pub fits : count ≤ room
 
--- the lists of users and the counts of open inputs are right for these vertices; `done` says which of the vertices are done
+-- the lists of users, and the counts of open inputs (inputs that are not done yet), are right for these vertices; `done` says which vertices are done
 pub record IsLinked (vs : List Vertex) (done : ℕ → Bool) (l : Linked) : Type 0 where
   pub same_users : length l.users ≡ length vs
   pub same_counts : length l.counts ≡ length vs

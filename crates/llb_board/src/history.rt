@@ -14,7 +14,7 @@ use std::alloc::{AllocError, Global};
 use std::marker::Model;
 
 /// The record of events, and for each vertex, by number, how often it was cancelled. Contracts see the list of events, for how many events there is room, and
-/// the counts of cancels.
+/// for each vertex how often it was cancelled.
 pub(crate) struct History {
     events: Events,
     cancels: Vec<usize>,
@@ -110,7 +110,7 @@ impl History {
         }
     }
 
-    // Lowers the count of a vertex's cancels by one.
+    // Lowers by one the number that says how often vertex `v` was cancelled.
     fn uncount(&mut self, v: u32)
         ensures list { self.new.list ≡ self.old.list }
         ensures space { self.new.space ≡ uncancelled v self.old.space }

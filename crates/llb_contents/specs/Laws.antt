@@ -128,7 +128,7 @@ step_digests ReadLocal = false
 step_digests (Act action) = false
 step_digests (LayInput i) = false
 
--- whether a command may write the byte that begins tokens; a listing may, since no definition here excludes the byte in names, and a digest never has it
+-- whether a command may write byte 255, which begins a token (a number in place of a content); a listing may, as names may have the byte here; a digest can't
 abbrev pub writes_mark : Setting → Command → Bool
 writes_mark setting (command.Write path word) = has_mark (line word)
 writes_mark setting (command.Append path word) = has_mark (line word)
@@ -144,7 +144,7 @@ writes_mark setting (command.Concat out parts) = false
 writes_mark setting (command.Chmod mode path) = false
 writes_mark setting (command.Test kind path) = false
 
--- whether an action writes the byte 255, with which each token (a number that stands for a content) begins
+-- whether an action writes byte 255, which begins a token (a number that takes the place of a content)
 abbrev pub body_has_mark : Option ActionKind → Bool
 body_has_mark (Some (kind.MkFile m)) = has_mark m.body
 body_has_mark (Some (kind.MkDir m)) = false
@@ -152,7 +152,7 @@ body_has_mark (Some (kind.Copy c)) = false
 body_has_mark (Some (kind.Rm r)) = false
 body_has_mark None = false
 
--- whether a micro-step may write the byte that begins tokens
+-- whether a micro-step may write byte 255, which begins a token (a number that takes the place of a content)
 abbrev pub step_writes_mark : MicroStep → Bool
 step_writes_mark (Act action) = body_has_mark action.kind
 step_writes_mark (Run setting command ends) = writes_mark setting command.command

@@ -12,7 +12,7 @@ use Rattle.llb_loader.specs.Rows.{lists}
 use Rattle.llb_loader.specs.Placing.{IsMarked}
 use Rattle.llb_loader.specs.Linking.{Plan, plan, IsPlanOf, IsApart, IsNamed, ReachedRow, links_in}
 
--- the plan of linked rows: the rows, their ops, the number of the terminal's row, and the number of the result's row
+-- the `Plan` of linked rows: the rows, their ops, the number of the terminal's row, and the number of the result's row
 abbrev pub plan_in : Linked → Plan
 plan_in l = plan l.rows.items l.ops.items l.terminal l.start
 

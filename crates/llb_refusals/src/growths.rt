@@ -42,12 +42,12 @@ pub(crate) fn refuse(alloc: Global, k: usize) {
     let _ = Vec::<u8>::with_capacity(alloc, ASK | k);
 }
 
-/// Makes the `k`-th later start of a thread fail, and only that one. Has no effect if the library is not loaded.
+/// Makes the `k`-th start of a thread from now on fail, and only that one. Has no effect if the library `refuse.c` is not loaded.
 pub(crate) fn refuse_thread(alloc: Global, k: usize) {
     let _ = Vec::<u8>::with_capacity(alloc, START | k);
 }
 
-/// Returns whether the growth, or the start of a thread, that was to fail has failed. After this call nothing fails.
+/// Returns whether the request for memory or the start of a thread that `refuse` or `refuse_thread` chose has failed. After this call nothing is made to fail.
 pub(crate) fn was_refused(alloc: Global) -> bool {
     Vec::<u8>::with_capacity(alloc, TELL).is_ok()
 }
@@ -112,8 +112,8 @@ fn all_came(lacks: &str, came: &[String]) -> bool {
     true
 }
 
-// Makes the call of a row while its first growth is refused, then while its second growth is refused, and so on until the call has no growth with that
-// number. Returns the results of the calls that were refused memory.
+// Makes the call of a row while its first growth (request for memory) is refused, then while its second growth is refused, and so on until the call has no
+// growth with that number. Returns the results of the calls that were refused memory.
 fn growths<T: Trial>(rt: &impl Abort, alloc: Global, row: &Row) -> Vec<String> {
     let mut came = Vec::new(alloc);
     for k in 1..MOST {
@@ -133,7 +133,7 @@ pub(crate) fn print_count(rt: &impl Print, count: usize, row: &Row) {
     let _ = println!(rt; "refused {count} ({number}): {call} on {on}");
 }
 
-/// Refuses in turn each growth of each row's call. Ends the test if a result is not one that the row has; prints a line for each row.
+/// Refuses in turn each growth (request for memory) of each row's call. Ends the test if a result is not one that the row has; prints a line for each row.
 pub(crate) fn are_refused<T: Trial>(rt: &(impl Abort + Print), alloc: Global, rows: &[Row]) {
     for row in rows {
         let came = growths::<T>(rt, alloc, row);

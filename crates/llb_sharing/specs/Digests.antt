@@ -1,4 +1,4 @@
--- What vertices with the same digest have in common, in the graphs of two definitions that do not collide.
+-- What vertices with the same digest have in common, in the graphs of two definitions in which entries with the same digest are equal.
 use Rattle.std.specs.Prelude.{◌≡◌, ℕ, List, Ok, Some, slice_get}
 use Rattle.std.specs.List.{Contains}
 use Rattle.llb_wire.specs.Digest.{digest_text}
@@ -28,7 +28,7 @@ pub record LoadWithoutCollision (d : List ℕ) (g : Numbered) (e : List ℕ) (h 
 abbrev pub IsPartOf : List ℕ → List ℕ → Type 0
 IsPartOf d f = (xs zs : List (List ℕ)) → definition_of d ≡ Ok xs → definition_of f ≡ Ok zs → (x : List ℕ) → Contains xs x → Contains zs x
 
--- definitions whose entries are all entries of one loaded definition do not collide
+-- in definitions whose entries are all entries of one loaded definition, entries with the same digest are equal (the definitions do not collide)
 abbrev pub PartsDoNotCollide : List ℕ → Numbered → Type 0
 PartsDoNotCollide f g = IsGraphIn f g → (d e : List ℕ) → IsPartOf d f → IsPartOf e f → DoNotCollide d e
 
