@@ -48,7 +48,7 @@ room_in room (f ∷ below) size = room_in room below (length f.bytes + record_le
 abbrev pub hand_of : (ℕ → Bool) → OpenOp → Hand
 hand_of room s = record { here = s.here; bytes = s.bytes; room = room_in room s.below }
 
--- the open op after a line that adds `held`; `next` is the context of the next line of the same message
+-- the open op after a line that adds `held`; `next` is the context of the next line of the same message (what came before it there: `Here`)
 abbrev pub with_held : OpenOp → Here → Held → OpenOp
 with_held s next (Record bytes) = record { here = next; bytes = s.bytes ++ bytes; below = s.below }
 with_held s next (Opens number sub) = record { here = inside sub; bytes = []; below = record { here = next; number = number; bytes = s.bytes } ∷ s.below }

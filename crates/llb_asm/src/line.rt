@@ -50,7 +50,7 @@ pub enum Held {
     Opens(u32, MessageName),
 }
 
-/// What a line adds, and the context of the next line of the same message.
+/// What a line adds, and the context (`Here`: what came before) of the next line of the same message.
 #[derive(Drop)]
 pub struct Item {
     pub next: Here,
@@ -91,7 +91,7 @@ impl Here {
         }
     }
 
-    // Returns the context after the line of the extra bytes: no other item of the same message may come after this line.
+    // Returns the context (`Here`) of what follows the line of the extra bytes: no other item of the same message may come after this line.
     fn at_end(self) -> Here
         ensures { result ≡ at_end self }
     {

@@ -20,7 +20,7 @@ pub struct Frame {
     pub bytes: Bytes,
 }
 
-/// An op that is open: the context of the next line in the current message, this message's bytes so far, and the messages around it, the innermost last.
+/// An op that is open: what came before the next line in the current message (`Here`), this message's bytes so far, and the messages around it, innermost last.
 #[derive(Drop)]
 pub struct Open {
     pub here: Here,

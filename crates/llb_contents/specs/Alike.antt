@@ -124,7 +124,7 @@ RelatesStep R (Run setting command ends) = RelatesTexts R setting command.comman
 RelatesStep R ReadLocal = Unit {0}
 RelatesStep R (LayInput i) = Unit {0}
 
--- both endings are `Done`, with outputs that are equal except for contents of files, which R relates; or both are `Failed`, with the same fault
+-- both endings are `Done`, with equally many outputs, equal except for contents of files, which R relates; or both are `Failed`, with the same fault
 abbrev pub AreAlikeEndings : (List ℕ → List ℕ → Type 0) → Ending → Ending → Type 0
 AreAlikeEndings R (Done trees) (Done others) = BothLists (AreAlike R) trees others
 AreAlikeEndings R (Failed f) (Failed g) = f ≡ g

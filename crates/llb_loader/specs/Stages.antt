@@ -16,7 +16,7 @@ use Rattle.llb_loader.specs.Linking.{Plan, plan, IsPlanOf, IsApart, IsNamed, Rea
 abbrev pub plan_in : Linked → Plan
 plan_in l = plan l.rows.items l.ops.items l.terminal l.start
 
--- In l the terminal, the row of the result and the links are those of l's rows and ops; each input of a reached row names a row; `seen` marks the reached rows.
+-- In l the terminal, the row of the result and the links are those of l's rows and ops; inputs of reached rows (`ReachedRow`) name rows; `seen` marks these.
 pub record IsLinked (l : Linked) : Type 0 where
   pub few : length l.rows.items ≤ 65_536
   pub len : length l.ops.items ≡ length l.rows.items
@@ -27,8 +27,8 @@ pub record IsLinked (l : Linked) : Type 0 where
   pub seen : length l.seen.items ≡ length l.rows.items
   pub exact : (k : ℕ) → IsMarked l.seen.items k ↔ ReachedRow (plan_in l) k
 
--- n is what the digest texts in the ops of these rows are resolved to. The terminal and the row of the result in n are those of the rows' plan;
--- `links` has for each row the rows that its inputs name; each input of a reached row names a row; `seen` marks the reached rows.
+-- n is what the digest texts in the ops of these rows are resolved to. The terminal and the row of the result in n are those of these rows;
+-- `links` has for each row the rows that its inputs name; each input of a reached row (`ReachedRow`) names a row; `seen` has true for each reached row.
 pub record AreNames (rows : List Row) (ops : List Op) (n : Names) : Type 0 where
   pub planned : IsPlanOf rows ops (plan rows ops n.terminal n.start)
   pub named : IsNamed (plan rows ops n.terminal n.start)

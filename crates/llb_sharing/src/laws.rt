@@ -27,9 +27,9 @@ pub fn outcome_by_sources(graph: &Graph)
     graph.is_graph();
 }
 
-/// Proves a law for two boards over the graphs of definitions that do not collide (entries with the same digest have the same bytes). If two vertices with the
-/// same digest are done or failed, one on each board, they ended alike (with the same outputs or the same fault). The premises: no cache mount is at or before
-/// them, and the sources at or before them have the same trees. This holds for any workers and any order of events, whatever caches other vertices share.
+/// Proves a law for two boards over the graphs of definitions in which entries with the same digest are equal. If two vertices with the same digest are done or
+/// failed, one on each board, they have the same outputs or the same fault. The premises: no cache mount is at or before them, and the sources at or before
+/// them have the same trees. This holds for any workers and any order of events, whatever caches other vertices share.
 pub fn boards_settle_alike(first: &[u8], board: &Board, second: &[u8], other: &Board)
     ensures { LoadWithoutCollision first.now board.now.build.graph second.now other.now.build.graph → SettleAlike board.now other.now }
 {

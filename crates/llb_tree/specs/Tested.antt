@@ -34,7 +34,7 @@ module _ {X : Type 0} (passes : X → List ℕ → Bool) where
   abbrev pub thin : List X → TreeMap → TreeMap
   thin ts t = finite.retain_keys t (λ q. not (goes ts q))
 
-  -- the tree without each path that is at or below a path that the tests select; nothing if this removes no path; the fault `Root` if there are no tests
+  -- the tree without what is at or below paths that the tests select (`passes_all`); nothing if this removes no path; the fault `Root` if there are no tests
   abbrev pub rid_of : List X → TreeMap → Result (Option TreeMap) TreeFault
   rid_of [] t = Err Root
   rid_of (x ∷ ts) t = Ok (if any_goes (x ∷ ts) t then Some (thin (x ∷ ts) t) else None)

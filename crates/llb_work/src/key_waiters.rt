@@ -18,13 +18,14 @@ struct Row {
 }
 
 impl Row {
-    // Returns whether the row has no number: no number waits for the key, and `put` is `None`.
+    // Returns whether the row has no number of a vertex: no vertex waits for the key, and `put` is `None`.
     fn is_empty(&self) -> bool {
         self.put.is_none() && self.first.is_none()
     }
 }
 
-/// The numbers that wait, by key. There are few rows: each has a key that a worker holds, or a number that was put into the queue again.
+/// The vertices that wait for locked keys, by key. There are few rows: each has a key that a worker holds, or a vertex whose number was put into the queue
+/// again.
 #[derive(Drop)]
 pub(crate) struct KeyWaiters {
     rows: Vec<Row>,
@@ -48,15 +49,15 @@ impl KeyWaiters {
         self.rows.iter().position(|row| row.key == *key)
     }
 
-    // Sets which number waits after the number `v`; `None` if no number does.
+    // Sets which vertex, by its number, waits for the same key next after vertex `v`; `None` if no vertex does.
     fn set_after(&mut self, v: u32, next: Option<u32>) {
         if let Some(after) = self.after.get_mut(v as usize) {
             *after = next;
         }
     }
 
-    /// Adds a number that waits for a key. Returns false if there is no room for the key, which does not occur: no number waits twice, so
-    /// there are at most as many keys as numbers.
+    /// Adds vertex `v` to the vertices that wait for a key. Returns false if there is no room for the key, which does not occur: no vertex waits twice, so
+    /// there are at most as many keys as vertices.
     pub(crate) fn push(&mut self, key: Key, v: u32) -> bool {
         self.set_after(v, None);
         match self.place_of(&key) {
@@ -65,7 +66,7 @@ impl KeyWaiters {
         }
     }
 
-    // Adds a number to the row at an index. Returns false if there is no such row.
+    // Adds vertex `v` to the row of a key, which is at this index. Returns false if there is no such row.
     fn push_at(&mut self, at: usize, v: u32) -> bool {
         let Some(row) = self.rows.get_mut(at) else {
             return false;
@@ -95,8 +96,8 @@ impl KeyWaiters {
         true
     }
 
-    // Takes the next number of a row, to be put into the queue again. Returns `None` if no number waits, or if an earlier number of this row was put into the
-    // queue again and its claim is still to be tried.
+    // Takes the number of the next vertex of a row, to be put into the queue again. Returns `None` if no vertex waits, or if the number of an earlier vertex of
+    // this row was put into the queue again and the claim of that vertex is still to be tried.
     fn next_at(&mut self, at: usize) -> Option<u32> {
         let KeyWaiters { rows, after } = self;
         let row = rows.get_mut(at)?;
