@@ -11,7 +11,7 @@ use llb_ops::{ENTRY_LIMIT, MessageName};
 use llb_wire::{Bytes, Many, Memory};
 use std::alloc::Global;
 
-/// A message around the current one: the context of its next line, its bytes so far, and the number of
+/// A message around the current one: the context of its next line (`Here`: what came before that line in the message), its bytes so far, and the number of
 /// the field in which the inner message was opened.
 #[derive(Drop)]
 pub struct Frame {

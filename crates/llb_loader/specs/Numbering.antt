@@ -9,7 +9,7 @@ pub record IsReady (g : List (List ℕ)) (start : ℕ) (done : List ℕ) (k : �
   pub fresh : ¬ Contains done k
   pub inputs_done : All (Contains done) (inputs g k)
 
--- row k gets the next vertex number: `IsReady` (row k has no number, and all rows that its inputs name have one) holds for row k, and for no row before row k
+-- row k gets the next vertex number: of the rows for which `IsReady` holds (reached rows without a number, whose inputs all have one), row k is the first
 pub record IsNext (g : List (List ℕ)) (start : ℕ) (done : List ℕ) (k : ℕ) : Type 0 where
   pub ready : IsReady g start done k
   pub least : (j : ℕ) → IsReady g start done j → k ≤ j

@@ -13,8 +13,8 @@ use std::alloc::{AllocError, Global};
 use std::collections::BTreeSet;
 use std::mem;
 
-/// A row that has no vertex number yet. Its first `checked` inputs name rows that have vertex numbers. If the waiter is in a list of waiters, it waits for the
-/// row that its next input, the one at index `checked`, names.
+/// A row that has no vertex number yet. Its first `checked` inputs name rows that have vertex numbers. If this value is in a list, the row waits until the row
+/// that its next input, the one at index `checked`, names has a vertex number.
 #[derive(Clone, Copy)]
 struct Waiter {
     row: usize,
@@ -79,7 +79,7 @@ fn first_stuck(seen: &[bool], done: &[bool]) -> Option<usize>
     None
 }
 
-// Makes `count` empty lists of waiters.
+// Makes `count` empty lists of `Waiter`s (rows that have no vertex number yet).
 fn empty_lists(alloc: Global, count: usize) -> Result<Vec<Vec<Waiter>>, AllocError>
     ensures len { IfOk result (λ all. length all.items ≡ count) }
     ensures empty { IfOk result (λ all. (b : ℕ) → slice_index_or (lists all.items) b [] ≡ []) }

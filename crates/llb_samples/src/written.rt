@@ -90,7 +90,7 @@ fn push_entry(text: &mut String, entry: &str) -> Result<(), AllocError> {
     }
 }
 
-/// Returns the assembler's text of the entries of a short text.
+/// Returns the assembler's text of the entries that are in `written`, in short form with `; ` between them.
 pub fn entries_text(alloc: Global, written: &str) -> Result<String, AllocError> {
     let mut text = String::new(alloc);
     for entry in written.split("; ") {
@@ -104,7 +104,7 @@ pub fn entries_in(alloc: Global, text: &str) -> Option<Entries> {
     assemble(alloc, text.as_bytes()).ok()
 }
 
-/// Returns the entries of a short text; `None` if the assembler refuses one of them.
+/// Returns the entries that are in `written`, in short form with `; ` between them; `None` if the assembler refuses one of them.
 pub fn entries_of(alloc: Global, written: &str) -> Option<Entries> {
     let text = entries_text(alloc, written).ok()?;
     entries_in(alloc, text.as_str())
@@ -128,7 +128,7 @@ pub fn graph_in(alloc: Global, text: &str) -> Option<Graph> {
     graph_with(alloc, &entries)
 }
 
-/// Returns the graph of the definition that has the entries of a short text; `None` if an entry or the definition is refused.
+/// Returns the graph of the definition whose entries are in `written`, in short form with `; ` between them; `None` if an entry or the definition is refused.
 pub fn graph_of(alloc: Global, written: &str) -> Option<Graph> {
     let entries = entries_of(alloc, written)?;
     graph_with(alloc, &entries)

@@ -125,8 +125,8 @@ pub(crate) fn run_crew<S: Gated + Send + Sync, G: Gate + Sync, R: Threads + Wait
     Ok(closed(board.into_inner(), share, made))
 }
 
-// Closes the ledger of a run, whose threads have ended and have given back all shares of the ledger. Also counts the events of the record that
-// no worker has counted.
+// Closes the ledger of a run (which counts the events that the workers make). The threads of the run must have ended, and must have given back all shares of
+// the ledger. Also counts the events of the record that no worker has counted.
 fn closed<S: Gated>(shared: SharedBoard<S>, share: Share<S>, made: [u64; 64]) -> CrewEnd
     requires whole { share.parts ≡ S.parts }
     requires made { share.amount ≡ sum made }

@@ -1,7 +1,7 @@
-//! Keeps the numbers of vertices whose claim was refused because another worker holds a locked key; these numbers wait for the key. The numbers that wait for
-//! one key are put into the queue again one by one: the first when the vertex that holds the key ends, and each later one when the vertex of the number before
-//! it ends, or when the claim of that vertex is refused for another key. So no vertex is claimed again and again while the key is held. The table is made with
-//! all the room that it needs, and later calls do not allocate. Nothing in this module knows about the board.
+//! Keeps the numbers of vertices whose claim was refused because another worker holds a locked key; these vertices wait for the key. The numbers of the
+//! vertices that wait for one key are put into the queue again one by one: the first when the vertex that holds the key ends, and each later one when the
+//! vertex before it ends, or when the claim of the vertex before it is refused for another key. So no vertex is claimed again and again while the key is held.
+//! The table is made with all the room that it needs, and later calls do not allocate. Nothing in this module knows about the board.
 
 use llb_cache::Key;
 use std::alloc::{AllocError, Global};

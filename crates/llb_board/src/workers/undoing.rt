@@ -25,7 +25,7 @@ use llb_tree::Tree;
 use std::alloc::Global;
 use std::marker::Model;
 
-/// What is needed to take an event back: what the event displaced. Contracts see it as `Displaced`.
+/// What is needed to take an event back. Contracts see it as `Displaced`.
 pub struct Undo {
     back: Back,
 }
@@ -165,8 +165,8 @@ impl Workers {
         }
     }
 
-    /// Puts back into the workers and the caches what an event displaced there, as `undo` has it. Returns the vertex whose status changes, with its status
-    /// before the event; `None` for a step. Does not allocate.
+    /// Takes an event back in the workers and the caches: gives them again what they had before the event, by what `undo` has kept. Returns the vertex whose
+    /// status changes, with its status before the event; `None` for a step. Does not allocate.
     pub(crate) fn put_back(&mut self, undo: Undo) -> Option<Change>
         requires { CanPutBack undo self.old }
         ensures workers { self.new.workers ≡ workers_before undo.back self.old.workers }
@@ -178,7 +178,7 @@ impl Workers {
     }
 }
 
-// Puts back what an event displaced. Returns the vertex whose status changes, with its status before the event; `None` for a step.
+// Takes an event back in the workers and the caches. Returns the vertex whose status changes, with its status before the event; `None` for a step.
 fn displace(seats: &mut Vec<Seat>, caches: &mut Caches, back: Back) -> Option<Change>
     requires can { CanPutBack (record { back = back_in back })
         (record { workers = map at_of seats.old.items; rows = caches.old.rows; supplies = map ready_made seats.old.items }) }
