@@ -25,7 +25,7 @@ use Rattle.llb_asm.specs.Reading.{Hand, closing, record_length, is_within, item_
 
 -- ---- an op that is open
 
--- an op that is open: the context of the next line in the current (innermost) message, this message's bytes so far, and the messages around it, innermost first
+-- an op that is open: the context (`Here`) of the next line in the current (innermost) message, this message's bytes so far, messages around it, from inside
 pub record OpenOp : Type 0 where
   pub here : Here
   pub bytes : List ℕ

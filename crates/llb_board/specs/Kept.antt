@@ -1,4 +1,4 @@
--- The invariant of a board: the table replays the record, and the record's room, the counts of cancels and the workers' supplies are right.
+-- The invariant of a board: the table replays the record; the room for events, how often each vertex was cancelled, and the workers' supplies are right.
 use Rattle.std.specs.Prelude.{◌+◌, ◌≡◌}
 use Rattle.llb_model.specs.Room.{most_events, owed, cancel_counts}
 use Rattle.llb_board.specs.Workers.{WorkersValue, Fits}

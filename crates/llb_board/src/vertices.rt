@@ -1,5 +1,5 @@
 //! The vertices: the graph with its local trees, and the state of each vertex. Some things that follow from these are kept too, so that they are not computed
-//! at each call: which vertices have failed or are downstream of one that has, the number of open inputs of each vertex, and where the search for a Ready
+//! at each call: which vertices have failed or are downstream of one that has, how many inputs of each vertex are not done, and where the search for a Ready
 //! vertex begins.
 
 ghost use Rattle.std.specs.Prelude.{◌≡◌, ◌<◌, ◌^◌, ◌||◌, IfOk, IfErr, length, option_map, replicate, slice_get, false, is_ok, true, Some, Err};
@@ -77,7 +77,7 @@ impl Model for Vertices {
 }
 
 impl Vertices {
-    /// Makes the vertices of a graph; all of them wait. If memory is refused, fails with the graph and the local trees that were handed in.
+    /// Makes the vertices of a graph; all of them wait. If memory is refused, fails with the graph and the local trees that the call was made with.
     pub(crate) fn open(
         alloc: Global,
         graph: Graph,
@@ -323,7 +323,7 @@ fn output_at(stages: &[Stage], v: u32, i: u32) -> Option<&Tree>
     }
 }
 
-// Updates the counts of open inputs of the users of a vertex, given whether the vertex was done before and whether it is done now.
+// Updates, for each user of a vertex, the count of inputs that are not done, given whether the vertex was done before and whether it is done now.
 fn count(links: &mut Links, v: u32, was_done: bool, is_done: bool)
     requires low { v < length links.old.users }
     requires below { All (λ x. x < length links.old.counts) (users_at links.old v) }

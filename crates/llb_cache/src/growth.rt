@@ -45,8 +45,8 @@ impl Caches {
         }
     }
 
-    /// Takes a current lease back, and removes what the lease added to the rows. For each need of the lease, `growths` must have what `growth` returned before
-    /// the lease was granted. No other lease may have an instance that is removed. Does not allocate.
+    /// Takes a current lease back, and removes what the lease added to the rows. For each need of the lease, `growths` must have what the call `growth`
+    /// returned before the lease was granted: what the lease would add. No other lease may have an instance that is removed. Does not allocate.
     pub fn take_back(&mut self, lease: Lease, growths: &[Growth])
         requires out { IsOut self.old.out lease }
         requires there { AreThere (taken_back self.old lease growths.now).rows (taken_back self.old lease growths.now).out }

@@ -26,16 +26,16 @@ use Rattle.llb_contents.specs.Alike.{BothResults, AreAlikeViews, RelatesTexts, R
 abbrev pub By : (List ℕ → List ℕ → Bool) → List ℕ → List ℕ → Type 0
 By test a b = test a b ≡ true
 
--- for any trees `u` alike to `t` and `w` alike to `v`: `w` laid over `u` is alike to `v` laid over `t`
+-- for any trees `u` alike to `t` and `w` alike to `v` (equal except for related contents of files): `w` laid over `u` is alike to `v` laid over `t`
 abbrev pub LaysAlike : TreeMap → TreeMap → Type 0
 LaysAlike t v = (test : List ℕ → List ℕ → Bool) (u w : TreeMap) → AreAlike (By test) t u → AreAlike (By test) v w → AreAlike (By test) (lay t v) (lay u w)
 
--- on trees alike to `t` and `v`, an action has the same fault as on `t` and `v`, or an alike result, if what it writes is related to itself (`RelatesBody`)
+-- on trees that `AreAlike` relates to `t` and `v`, an action has the same fault as on them, or an alike result, if what it writes is related to itself
 abbrev pub ActsAlike : Option ActionKind → TreeMap → TreeMap → Type 0
 ActsAlike a t v = (test : List ℕ → List ℕ → Bool) (u w : TreeMap) → RelatesBody (By test) a → AreAlike (By test) t u → AreAlike (By test) v w
     → BothResults (AreAlike (By test)) (act a t v) (act a u w)
 
--- on two views alike by a relation, a command fails on both or leaves alike views, if appending keeps the relation and `RelatesTexts` holds of the command
+-- on views that are equal except for related contents, a command fails on both or leaves such views, if appending keeps the relation and `RelatesTexts` holds
 abbrev pub RunsAlike : Setting → List Shown → Command → Type 0
 RunsAlike s v c = (test : List ℕ → List ℕ → Bool) (w : List Shown) → IsKept (By test) → RelatesTexts (By test) s c → AreAlikeViews (By test) v w
     → BothOptions (AreAlikeViews (By test)) (run s v c) (run s w c)
@@ -55,20 +55,20 @@ pub record IsSourceOf (g : Numbered) (v : ℕ) (name : List ℕ) : Type 0 where
   pub there : slice_get g.vertices number ≡ Some source
   pub named : local_name source.op ≡ Some name
 
--- each local source at or before vertex v has alike trees in the two lists of local trees, or has no tree in either
+-- each local source at or before vertex v has trees in both lists that are equal except for contents, which R relates (`AreAlike`), or has no tree in either
 abbrev pub HaveAlikeSources : (List ℕ → List ℕ → Type 0) → Numbered → ℕ → List Local → List Local → Type 0
 HaveAlikeSources R g v ls ms = (name : List ℕ) → IsSourceOf g v name → BothOptions (AreAlike R) (tree_of_local ls name) (tree_of_local ms name)
 
--- the plain outcomes of a vertex with the two lists of local trees are alike: both are blocked, both failed with the same fault, or both are done with equally
--- many outputs, which are alike
+-- the plain outcomes of a vertex with the two lists of local trees: both are blocked, both failed with the same fault, or both are done with equally many
+-- outputs, which are equal except for contents of files, which R relates (`AreAlike`)
 abbrev pub HasAlikeOutcomes : (List ℕ → List ℕ → Type 0) → Numbered → List Local → List Local → ℕ → Type 0
 HasAlikeOutcomes R g ls ms v = BothOptions (AreAlikeOutcomes R) (outcome (record { graph = g; locals = ls }) v) (outcome (record { graph = g; locals = ms }) v)
 
--- a vertex has alike plain outcomes with two lists of local trees, if `RelatesWritten` holds and the sources at or before it have alike trees in the two lists
+-- if `RelatesWritten` holds, and the trees of the sources at or before a vertex in two lists differ only in related contents, so do its plain outcomes
 abbrev pub HandsOn : (List ℕ → List ℕ → Type 0) → Numbered → Type 0
 HandsOn R g = (ls ms : List Local) (v : ℕ) → RelatesWritten R g v → HaveAlikeSources R g v ls ms → HasAlikeOutcomes R g ls ms v
 
--- `HandsOn` (alike sources lead to alike plain outcomes) holds for every relation that a test decides and that is kept when related contents are appended
+-- `HandsOn` (if sources differ only in related contents, so do plain outcomes) holds for every relation that a test decides and that appending keeps
 abbrev pub HandsRelationsOn : Numbered → Type 0
 HandsRelationsOn g = (test : List ℕ → List ℕ → Bool) → IsKept (By test) → HandsOn (By test) g
 

@@ -21,7 +21,8 @@ struct Waiter {
     checked: usize,
 }
 
-// Returns the rows that are reached from `start`, in the order of their vertex numbers; `None` if these rows have a cycle. `seen` marks the reached rows.
+// Returns the rows that are reached from `start`, in the order of their vertex numbers; `None` if these rows have a cycle. `seen` must have true for each of
+// these rows and false for every other row.
 pub(crate) fn number(
     alloc: Global,
     rows: &[Vec<usize>],
@@ -64,7 +65,7 @@ pub(crate) fn number(
     }
 }
 
-// Returns the first row that `seen` marks and that is not numbered; `None` if there is no such row.
+// Returns the first row that is reached (`seen` has true for it) and has no number (`done` has false); `None` if there is no such row.
 fn first_stuck(seen: &[bool], done: &[bool]) -> Option<usize>
     requires { length done.now ≡ length seen.now }
     ensures { MatchOption result ((k : ℕ) → IsMarked seen.now k → IsMarked done.now k) (λ k. IsMarked seen.now k × (slice_index_or done.now k false ≡ false)) }

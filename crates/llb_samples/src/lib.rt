@@ -1,4 +1,4 @@
-//! Samples for the crates of tests: entries and trees by their names; definitions and local trees from short texts; and paths and trees as texts. No call of
+//! Samples for the crates of tests: entries and trees by their names; definitions and local trees from texts; and paths and trees as texts. No call of
 //! this crate ends a test: a call that can't return a value returns `None`, or the fault for refused memory.
 #![tactic(auto)]
 

@@ -1,4 +1,4 @@
-//! Definitions from short texts. A short text has the entries of a definition, with `; ` between them.
+//! Definitions from texts in a short form, which has the entries of a definition, with `; ` between them.
 //!
 //! An entry is written in one of four ways: a name in `entries`; `RESULT_N` or `RESULT N`, the terminal that names entry N; the script of an exec; or lines
 //! of the assembler's text. `sh: SCRIPT` is an exec of the script on the empty tree at `/`. `locked: SCRIPT`, `private: SCRIPT` and `shared: SCRIPT` are the
