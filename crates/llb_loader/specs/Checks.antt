@@ -1,4 +1,4 @@
--- When the checks of the reached rows, on which the result depends, fail. Reached rows are marked; a check goes through them and stops at the first faulty row.
+-- When the checks of the reached rows, on which the result depends, fail. The condition `Marked` holds of these rows; a check stops at the first faulty one.
 use Rattle.std.specs.Prelude.{◌≡◌, ◌≢◌, ℕ, ◌<◌, ◌==◌, ◌⊎◌, Bool, false, cond, List, [], length, slice_index_or, Some, None}
 use Rattle.llb_ops.specs.declared.op.Op.{Op}
 use Rattle.llb_loader.specs.declared.row.Row.{Row}
