@@ -51,7 +51,7 @@ pub data Role : Type 0 where
   Laid : Role
   MountAt : List (List ℕ) → Role
 
--- the role that a value of the code's type `Part` represents
+-- the `Role` (what a tree of a workspace is) that a value of the code's type `Part` represents
 abbrev pub role_in : Part → Role
 role_in part.Local = Local
 role_in part.Input = Input
