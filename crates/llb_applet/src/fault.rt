@@ -94,7 +94,7 @@ impl From<llb_wire::Memory> for Memory {
     }
 }
 
-/// Converts the fault of a call that copies a name, a path or a tree. Such a call fails only for want of memory.
+/// Converts the fault with which copying a name, a path or a tree fails, refused memory, into `Memory`.
 impl From<TreeFault> for Memory {
     fn from(_: TreeFault) -> Memory {
         Memory

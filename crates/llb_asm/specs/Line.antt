@@ -98,7 +98,7 @@ held_in labels row text = held_by labels row row.1.kind text
 
 -- ---- the context of a line: the message, its last field so far, how many times in succession that field has occurred, whether a member of the oneof is set
 
--- the context of the first line of a message
+-- the context (`Here`: the message, and what came before the line in it) of the first line of a message
 abbrev pub inside : MessageName → Here
 inside m = record { message = m; last = 0; set = false; count = 0; ended = false }
 
@@ -112,7 +112,7 @@ behind here f = record {
   ended = false;
 }
 
--- the context after the line of the extra bytes; no other item of the same message may come after this line
+-- the context (`Here`) of what follows the line of the extra bytes; no other item of the same message may come after this line
 abbrev pub at_end : Here → Here
 at_end here = record { message = here.message; last = here.last; set = here.set; count = here.count; ended = true }
 
@@ -120,7 +120,7 @@ at_end here = record { message = here.message; last = here.last; set = here.set;
 abbrev pub has_room : Here → NamedField → Bool
 has_room here f = not ((here.last == f.number) && nat_le field_limit here.count)
 
--- whether a line of field f may follow in this context
+-- whether a line of field f may follow what came before in its message (`Here`)
 abbrev pub follows : Here → NamedField → Bool
 follows here f = not here.ended && may_follow here.last here.set f
 
@@ -143,7 +143,7 @@ field_in labels here p = do
   _ ← guard (Breaks OverLimit) (has_room here row.1)
   Ok (record { next = behind here row.1; held = held })
 
--- the item that a line adds in its context, or why the line is refused
+-- the `Item` of a line (what it adds, and the context of the next line), given what came before in its message (`Here`); or why the line is refused
 unfoldable pub line_in : List (List ℕ) → Here → List ℕ → Result Item Refusal
 line_in labels here line = do
   p ← or_else (Breaks Syntax) (parted line)

@@ -104,7 +104,7 @@ IsWhole (single line next bytes rest) = IsWhole rest
 IsWhole (nested line next number sub inner rest) = IsWhole rest
 IsWhole (unclosed line next number sub inner) = ⊥
 
--- the item of a line: what the line adds (`held`), and the context of the next line of the same message (`next`)
+-- the item of a line: what the line adds (`held`), and the context (`Here`: what came before) of the next line of the same message (`next`)
 abbrev pub item : Here → Held → Item
 item next held = record { next = next; held = held }
 

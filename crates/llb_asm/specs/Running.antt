@@ -25,7 +25,7 @@ use Rattle.llb_asm.specs.Reading.{Hand, closing, record_length, is_within, item_
 
 -- ---- an op that is open
 
--- an op that is open: the context of the next line in the current (innermost) message, this message's bytes so far, and the messages around it, innermost first
+-- an op that is open: the context (`Here`) of the next line in the current (innermost) message, this message's bytes so far, messages around it, from inside
 pub record OpenOp : Type 0 where
   pub here : Here
   pub bytes : List ℕ
@@ -48,7 +48,7 @@ room_in room (f ∷ below) size = room_in room below (length f.bytes + record_le
 abbrev pub hand_of : (ℕ → Bool) → OpenOp → Hand
 hand_of room s = record { here = s.here; bytes = s.bytes; room = room_in room s.below }
 
--- the open op after a line that adds `held`; `next` is the context of the next line of the same message
+-- the open op after a line that adds `held`; `next` is the context of the next line of the same message (what came before it there: `Here`)
 abbrev pub with_held : OpenOp → Here → Held → OpenOp
 with_held s next (Record bytes) = record { here = next; bytes = s.bytes ++ bytes; below = s.below }
 with_held s next (Opens number sub) = record { here = inside sub; bytes = []; below = record { here = next; number = number; bytes = s.bytes } ∷ s.below }

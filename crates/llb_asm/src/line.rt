@@ -50,7 +50,7 @@ pub enum Held {
     Opens(u32, MessageName),
 }
 
-/// What a line adds, and the context of the next line of the same message.
+/// What a line adds, and the context (`Here`: what came before) of the next line of the same message.
 #[derive(Drop)]
 pub struct Item {
     pub next: Here,
@@ -71,7 +71,8 @@ pub(crate) fn inside(message: MessageName) -> Here
 }
 
 impl Here {
-    // Returns the context after a line of this field. With this line the message must not have more values of the field than the limit of repeated fields.
+    // Returns the context (`Here`: what came before) of the line after a line of this field. With the line of this field the message must not have more values
+    // of the field than the limit of repeated fields.
     fn behind(self, field: NamedField) -> Here
         requires { has_room self field ≡ true }
         ensures { result ≡ behind self field }
@@ -90,7 +91,7 @@ impl Here {
         }
     }
 
-    // Returns the context after the line of the extra bytes: no other item of the same message may come after this line.
+    // Returns the context (`Here`) of what follows the line of the extra bytes: no other item of the same message may come after this line.
     fn at_end(self) -> Here
         ensures { result ≡ at_end self }
     {

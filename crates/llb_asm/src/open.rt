@@ -11,7 +11,7 @@ use llb_ops::{ENTRY_LIMIT, MessageName};
 use llb_wire::{Bytes, Many, Memory};
 use std::alloc::Global;
 
-/// A message around the current one: the context of its next line, its bytes so far, and the number of
+/// A message around the current one: the context of its next line (`Here`: what came before that line in the message), its bytes so far, and the number of
 /// the field in which the inner message was opened.
 #[derive(Drop)]
 pub struct Frame {
@@ -20,7 +20,7 @@ pub struct Frame {
     pub bytes: Bytes,
 }
 
-/// An op that is open: the context of the next line in the current message, this message's bytes so far, and the messages around it, the innermost last.
+/// An op that is open: what came before the next line in the current message (`Here`), this message's bytes so far, and the messages around it, innermost last.
 #[derive(Drop)]
 pub struct Open {
     pub here: Here,

@@ -33,7 +33,7 @@ pub record IsBegunPlainly (b : BoardValue) (w : ℕ) (x : Execution) : Type 0 wh
 abbrev pub BegunArePlain : BoardValue → Type 0
 BegunArePlain b = (w : ℕ) (x : Execution) → is_plain b.build x.vertex ≡ true → slice_get b.state.workers w ≡ Some (Runs x) → x.done ≡ 0 → IsBegunPlainly b w x
 
--- a claim of a vertex with no cache mount at or before it hands out the plain job, which the build, the worker and the vertex determine
+-- a claim of a vertex with no cache mount at or before it hands out a job (`plain_job`) that depends on the build, the worker and the vertex alone
 abbrev pub ClaimsArePlain : BoardValue → Type 0
 ClaimsArePlain b = (w v : ℕ) (t : State) (job : Job) → is_plain b.build v ≡ true → table b.build b.state (Claim w v) ≡ Some (t, Claimed job)
     → plain_job b.build w v ≡ Some job

@@ -70,11 +70,11 @@ pub data Back : Type 0 where
   Unstep : ℕ → Saved → List TreeMap → Back
   Resume : End → ℕ → Left → Option LentValue → Back
 
--- what an event displaced, as one value; these data are enough to take the event back
+-- what an event displaced: the data, as one value, that are needed to take the event back
 pub record Displaced : Type 0 where
   pub back : Back
 
--- what an event displaced, in the types that contracts see
+-- what is needed to take an event back: the value that contracts see (`Back`), made from the code's value
 abbrev pub back_in : undo.Back → Back
 back_in (back.Unclaim w v growths) = Unclaim w v growths.items
 back_in (back.Unstep w saved trees) = Unstep w saved trees.items

@@ -13,7 +13,7 @@ pub record Space : Type 0 where
   pub room : ℕ
   pub cancels : List ℕ
 
--- the events in order, with the reserved room and the counts of cancels
+-- the events in order, for how many events memory is reserved, and for each vertex how often it was cancelled
 pub record HistoryValue : Type 0 where
   pub list : List Event
   pub space : Space
@@ -35,11 +35,11 @@ claimed v events s = record s { room = s.room + taken_by v events s }
 abbrev pub unclaimed : ℕ → ℕ → Space → Space
 unclaimed v events s = record s { room = s.room - taken_by v events s }
 
--- the counts of cancels after a cancel of vertex v
+-- the reserved room, and how often each vertex was cancelled, after a cancel of vertex v: the number for v is greater by 1
 abbrev pub cancelled : ℕ → Space → Space
 cancelled v s = record s { cancels = slice_set s.cancels v (get_or s.cancels v 0 + 1) }
 
--- the counts of cancels after a cancel of vertex v is taken back
+-- the reserved room, and how often each vertex was cancelled, after a cancel of vertex v is taken back: the number for v is lower by 1
 abbrev pub uncancelled : ℕ → Space → Space
 uncancelled v s = record s { cancels = slice_set s.cancels v (get_or s.cancels v 0 - 1) }
 

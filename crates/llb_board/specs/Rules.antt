@@ -20,6 +20,6 @@ step_of b w = recorded b (Step w) (step_grant b.build b.state w)
 abbrev pub settle_of : BoardValue → ℕ → Result (BoardValue × Reply) SettleFault
 settle_of b w = recorded b (Settle w) (settle_grant b.build b.state w)
 
--- the board and the reply after a cancel, which is appended to the record; or the table's refusal
+-- the board after a cancel, which is the last event of its record, and the reply to the cancel; or the table's refusal
 abbrev pub cancel_of : BoardValue → ℕ → Result (BoardValue × Reply) CancelFault
 cancel_of b w = recorded b (Cancel w) (cancel_grant b.state w)

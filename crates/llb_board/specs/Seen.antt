@@ -10,7 +10,7 @@ use Rattle.llb_model.specs.Run.{run}
 use Rattle.llb_board.specs.Vertices.{VerticesValue}
 use Rattle.llb_board.specs.Workers.{WorkersValue, state_in}
 
--- what contracts see of a board: its build (the graph and its local trees); what it was opened with; the rows of the caches, as handed in
+-- what contracts see of a board: its build (the graph and its local trees); what it was opened with; the rows of the caches, with which it was opened
 -- (`first`) and as they are now (`rows`); the machine's state, which has the trees of the caches too; and the events so far
 pub record BoardValue : Type 0 where
   pub build : Build
@@ -20,11 +20,11 @@ pub record BoardValue : Type 0 where
   pub rows : List Row
   pub events : List Event
 
--- what a board is opened with: this number of workers, and the trees of the caches that were handed in
+-- what a board is opened with: this number of workers, and the trees of the caches, which these rows have
 abbrev pub opening_with : ℕ → List Row → Opening
 opening_with workers rows = record { workers = workers; store = store_of rows }
 
--- what contracts see of a board with these vertices, workers and events; `first` has the rows of the caches that were handed in
+-- what contracts see of a board with these vertices, workers and events; `first` has the rows of the caches with which the board was opened
 abbrev pub seen : VerticesValue → List Row → WorkersValue → List Event → BoardValue
 seen vs first ws events = record {
   build = vs.build;

@@ -59,7 +59,7 @@ statuses_before (Unclaim w v growths) statuses = slice_set statuses v Waiting
 statuses_before (Unstep w saved trees) statuses = statuses
 statuses_before (Resume e w left lent) statuses = slice_set statuses left.execution.vertex (Running w)
 
--- board b before its last event, if `u` holds what this event displaced
+-- board b before its last event, if `u` has what is needed to take this event back
 abbrev pub undone : Displaced → BoardValue → BoardValue
 undone u b = record b {
   state = record {

@@ -54,11 +54,11 @@ is_over b statuses v = is_settled (slice_get statuses v) || (is_blocked b status
 abbrev pub AreOver : Build → List Status → ℕ → Type 0
 AreOver b statuses n = (v : ℕ) → v < n → is_over b statuses v ≡ true
 
--- the count of open inputs of a vertex is 0 exactly if all the trees that the vertex takes as inputs exist
+-- the count of a vertex's open inputs (inputs that are not done yet) is 0 exactly if all the trees that the vertex takes as inputs exist
 abbrev pub TellsInputs : Build → List Status → Linked → Type 0
 TellsInputs b statuses l = (v : ℕ) (x : Vertex) → slice_get b.graph.vertices v ≡ Some x → has_inputs l v ≡ is_some (inputs_from (ending_at statuses) x.inputs)
 
--- the new counts of open inputs of a vertex's users: lower by one if the vertex is done now and was not, higher by one if it was done and is not, else the same
+-- how many inputs of each user of a vertex are not done: one fewer if the vertex is done now and was not, one more if it was done and is not, else as many
 abbrev pub AreCounted : (was_done is_done : Bool) → List ℕ → List ℕ → List ℕ → Type 0
 AreCounted false true users old new = AreLowered users old new
 AreCounted true false users old new = AreRaised users old new

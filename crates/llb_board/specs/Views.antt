@@ -14,7 +14,7 @@ abbrev pub at_of : Seat → model.WorkerStatus
 at_of seat.Idle = model.Idle
 at_of (seat.Runs l x) = model.Runs (execution_of x)
 
--- the worker with this seat runs a vertex
+-- the worker with this seat (the code's value for what the worker runs) runs a vertex
 abbrev pub IsRunning : Option Seat → Type 0
 IsRunning (Some (seat.Runs l x)) = Unit {0}
 IsRunning (Some seat.Idle) = ⊥

@@ -301,7 +301,7 @@ impl Board {
         self.vertices.are_settled()
     }
 
-    /// Returns the caches as they are now: each key with its instances, first the keys that were handed in, then the others in the order of
+    /// Returns the caches as they are now: each key with its instances, first the keys with which the board was opened, then the others in the order of
     /// their first claims. The current leases hold the instances of the running workers. Does not allocate.
     pub fn caches(&self) -> &Caches
         ensures rows { result.now.rows ≡ self.now.rows }
@@ -357,9 +357,9 @@ impl Board {
         let _ = self.workers.look(&self.vertices, 0);
     }
 
-    /// Proves that the table replays the record from the opening state to the board's state, and that this replay leads from the lists of instances that were
-    /// handed in to the lists that the board has now. So two boards are the same if they were opened with the same graph, local trees, caches and number of
-    /// workers, and have the same record.
+    /// Proves that the table replays the record from the opening state to the board's state, and that this replay leads from the lists of instances with which
+    /// the board was opened to the lists that the board has now. So two boards are the same if they were opened with the same graph, local trees, caches and
+    /// number of workers, and have the same record.
     pub fn replays(&self)
         ensures run { Replays self.now }
         ensures reached { IsReached self.now.build self.now.state }
@@ -418,7 +418,7 @@ fn room(vertices: &Vertices) -> usize
     all
 }
 
-// Returns the fault 123 `Memory`, with the graph, the local trees and the caches that were handed in.
+// Returns the fault 123 `Memory`, with the graph, the local trees and the caches with which the board was to be opened.
 fn refused(vertices: Vertices, caches: Caches) -> OpenFault
     ensures { result ≡ opening.Memory vertices.build.graph vertices.build.locals caches }
 {

@@ -106,7 +106,7 @@ impl<T: Drop> From<AllocFailed<T>> for Memory {
     }
 }
 
-/// Converts the fault of copying caches.
+/// Converts the fault with which copying caches fails, refused memory, into this crate's `Memory`.
 impl From<llb_cache::Memory> for Memory {
     fn from(_: llb_cache::Memory) -> Memory {
         Memory
@@ -134,7 +134,7 @@ impl From<llb_loader::Memory> for Memory {
     }
 }
 
-/// Converts the fault of copying the directory and the variables with which commands run.
+/// Converts the fault with which copying the directory and the variables of commands fails, refused memory, into this crate's `Memory`.
 impl From<llb_applet::Memory> for Memory {
     fn from(_: llb_applet::Memory) -> Memory {
         Memory
@@ -214,7 +214,7 @@ impl From<CancelFault> for WalkFault {
     }
 }
 
-/// Converts the fault of reserving room for events.
+/// Converts the fault with which reserving room for events fails, refused memory, into `ClaimFault::Memory`.
 impl From<Memory> for ClaimFault {
     ghost use Rattle.std.specs.Prelude.{◌≡◌};
     ghost use Rattle.llb_events.specs.declared.refusal.ClaimFault.TheVariants as claim;

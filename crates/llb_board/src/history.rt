@@ -14,7 +14,7 @@ use std::alloc::{AllocError, Global};
 use std::marker::Model;
 
 /// The record of events, and for each vertex, by number, how often it was cancelled. Contracts see the list of events, for how many events there is room, and
-/// the counts of cancels.
+/// for each vertex how often it was cancelled.
 pub(crate) struct History {
     events: Events,
     cancels: Vec<usize>,
@@ -68,8 +68,8 @@ impl History {
         self.events.push_reserved(event);
     }
 
-    /// Appends a cancel by worker `w`, and adds one to the count of cancels of vertex `v`. There must be room for the event, and the count so far must be
-    /// at most the number of events.
+    /// Appends a cancel by worker `w`, and adds one to the number that says how often vertex `v` was cancelled. There must be room for the event, and this
+    /// number must be at most the number of events so far.
     pub(crate) fn record_cancel(&mut self, w: u32, v: u32)
         requires room { length self.old.list < self.old.space.room }
         requires low { v < length self.old.space.cancels }
@@ -95,7 +95,7 @@ impl History {
     }
 
     /// Removes the last event, which is an event of vertex `v`. If the event is a claim, releases the room that the claim reserved (room for `events` events if
-    /// the vertex was cancelled before, else none). If the event is a cancel, lowers the vertex's count of cancels by one.
+    /// the vertex was cancelled before, else none). If the event is a cancel, lowers by one the number that says how often the vertex was cancelled.
     pub(crate) fn take_back(&mut self, v: u32, events: usize)
         ensures list { self.new.list ≡ front self.old.list }
         ensures space { self.new.space ≡ space_back (last_of self.old.list) v events self.old.space }
@@ -110,7 +110,7 @@ impl History {
         }
     }
 
-    // Lowers the count of a vertex's cancels by one.
+    // Lowers by one the number that says how often vertex `v` was cancelled.
     fn uncount(&mut self, v: u32)
         ensures list { self.new.list ≡ self.old.list }
         ensures space { self.new.space ≡ uncancelled v self.old.space }

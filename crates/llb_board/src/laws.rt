@@ -58,7 +58,7 @@ pub fn chosen_until_complete(board: &Board)
     board.replays();
 }
 
-/// Proves that the table grants the chosen event (see `Board::chosen`).
+/// Proves that the table grants the chosen event (`Board::chosen`: the event that a run on one thread does next).
 pub fn chosen_is_granted(board: &Board)
     ensures { ChosenIsGranted board.now }
 {
@@ -118,8 +118,9 @@ pub fn runs_in_claim_order(board: &Board)
     board.replays();
 }
 
-/// Proves a law for a list of chosen events (see `Board::chosen`) that begins at the opening. If no vertex runs at the end of the list, the vertices and the
-/// cache instances, shared ones included, are then as if the claimed vertices had been run one after another, in the order of their claims.
+/// Proves a law for a list of chosen events (each is the event that a run on one thread does next: `Board::chosen`) that begins at the opening. If no vertex
+/// runs at the end of the list, the vertices and the cache instances, shared ones included, are then as if the claimed vertices had been run one after another,
+/// in the order of their claims.
 pub fn alone_in_claim_order(board: &Board)
     ensures { machine.AloneInClaimOrder board.now.build }
 {

@@ -89,7 +89,7 @@ impl Links {
         }
     }
 
-    /// Returns whether a vertex has no open input (an edge to a vertex that is not done); false past the last vertex. Does not allocate.
+    /// Returns whether, by the counts, all inputs of a vertex are done; false past the last vertex. Does not allocate.
     pub(crate) fn has_inputs(&self, v: u32) -> bool
         ensures { result ≡ has_inputs self.now v }
     {
@@ -99,7 +99,7 @@ impl Links {
         }
     }
 
-    /// Records that a vertex is done: decrements the count of open inputs of each of its users. Does not allocate.
+    /// Records that a vertex is done: decrements the count of open inputs (inputs that are not done yet) of each of its users. Does not allocate.
     pub(crate) fn count_down(&mut self, v: u32)
         requires low { v < length self.old.users }
         requires below { All (λ x. x < length self.old.counts) (users_at self.old v) }
@@ -114,7 +114,7 @@ impl Links {
         lower(counts, &users[v as usize]);
     }
 
-    /// Records that a vertex is no longer done: increments the count of open inputs of each of its users. Does not allocate.
+    /// Records that a vertex is no longer done: increments the count of open inputs (inputs that are not done) of each of its users. Does not allocate.
     pub(crate) fn count_up(&mut self, v: u32)
         requires low { v < length self.old.users }
         requires below { All (λ x. x < length self.old.counts) (users_at self.old v) }
@@ -194,7 +194,7 @@ fn lower(counts: &mut [u32], users: &[u32])
     }
 }
 
-// Increments the count (of open inputs) of each listed vertex, once for each time that it is listed.
+// Increments the count of open inputs (inputs that are not done) of each listed vertex, once for each time that the vertex is listed.
 fn raise(counts: &mut [u32], users: &[u32])
     requires below { All (λ x. x < length counts.old) users.now }
     requires few { (x : ℕ) → get_or counts.old x 0 + length users.now < 2 ^ 32 }

@@ -77,7 +77,7 @@ impl Model for Vertices {
 }
 
 impl Vertices {
-    /// Makes the vertices of a graph; all of them wait. If memory is refused, fails with the graph and the local trees that were handed in.
+    /// Makes the vertices of a graph; all of them wait. If memory is refused, fails with the graph and the local trees that the call was made with.
     pub(crate) fn open(
         alloc: Global,
         graph: Graph,

@@ -69,7 +69,7 @@ impl Model for Workers {
 }
 
 impl Workers {
-    /// Makes `count` idle workers, 1 to 64, on caches without current leases. If memory is refused, fails with the caches that were handed in.
+    /// Makes `count` idle workers, 1 to 64, on caches without current leases. If memory is refused, fails with the caches that the call was made with.
     pub(crate) fn open(alloc: Global, caches: Caches, count: u32) -> Result<Workers, Caches>
         requires count { (0 < count) × (count ≤ 64) }
         requires free { leases caches.out ≡ 0 }

@@ -62,7 +62,7 @@ impl From<llb_wire::Memory> for Memory {
     }
 }
 
-/// Converts the fault of a copy of a tree; such a copy fails only if memory is refused.
+/// Converts the fault with which copying a tree fails, refused memory, into `Memory`.
 impl From<TreeFault> for Memory {
     fn from(_: TreeFault) -> Memory {
         Memory

@@ -45,8 +45,8 @@ impl Caches {
         }
     }
 
-    /// Takes a current lease back, and removes what the lease added to the rows. For each need of the lease, `growths` must have what `growth` returned before
-    /// the lease was granted. No other lease may have an instance that is removed. Does not allocate.
+    /// Takes a current lease back, and removes what the lease added to the rows. For each need of the lease, `growths` must have what the call `growth`
+    /// returned before the lease was granted: what the lease would add. No other lease may have an instance that is removed. Does not allocate.
     pub fn take_back(&mut self, lease: Lease, growths: &[Growth])
         requires out { IsOut self.old.out lease }
         requires there { AreThere (taken_back self.old lease growths.now).rows (taken_back self.old lease growths.now).out }
@@ -67,7 +67,7 @@ impl Caches {
     }
 
     /// Proves that granting a lease of needs with distinct keys and taking it back at once leaves the caches exactly as they were, if for each need
-    /// `take_back` is passed what `growth` returned before the lease.
+    /// `take_back` is passed what the call `growth` returned before the lease: what the lease would add.
     pub fn grants_come_back(&self)
         ensures { (needs : List asked.Need) → AllPairs (λ n m. n.key ≢ m.key) needs → taken_back (granted self.now needs).1 (granted self.now needs).0
             (growths self.now needs) ≡ self.now }

@@ -144,7 +144,7 @@ Runs workers locals io status =
 abbrev pub DrawsAll : Stream → List ℕ → Type 0
 DrawsAll output bytes = (g : Numbered) × IsGraphIn bytes g × IsWritten output (graph_text g)
 
--- a prefix of the text of the graph is written, and no more
+-- the bytes are loaded as a graph; a prefix of the text of this graph is written, and no more
 abbrev pub DrawsPart : Stream → List ℕ → Type 0
 DrawsPart output bytes = (g : Numbered) × IsGraphIn bytes g × IsPartWritten output (graph_text g)
 

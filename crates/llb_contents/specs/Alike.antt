@@ -63,7 +63,7 @@ pub record AreAlikeMounts (R : List ℕ → List ℕ → Type 0) (m n : Shown) :
   pub readonly : m.readonly ≡ n.readonly
   pub tree : AreAlike R m.tree n.tree
 
--- two views that are equal, except that their trees need only be alike
+-- two views that are equal, except that the contents of files may differ: R relates the contents at each path (`AreAlike`)
 abbrev pub AreAlikeViews : (List ℕ → List ℕ → Type 0) → List Shown → List Shown → Type 0
 AreAlikeViews R = BothLists (AreAlikeMounts R)
 
@@ -99,7 +99,7 @@ RelatesBody R None = Unit {0}
 
 -- ---- runs of a program
 
--- two workspaces of the same kind that are equal, except that their trees need only be alike
+-- two workspaces of the same kind that are equal, except that the contents of files may differ: R relates the contents at each path (`AreAlike`)
 abbrev pub AreAlikeWorkspaces : (List ℕ → List ℕ → Type 0) → Workspace → Workspace → Type 0
 AreAlikeWorkspaces R (LocalTree t) (LocalTree u) = AreAlike R t u
 AreAlikeWorkspaces R (Files inputs results) (Files others more) = BothLists (AreAlike R) inputs others × BothLists (AreAlike R) results more
@@ -112,7 +112,7 @@ pub record AreAlikeWorks (R : List ℕ → List ℕ → Type 0) (x y : Work) : T
   pub own : AreAlikeWorkspaces R x.own y.own
   pub trees : BothLists (AreAlike R) x.trees y.trees
 
--- two results of micro-steps: their workspaces and their trees of cache instances are alike, and both have the same fault or both have none
+-- two results of micro-steps: both have the same fault or none; their workspaces and trees of cache instances are equal except for contents, which R relates
 pub record AreAlikeLefts (R : List ℕ → List ℕ → Type 0) (x y : Left) : Type 0 where
   pub work : AreAlikeWorks R x.work y.work
   pub fault : x.fault ≡ y.fault
@@ -124,14 +124,14 @@ RelatesStep R (Run setting command ends) = RelatesTexts R setting command.comman
 RelatesStep R ReadLocal = Unit {0}
 RelatesStep R (LayInput i) = Unit {0}
 
--- both endings are `Done`, with equally many outputs, which are alike; or both are `Failed`, with the same fault
+-- both endings are `Done`, with equally many outputs, equal except for contents of files, which R relates; or both are `Failed`, with the same fault
 abbrev pub AreAlikeEndings : (List ℕ → List ℕ → Type 0) → Ending → Ending → Type 0
 AreAlikeEndings R (Done trees) (Done others) = BothLists (AreAlike R) trees others
 AreAlikeEndings R (Failed f) (Failed g) = f ≡ g
 AreAlikeEndings R (Done trees) (Failed g) = ⊥
 AreAlikeEndings R (Failed f) (Done others) = ⊥
 
--- two outcomes that are alike: both ended, with alike endings, or both are blocked
+-- two outcomes that are equal except for contents of files, which R relates: both ended (see `AreAlikeEndings`), or both are blocked
 abbrev pub AreAlikeOutcomes : (List ℕ → List ℕ → Type 0) → Outcome → Outcome → Type 0
 AreAlikeOutcomes R (Ended d) (Ended e) = AreAlikeEndings R d e
 AreAlikeOutcomes R Blocked Blocked = Unit {0}

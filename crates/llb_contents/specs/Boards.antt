@@ -13,7 +13,7 @@ pub record AreSettled (b c : BoardValue) (v : ℕ) (d e : Ending) : Type 0 where
   pub first : slice_get b.state.statuses v ≡ Some (Settled d)
   pub second : slice_get c.state.statuses v ≡ Some (Settled e)
 
--- for each relation that appending keeps: if `RelatesWritten` holds and the sources at or before a vertex have alike trees, the boards settled the vertex alike
+-- for each relation that appending keeps: if `RelatesWritten` holds and sources at or before a vertex differ only in related contents, so do its two endings
 abbrev pub SettleAlike : BoardValue → BoardValue → Type 0
 SettleAlike b c = (test : List ℕ → List ℕ → Bool) → IsKept (By test) → (v : ℕ) (d e : Ending) → AreSettled b c v d e
     → RelatesWritten (By test) b.build.graph v → HaveAlikeSources (By test) b.build.graph v b.build.locals c.build.locals → AreAlikeEndings (By test) d e

@@ -26,7 +26,7 @@ use Rattle.llb_contents.specs.Alike.{BothResults, AreAlikeViews, RelatesTexts, R
 abbrev pub By : (List ℕ → List ℕ → Bool) → List ℕ → List ℕ → Type 0
 By test a b = test a b ≡ true
 
--- for any trees `u` alike to `t` and `w` alike to `v`: `w` laid over `u` is alike to `v` laid over `t`
+-- for any trees `u` alike to `t` and `w` alike to `v` (equal except for related contents of files): `w` laid over `u` is alike to `v` laid over `t`
 abbrev pub LaysAlike : TreeMap → TreeMap → Type 0
 LaysAlike t v = (test : List ℕ → List ℕ → Bool) (u w : TreeMap) → AreAlike (By test) t u → AreAlike (By test) v w → AreAlike (By test) (lay t v) (lay u w)
 
@@ -35,7 +35,7 @@ abbrev pub ActsAlike : Option ActionKind → TreeMap → TreeMap → Type 0
 ActsAlike a t v = (test : List ℕ → List ℕ → Bool) (u w : TreeMap) → RelatesBody (By test) a → AreAlike (By test) t u → AreAlike (By test) v w
     → BothResults (AreAlike (By test)) (act a t v) (act a u w)
 
--- on two views alike by a relation, a command fails on both or leaves alike views, if appending keeps the relation and `RelatesTexts` holds of the command
+-- on views that are equal except for related contents, a command fails on both or leaves such views, if appending keeps the relation and `RelatesTexts` holds
 abbrev pub RunsAlike : Setting → List Shown → Command → Type 0
 RunsAlike s v c = (test : List ℕ → List ℕ → Bool) (w : List Shown) → IsKept (By test) → RelatesTexts (By test) s c → AreAlikeViews (By test) v w
     → BothOptions (AreAlikeViews (By test)) (run s v c) (run s w c)
@@ -55,20 +55,20 @@ pub record IsSourceOf (g : Numbered) (v : ℕ) (name : List ℕ) : Type 0 where
   pub there : slice_get g.vertices number ≡ Some source
   pub named : local_name source.op ≡ Some name
 
--- each local source at or before vertex v has alike trees in the two lists of local trees, or has no tree in either
+-- each local source at or before vertex v has trees in both lists that are equal except for contents, which R relates (`AreAlike`), or has no tree in either
 abbrev pub HaveAlikeSources : (List ℕ → List ℕ → Type 0) → Numbered → ℕ → List Local → List Local → Type 0
 HaveAlikeSources R g v ls ms = (name : List ℕ) → IsSourceOf g v name → BothOptions (AreAlike R) (tree_of_local ls name) (tree_of_local ms name)
 
--- the plain outcomes of a vertex with the two lists of local trees are alike: both are blocked, both failed with the same fault, or both are done with equally
--- many outputs, which are alike
+-- the plain outcomes of a vertex with the two lists of local trees: both are blocked, both failed with the same fault, or both are done with equally many
+-- outputs, which are equal except for contents of files, which R relates (`AreAlike`)
 abbrev pub HasAlikeOutcomes : (List ℕ → List ℕ → Type 0) → Numbered → List Local → List Local → ℕ → Type 0
 HasAlikeOutcomes R g ls ms v = BothOptions (AreAlikeOutcomes R) (outcome (record { graph = g; locals = ls }) v) (outcome (record { graph = g; locals = ms }) v)
 
--- a vertex has alike plain outcomes with two lists of local trees, if `RelatesWritten` holds and the sources at or before it have alike trees in the two lists
+-- if `RelatesWritten` holds, and the trees of the sources at or before a vertex in two lists differ only in related contents, so do its plain outcomes
 abbrev pub HandsOn : (List ℕ → List ℕ → Type 0) → Numbered → Type 0
 HandsOn R g = (ls ms : List Local) (v : ℕ) → RelatesWritten R g v → HaveAlikeSources R g v ls ms → HasAlikeOutcomes R g ls ms v
 
--- `HandsOn` (alike sources lead to alike plain outcomes) holds for every relation that a test decides and that is kept when related contents are appended
+-- `HandsOn` (if sources differ only in related contents, so do plain outcomes) holds for every relation that a test decides and that appending keeps
 abbrev pub HandsRelationsOn : Numbered → Type 0
 HandsRelationsOn g = (test : List ℕ → List ℕ → Bool) → IsKept (By test) → HandsOn (By test) g
 
@@ -128,7 +128,7 @@ step_digests ReadLocal = false
 step_digests (Act action) = false
 step_digests (LayInput i) = false
 
--- whether a command may write the byte that begins tokens; a listing may, since no definition here excludes the byte in names, and a digest never has it
+-- whether a command may write byte 255, which begins a token (a number in place of a content); a listing may, as names may have the byte here; a digest can't
 abbrev pub writes_mark : Setting → Command → Bool
 writes_mark setting (command.Write path word) = has_mark (line word)
 writes_mark setting (command.Append path word) = has_mark (line word)
@@ -144,7 +144,7 @@ writes_mark setting (command.Concat out parts) = false
 writes_mark setting (command.Chmod mode path) = false
 writes_mark setting (command.Test kind path) = false
 
--- whether an action writes the byte 255, with which each token (a number that stands for a content) begins
+-- whether an action writes byte 255, which begins a token (a number that takes the place of a content)
 abbrev pub body_has_mark : Option ActionKind → Bool
 body_has_mark (Some (kind.MkFile m)) = has_mark m.body
 body_has_mark (Some (kind.MkDir m)) = false
@@ -152,7 +152,7 @@ body_has_mark (Some (kind.Copy c)) = false
 body_has_mark (Some (kind.Rm r)) = false
 body_has_mark None = false
 
--- whether a micro-step may write the byte that begins tokens
+-- whether a micro-step may write byte 255, which begins a token (a number that takes the place of a content)
 abbrev pub step_writes_mark : MicroStep → Bool
 step_writes_mark (Act action) = body_has_mark action.kind
 step_writes_mark (Run setting command ends) = writes_mark setting command.command
@@ -186,7 +186,7 @@ HandsTokensOn g = (table : ℕ → List ℕ) (ls ms : List Local) (v : ℕ) → 
 abbrev pub MakesNoDigest : Numbered → ℕ → Type 0
 MakesNoDigest g v = (k : ℕ) (x : Vertex) → Reached (links g.vertices) v k → slice_get g.vertices k ≡ Some x → list_any step_digests (program_of x).steps ≡ false
 
--- the law of `HandsOn` (alike sources lead to alike plain outcomes), if no digest is made at or before the vertex; this premise replaces `RelatesWritten`
+-- `HandsOn` (if sources differ only in related contents, so do outcomes) with another premise than `RelatesWritten`: no digest is made at or before the vertex
 abbrev pub HandsOnUndigested : (List ℕ → List ℕ → Type 0) → Numbered → Type 0
 HandsOnUndigested R g = (ls ms : List Local) (v : ℕ) → MakesNoDigest g v → HaveAlikeSources R g v ls ms → HasAlikeOutcomes R g ls ms v
 

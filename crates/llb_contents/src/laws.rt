@@ -21,7 +21,7 @@ pub fn lays_alike(lower: &Tree, upper: &Tree)
 }
 
 /// Proves that an action on alike trees fails with the same fault, or results in alike trees, if the content that the action itself writes is related to
-/// itself.
+/// itself. (Alike trees differ only in the contents of files, and the two contents at each path are related.)
 pub fn acts_alike(action: &Action, base: &Tree, second: &Tree)
     ensures { ActsAlike action.now.kind base.now second.now }
 {
@@ -68,7 +68,7 @@ pub fn expands_to_one(tree: &Tree)
 }
 
 /// Proves a law for a vertex that is done or failed on two boards over one graph, with no cache mount at or before it. If the trees of the sources at or
-/// before the vertex differ only in related contents, the vertex ended alike on both boards: done with outputs that differ only in related contents, or failed
+/// before the vertex differ only in related contents, the vertex is done on both boards, with outputs that differ only in related contents, or failed on both
 /// with the same fault. The other premises are those of `relations` and `contents` of `contents_are_handed_on`. This holds for any workers and any order of
 /// events.
 pub fn boards_settle_alike(board: &Board, other: &Board)

@@ -139,7 +139,7 @@ impl<T: Drop> From<AllocFailed<T>> for ClaimFault {
     }
 }
 
-/// Converts the fault of a claim's call on a tree into `Memory`: the calls on trees that a claim makes fail only for want of memory.
+/// Converts the fault of a claim's call on a tree into `ClaimFault::Memory`: the calls on trees that a claim makes fail only for want of memory.
 impl From<TreeFault> for ClaimFault {
     ghost use Rattle.std.specs.Prelude.{◌≡◌};
     ghost use Rattle.llb_events.specs.declared.refusal.ClaimFault.TheVariants.{Memory};
@@ -151,7 +151,7 @@ impl From<TreeFault> for ClaimFault {
     }
 }
 
-/// Converts the fault of making or copying a program, a workspace or a text.
+/// Converts the fault with which making or copying a program, a workspace or a text fails, refused memory, into `ClaimFault::Memory`.
 impl From<llb_wire::Memory> for ClaimFault {
     ghost use Rattle.std.specs.Prelude.{◌≡◌};
     ghost use Rattle.llb_events.specs.declared.refusal.ClaimFault.TheVariants.{Memory};
@@ -163,7 +163,7 @@ impl From<llb_wire::Memory> for ClaimFault {
     }
 }
 
-/// Converts the fault of copying a key, which is refused memory, into `Memory`.
+/// Converts the fault with which copying a key fails, refused memory, into `ClaimFault::Memory`.
 impl From<llb_cache::Memory> for ClaimFault {
     ghost use Rattle.std.specs.Prelude.{◌≡◌};
     ghost use Rattle.llb_events.specs.declared.refusal.ClaimFault.TheVariants.{Memory};
@@ -175,7 +175,7 @@ impl From<llb_cache::Memory> for ClaimFault {
     }
 }
 
-/// Converts the fault of making a lease. The lease's locked keys must all have been found free before: then a lease fails only for want of memory.
+/// Converts the fault of making a lease into `ClaimFault::Memory`. The locked keys of the lease must be free: then making it fails only for want of memory.
 impl From<llb_cache::LeaseFault> for ClaimFault {
     ghost use Rattle.std.specs.Prelude.{◌≡◌};
     ghost use Rattle.llb_events.specs.declared.refusal.ClaimFault.TheVariants.{Memory};
@@ -187,7 +187,7 @@ impl From<llb_cache::LeaseFault> for ClaimFault {
     }
 }
 
-/// Converts the fault of a call on a tree; such a call fails only for want of memory.
+/// Converts the fault with which a call on a tree fails, refused memory, into `StepFault::Memory`.
 impl From<TreeFault> for StepFault {
     ghost use Rattle.std.specs.Prelude.{◌≡◌};
     ghost use Rattle.llb_events.specs.declared.refusal.StepFault.TheVariants.{Memory};

@@ -1,4 +1,4 @@
--- The trees that a workspace works on, in a fixed order, and the role of each tree. A caller that shows a workspace reads its trees by these definitions.
+-- The trees that a workspace works on, in a fixed order, and what each is there (`Role`). A caller that shows a workspace reads its trees by these definitions.
 use Rattle.std.specs.Prelude.{ℕ, ◌+◌, ◌==◌, List, [], ◌∷◌, ◌++◌, map, Option, Some, None, slice_get, if◌then◌else◌}
 use Rattle.llb_tree.specs.Tree.{TreeMap}
 use Rattle.llb_mount.specs.declared.shown.Shown.{Shown}
@@ -51,7 +51,7 @@ pub data Role : Type 0 where
   Laid : Role
   MountAt : List (List ℕ) → Role
 
--- the role that a value of the code's type `Part` represents
+-- the `Role` (what a tree of a workspace is) that a value of the code's type `Part` represents
 abbrev pub role_in : Part → Role
 role_in part.Local = Local
 role_in part.Input = Input
@@ -59,7 +59,7 @@ role_in (part.ResultOf a) = ResultOf a
 role_in part.Laid = Laid
 role_in (part.MountAt dest) = MountAt dest.now
 
--- the role of the tree of an input, in a workspace
+-- the `Role` (what a tree of a workspace is) of the tree of an input: `Input`
 abbrev pub input_role : TreeMap → Role
 input_role t = Input
 
@@ -67,7 +67,7 @@ input_role t = Input
 abbrev pub mount_role : Shown → Role
 mount_role m = MountAt m.dest
 
--- the role of each tree of a list that has the results of action `a` and of the actions after it: the first is the result of `a`, the next of `a` + 1, ..
+-- the `Role` of each tree of a list that has the results of action `a` and of the actions after it: the first is the result of `a`, the next of `a` + 1, ..
 abbrev pub results_from : ℕ → List TreeMap → List Role
 results_from a [] = []
 results_from a (t ∷ trees) = ResultOf a ∷ results_from (a + 1) trees

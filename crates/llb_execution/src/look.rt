@@ -1,4 +1,5 @@
-//! The trees that a workspace works on, in a fixed order, and the role of each tree. Nothing here allocates.
+//! The trees that a workspace works on, in a fixed order, and what each tree is there: a local tree, an input, a result or a mount's tree. Nothing here
+//! allocates.
 
 ghost use Rattle.std.specs.Prelude.{◌≡◌, ◌++◌, ◌∷◌, [], ℕ, List, Option, length, map, option_map, slice_get};
 ghost use Rattle.llb_tree.specs.Tree.{TreeMap};
@@ -18,7 +19,7 @@ pub enum Look<'a> {
     Cached(usize),
 }
 
-/// The role of a tree in a workspace.
+/// What a tree of a workspace is: a local tree, an input, a result or a mount's tree.
 pub enum Part<'a> {
     /// The local tree of a source.
     Local,
@@ -60,7 +61,7 @@ impl Workspace {
         }
     }
 
-    /// Returns the role of tree `i`: whether it is a local tree, an input, a result or a mount's tree. Returns `None` past the last tree. Does not allocate.
+    /// Returns what tree `i` is, as a `Part`: a local tree, an input, a result or a mount's tree. Returns `None` past the last tree. Does not allocate.
     pub fn part(&self, i: usize) -> Option<Part<'_>>
         ensures { option_map role_in result ≡ slice_get (roles_of self.now) i }
     {
@@ -83,7 +84,7 @@ fn local_part<'a>(i: usize) -> Option<Part<'a>>
     None
 }
 
-// Returns the role of tree `i` of a file op.
+// Returns what tree `i` of a file op's workspace is, as a `Part`: first come the trees of the inputs, then the results so far; `None` past the end.
 fn file_part<'a>(inputs: &[Tree], results: &[Tree], i: usize) -> Option<Part<'a>>
     ensures { option_map role_in result ≡ slice_get (map input_role inputs.now ++ results_from 0 results.now) i }
 {
@@ -110,7 +111,7 @@ fn merge_part<'a>(inputs: &[Tree], i: usize) -> Option<Part<'a>>
     None
 }
 
-// Returns the role of tree `i` of an exec: that it is the tree of mount `i`, with this mount's dest. Returns `None` past the last mount.
+// Returns what tree `i` of an exec's workspace is, as a `Part`: the tree of mount `i`, with this mount's dest; `None` past the last mount.
 fn mount_part(mounts: &Mounts, i: usize) -> Option<Part<'_>>
     ensures { option_map role_in result ≡ slice_get (map mount_role mounts.now) i }
 {

@@ -27,21 +27,21 @@ impl<T: Drop> From<AllocFailed<T>> for NoMemory {
     }
 }
 
-/// Converts the fault of copying a text or actions.
+/// Converts the fault with which copying a text or actions fails, refused memory, into `NoMemory`.
 impl From<Memory> for NoMemory {
     fn from(_: Memory) -> NoMemory {
         NoMemory
     }
 }
 
-/// Converts the fault of making or copying a tree, which fails only for want of memory.
+/// Converts the fault with which making or copying a tree fails, refused memory, into `NoMemory`.
 impl From<TreeFault> for NoMemory {
     fn from(_: TreeFault) -> NoMemory {
         NoMemory
     }
 }
 
-/// Converts the fault of copying a script, which fails only for want of memory.
+/// Converts the fault with which copying a script fails, refused memory, into `NoMemory`.
 impl From<ScriptFault> for NoMemory {
     fn from(_: ScriptFault) -> NoMemory {
         NoMemory
@@ -55,14 +55,14 @@ impl From<llb_mount::Memory> for NoMemory {
     }
 }
 
-/// Converts the fault of laying one tree over another.
+/// Converts the fault with which laying one tree over another fails, refused memory, into `NoMemory`.
 impl From<llb_merge::Memory> for NoMemory {
     fn from(_: llb_merge::Memory) -> NoMemory {
         NoMemory
     }
 }
 
-/// Converts the fault of running a command.
+/// Converts the fault with which running a command fails, refused memory, into `NoMemory`.
 impl From<llb_applet::Memory> for NoMemory {
     fn from(_: llb_applet::Memory) -> NoMemory {
         NoMemory

@@ -1,5 +1,5 @@
--- How the characters of a part are read as items, in one pass. The effect of a character depends on the stage of the
--- reader, and on whether a `\` quotes the character. The grammar in Spelling does not depend on this reading.
+-- How the characters of a part are read as items, once from left to right. What a character does to the part that is read (`Effect`) depends on the stage
+-- of the reader, and on whether a `\` quotes the character. The grammar in Spelling does not depend on this reading.
 use Rattle.std.specs.Prelude.{ℕ, ◌==◌, Bool, true, false, not, ◌&&◌, if◌then◌else◌, List, [], ◌∷◌, ◌++◌, Option, Some, None, option_to_list, Result, Ok, Err}
 use Rattle.llb_wire.specs.Answer.{◌>>=◌}
 use Rattle.llb_glob.specs.declared.fault.PatternFault.{PatternFault}
@@ -15,7 +15,7 @@ use Rattle.llb_glob.specs.declared.cursor.Effect.TheVariants.{Nothing, Whole, Ex
 use Rattle.llb_glob.specs.ClassValue.{ClassValue}
 use Rattle.llb_glob.specs.Class.{none_yet, one_alone, extended}
 
--- ---- the effect of a character, which includes the cursor after the character
+-- ---- what a character does to the part that is read (`Effect`), and the cursor after the character
 
 -- the cursor (the stage of reading, and whether a `\` quotes the next character) at this stage, without such a `\`
 abbrev pub at : Stage → Cursor
@@ -25,7 +25,7 @@ at stage = record { stage = stage; quotes = false }
 abbrev pub start : Cursor
 start = at Outside
 
--- the effect of a literal character, one that matches itself: it becomes an item of the part, an item of the current class, or the high end of a range
+-- what a literal character, one that matches itself, does: it becomes an item of the part, an item of the current class, or the high end of a range
 abbrev pub literal : Stage → ℕ → Cursor × Effect
 literal Outside c = (at Outside, Whole (One (Only c)))
 literal Opened c = (at Single, Add c)
@@ -34,14 +34,14 @@ literal Single c = (at Single, Add c)
 literal Dash c = (at Range, Extend c)
 literal Range c = (at Single, Add c)
 
--- the effect of a character outside a class: `[` opens a class, `*` is any run of characters, `?` is any one character, and any other character is literal
+-- what a character outside a class does: `[` opens a class, `*` is any run of characters, `?` is any one character, and any other character is literal
 abbrev pub outside : ℕ → Cursor × Effect
 outside c =
     if c == 91 then (at Opened, Nothing)
     else (if c == 42 then (at Outside, Whole Run)
     else (if c == 63 then (at Outside, Whole (One Any)) else literal Outside c))
 
--- the effect of a `]` in a class: it closes a class that has at least one item and no open range; elsewhere it is a fault
+-- what a `]` in a class does: it closes a class that has at least one item and no open range; elsewhere it is a fault
 abbrev pub closed : Stage → Result (Cursor × Effect) PatternFault
 closed Outside = Err BadPattern
 closed Opened = Err BadPattern
@@ -50,7 +50,7 @@ closed Single = Ok (at Outside, Close)
 closed Dash = Err BadPattern
 closed Range = Ok (at Outside, Close)
 
--- the effect of a `-` in a class: it makes the character before it the low end of a range, or is a fault if that character can't be one
+-- what a `-` in a class does: it makes the character before it the low end of a range, or is a fault if that character can't be one
 abbrev pub dashed : Stage → Result (Cursor × Effect) PatternFault
 dashed Outside = Err BadPattern
 dashed Opened = Err BadPattern
@@ -59,11 +59,11 @@ dashed Single = Ok (at Dash, Nothing)
 dashed Dash = Err BadPattern
 dashed Range = Err BadPattern
 
--- the effect of a character in a class: a `]`, a `-`, or any other character, which is literal
+-- what a character in a class does: a `]` (see `closed`), a `-` (see `dashed`), or any other character, which is literal
 abbrev pub inside : Stage → ℕ → Result (Cursor × Effect) PatternFault
 inside stage c = if c == 93 then closed stage else (if c == 45 then dashed stage else Ok (literal stage c))
 
--- the effect of a character that is no `\` and that no `\` quotes; a `^` right after the `[` of a class makes the class exclude
+-- what a character does that is no `\` and that no `\` quotes; a `^` right after the `[` of a class makes the class exclude its items
 abbrev pub plain : Stage → ℕ → Result (Cursor × Effect) PatternFault
 plain Outside c = Ok (outside c)
 plain Opened c = if c == 94 then Ok (at Caret, Exclude) else inside Opened c
@@ -72,18 +72,18 @@ plain Single c = inside Single c
 plain Dash c = inside Dash c
 plain Range c = inside Range c
 
--- the effect of a character, given whether a `\` quotes it: a quoted character is literal; a `\` that is not quoted quotes the next character
+-- what a character does, given whether a `\` quotes it: a quoted character is literal; a `\` that is not quoted quotes the next character
 abbrev pub quoted : Bool → Stage → ℕ → Result (Cursor × Effect) PatternFault
 quoted true stage c = Ok (literal stage c)
 quoted false stage c = if c == 92 then Ok (record { stage = stage; quotes = true }, Nothing) else plain stage c
 
--- the reader's cursor after a character, and the effect of the character
+-- the reader's cursor after a character, and what the character does to the part that is read (`Effect`)
 abbrev pub cut : Cursor → ℕ → Result (Cursor × Effect) PatternFault
 cut cursor c = quoted cursor.quotes cursor.stage c
 
 -- ---- what is read
 
--- the item that an effect completes, if it completes one
+-- the item of the part that a character completes, given what the character does (`Effect`); none if it completes none
 abbrev pub item_by : Effect → ClassValue → Option Item
 item_by Nothing class = None
 item_by (Whole item) class = Some item
@@ -92,7 +92,7 @@ item_by (Add c) class = None
 item_by (Extend c) class = None
 item_by Close class = Some (One (In class))
 
--- the class that is being read, after a character with this effect; after a character that closes the class, a new class without items
+-- the class that is being read, after a character that does this to it (`Effect`); after a character that closes the class, a new class without items
 abbrev pub class_by : Effect → ClassValue → ClassValue
 class_by Nothing class = class
 class_by (Whole item) class = class

@@ -1,5 +1,5 @@
-//! How a part of a pattern is read: character by character, once from left to right. The effect of a character depends on the stage of the
-//! reader and on whether a `\` quotes the character, and on nothing further back.
+//! How a part of a pattern is read: character by character, once from left to right. What a character does to the part that is read (`Effect`) depends on
+//! the stage of the reader and on whether a `\` quotes the character, and on nothing further back.
 
 ghost use Rattle.std.specs.Prelude.{◌≡◌};
 ghost use Rattle.llb_glob.specs.Items.{at, start, literal, outside, inside, closed, dashed, plain, cut, is_whole};
@@ -31,7 +31,7 @@ pub struct Cursor {
     pub quotes: bool,
 }
 
-/// The effect of a character on the part that is read.
+/// What a character does to the part that is read.
 #[derive(Drop)]
 pub enum Effect {
     /// The character completes nothing.
@@ -63,7 +63,7 @@ impl Cursor {
         matches!(self.stage, Stage::Outside) && !self.quotes
     }
 
-    /// Returns the cursor after the next character, and the effect of the character. Fails with 41 `BadPattern` alone.
+    /// Returns the cursor after the next character, and what the character does to the part that is read (`Effect`). Fails with 41 `BadPattern` alone.
     pub fn cut(self, letter: char) -> Result<(Cursor, Effect), PatternFault>
         ensures { result ≡ cut self letter }
     {
@@ -105,7 +105,7 @@ fn literal(stage: Stage, letter: char) -> (Cursor, Effect)
     }
 }
 
-// Returns the cursor after a character that is no `\` and that no `\` quotes, and the effect of the character.
+// Returns the cursor after a character that is no `\` and that no `\` quotes, and what the character does to the part that is read (`Effect`).
 fn plain(stage: Stage, letter: char) -> Result<(Cursor, Effect), PatternFault>
     ensures { result ≡ plain stage letter }
 {
@@ -116,7 +116,7 @@ fn plain(stage: Stage, letter: char) -> Result<(Cursor, Effect), PatternFault>
     }
 }
 
-// Returns the cursor after a character outside a class, and the effect of the character. The character is no `\`, and no `\` quotes it.
+// Returns the cursor after a character outside a class, and what the character does (`Effect`). The character must be no `\`, and no `\` may quote it.
 fn outside(letter: char) -> (Cursor, Effect)
     ensures { result ≡ outside letter }
 {
@@ -128,7 +128,7 @@ fn outside(letter: char) -> (Cursor, Effect)
     }
 }
 
-// Returns the cursor after a character in a class, and the effect of the character. The character is no `\`, and no `\` quotes it.
+// Returns the cursor after a character in a class, and what the character does (`Effect`). The character must be no `\`, and no `\` may quote it.
 fn inside(stage: Stage, letter: char) -> Result<(Cursor, Effect), PatternFault>
     ensures { result ≡ inside stage letter }
 {
@@ -139,8 +139,8 @@ fn inside(stage: Stage, letter: char) -> Result<(Cursor, Effect), PatternFault>
     }
 }
 
-// Returns the cursor after a `]`, and the effect of the `]`: it closes the class. Fails with 41 `BadPattern` if the class has no item, or if a `-` is right
-// before the `]`, as in `[a-]`.
+// Returns the cursor after a `]`, and what the `]` does (`Effect`): it closes the class. Fails with 41 `BadPattern` if the class has no item, or if a `-` is
+// right before the `]`, as in `[a-]`.
 fn closed(stage: Stage) -> Result<(Cursor, Effect), PatternFault>
     ensures { result ≡ closed stage }
 {

@@ -1,4 +1,4 @@
--- When the checks of the reached rows, on which the result depends, fail. Reached rows are marked; a check goes through them and stops at the first faulty row.
+-- When the checks of the reached rows, on which the result depends, fail. The condition `Marked` holds of these rows; a check stops at the first faulty one.
 use Rattle.std.specs.Prelude.{◌≡◌, ◌≢◌, ℕ, ◌<◌, ◌==◌, ◌⊎◌, Bool, false, cond, List, [], length, slice_index_or, Some, None}
 use Rattle.llb_ops.specs.declared.op.Op.{Op}
 use Rattle.llb_loader.specs.declared.row.Row.{Row}
@@ -27,17 +27,17 @@ pub record FirstUnknown (rows : List Row) (t : ℕ) (op : Op) (i : ℕ) : Type 0
   pub unknown : row_named rows t (input_at op i).digest ≡ None
   pub before : NamesAll rows t op i
 
--- e is `UnknownDigest` (86) with k and i: of the marked rows that have an input that names no row, row k is the first, and input i is its first such input
+-- e is `UnknownDigest k i` (86): of the rows that meet `Marked` and have an input that names no row, row k is the first; input i is its first such input
 abbrev pub RefusesUnknown : List Row → ℕ → List Op → (ℕ → Type 0) → LoadFault → Type 0
 RefusesUnknown rows t ops Marked e = (k : ℕ) × (i : ℕ) × (e ≡ UnknownDigest k i) × Marked k × FirstUnknown rows t (op_at ops k) i
     × ((j : ℕ) → j < k → Marked j → NamesAll rows t (op_at ops j) (length (op_at ops j).inputs))
 
--- e is `Unsupported` (88) with the first marked row whose op has an unsupported feature, and with the first such feature of that op
+-- e is `Unsupported` (88) with the first row that meets the condition `Marked` and whose op has an unsupported feature, and the first such feature of that op
 abbrev pub RefusesFeature : List Op → (ℕ → Type 0) → LoadFault → Type 0
 RefusesFeature ops Marked e = (k : ℕ) × (f : Feature) × (e ≡ Unsupported k f) × Marked k × (feature_of (op_at ops k) ≡ Some f)
     × ((j : ℕ) → j < k → Marked j → feature_of (op_at ops j) ≡ None)
 
--- e is `Invalid` (89) with the first marked row whose op breaks a rule, and with the first rule that this op breaks
+-- e is `Invalid` (89) with the first row that meets the condition `Marked` and whose op breaks a rule, and with the first rule that this op breaks
 abbrev pub RefusesRule : List Op → (ℕ → Type 0) → LoadFault → Type 0
 RefusesRule ops Marked e = (k : ℕ) × (r : Rule) × (e ≡ Invalid k r) × Marked k × BreaksFirst (op_at ops k) r
     × ((j : ℕ) → j < k → Marked j → MeetsRules (op_at ops j))

@@ -38,7 +38,7 @@ pub record Plan : Type 0 where
   pub terminal : ℕ
   pub start : ℕ
 
--- the plan with these four fields
+-- the `Plan` (what a graph is made from) with these four fields
 abbrev pub plan : List Row → List Op → ℕ → ℕ → Plan
 plan rows ops terminal start = record { rows = rows; ops = ops; terminal = terminal; start = start }
 
@@ -80,7 +80,7 @@ pub record IsUnknown (p : Plan) (k i : ℕ) : Type 0 where
 abbrev pub outputs_there : Plan → ℕ → ℕ → ℕ
 outputs_there p k i = output_count (op_at p.ops (unwrap_or (input_row p k i) 0))
 
--- The row that input i of row k names has no output with the input's index. Row k is reached, or row k is the terminal and i is 0.
+-- The row that input i of row k names has no output with the input's index. Row k is reached (`ReachedRow`), or row k is the terminal and i is 0.
 pub record IsBadIndex (p : Plan) (k i : ℕ) : Type 0 where
   pub asked : HasInput p k i ⊎ ((k ≡ p.terminal) × (i ≡ 0))
   pub bad : ¬ IsBelow (outputs_there p k i) (input_at (op_at p.ops k) i).index
@@ -103,27 +103,27 @@ pub record IsStarted (p : Plan) : Type 0 where
   pub result : HasResult p
   pub start : input_row p p.terminal 0 ≡ Some p.start
 
--- `IsStarted` holds, so there is a row of the result; and each input of a reached row names a row.
+-- `IsStarted` holds, so there is a row of the result; and each input of a row on which the result depends (`ReachedRow`) names a row.
 pub record IsNamed (p : Plan) : Type 0 where
   pub started : IsStarted p
   pub named : (k i : ℕ) → ¬ IsUnknown p k i
 
--- Each input of a reached row names a row, and `order` has the reached rows in the order of their vertex numbers.
+-- `IsNamed` holds, so each input of a reached row (`ReachedRow`) names a row; and `order` has the reached rows in the order of their vertex numbers.
 pub record IsOrdered (p : Plan) (order : List ℕ) : Type 0 where
   pub named : IsNamed p
   pub numbering : IsNumbering (links_in p) p.start order
 
--- `IsOrdered` holds, so the reached rows have vertex numbers; and none of their ops has an unsupported feature.
+-- `IsOrdered` holds, so the rows on which the result depends (`ReachedRow`) have vertex numbers; and none of their ops has an unsupported feature.
 pub record IsSupported (p : Plan) (order : List ℕ) : Type 0 where
   pub ordered : IsOrdered p order
   pub featureless : (k : ℕ) → ReachedRow p k → feature_of (op_at p.ops k) ≡ None
 
--- `IsSupported` holds, so no reached row has an unsupported feature; and the op of each reached row meets the rules.
+-- `IsSupported` holds, so the ops of the reached rows (`ReachedRow`) have no unsupported feature; and each of these ops meets the rules.
 pub record IsValid (p : Plan) (order : List ℕ) : Type 0 where
   pub supported : IsSupported p order
   pub valid : (k : ℕ) → ReachedRow p k → MeetsRules (op_at p.ops k)
 
--- No refusal applies: `IsValid` holds (no earlier one applies); and each input of a reached row, and the terminal's first input, names an output that exists.
+-- No refusal applies. `IsValid` holds; and each input of a reached row (`ReachedRow`), and the terminal's first input, names an output that exists.
 pub record IsWhole (p : Plan) (order : List ℕ) : Type 0 where
   pub valid : IsValid p order
   pub indexes : (k i : ℕ) → ¬ IsBadIndex p k i
@@ -136,7 +136,7 @@ pub record IsUnsupported (p : Plan) (k : ℕ) (f : Feature) : Type 0 where
   pub feature : feature_of (op_at p.ops k) ≡ Some f
   pub least : (j : ℕ) → j < k → ReachedRow p j → feature_of (op_at p.ops j) ≡ None
 
--- of the reached rows whose op breaks a rule, row k has the least number, and r is the first rule that its op breaks
+-- of the rows on which the result depends and whose op breaks a rule, row k has the least number; r is the first rule that its op breaks
 pub record IsInvalid (p : Plan) (k : ℕ) (r : Rule) : Type 0 where
   pub reached : ReachedRow p k
   pub broken : BreaksFirst (op_at p.ops k) r
@@ -149,7 +149,7 @@ pub record HasNoStart (p : Plan) (k i : ℕ) : Type 0 where
   pub row : k ≡ p.terminal
   pub input : i ≡ 0
 
--- the plan (rows, their ops, the rows of the terminal and of the result) is refused with this fault; each case also requires that no earlier refusal applies
+-- this `Plan` (rows, their ops, the rows of the terminal and the result) is refused with this fault; each case also requires that no earlier refusal applies
 abbrev pub Refuses : Plan → LoadFault → Type 0
 Refuses p TooFew = AllSame p.rows
 Refuses p (Collision k) = (¬ AllSame p.rows) × Least (Collides p.rows) k
@@ -189,7 +189,7 @@ numbered_of p order = record {
   result = edge_of p order (input_at (op_at p.ops p.terminal) 0);
 }
 
--- no refusal applies to the rows, which are read as these ops; g is the graph of their plan; `order` has the rows that become vertices, by vertex number
+-- no refusal applies to the rows, which are read as these ops; g is the graph that they make; `order` has the rows that become vertices, by vertex number
 pub record GraphOf (rows : List Row) (ops : List Op) (g : Numbered) : Type 0 where
   pub order : List ℕ
   pub whole : IsWhole (plan_of rows ops) order

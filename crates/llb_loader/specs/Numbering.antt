@@ -3,18 +3,18 @@ use Rattle.std.specs.Prelude.{ℕ, suc, ◌<◌, ◌≤◌, ◌==◌, cond, List
 use Rattle.std.specs.List.{All, Contains}
 use Rattle.llb_loader.specs.Rows.{inputs, HasEdge, Reached}
 
--- row k is reached, is not one of the numbered rows `done`, and all rows that its inputs name are in `done`
+-- row k is reached from the row `start`, is not one of the rows `done`, which have numbers, and all rows that its inputs name are in `done`
 pub record IsReady (g : List (List ℕ)) (start : ℕ) (done : List ℕ) (k : ℕ) : Type 0 where
   pub reached : Reached g start k
   pub fresh : ¬ Contains done k
   pub inputs_done : All (Contains done) (inputs g k)
 
--- row k gets the next vertex number: `IsReady` holds for row k, and for no row before row k
+-- row k gets the next vertex number: of the rows for which `IsReady` holds (reached rows without a number, whose inputs all have one), row k is the first
 pub record IsNext (g : List (List ℕ)) (start : ℕ) (done : List ℕ) (k : ℕ) : Type 0 where
   pub ready : IsReady g start done k
   pub least : (j : ℕ) → IsReady g start done j → k ≤ j
 
--- `order` has the reached rows in the order of their vertex numbers: at each position is the row that gets the next number after the rows at earlier positions.
+-- `order` has the rows that are reached from `start`, by vertex number: at each position is the row that gets the next number after the rows before it.
 pub record IsNumbering (g : List (List ℕ)) (start : ℕ) (order : List ℕ) : Type 0 where
   pub each : (i : ℕ) → i < length order → IsNext g start (take i order) (slice_index order i)
   pub whole : (k : ℕ) → Reached g start k → Contains order k

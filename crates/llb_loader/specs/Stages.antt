@@ -12,11 +12,11 @@ use Rattle.llb_loader.specs.Rows.{lists}
 use Rattle.llb_loader.specs.Placing.{IsMarked}
 use Rattle.llb_loader.specs.Linking.{Plan, plan, IsPlanOf, IsApart, IsNamed, ReachedRow, links_in}
 
--- the plan of linked rows: the rows, their ops, the number of the terminal's row, and the number of the result's row
+-- the `Plan` of linked rows: the rows, their ops, the number of the terminal's row, and the number of the result's row
 abbrev pub plan_in : Linked → Plan
 plan_in l = plan l.rows.items l.ops.items l.terminal l.start
 
--- In l the terminal, the row of the result and the links are those of l's rows and ops; each input of a reached row names a row; `seen` marks the reached rows.
+-- In l the terminal, the row of the result and the links are those of l's rows and ops; inputs of reached rows (`ReachedRow`) name rows; `seen` marks these.
 pub record IsLinked (l : Linked) : Type 0 where
   pub few : length l.rows.items ≤ 65_536
   pub len : length l.ops.items ≡ length l.rows.items

@@ -17,7 +17,7 @@ use llb_wire::{Bytes, Many, Memory, Text};
 use std::alloc::{AllocError, Global};
 use std::mem;
 
-/// Returns the vertices of the rows in `order`, which has the reached rows in the order of their vertex numbers.
+/// Returns the vertices of the rows in `order`, which has the rows on which the result depends, in the order of their vertex numbers.
 pub(crate) fn vertices_of(
     alloc: Global,
     mut rows: Vec<Row>,

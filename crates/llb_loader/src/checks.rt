@@ -1,5 +1,5 @@
-//! Checks the reached rows, on which the result depends; `seen` marks these rows. Each check goes through the marked rows in order, and stops at the first row
-//! that fails the check.
+//! Checks the reached rows, those on which the result depends. The list `seen` has true for each reached row. Each check goes through these rows in order, and
+//! stops at the first row that fails the check.
 
 ghost use Rattle.std.specs.Prelude.{◌≡◌, ◌<◌, ◌≤◌, ◌↔◌, ℕ, false, cond, length, map, IfOk, IfErr, OnOk, IsTrue, MatchOption};
 ghost use Rattle.std.specs.List.{All};
@@ -23,7 +23,7 @@ use llb_ops::{Input, Op};
 use std::alloc::{AllocError, Global};
 use std::collections::BTreeMap;
 
-// Checks that each input of the rows that `seen` marks names a row. Fails with 86 `UnknownDigest` alone.
+// Checks that each input of a reached row (`seen` has true for such a row) names a row. Fails with 86 `UnknownDigest` alone.
 pub(crate) fn check_names(
     rows: &[Row],
     index: &BTreeMap<&str, usize>,
@@ -89,7 +89,7 @@ fn first_unknown(
     None
 }
 
-// Checks that no row that `seen` marks has an unsupported feature. Fails with 88 `Unsupported` alone.
+// Checks that no reached row (`seen` has true for such a row) has an unsupported feature. Fails with 88 `Unsupported` alone.
 pub(crate) fn check_features(ops: &[Op], seen: &[bool]) -> Result<(), LoadFault>
     requires len { length seen.now ≡ length ops.now }
     requires few { length ops.now ≤ 65_536 }
@@ -106,7 +106,7 @@ pub(crate) fn check_features(ops: &[Op], seen: &[bool]) -> Result<(), LoadFault>
     Ok(())
 }
 
-// Checks that no reached row (`seen` marks these rows) breaks a rule. Fails with 89 `Invalid`, or with 91 `Memory`.
+// Checks that no reached row (`seen` has true for such a row) breaks a rule. Fails with 89 `Invalid`, or with 91 `Memory`.
 pub(crate) fn check_rules(alloc: Global, ops: &[Op], seen: &[bool]) -> Result<(), LoadFault>
     requires len { length seen.now ≡ length ops.now }
     requires few { length ops.now ≤ 65_536 }
@@ -136,8 +136,8 @@ pub(crate) fn counts_of(alloc: Global, ops: &[Op]) -> Result<Vec<usize>, AllocEr
     Ok(counts)
 }
 
-// Checks that each input of a reached row (`seen` marks these rows), and the terminal's first input, names an output that exists. Fails with 90 `BadIndex`
-// alone.
+// Checks that each input of a reached row (`seen` has true for such a row), and the terminal's first input, names an output that exists. Fails with
+// 90 `BadIndex` alone.
 pub(crate) fn check_indexes(
     ops: &[Op],
     links: &[Vec<usize>],
@@ -167,7 +167,7 @@ pub(crate) fn check_indexes(
     Ok(())
 }
 
-// Returns how many inputs of a row are checked: all if the row is reached, the first one if the row is the terminal and not reached, else none.
+// Returns how many inputs of a row are checked: all if the row is reached (the result depends on it); else the first one if it is the terminal; else none.
 fn asked_inputs(op: &Op, reached: bool, terminal: bool) -> usize
     ensures { result ≡ cond reached (length op.now.inputs) (cond terminal 1 0) }
 {

@@ -247,7 +247,7 @@ impl From<AllocError> for Memory {
     }
 }
 
-/// Converts the fault of a copy of a tree, which fails only for want of memory.
+/// Converts the fault with which copying a tree fails, refused memory, into this crate's `Memory`.
 impl From<TreeFault> for Memory {
     fn from(_: TreeFault) -> Memory {
         Memory

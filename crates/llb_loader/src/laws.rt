@@ -14,7 +14,7 @@ pub fn one_numbering(rows: &[Vec<usize>], start: usize, first: &[usize], second:
     ensures { first.now ≡ second.now }
 {}
 
-/// Proves that every edge of a reached row leads to a row with a lower vertex number, if `order` has the rows by vertex number.
+/// Proves that every edge of a row that is reached from `start` leads to a row with a lower vertex number, if `order` has these rows by vertex number.
 pub fn numbering_goes_down(rows: &[Vec<usize>], start: usize, order: &[usize])
     requires { IsNumbering (lists rows.now) start order.now }
     ensures { GoesDown (lists rows.now) start (rank_in order.now) }

@@ -182,7 +182,7 @@ impl Linked {
         })
     }
 
-    // Checks the reached rows, and returns them in the order of their vertex numbers. Fails with 87 `Cycle`, 88
+    // Checks the rows on which the result depends, and returns them in the order of their vertex numbers. Fails with 87 `Cycle`, 88
     // `Unsupported`, 89 `Invalid` or 90 `BadIndex`, or with 91 `Memory`.
     fn order(&self, alloc: Global) -> Result<Vec<usize>, LoadFault>
         requires { IsLinked self.now }
@@ -203,7 +203,7 @@ impl Linked {
         Ok(order)
     }
 
-    // Makes the graph of the linked rows; `order` has the reached rows in the order of their vertex numbers. Fails with 91 `Memory` alone.
+    // Makes the graph of the linked rows; `order` has the rows on which the result depends, in the order of their vertex numbers. Fails with 91 `Memory` alone.
     fn into_graph(self, alloc: Global, order: &[usize]) -> Result<Graph, LoadFault>
         requires linked { IsLinked self }
         requires whole { IsWhole (plan_in self) order.now }

@@ -13,15 +13,16 @@ use std::alloc::{AllocError, Global};
 use std::collections::BTreeSet;
 use std::mem;
 
-/// A row that has no vertex number yet. Its first `checked` inputs name rows that have vertex numbers. If the waiter is in a list of waiters, it waits for the
-/// row that its next input, the one at index `checked`, names.
+/// A row that has no vertex number yet. Its first `checked` inputs name rows that have vertex numbers. If this value is in a list, the row waits until the row
+/// that its next input, the one at index `checked`, names has a vertex number.
 #[derive(Clone, Copy)]
 struct Waiter {
     row: usize,
     checked: usize,
 }
 
-// Returns the rows that are reached from `start`, in the order of their vertex numbers; `None` if these rows have a cycle. `seen` marks the reached rows.
+// Returns the rows that are reached from `start`, in the order of their vertex numbers; `None` if these rows have a cycle. `seen` must have true for each of
+// these rows and false for every other row.
 pub(crate) fn number(
     alloc: Global,
     rows: &[Vec<usize>],
@@ -64,7 +65,7 @@ pub(crate) fn number(
     }
 }
 
-// Returns the first row that `seen` marks and that is not numbered; `None` if there is no such row.
+// Returns the first row that is reached (`seen` has true for it) and has no number (`done` has false); `None` if there is no such row.
 fn first_stuck(seen: &[bool], done: &[bool]) -> Option<usize>
     requires { length done.now ≡ length seen.now }
     ensures { MatchOption result ((k : ℕ) → IsMarked seen.now k → IsMarked done.now k) (λ k. IsMarked seen.now k × (slice_index_or done.now k false ≡ false)) }

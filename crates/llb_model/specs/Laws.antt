@@ -94,7 +94,7 @@ EachIn C b s (e ∷ es) = C s e × ((a : State × Reply) → table b s e ≡ Som
 abbrev pub IsChosen : Build → State → Event → Type 0
 IsChosen b s e = chosen b s ≡ Some e
 
--- each event is the chosen event of the state before it
+-- each event is the chosen event of the state before it (the event that a run on one thread does next, `chosen`)
 abbrev pub AreChosen : Build → State → List Event → Type 0
 AreChosen b s es = EachIn (IsChosen b) b s es
 
@@ -102,7 +102,7 @@ AreChosen b s es = EachIn (IsChosen b) b s es
 abbrev pub IsAtRest : State → Type 0
 IsAtRest s = (v w : ℕ) → slice_get s.statuses v ≡ Some (Running w) → ⊥
 
--- a run of chosen events alone, at whose end no vertex runs, ends as if its claims were done one after another; this holds with shared caches too
+-- a run that does only what `chosen` returns, and at whose end no vertex runs, ends as if its claims were done one after another, even with shared caches
 abbrev pub AloneInClaimOrder : Build → Type 0
 AloneInClaimOrder b = (o : Opening) (es : List Event) (rs : List Reply) (s : State) → run b (opening b o) es ≡ Some (s, rs)
     → AreChosen b (opening b o) es → IsAtRest s

@@ -1,4 +1,4 @@
--- Whole runs: the table applied to a list of events, one after another; the chosen event; and when a run is complete.
+-- Whole runs: the table applied to a list of events, one after another; the chosen event, which a run on one thread does next; and when a run is complete.
 use Rattle.std.specs.Prelude.{◌≡◌, ℕ, zero, suc, ◌+◌, ◌<◌, ◌==◌, Bool, true, false, ◌||◌, ◌&&◌, List, [], ◌∷◌, length, count_by, Option}
 use Rattle.std.specs.Prelude.{Some, None, option_map, slice_get, if◌then◌else◌}
 use Rattle.llb_model.specs.Program.{Build}

@@ -11,7 +11,7 @@ use Rattle.llb_ops.specs.Limits.{definition_limit, entries_limit, entry_limit}
 use Rattle.llb_ops.specs.Records.{Shape, records_from, all, payloads}
 use Rattle.llb_ops.specs.Writing.{each_field}
 
--- the shape of a `Definition` message
+-- the shape (the fields in the table) of a `Definition` message
 abbrev pub definition_shape : Shape
 definition_shape = shape_of message.Definition
 

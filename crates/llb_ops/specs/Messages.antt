@@ -37,7 +37,7 @@ use Rattle.llb_ops.specs.Attributes.{settled}
 use Rattle.llb_ops.specs.Records.{Shape, message_of, all, payload, payloads, number, flag, uint32, int32, int64, joined, one, each, one_of}
 use Rattle.llb_ops.specs.Records.{within_limits, unnamed}
 
--- the shape of an `Input` message: `digest` (1) and `index` (2)
+-- the shape (the fields in the table) of an `Input` message: `digest` (1) and `index` (2)
 abbrev pub input_shape : Shape
 input_shape = shape_of message.Input
 
@@ -49,7 +49,7 @@ input_in rs = Ok (record { digest = payload (all 1 rs); index = int64 (number (a
 abbrev pub input_of : List ℕ → Result Input OpFault
 input_of = message_of input_shape input_in
 
--- the shape of a `UserOpt` message: `byName` (1) and `byID` (2), the members of its oneof
+-- the shape (the fields in the table) of a `UserOpt` message: `byName` (1) and `byID` (2), the members of its oneof
 abbrev pub user_opt_shape : Shape
 user_opt_shape = shape_of message.UserOpt
 
@@ -86,7 +86,7 @@ chown_opt_in rs = do
 abbrev pub chown_opt_of : List ℕ → Result ChownOpt OpFault
 chown_opt_of = message_of chown_opt_shape chown_opt_in
 
--- the shape of a `FileActionMkFile` message: `path`, `mode`, `data`, `owner` and `timestamp` (1 to 5)
+-- the shape (the fields in the table) of a `FileActionMkFile` message: `path`, `mode`, `data`, `owner` and `timestamp` (1 to 5)
 abbrev pub mk_file_shape : Shape
 mk_file_shape = shape_of message.FileActionMkFile
 
@@ -107,7 +107,7 @@ mk_file_in rs = do
 abbrev pub mk_file_of : List ℕ → Result MkFile OpFault
 mk_file_of = message_of mk_file_shape mk_file_in
 
--- the shape of a `FileActionMkDir` message: `path`, `mode`, `makeParents`, `owner` and `timestamp` (1 to 5)
+-- the shape (the fields in the table) of a `FileActionMkDir` message: `path`, `mode`, `makeParents`, `owner` and `timestamp` (1 to 5)
 abbrev pub mk_dir_shape : Shape
 mk_dir_shape = shape_of message.FileActionMkDir
 
@@ -128,7 +128,7 @@ mk_dir_in rs = do
 abbrev pub mk_dir_of : List ℕ → Result MkDir OpFault
 mk_dir_of = message_of mk_dir_shape mk_dir_in
 
--- the shape of a `FileActionCopy` message: thirteen fields, `src` (1) to `exclude_patterns` (13)
+-- the shape (the fields in the table) of a `FileActionCopy` message: thirteen fields, `src` (1) to `exclude_patterns` (13)
 abbrev pub copy_file_shape : Shape
 copy_file_shape = shape_of message.FileActionCopy
 
@@ -161,7 +161,7 @@ copy_file_in rs = do
 abbrev pub copy_file_of : List ℕ → Result CopyFile OpFault
 copy_file_of = message_of copy_file_shape copy_file_in
 
--- the shape of a `FileActionRm` message: `path`, `allowNotFound` and `allowWildcard` (1 to 3)
+-- the shape (the fields in the table) of a `FileActionRm` message: `path`, `allowNotFound` and `allowWildcard` (1 to 3)
 abbrev pub rm_shape : Shape
 rm_shape = shape_of message.FileActionRm
 
@@ -178,7 +178,7 @@ rm_in rs = Ok (record {
 abbrev pub rm_of : List ℕ → Result Rm OpFault
 rm_of = message_of rm_shape rm_in
 
--- the shape of a `FileAction` message: `input`, `secondaryInput` and `output` (1 to 3), and the members of its oneof (4 to 7)
+-- the shape (the fields in the table) of a `FileAction` message: `input`, `secondaryInput` and `output` (1 to 3), and the members of its oneof (4 to 7)
 abbrev pub action_shape : Shape
 action_shape = shape_of message.FileAction
 
@@ -210,7 +210,7 @@ action_in rs = do
 abbrev pub action_of : List ℕ → Result Action OpFault
 action_of = message_of action_shape action_in
 
--- the shape of a `FileOp` message: `actions` (2)
+-- the shape (the fields in the table) of a `FileOp` message: `actions` (2)
 abbrev pub file_op_shape : Shape
 file_op_shape = shape_of message.FileOp
 
@@ -224,7 +224,7 @@ file_op_in rs = do
 abbrev pub file_op_of : List ℕ → Result FileOp OpFault
 file_op_of = message_of file_op_shape file_op_in
 
--- the shape of a `Meta` message: `args`, `env`, `cwd` and `user` (1 to 4)
+-- the shape (the fields in the table) of a `Meta` message: `args`, `env`, `cwd` and `user` (1 to 4)
 abbrev pub meta_shape : Shape
 meta_shape = shape_of message.Meta
 
@@ -242,7 +242,7 @@ meta_in rs = if within_limits (repeated_of message.Meta) rs then Ok (record {
 abbrev pub meta_of : List ℕ → Result Meta OpFault
 meta_of = message_of meta_shape meta_in
 
--- the shape of a `TmpfsOpt` message: `size` (1)
+-- the shape (the fields in the table) of a `TmpfsOpt` message: `size` (1)
 abbrev pub tmpfs_opt_shape : Shape
 tmpfs_opt_shape = shape_of message.TmpfsOpt
 
@@ -257,7 +257,7 @@ tmpfs_opt_in rs = Ok (record {
 abbrev pub tmpfs_opt_of : List ℕ → Result TmpfsOpt OpFault
 tmpfs_opt_of = message_of tmpfs_opt_shape tmpfs_opt_in
 
--- the shape of a `CacheOpt` message: `ID` (1) and `sharing` (2)
+-- the shape (the fields in the table) of a `CacheOpt` message: `ID` (1) and `sharing` (2)
 abbrev pub cache_opt_shape : Shape
 cache_opt_shape = shape_of message.CacheOpt
 
@@ -273,7 +273,7 @@ cache_opt_in rs = Ok (record {
 abbrev pub cache_opt_of : List ℕ → Result CacheOpt OpFault
 cache_opt_of = message_of cache_opt_shape cache_opt_in
 
--- the shape of a `Mount` message: `input` (1) to `mountType` (6), `TmpfsOpt` (19) and `cacheOpt` (20)
+-- the shape (the fields in the table) of a `Mount` message: `input` (1) to `mountType` (6), `TmpfsOpt` (19) and `cacheOpt` (20)
 abbrev pub mount_shape : Shape
 mount_shape = shape_of message.Mount
 
@@ -320,7 +320,7 @@ exec_op_in rs = do
 abbrev pub exec_op_of : List ℕ → Result ExecOp OpFault
 exec_op_of = message_of exec_op_shape exec_op_in
 
--- the shape of a `MergeInput` message: `input` (1)
+-- the shape (the fields in the table) of a `MergeInput` message: `input` (1)
 abbrev pub merge_input_shape : Shape
 merge_input_shape = shape_of message.MergeInput
 
@@ -335,7 +335,7 @@ merge_input_in rs = Ok (record {
 abbrev pub merge_input_of : List ℕ → Result MergeInput OpFault
 merge_input_of = message_of merge_input_shape merge_input_in
 
--- the shape of a `MergeOp` message: `inputs` (1)
+-- the shape (the fields in the table) of a `MergeOp` message: `inputs` (1)
 abbrev pub merge_op_shape : Shape
 merge_op_shape = shape_of message.MergeOp
 
@@ -352,7 +352,7 @@ merge_op_in rs = do
 abbrev pub merge_op_of : List ℕ → Result MergeOp OpFault
 merge_op_of = message_of merge_op_shape merge_op_in
 
--- the shape of an entry of the map `attrs`: `key` (1) and `value` (2) (the encoding guide, "Maps")
+-- the shape (the fields in the table) of an entry of the map `attrs`: `key` (1) and `value` (2) (the encoding guide, "Maps")
 abbrev pub attribute_entry_shape : Shape
 attribute_entry_shape = shape_of message.AttributeEntry
 
@@ -364,7 +364,7 @@ attribute_entry_in rs = Ok (record { key = payload (all 1 rs); value = payload (
 abbrev pub attribute_entry_of : List ℕ → Result AttributeEntry OpFault
 attribute_entry_of = message_of attribute_entry_shape attribute_entry_in
 
--- the shape of a `SourceOp` message: `identifier` (1) and `attrs` (2)
+-- the shape (the fields in the table) of a `SourceOp` message: `identifier` (1) and `attrs` (2)
 abbrev pub source_op_shape : Shape
 source_op_shape = shape_of message.SourceOp
 
@@ -382,7 +382,7 @@ source_op_in rs = do
 abbrev pub source_op_of : List ℕ → Result SourceOp OpFault
 source_op_of = message_of source_op_shape source_op_in
 
--- the shape of an `Op` message: `inputs` (1), and the members of its oneof (2 to 7)
+-- the shape (the fields in the table) of an `Op` message: `inputs` (1), and the members of its oneof (2 to 7)
 abbrev pub op_shape : Shape
 op_shape = shape_of message.Op
 

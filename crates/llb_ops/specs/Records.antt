@@ -96,7 +96,7 @@ text_fits shape r = text_ok (form_of shape r.number) r.payload
 abbrev pub texts_fit : Shape → List Record → Bool
 texts_fit shape rs = list_all (text_fits shape) rs
 
--- the records of a message whose fields have this shape, or the first fault
+-- the records that the bytes of a message are read as, or the first fault; the shape has the number and the form of each field of the message
 unfoldable pub parts : Shape → List ℕ → Result (List Record) OpFault
 parts shape bytes = records_from shape 0 bytes >>= λ rs. if texts_fit shape rs then Ok rs else Err NotUtf8
 

@@ -42,7 +42,7 @@ fn two_copies(rt: &impl Abort, alloc: Global, tree: &Tree) -> Vec<Tree> {
     vec![in alloc; copied(rt, tree), copied(rt, tree)].expect(rt, "memory")
 }
 
-// Returns the op of the first entry of a short text (`llb_samples`).
+// Returns the op of the first entry that `written` has; the entries are in the short form of `llb_samples`, with `; ` between them.
 fn op_in(rt: &impl Abort, alloc: Global, written: &str) -> Op {
     let entries = entries_of(rt, alloc, written);
     let entry = entries.as_slice().first().expect(rt, "an entry");

@@ -42,7 +42,7 @@ pub(crate) fn refuse(alloc: Global, k: usize) {
     let _ = Vec::<u8>::with_capacity(alloc, ASK | k);
 }
 
-/// Makes the `k`-th later start of a thread fail, and only that one. Has no effect if the library is not loaded.
+/// Makes the `k`-th start of a thread from now on fail, and only that one. Has no effect if the library `refuse.c` is not loaded.
 pub(crate) fn refuse_thread(alloc: Global, k: usize) {
     let _ = Vec::<u8>::with_capacity(alloc, START | k);
 }

@@ -1,4 +1,5 @@
-//! Makes the values on which calls are made, from short texts: trees from their names, definitions from their entries (`llb_samples`), and local trees.
+//! Makes the values on which calls are made, from texts: trees from their names, definitions from their entries in the short form of `llb_samples`, and local
+//! trees.
 
 use super::printed::{printed_bytes, text_of};
 use llb_loader::{Graph, Locals};
@@ -27,7 +28,7 @@ pub(crate) fn tree_and_twin(rt: &impl Abort, alloc: Global, on: &'static str) ->
     }
 }
 
-/// Returns the assembler's text of the entries of a short text.
+/// Returns the assembler's text of the entries that `written` has, in the short form of `llb_samples` with `; ` between them.
 pub(crate) fn entries_text(rt: &impl Abort, alloc: Global, written: &str) -> String {
     samples::entries_text(alloc, written).expect(rt, "memory")
 }

@@ -1,4 +1,4 @@
-//! Definitions from short texts. A short text has the entries of a definition, with `; ` between them.
+//! Definitions from texts in a short form, which has the entries of a definition, with `; ` between them.
 //!
 //! An entry is written in one of four ways: a name in `entries`; `RESULT_N` or `RESULT N`, the terminal that names entry N; the script of an exec; or lines
 //! of the assembler's text. `sh: SCRIPT` is an exec of the script on the empty tree at `/`. `locked: SCRIPT`, `private: SCRIPT` and `shared: SCRIPT` are the
@@ -105,7 +105,7 @@ pub fn entries_in(alloc: Global, text: &str) -> Option<Entries> {
     assemble(alloc, text.as_bytes()).ok()
 }
 
-/// Returns the entries of a short text; `None` if the assembler refuses one of them.
+/// Returns the entries that are in `written`, in short form with `; ` between them; `None` if the assembler refuses one of them.
 pub fn entries_of(alloc: Global, written: &str) -> Option<Entries> {
     let text = entries_text(alloc, written).ok()?;
     entries_in(alloc, text.as_str())
@@ -129,7 +129,7 @@ pub fn graph_in(alloc: Global, text: &str) -> Option<Graph> {
     graph_with(alloc, &entries)
 }
 
-/// Returns the graph of the definition that has the entries of a short text; `None` if an entry or the definition is refused.
+/// Returns the graph of the definition whose entries are in `written`, in short form with `; ` between them; `None` if an entry or the definition is refused.
 pub fn graph_of(alloc: Global, written: &str) -> Option<Graph> {
     let entries = entries_of(alloc, written)?;
     graph_with(alloc, &entries)

@@ -58,7 +58,7 @@ pub record Talked (p : Standing) (bytes text : List ℕ) (q : Standing) : Type 0
 
 -- ---- what is written when a conversation ends
 
--- what is written is the reply to each line that ends within these bytes, and nothing else
+-- what is written to `out` is the replies to the lines that end within these bytes, and nothing else; t is the stepper after these lines
 pub record Answered (p : Standing) (bytes : List ℕ) (t : Stepping) (out : Stream) : Type 0 where
   pub text : List ℕ
   pub at : Standing
@@ -66,12 +66,12 @@ pub record Answered (p : Standing) (bytes : List ℕ) (t : Stepping) (out : Stre
   pub same : t ≡ at.session
   pub printed : IsWritten out text
 
--- what is written is the reply to each line that ends within these bytes; the line that is being read ends the session, and has no reply
+-- what is written to `out` is the replies to the lines that end within these bytes; the line that is being read ends the session, and has no reply
 pub record Quit (p : Standing) (bytes : List ℕ) (t : Stepping) (out : Stream) : Type 0 where
   pub before : Answered p bytes t out
   pub quits : Quits before.at.line
 
--- what is written is the reply to each line that ends within these bytes, and then a prefix of the reply to the line that is being read
+-- what is written to `out` is the replies to the lines that end within these bytes, and then a prefix of the reply to the line that is being read
 pub record CutShort (p : Standing) (bytes : List ℕ) (t : Stepping) (out : Stream) : Type 0 where
   pub text : List ℕ
   pub at : Standing

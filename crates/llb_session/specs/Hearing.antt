@@ -33,7 +33,7 @@ IsLast p t out (Err (Unending interrupted)) = ⊥
 IsLast p t out (Err Memory) = ⊥
 IsLast p t out (Err TooLong) = ⊥
 
--- the bytes lead from state p to state q, and the replies to the lines whose line ends are among these bytes are written
+-- the bytes lead from state p to state q, and the replies to the lines that end within these bytes are written
 pub record Went (p : Standing) (bytes : List ℕ) (q : Standing) (out : Stream) : Type 0 where
   pub text : List ℕ
   pub talked : Talked p bytes text q

@@ -75,7 +75,8 @@ fn go_text(
     Ok(text)
 }
 
-// Does chosen events up to a stop (`Stepper::go`), and returns their lines; if memory for the lines is refused, takes the events back.
+// Does events up to a stop, each of which `Stepper::next` returns (`Stepper::go` does them), and returns their lines; if memory for the lines is refused, takes
+// the events back.
 fn go(alloc: Global, stepper: &mut Stepper) -> Result<Vec<u8>, StepperFault>
     ensures { IsPerformed ask.Go stepper.old stepper.new result }
 {

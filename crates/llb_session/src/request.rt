@@ -19,7 +19,7 @@ pub enum Request {
     Event(Event),
     /// Does the chosen event (the event that `Stepper::next` returns).
     Next,
-    /// Does chosen events one after another, until an event meets a breakpoint or there is no chosen event.
+    /// Does events one after another, each of which `Stepper::next` returns, until an event meets a breakpoint or there is no further event.
     Go,
     /// Takes the last event back.
     Back,

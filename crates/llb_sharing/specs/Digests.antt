@@ -1,4 +1,4 @@
--- What vertices with the same digest have in common, in the graphs of two definitions that do not collide.
+-- What vertices with the same digest have in common, in the graphs of two definitions in which entries with the same digest are equal.
 use Rattle.std.specs.Prelude.{◌≡◌, ℕ, List, Ok, Some, slice_get}
 use Rattle.std.specs.List.{Contains}
 use Rattle.llb_wire.specs.Digest.{digest_text}

@@ -1,6 +1,5 @@
 //! Laws of vertices with the same digest, in two graphs or on two boards. If you read only one contract, read the contract of `one_digest_one_outcome`. Its
-//! premise is that the two definitions do not collide: an entry of one and an entry of the other with the same digest are the same bytes.
-//! `parts_do_not_collide` says for which definitions this always holds.
+//! premise is that entries of the two definitions with the same digest are equal. `parts_do_not_collide` says for which definitions this always holds.
 
 ghost use Rattle.llb_sharing.specs.Digests.{LoadWithoutCollision, PartsDoNotCollide, ShareOutcomes, DependOnSources};
 ghost use Rattle.llb_sharing.specs.Boards.{SettleAlike};
@@ -10,8 +9,8 @@ use llb_board::Board;
 use llb_board::laws::{begun_are_plain, settled_are_plain};
 use llb_loader::Graph;
 
-/// Proves that vertices with the same digest, in the graphs of two definitions that do not collide, have the same plain outcome if the sources at or before
-/// them have the same local trees. It also proves that a cache mount is at or before both vertices or neither of them.
+/// Proves a law for the graphs of two definitions in which entries with the same digest are equal: vertices with the same digest have the same plain outcome
+/// if the sources at or before them have the same local trees. It also proves that a cache mount is at or before both vertices or neither of them.
 pub fn one_digest_one_outcome(first: &[u8], graph: &Graph, second: &[u8], other: &Graph)
     ensures { LoadWithoutCollision first.now graph.now second.now other.now → ShareOutcomes graph.now other.now }
 {
@@ -28,9 +27,9 @@ pub fn outcome_by_sources(graph: &Graph)
     graph.is_graph();
 }
 
-/// Proves a law for two boards over the graphs of definitions that do not collide (entries with the same digest have the same bytes). If two vertices with the
-/// same digest are done or failed, one on each board, they ended alike (with the same outputs or the same fault). The premises: no cache mount is at or before
-/// them, and the sources at or before them have the same trees. This holds for any workers and any order of events, whatever caches other vertices share.
+/// Proves a law for two boards over the graphs of definitions in which entries with the same digest are equal. If two vertices with the same digest are done or
+/// failed, one on each board, they have the same outputs or the same fault. The premises: no cache mount is at or before them, and the sources at or before
+/// them have the same trees. This holds for any workers and any order of events, whatever caches other vertices share.
 pub fn boards_settle_alike(first: &[u8], board: &Board, second: &[u8], other: &Board)
     ensures { LoadWithoutCollision first.now board.now.build.graph second.now other.now.build.graph → SettleAlike board.now other.now }
 {
@@ -42,9 +41,8 @@ pub fn boards_settle_alike(first: &[u8], board: &Board, second: &[u8], other: &B
     settled_are_plain(other);
 }
 
-/// Proves that two definitions do not collide if all their entries are entries of one loaded definition. (They collide if an entry of the one and an entry
-/// of the other have the same digest and different bytes.) So a loaded definition collides neither with itself nor with a definition that has only some of its
-/// entries.
+/// Proves that in two definitions entries with the same digest are equal (the definitions do not collide) if all these entries are entries of one loaded
+/// definition. So a loaded definition collides neither with itself nor with a definition that has only some of its entries.
 pub fn parts_do_not_collide(definition: &[u8], graph: &Graph)
     ensures { PartsDoNotCollide definition.now graph.now }
 {
@@ -52,9 +50,9 @@ pub fn parts_do_not_collide(definition: &[u8], graph: &Graph)
     let _ = graph;
 }
 
-/// Proves that vertices with the same digest, in the graphs of two definitions that do not collide, have the same job, except for the numbers of worker and
-/// vertex, if the sources at or before them have the same local trees. The law is about jobs without cache instances; a claim hands out such a job if no cache
-/// mount is at or before the vertex.
+/// Proves a law for the graphs of two definitions in which entries with the same digest are equal: vertices with the same digest have the same job, except for
+/// the numbers of worker and vertex, if the sources at or before them have the same local trees. The law is about jobs without cache instances; a claim hands
+/// out such a job if no cache mount is at or before the vertex.
 pub fn one_digest_one_job(first: &[u8], graph: &Graph, second: &[u8], other: &Graph)
     ensures { LoadWithoutCollision first.now graph.now second.now other.now → ShareJobs graph.now other.now }
 {

@@ -147,7 +147,7 @@ unfoldable pub AreChosen : BoardValue → List Event → Type 0
 AreChosen b [] = Unit {0}
 AreChosen b (e ∷ es) = (chosen b.build b.state ≡ Some e) × ChosenThen (answered b e) (λ c. AreChosen c es)
 
--- Stepper t is s after a `go`: chosen events (`AreChosen`) were done, up to a stop. If no breakpoint was met, there is no chosen event on the board of t.
+-- Stepper t is s after a `go`: events were done, each of which `chosen` returned, up to a stop. If no breakpoint was met, `chosen` returns none on t's board.
 pub record IsGo (s t : Stepping) (p : Stop) : Type 0 where
   pub events : List Event
   pub are : AreChosen s.board events

@@ -1,5 +1,5 @@
-//! Makes boards from short texts. A definition is written as its entries, local trees as their texts (both as in `llb_samples`), and the key of a cache as a
-//! `CacheRow`.
+//! Makes boards from texts. A definition is written as its entries, in short form with `; ` between them, and local trees as their texts (both as in
+//! `llb_samples`); the key of a cache as a `CacheRow`.
 
 use llb_board::Board;
 use llb_cache::{Caches, Key, Mode, Need, Seed};
@@ -13,13 +13,13 @@ use std::process::Abort;
 // The key of a cache: the key's ID, the key's mode and, if the key has a seed, which output of the first entry is the seed.
 pub(crate) type CacheRow = (&'static str, Mode, Option<u32>);
 
-/// Appends the assembler's text of the entries of a short text.
+/// Appends the assembler's text of the entries that are in `entries`, in short form (`llb_samples`) with `; ` between them.
 pub(crate) fn push_entries(rt: &impl Abort, text: &mut String, entries: &str) {
     let entries = entries_text(*text.allocator(), entries).expect(rt, "memory");
     text.push_str(entries.as_str()).expect(rt, "memory");
 }
 
-/// Returns the definition that has the entries of a short text.
+/// Returns the definition whose entries are in `entries`, in short form (`llb_samples`) with `; ` between them.
 pub(crate) fn definition_from(rt: &impl Abort, alloc: Global, entries: &str) -> Bytes {
     definition_of(alloc, entries).expect(rt, "a definition")
 }

@@ -20,7 +20,7 @@ module _ {X : Type 0} (passes : X → List ℕ → Bool) where
   passes_all (t ∷ ts) [] = false
   passes_all (t ∷ ts) (n ∷ q) = passes t n && passes_all ts q
 
-  -- whether a path is at or below a selected path: there are at least as many names as tests, and the first names pass the tests, in order
+  -- whether a path is at or below a path that the tests select: it has at least as many names as there are tests, and its first names pass the tests, in order
   abbrev pub goes : List X → List (List ℕ) → Bool
   goes [] q = true
   goes (t ∷ ts) [] = false
@@ -30,11 +30,11 @@ module _ {X : Type 0} (passes : X → List ℕ → Bool) where
   abbrev pub any_goes : List X → TreeMap → Bool
   any_goes ts t = list_any (goes ts) (finite.keys t)
 
-  -- the tree without each path that is at or below a selected path
+  -- the tree without each path that is at or below a selected path (one with a name for each test, where each name passes its test)
   abbrev pub thin : List X → TreeMap → TreeMap
   thin ts t = finite.retain_keys t (λ q. not (goes ts q))
 
-  -- the tree without each path that is at or below a path that the tests select; nothing if this removes no path; the fault `Root` if there are no tests
+  -- the tree without what is at or below paths that the tests select (`passes_all`); nothing if this removes no path; the fault `Root` if there are no tests
   abbrev pub rid_of : List X → TreeMap → Result (Option TreeMap) TreeFault
   rid_of [] t = Err Root
   rid_of (x ∷ ts) t = Ok (if any_goes (x ∷ ts) t then Some (thin (x ∷ ts) t) else None)

@@ -14,7 +14,7 @@ pub record HasBelow (t above : TreeMap) (at : List (List ℕ)) (dir : TreeMap) :
   pub inside : (q : List (List ℕ)) → finite.get t (at ++ q) ≡ finite.get dir q
   pub outside : (q : List (List ℕ)) → is_within at q ≡ false → finite.get t q ≡ finite.get above q
 
--- if no directory is kept apart (as a tree of its own), t is `kept`; else t has the tree `kept` at and below that directory's path, and `above` elsewhere
+-- if no directory is kept as a tree of its own, t is `kept`; else t has the tree `kept` at and below that directory's path, and the tree `above` elsewhere
 abbrev pub IsKept : TreeMap → Option Open → TreeMap → Type 0
 IsKept kept None t = kept ≡ t
 IsKept kept (Some o) t = HasBelow t o.above o.at kept × (o.text.now ≡ names_text o.at)

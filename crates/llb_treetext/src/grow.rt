@@ -1,6 +1,6 @@
-//! The tree of a text while the text is read. The lines of a directory's files often follow the directory's line, so a
-//! new directory is kept apart as a tree of its own: a file is put into it by the file's name alone. The directory is put
-//! back at its path at the end, or before the next entry that is not a file directly below the directory.
+//! The tree of a text while the text is read. The lines of a directory's files often follow the directory's line. So a
+//! new directory is at first a tree of its own: a file is put into it by the file's name alone. This tree is put into the
+//! whole tree, at the directory's path, at the end, or before the next entry that is not a file directly below the directory.
 
 ghost use Rattle.std.specs.Prelude.{◌≡◌, ◌++◌, ◌∷◌, ℕ, List, [], Ok, None, true, false, IfSome, IfOk};
 ghost use Rattle.std.specs.FinMap as finite;
@@ -17,14 +17,15 @@ use llb_tree::{Meta, Name, Path, Tree, TreeFault};
 use llb_wire::{Memory, read_hex};
 use std::alloc::Global;
 
-// The tree of the lines so far: a whole tree, or a directory that is kept apart, with the tree to which it belongs.
+// The tree of the lines so far. The field `tree` is the whole tree or, if there is an `open`, the tree of a new directory, which is not yet put into the whole
+// tree.
 #[derive(Drop)]
 pub(crate) struct Growing<'a> {
     tree: Tree,
     open: Option<Open<'a>>,
 }
 
-// Where a directory that is kept apart belongs: the tree, the directory's path in it, and that path as a text.
+// Where a directory belongs that is a tree of its own at first: the tree into which it will be put, the directory's path in it, and that path as a text.
 #[derive(Drop)]
 pub(crate) struct Open<'a> {
     above: Tree,
@@ -53,7 +54,8 @@ pub(crate) fn started<'a>(alloc: Global, meta: Meta) -> Option<Growing<'a>>
     Some(Growing { tree, open: None })
 }
 
-// Returns the whole tree. If a directory is kept apart as a tree of its own, this tree is put back at the directory's path. `None` if memory is refused.
+// Returns the whole tree. If a new directory is still a tree of its own, this tree is put into the whole tree, at the directory's path. `None` if memory is
+// refused.
 fn whole(growing: Growing<'_>) -> Option<Tree>
     ensures { (t : TreeMap) → IsGrown growing.entry t → IsIfAny result t }
 {
@@ -107,9 +109,9 @@ fn path_of_name(alloc: Global, text: &str) -> Result<Option<Path>, Memory>
     }
 }
 
-// If a line is the line of a file directly below the directory that is kept apart (as a tree of its own, which is put into the whole tree later), puts the file
-// into that directory by its name, and returns true; else returns false and changes nothing. If memory is refused, the result is an error and not `false`, so
-// that the refusal is reported.
+// If there is a new directory that is still a tree of its own, and a line is the line of a file directly below this directory, puts the file into that tree by
+// its name, and returns true; else returns false and changes nothing. If memory is refused, the result is an error and not `false`, so that the refusal is
+// reported.
 fn is_put_below(alloc: Global, growing: &mut Growing<'_>, parts: &Parts<'_>) -> Result<bool, Memory>
     ensures put { IfOk result (λ is_put. is_put ≡ true → (t : TreeMap) → IsGrown growing.old t → (row : List (List ℕ) × TreeEntry)
         → Follows t row parts.now → IsGrown growing.new (finite.insert t row.0 row.1)) }
@@ -137,7 +139,7 @@ fn is_put_below(alloc: Global, growing: &mut Growing<'_>, parts: &Parts<'_>) -> 
     }
 }
 
-// Adds an empty directory to a tree, but keeps the directory apart as a tree of its own, to which the files that follow are added; `None` if memory is
+// Adds an empty directory to a tree, but keeps the directory at first as a tree of its own, to which the files that follow are added; `None` if memory is
 // refused.
 fn opened<'a>(
     alloc: Global,

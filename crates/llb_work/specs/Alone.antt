@@ -19,7 +19,7 @@ pub record Takes (old : BoardValue) (e : Event) (new : BoardValue) : Type 0 wher
   pub given : table old.build old.state e ≡ Some (new.state, reply)
   pub events : new.events ≡ old.events ++ e ∷ []
 
--- `new` is the board `old` after events that are granted one after another and recorded; each is the chosen event (see llb_model) of the state before it
+-- `new` is the board `old` after events that are granted one after another and recorded; each is the event that `chosen` of llb_model returns before it
 pub record Goes (old new : BoardValue) : Type 0 where
   pub build : new.build ≡ old.build
   pub opening : new.opening ≡ old.opening
@@ -30,8 +30,8 @@ pub record Goes (old new : BoardValue) : Type 0 where
   pub chosen : AreChosen old.build old.state more
   pub events : new.events ≡ old.events ++ more
 
--- The chosen events lead from an opening to a complete state. In that state each vertex and each instance of a cache is as if the vertices had been run one
--- after another in the order of their claims, each with all its micro-steps.
+-- The events, each of which `chosen` of llb_model returns for the state before it, lead from an opening to a complete state. In that state each vertex and each
+-- instance of a cache is as if the vertices had been run one after another in the order of their claims, each with all its micro-steps.
 pub record EndsInClaimOrder (b : Build) (o : Opening) (es : List Event) (s : State) : Type 0 where
   pub replies : List Reply
   pub leads : run b (opening b o) es ≡ Some (s, replies)

@@ -17,7 +17,7 @@ module _ {L : Type 0} where
     pub no_threads : vec_len out.threads ≡ 0
     pub threads : out.workers ≤ vec_capacity out.threads
 
-  -- what n workers give back: their shares of the ledger, whose amount is the number of events that they made, and the whole pass of the queue
+  -- what n workers give back: their shares of the ledger (which counts events), whose amount is how many events they made, and the whole pass of the queue
   pub record IsGivenBack (q : ReadyQueue) (n : ℕ) (back : GivenBack L) : Type 0 where
     pub parts : back.share.parts ≡ n
     pub amount : back.share.amount ≡ sum back.made

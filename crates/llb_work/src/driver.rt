@@ -23,8 +23,8 @@ fn do_event(board: &mut Board, event: Event) -> bool
     }
 }
 
-/// Does the board's chosen events (`Board::chosen`) one after another. Returns true when no event is chosen any more, false when a chosen event is refused for
-/// want of memory.
+/// Does the event that `Board::chosen` returns, again and again. Returns true when `Board::chosen` returns no event any more, false when an event is refused
+/// for want of memory.
 pub(crate) fn go_to_end(board: &mut Board) -> bool
     ensures goes { Goes board.old board.new }
     ensures ends { OnTrue result (chosen board.new.build board.new.state ≡ None) }

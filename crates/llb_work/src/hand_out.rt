@@ -20,7 +20,8 @@ use std::sync::Wait;
 use std::sync::ledger::{Ledger, Share};
 use std::thread::{Scope, Threads};
 
-/// What is handed out to n workers: all shares of the ledger, the whole pass of the queue, for each worker a list for vertex numbers, and room for the threads.
+/// What is handed out to n workers: all shares of the ledger (which counts events), the whole pass of the queue, for each worker a list for vertex numbers, and
+/// room for the threads.
 #[derive(Drop)]
 pub(crate) struct HandOut<S: Ledger> {
     pub workers: u32,

@@ -1,7 +1,7 @@
-//! Keeps the numbers of vertices whose claim was refused because another worker holds a locked key; these numbers wait for the key. The numbers that wait for
-//! one key are put into the queue again one by one: the first when the vertex that holds the key ends, and each later one when the vertex of the number before
-//! it ends, or when the claim of that vertex is refused for another key. So no vertex is claimed again and again while the key is held. The table is made with
-//! all the room that it needs, and later calls do not allocate. Nothing in this module knows about the board.
+//! Keeps the numbers of vertices whose claim was refused because another worker holds a locked key; these vertices wait for the key. The numbers of the
+//! vertices that wait for one key are put into the queue again one by one: the first when the vertex that holds the key ends, and each later one when the
+//! vertex before it ends, or when the claim of the vertex before it is refused for another key. So no vertex is claimed again and again while the key is held.
+//! The table is made with all the room that it needs, and later calls do not allocate. Nothing in this module knows about the board.
 
 use llb_cache::Key;
 use std::alloc::{AllocError, Global};
@@ -18,7 +18,7 @@ struct Row {
 }
 
 impl Row {
-    // Returns whether the row has no number: no number waits for the key, and `put` is `None`.
+    // Returns whether the row has no number of a vertex: no vertex waits for the key, and `put` is `None`.
     fn is_empty(&self) -> bool {
         self.put.is_none() && self.first.is_none()
     }
@@ -56,8 +56,8 @@ impl KeyWaiters {
         }
     }
 
-    /// Adds a number that waits for a key. Returns false if there is no room for the key, which does not occur: no number waits twice, so
-    /// there are at most as many keys as numbers.
+    /// Adds vertex `v` to the vertices that wait for a key. Returns false if there is no room for the key, which does not occur: no vertex waits twice, so
+    /// there are at most as many keys as vertices.
     pub(crate) fn push(&mut self, key: Key, v: u32) -> bool {
         self.set_after(v, None);
         match self.place_of(&key) {
@@ -66,7 +66,7 @@ impl KeyWaiters {
         }
     }
 
-    // Adds a number to the row at an index. Returns false if there is no such row.
+    // Adds vertex `v` to the row of a key, which is at this index. Returns false if there is no such row.
     fn push_at(&mut self, at: usize, v: u32) -> bool {
         let Some(row) = self.rows.get_mut(at) else {
             return false;
@@ -96,8 +96,8 @@ impl KeyWaiters {
         true
     }
 
-    // Takes the next number of a row, to be put into the queue again. Returns `None` if no number waits, or if an earlier number of this row was put into the
-    // queue again and its claim is still to be tried.
+    // Takes the number of the next vertex of a row, to be put into the queue again. Returns `None` if no vertex waits, or if the number of an earlier vertex of
+    // this row was put into the queue again and the claim of that vertex is still to be tried.
     fn next_at(&mut self, at: usize) -> Option<u32> {
         let KeyWaiters { rows, after } = self;
         let row = rows.get_mut(at)?;

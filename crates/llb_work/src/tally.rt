@@ -19,7 +19,8 @@ pub(crate) struct Tally<S: Ledger> {
     pub ghost counted: { share.amount ≡ made },
 }
 
-/// Makes a worker's tally that has counted no events. `share` must be one part of the ledger, with the amount 0.
+/// Makes the count of a worker's events (`Tally`), which is 0 at first. `share` must be one part of the ledger (which counts the events of all workers), with
+/// the amount 0.
 pub(crate) fn make_tally<S: Ledger>(share: Share<S>) -> Tally<S>
     requires part { share.parts ≡ 1 }
     requires empty { share.amount ≡ 0 }
@@ -27,8 +28,8 @@ pub(crate) fn make_tally<S: Ledger>(share: Share<S>) -> Tally<S>
     Tally { made: 0, share }
 }
 
-/// Adds `after - before`, the number of events that a worker has just added to the record, to the total of all workers' events in `calls`, the book of
-/// the ledger, and to the worker's own count and share in `mine`.
+/// Adds `after - before`, the number of events that a worker has just added to the record, to the total of all workers' events, which is kept in `calls`, and
+/// to the worker's own count and share in `mine`.
 pub(crate) fn count<S: Ledger>(
     calls: &mut Book<S>,
     mine: &mut Tally<S>,

@@ -7,7 +7,7 @@ use crate::board::Board;
 use llb_wire::{Same, all_same};
 
 impl Board {
-    /// Returns whether both boards are the same by value: the same graph and local trees, the same caches both as handed in and as
+    /// Returns whether both boards are the same by value: the same graph and local trees, the same caches both as they were when the board was opened and as
     /// they are now, the same state of each vertex and worker, and the same record. Does not allocate.
     pub fn same(&self, other: &Board) -> bool
         ensures { IsTrue result ↔ (self.now ≡ other.now) }

@@ -1,4 +1,4 @@
-//! Before an event, keeps what the event will displace (change) in the workers and the caches; puts this back when the event is taken back. One item is
+//! Before an event, keeps what the event will change in the workers and the caches; puts this back when the event is taken back. One item is
 //! kept for each cache that the vertex of the event mounts, and none for any other cache.
 
 ghost use Rattle.std.specs.Prelude.{◌≡◌, ◌<◌, false, length, map, option_map, slice_get, IfOk, IfErr, Err};
@@ -25,7 +25,7 @@ use llb_tree::Tree;
 use std::alloc::Global;
 use std::marker::Model;
 
-/// What is needed to take an event back: what the event displaced. Contracts see it as `Displaced`.
+/// What is needed to take an event back. Contracts see it as `Displaced`.
 pub struct Undo {
     back: Back,
 }
@@ -165,7 +165,7 @@ impl Workers {
         }
     }
 
-    /// Puts back into the workers and the caches what an event displaced there, as `undo` has it. Returns the vertex whose status changes, with its status
+    /// Puts back into the workers and the caches what they had before an event, as `undo` has it. Returns the vertex whose status changes, with its status
     /// before the event; `None` for a step. Does not allocate.
     pub(crate) fn put_back(&mut self, undo: Undo) -> Option<Change>
         requires { CanPutBack undo self.old }
@@ -178,7 +178,8 @@ impl Workers {
     }
 }
 
-// Puts back what an event displaced. Returns the vertex whose status changes, with its status before the event; `None` for a step.
+// Puts back into the workers and the caches what they had before an event. Returns the vertex whose status changes, with its status before the event; `None`
+// for a step.
 fn displace(seats: &mut Vec<Seat>, caches: &mut Caches, back: Back) -> Option<Change>
     requires can { CanPutBack (record { back = back_in back })
         (record { workers = map at_of seats.old.items; rows = caches.old.rows; supplies = map ready_made seats.old.items }) }
