@@ -19,7 +19,7 @@ pub enum ClaimFault {
     NoVertex,
     /// 134: the vertex does not wait, or an input of it is not done.
     NotReady,
-    /// 135: a running worker has a locked cache of the vertex; the first such ID in mount order follows.
+    /// 135: running workers have locked caches of the vertex; the ID of the first in mount order follows.
     Held(Key),
     /// 141: memory was refused.
     Memory,
