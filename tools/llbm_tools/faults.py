@@ -1,6 +1,6 @@
 """Explains a line of the program, `fault ..` or `failed ..`, with docs/FAULTS.md and with a definition.
 
-It reads the tables of the page: that of all faults, those of names after a number, those of lines for a number, and
+It reads the tables of the page: that of all faults, those of names after a number, those of lines that are taken, and
 that of failures.
 """
 
@@ -15,6 +15,8 @@ from llbm_tools.streams import Refused
 from llbm_tools.wire import Unreadable
 
 PAGE = ROOT / "docs" / "FAULTS.md"
+# The head of each table of lines that are taken, and the fault of a line that is not.
+INSTEAD = {"Command line": 183, "Session line": 173}
 
 NUMBERS = {"k", "i", "N", "V", "C", "P"}
 NAMES = {"FEATURE", "RULE"}
@@ -133,9 +135,8 @@ class Page:
     def take(self, head: str, rows: list[list[str]]) -> None:
         """Reads a table, by the first cell of its head; other tables are skipped."""
         after = re.fullmatch(r"Name after ([0-9]+)", head)
-        instead = re.fullmatch(r"Line for ([0-9]+)", head)
-        if instead:
-            self.lines[int(instead[1])] = [Line(bare(line).replace(r"\|", "|"), sentence) for line, sentence in rows]
+        if instead := INSTEAD.get(head):
+            self.lines[instead] = [Line(bare(line).replace(r"\|", "|"), sentence) for line, sentence in rows]
         elif after:
             for called, *rest in rows:
                 name, *arguments = words_of(called)
