@@ -94,7 +94,7 @@ impl From<llb_wire::Memory> for Memory {
     }
 }
 
-/// Converts the fault with which copying a name, a path or a tree fails, refused memory, into `Memory`.
+/// Converts the fault for refused memory, with which copying a name, a path or a tree can fail, into `Memory`.
 impl From<TreeFault> for Memory {
     fn from(_: TreeFault) -> Memory {
         Memory

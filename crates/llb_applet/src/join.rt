@@ -10,11 +10,11 @@ use llb_wire::Same;
 /// When a command runs, by the separator before it. The last status is the status of the last command that ran.
 #[derive(Clone, Copy)]
 pub enum Join {
-    /// The first command of a script, or one after `;`: it always runs.
+    /// The first command of a script, or one after `;`: the command always runs.
     Then,
-    /// After `&&`: it runs if the last status is 0.
+    /// After `&&`: the command runs if the last status is 0.
     And,
-    /// After `||`: it runs if the last status is not 0.
+    /// After `||`: the command runs if the last status is not 0.
     Or,
 }
 

@@ -35,7 +35,7 @@ pub struct Here {
     pub last: u32,
     /// Whether a member of the message's oneof is set.
     pub set: bool,
-    /// How many times in succession the field `last` has occurred.
+    /// How many times in succession field number `last` has occurred.
     pub count: usize,
     /// Whether a line of extra bytes was read.
     pub ended: bool,

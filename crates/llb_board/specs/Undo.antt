@@ -111,7 +111,7 @@ StandsBehind (Unclaim w v growths) b = IsBegun b w v
 StandsBehind (Unstep w saved trees) b = IsStepped b w saved trees
 StandsBehind (Resume e w left lent) b = IsLeft b w left lent
 
--- the table replays the record of the board before the event; the event is the last of b's record; its worker and vertex are as it left them (`StandsBehind`)
+-- u's event is the last of b's record; the events before it lead to the board before it (`Replays`); worker and vertex are as it left them (`StandsBehind`)
 pub record CanUndo (u : Displaced) (b : BoardValue) : Type 0 where
   pub replays : Replays (undone u b)
   pub last : IsLast u b

@@ -106,35 +106,35 @@ impl<T: Drop> From<AllocFailed<T>> for Memory {
     }
 }
 
-/// Converts the fault with which copying caches fails, refused memory, into this crate's `Memory`.
+/// Converts the fault for refused memory, with which copying caches can fail, into this crate's `Memory`.
 impl From<llb_cache::Memory> for Memory {
     fn from(_: llb_cache::Memory) -> Memory {
         Memory
     }
 }
 
-/// Converts the fault with which copying a tree fails, refused memory, into `Memory`.
+/// Converts the fault for refused memory, with which copying a tree can fail, into `Memory`.
 impl From<TreeFault> for Memory {
     fn from(_: TreeFault) -> Memory {
         Memory
     }
 }
 
-/// Converts the fault with which copying a workspace fails, refused memory, into this crate's `Memory`.
+/// Converts the fault for refused memory, with which copying a workspace can fail, into this crate's `Memory`.
 impl From<llb_wire::Memory> for Memory {
     fn from(_: llb_wire::Memory) -> Memory {
         Memory
     }
 }
 
-/// Converts the fault with which copying a graph or local trees fails, refused memory, into this crate's `Memory`.
+/// Converts the fault for refused memory, with which copying a graph or local trees can fail, into this crate's `Memory`.
 impl From<llb_loader::Memory> for Memory {
     fn from(_: llb_loader::Memory) -> Memory {
         Memory
     }
 }
 
-/// Converts the fault with which copying the directory and the variables of commands fails, refused memory, into this crate's `Memory`.
+/// Converts the fault for refused memory, with which copying the directory and the variables of commands can fail, into this crate's `Memory`.
 impl From<llb_applet::Memory> for Memory {
     fn from(_: llb_applet::Memory) -> Memory {
         Memory
@@ -152,7 +152,7 @@ impl From<Memory> for WalkFault {
     }
 }
 
-/// Converts the fault with which copying the changeable parts of a workspace fails, refused memory, into `WalkFault::Memory`.
+/// Converts the fault for refused memory, with which copying the changeable parts of a workspace can fail, into `WalkFault::Memory`.
 impl From<llb_wire::Memory> for WalkFault {
     ghost use Rattle.std.specs.Prelude.{◌≡◌};
     ghost use Rattle.llb_board.specs.declared.fault.WalkFault.TheVariants as walk;
@@ -214,7 +214,7 @@ impl From<CancelFault> for WalkFault {
     }
 }
 
-/// Converts the fault with which reserving room for events fails, refused memory, into `ClaimFault::Memory`.
+/// Converts the fault for refused memory, with which reserving room for events can fail, into `ClaimFault::Memory`.
 impl From<Memory> for ClaimFault {
     ghost use Rattle.std.specs.Prelude.{◌≡◌};
     ghost use Rattle.llb_events.specs.declared.refusal.ClaimFault.TheVariants as claim;

@@ -11,7 +11,7 @@ use crate::held::Held;
 use std::alloc::Global;
 use std::marker::Model;
 
-/// A pointer with no value, or with a value whose memory is at the pointer. In contracts the ghost field `value` is that value.
+/// A null pointer, or the pointer to a `Held` that it owns. In contracts the ghost field `value` is this `Held`, or `None` for the null pointer.
 #[repr(C)]
 #[derive(Drop)]
 pub struct Kept {

@@ -151,7 +151,7 @@ impl From<TreeFault> for ClaimFault {
     }
 }
 
-/// Converts the fault with which making or copying a program, a workspace or a text fails, refused memory, into `ClaimFault::Memory`.
+/// Converts the fault for refused memory, with which making or copying a program, a workspace or a text can fail, into `ClaimFault::Memory`.
 impl From<llb_wire::Memory> for ClaimFault {
     ghost use Rattle.std.specs.Prelude.{◌≡◌};
     ghost use Rattle.llb_events.specs.declared.refusal.ClaimFault.TheVariants.{Memory};
@@ -163,7 +163,7 @@ impl From<llb_wire::Memory> for ClaimFault {
     }
 }
 
-/// Converts the fault with which copying a key fails, refused memory, into `ClaimFault::Memory`.
+/// Converts the fault for refused memory, with which copying a key can fail, into `ClaimFault::Memory`.
 impl From<llb_cache::Memory> for ClaimFault {
     ghost use Rattle.std.specs.Prelude.{◌≡◌};
     ghost use Rattle.llb_events.specs.declared.refusal.ClaimFault.TheVariants.{Memory};
@@ -187,7 +187,7 @@ impl From<llb_cache::LeaseFault> for ClaimFault {
     }
 }
 
-/// Converts the fault with which a call on a tree fails, refused memory, into `StepFault::Memory`.
+/// Converts the fault for refused memory, with which a call on a tree can fail, into `StepFault::Memory`.
 impl From<TreeFault> for StepFault {
     ghost use Rattle.std.specs.Prelude.{◌≡◌};
     ghost use Rattle.llb_events.specs.declared.refusal.StepFault.TheVariants.{Memory};

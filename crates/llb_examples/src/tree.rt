@@ -60,7 +60,7 @@ fn a_text_is_read_part_by_part_from_the_root_or_a_path(rt: HostRuntime) {
     }
 }
 
-// Returns the number of names of the path that a text is read as.
+// Reads a text as a path, and returns the path's number of names.
 fn names_of(alloc: Global, text: &str) -> Result<usize, TreeFault> {
     let path = Path::read(alloc, text)?;
     Ok(path.names().len())

@@ -27,42 +27,42 @@ impl<T: Drop> From<AllocFailed<T>> for NoMemory {
     }
 }
 
-/// Converts the fault with which copying a text or actions fails, refused memory, into `NoMemory`.
+/// Converts the fault for refused memory, with which copying a text or actions can fail, into `NoMemory`.
 impl From<Memory> for NoMemory {
     fn from(_: Memory) -> NoMemory {
         NoMemory
     }
 }
 
-/// Converts the fault with which making or copying a tree fails, refused memory, into `NoMemory`.
+/// Converts the fault for refused memory, with which making or copying a tree can fail, into `NoMemory`.
 impl From<TreeFault> for NoMemory {
     fn from(_: TreeFault) -> NoMemory {
         NoMemory
     }
 }
 
-/// Converts the fault with which copying a script fails, refused memory, into `NoMemory`.
+/// Converts the fault for refused memory, with which copying a script can fail, into `NoMemory`.
 impl From<ScriptFault> for NoMemory {
     fn from(_: ScriptFault) -> NoMemory {
         NoMemory
     }
 }
 
-/// Converts the fault with which making or copying a view of mounts fails, refused memory, into `NoMemory`.
+/// Converts the fault for refused memory, with which making or copying a view of mounts can fail, into `NoMemory`.
 impl From<llb_mount::Memory> for NoMemory {
     fn from(_: llb_mount::Memory) -> NoMemory {
         NoMemory
     }
 }
 
-/// Converts the fault with which laying one tree over another fails, refused memory, into `NoMemory`.
+/// Converts the fault for refused memory, with which laying one tree over another can fail, into `NoMemory`.
 impl From<llb_merge::Memory> for NoMemory {
     fn from(_: llb_merge::Memory) -> NoMemory {
         NoMemory
     }
 }
 
-/// Converts the fault with which running a command fails, refused memory, into `NoMemory`.
+/// Converts the fault for refused memory, with which running a command can fail, into `NoMemory`.
 impl From<llb_applet::Memory> for NoMemory {
     fn from(_: llb_applet::Memory) -> NoMemory {
         NoMemory

@@ -10,7 +10,7 @@ use Rattle.llb_glob.specs.Items.{behind, items_from}
 abbrev pub ahead : Reading → List ℕ → Result (List Item) PatternFault
 ahead reading letters = behind reading.items.items (items_from letters reading.cursor reading.class)
 
--- if a step (it reads one character) succeeds, the final result is the same after it as before it; if it fails, it has the final result's fault or `Memory`
+-- if a character is read, the result (`ahead`) is the same before and after; if reading it fails, the fault is the result before, or `Memory`
 abbrev pub Reads : Result (Unit {0}) PatternFault → Result (List Item) PatternFault → Result (List Item) PatternFault → Type 0
 Reads (Ok _) before after = before ≡ after
 Reads (Err e) before after = is_memory e ≡ false → before ≡ Err e

@@ -247,14 +247,14 @@ impl From<AllocError> for Memory {
     }
 }
 
-/// Converts the fault with which copying a tree fails, refused memory, into this crate's `Memory`.
+/// Converts the fault for refused memory, with which copying a tree can fail, into this crate's `Memory`.
 impl From<TreeFault> for Memory {
     fn from(_: TreeFault) -> Memory {
         Memory
     }
 }
 
-/// Converts the fault with which copying a text fails, refused memory, into this crate's `Memory`.
+/// Converts the fault for refused memory, with which copying a text can fail, into this crate's `Memory`.
 impl From<llb_wire::Memory> for Memory {
     fn from(_: llb_wire::Memory) -> Memory {
         Memory

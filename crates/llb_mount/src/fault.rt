@@ -35,7 +35,7 @@ impl<T: Drop> From<AllocFailed<T>> for Memory {
     }
 }
 
-/// Converts the fault with which copying a path or a tree fails, refused memory, into this crate's `Memory`.
+/// Converts the fault for refused memory, with which copying a path or a tree can fail, into this crate's `Memory`.
 impl From<TreeFault> for Memory {
     fn from(_: TreeFault) -> Memory {
         Memory

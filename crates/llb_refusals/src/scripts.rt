@@ -20,8 +20,8 @@ enum Answer {
     Ran(Result<u8, llb_applet::Memory>),
 }
 
-// The arguments of a script; the script; the directory and the environment in which its commands run; a view, with an equal
-// view; and the mounts of a view twice, since `View::make` consumes mounts and is called twice.
+// The arguments of a script; the script; the directory and the environment in which its commands run; a view, and a
+// second view that is equal to it; and the mounts of a view twice, since `View::make` consumes mounts and is called twice.
 #[derive(Drop)]
 struct OnView {
     call: &'static str,

@@ -3,9 +3,9 @@
 //!
 //! Types: `Request` (what a line asks for), `SessionFault` (181, 182, 184, 185).
 //! Promise: `request_in` returns the request that a line spells, or none. `respond` does what the request asks for and returns the whole reply, and `answer`
-//! writes the reply. If a request is refused, nothing is changed and the reply is the refusal; only an event, `next` and `go` are refused with 171 141 (the
-//! board was refused memory), and `clear` and `quit` are never refused. `converse` replies to the lines of a reader in their order, up to a line that ends the
-//! session, or until a read or a write fails.
+//! writes the reply. If a request is refused, nothing is changed and the reply is the refusal. `clear` and `quit` are never refused. The fault 171 141 (171:
+//! the board refuses; 141: for want of memory) is the reply to no requests but events, `next` and `go`. `converse` replies to the lines of a reader in their
+//! order, up to a line that ends the session, or until a read or a write fails.
 //!
 //! A caller:
 //!

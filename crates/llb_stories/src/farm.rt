@@ -17,8 +17,8 @@ use std::sync::atomic::{AtomicU64, Ordering};
 use std::thread;
 use std::thread::Threads;
 
-// A gate that holds a worker at a vertex below `count` until `count` workers have arrived. The gate stops a worker that has yielded to other threads
-// 1,000,000 times while it waited.
+// A gate that holds a worker at a vertex whose number is below `count` until `count` workers have arrived. The gate stops a worker that has yielded to other
+// threads 1,000,000 times while it waited.
 #[derive(Drop)]
 struct Gather {
     count: u64,

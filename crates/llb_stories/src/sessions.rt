@@ -1,6 +1,7 @@
-//! Stories as transcripts, most of them of sessions on boards. A line that begins with `@ ` has the board on which the story begins (`written`). A line that
-//! begins with `> ` is a command, and the lines below it are what the command prints. A line that begins with `# ` describes the story. Spaces before and
-//! after a line are ignored. Stories of calls (`checks`), of plain outcomes (`plain`) and of shared vertices (`sharing`) have the same form.
+//! Stories as transcripts, most of them of sessions on boards. A line that begins with `@ ` has the board on which the story begins (see the module
+//! `written`). A line that begins with `> ` is a command, and the lines below it are what the command prints. A line that begins with `# ` describes the
+//! story. Spaces before and after a line are ignored. Stories of calls (`checks`), of plain outcomes (`plain`) and of shared vertices (`sharing`) have the
+//! same form.
 
 use super::checks::is_answered;
 use super::plain::are_outcomes;

@@ -1,5 +1,6 @@
-//! Tests of vertices that two definitions share. A line that begins with `@ ` has the entries of both definitions, with ` AND ` between them (`written`).
-//! The lines below it have each pair of vertices with the same digest: the vertex's number in the first graph, and its number in the second.
+//! Tests of vertices that two definitions share. In the tests' texts, a line that begins with `@ ` has the entries of both definitions, in the form that the
+//! module `written` describes, with ` AND ` between the definitions. The lines below it have each pair of vertices with the same digest: the vertex's number
+//! in the first graph, and its number in the second.
 
 use super::sessions::{StoryKind, are_stories, wanted};
 use super::written::definition_from;

@@ -67,7 +67,7 @@ pub(crate) enum Task {
     Pass(u32),
     /// Come back to the lock.
     Again,
-    /// Come back with a number as soon as the queue has one; the worker runs nothing.
+    /// Wait for a number from the queue, and come back to the lock with it; the worker runs nothing.
     Next,
     /// End: the run is over, so no vertex is claimed any more.
     End,

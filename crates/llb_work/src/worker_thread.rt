@@ -19,7 +19,7 @@ impl<S: Ledger> Promise<WorkerKit<S>> for Owed {
     ghost kept_by = { λ p r. IsPassFor p.queue.value p.worker r.pass };
 }
 
-/// The thread in which a worker works; or, if no thread could be started, what the worker has given back.
+/// The thread in which a worker works; or, if no thread could be started for it, the worker's kit, after its work was done on the caller's thread.
 #[derive(Drop)]
 pub(crate) enum WorkerThread<S: Ledger> {
     Thread(PromisedHandle<WorkerKit<S>, Owed>),

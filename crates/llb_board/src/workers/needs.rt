@@ -82,8 +82,8 @@ pub(crate) fn growths_of(
     Ok(growths)
 }
 
-// Returns the number of the row of the last locked key that a vertex mounts; `None` if the vertex mounts no locked key, or if that key has no row. If leases
-// have instances of locked keys that the vertex mounts, fails with the first such key. Does not allocate.
+// Returns the number of the row of the last key of a locked cache that a vertex mounts; `None` if the vertex mounts no locked key, or if that key has no row.
+// If leases have instances of locked keys that the vertex mounts, fails with the first such key. Does not allocate.
 fn last_locked<'a>(caches: &Caches, vertex: &'a Vertex) -> Result<Option<usize>, KeyRef<'a>>
     requires { HasEdges vertex.now }
     ensures { MatchResult result (λ _. first_held_key caches.now.out (needs_of vertex.now) ≡ None)
