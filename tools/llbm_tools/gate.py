@@ -10,6 +10,10 @@ it was made, `tools/replay` on the pages with commands (README.md, and docs/ARCH
 and `tools/fuzz`, for a minute or for --fuzz SECONDS, with the seed 1 or --seed N. With --more-edits `tools/more-edits`
 follows on `rt ci`.
 
+`rt ci` gets RT_JOBS, unless it is set: the number of checks at a time, one on each processor, as many as the free memory
+holds. Then each check has one process. Without RT_JOBS a check may have several, which together take up to half as much
+processor time again.
+
 With --quick nothing is proved, and no wrong body is tried. `tools/unproved-program` compiles the program, and `rt try
 --test` the tests of the crates of tests, as many at a time as there are processors, or --jobs N; the other parts follow
 on the program without proof, with `tools/fuzz` for 20 seconds. `rt ci`, `tools/refuse`, `tools/library` and
@@ -53,6 +57,12 @@ TOO_LONG = {
 MINUTE = 60
 SHORT = 20
 PAUSE = 0.2
+
+JOBS = "RT_JOBS"
+MEMORY = pathlib.Path("/proc/meminfo")
+FREE = re.compile(r"MemAvailable: +([0-9]+) kB")
+# What a check may take of the memory, in kB: more than any has taken.
+CHECK = 5_000_000
 
 COUNTS = re.compile(r"([0-9]+) passed, ([0-9]+) failed(?:, ([0-9]+) skipped)?(?: .*)?")
 TRIED = re.compile(r"test result: \w+\. ([0-9]+) passed; ([0-9]+) failed; ([0-9]+) ignored; .*")
@@ -98,9 +108,17 @@ class Part(NamedTuple):
 
     def start(self, out: int) -> subprocess.Popen[bytes]:
         """Starts the part, with all its output to one stream."""
+        known = {JOBS: str(checks_at_once()), **os.environ} if self.proves() else None
         return subprocess.Popen(
-            self.command, cwd=self.folder, stdin=subprocess.DEVNULL, stdout=out, stderr=subprocess.STDOUT
+            self.command, cwd=self.folder, env=known, stdin=subprocess.DEVNULL, stdout=out, stderr=subprocess.STDOUT
         )
+
+
+def checks_at_once() -> int:
+    """Returns how many checks to run at a time: one on each processor, as many as the free memory holds, at least one."""
+    free = FREE.search(MEMORY.read_text("utf-8")) if MEMORY.is_file() else None
+    processors = len(os.sched_getaffinity(0))
+    return max(1, min(processors, int(free[1]) // CHECK)) if free else processors
 
 
 def counts_in(lines: list[str], status: int) -> Counts:

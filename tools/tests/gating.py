@@ -82,6 +82,25 @@ class Gate(WithPrograms):
             self.assertEqual([command[-1] for command in commands if command[0].endswith("check")], programs)
             self.assertEqual(commands[-1][2:], ["7", "--llbm", programs[0], "--seed", "3"])
 
+    def test_a_check_gets_a_processor_and_its_memory(self):
+        gate = loaded("gate")
+        for processors, free, jobs in [(4, 24, 4), (2, 24, 2), (8, 24, 4), (4, 11, 2), (4, 3, 1), (1, 24, 1)]:
+            gate.MEMORY = pathlib.Path(os.fsdecode(self.file(b"free", f"MemAvailable: {free}000000 kB\n".encode())))
+            with mock.patch("os.sched_getaffinity", return_value=set(range(processors))):
+                self.assertEqual(gate.checks_at_once(), jobs, (processors, free))
+        gate.MEMORY = pathlib.Path("/none")
+        self.assertEqual(gate.checks_at_once(), len(os.sched_getaffinity(0)))
+
+    def test_rt_ci_is_told_how_many_checks_to_run_unless_it_was(self):
+        gate = loaded("gate")
+        gate.checks_at_once = lambda: 3
+        gate.PROOFS = [self.program("echo $RT_JOBS passed, 0 failed")]
+        for known, jobs in [({}, 3), ({"RT_JOBS": "7"}, 7)]:
+            with mock.patch.dict(os.environ), contextlib.redirect_stdout(io.StringIO()):
+                os.environ.pop("RT_JOBS", None)
+                os.environ.update(known)
+                self.assertEqual(gate.run_part(gate.Part(gate.PROOFS)).passed, jobs)
+
     def test_the_quick_parts_compile_and_do_not_prove(self):
         gate = loaded("gate")
         one, *others = gate.quick_parts()

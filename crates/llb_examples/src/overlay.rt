@@ -30,7 +30,7 @@ const UPPER: &[Row<'static>] = &[
 ];
 
 #[test]
-fn a_way_has_a_mode_of_at_most_4095(rt: HostRuntime) {
+fn settings_have_a_mode_of_at_most_4095(rt: HostRuntime) {
     let rows = [
         (None, true),
         (Some(0), true),
@@ -195,7 +195,7 @@ const LAID: &str = "
     ";
 
 #[test]
-fn files_hide_directories_are_one_and_a_way_keeps_and_gives(rt: HostRuntime) {
+fn files_hide_directories_are_one_and_settings_keep_and_give(rt: HostRuntime) {
     are_transcripts(&rt, rt.alloc(), LAID);
 }
 
@@ -210,7 +210,7 @@ fn overlaid(rt: &impl Abort, lower: Tree, settings: &OverlaySettings, upper: &Tr
 // Lays an upper tree over a copy of a lower tree. Returns whether the upper tree and the lower tree are unchanged.
 fn both_stay(rt: &impl Abort, alloc: Global) -> bool {
     let (lower, upper) = (made(rt, alloc, LOWER), made(rt, alloc, UPPER));
-    let settings = OverlaySettings::new(Some(0), Some(0), Some(0), false).expect(rt, "a settings");
+    let settings = OverlaySettings::new(Some(0), Some(0), Some(0), false).expect(rt, "settings");
     let _laid = overlaid(rt, copied(rt, &lower), &settings, &upper);
     lower.same(&made(rt, alloc, LOWER)) && upper.same(&made(rt, alloc, UPPER))
 }
@@ -258,15 +258,15 @@ fn a_lower_tree_is_lent_or_handed_over_or_laid_over_in_place(rt: HostRuntime) {
 
 // Returns whether `overlay`, which changes the lower tree itself, makes the same tree as `overlaid` makes of a copy. The `OverlaySettings` keeps directories,
 // and sets the mode and the group.
-fn way_in_place(rt: &impl Abort, alloc: Global) -> bool {
+fn settings_in_place(rt: &impl Abort, alloc: Global) -> bool {
     let (mut lower, upper) = (made(rt, alloc, LOWER), made(rt, alloc, UPPER));
-    let settings = OverlaySettings::new(Some(0o4640), None, Some(5), true).expect(rt, "a settings");
+    let settings = OverlaySettings::new(Some(0o4640), None, Some(5), true).expect(rt, "settings");
     let laid = overlaid(rt, copied(rt, &lower), &settings, &upper);
     lower.overlay(&settings, &upper).expect(rt, "memory");
     lower.same(&laid)
 }
 
 #[test]
-fn a_way_comes_to_the_same_in_place(rt: HostRuntime) {
-    is_so(&rt, way_in_place(&rt, rt.alloc()));
+fn settings_come_to_the_same_in_place(rt: HostRuntime) {
+    is_so(&rt, settings_in_place(&rt, rt.alloc()));
 }
