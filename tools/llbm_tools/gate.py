@@ -10,9 +10,9 @@ it was made, `tools/replay` on the pages with commands (README.md, and docs/ARCH
 and `tools/fuzz`, for a minute or for --fuzz SECONDS, with the seed 1 or --seed N. With --more-edits `tools/more-edits`
 follows on `rt ci`.
 
-`rt ci` gets RT_JOBS, unless it is set: the number of checks at a time, one on each processor, as many as the free memory
-holds. Then each check has one process. Without RT_JOBS a check may have several, which together take up to half as much
-processor time again.
+`rt ci` gets RT_JOBS, unless it is set: the number of checks at a time, one on each processor, as many as the free
+memory holds. Then each check has one process. Without RT_JOBS a check may have several, which together take up to half
+as much processor time again.
 
 With --quick nothing is proved, and no wrong body is tried. `tools/unproved-program` compiles the program, and `rt try
 --test` the tests of the crates of tests, as many at a time as there are processors, or --jobs N; the other parts follow
@@ -61,7 +61,7 @@ PAUSE = 0.2
 JOBS = "RT_JOBS"
 MEMORY = pathlib.Path("/proc/meminfo")
 FREE = re.compile(r"MemAvailable: +([0-9]+) kB")
-# What a check may take of the memory, in kB: more than any has taken.
+# What a check may take of the memory, in kB: the most that one took (`llb_refusals`, its tests) was 4,850,000.
 CHECK = 5_000_000
 
 COUNTS = re.compile(r"([0-9]+) passed, ([0-9]+) failed(?:, ([0-9]+) skipped)?(?: .*)?")
@@ -115,7 +115,7 @@ class Part(NamedTuple):
 
 
 def checks_at_once() -> int:
-    """Returns how many checks to run at a time: one on each processor, as many as the free memory holds, at least one."""
+    """Returns how many checks to run at a time: one on each processor, as many as the free memory holds."""
     free = FREE.search(MEMORY.read_text("utf-8")) if MEMORY.is_file() else None
     processors = len(os.sched_getaffinity(0))
     return max(1, min(processors, int(free[1]) // CHECK)) if free else processors
