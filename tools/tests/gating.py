@@ -82,14 +82,34 @@ class Gate(WithPrograms):
             self.assertEqual([command[-1] for command in commands if command[0].endswith("check")], programs)
             self.assertEqual(commands[-1][2:], ["7", "--llbm", programs[0], "--seed", "3"])
 
-    def test_a_check_gets_a_processor_and_its_memory(self):
+    def checks(self, processors, free, group=()):
+        """Returns how many checks run at a time with so many processors, kB of free memory, and files of a group."""
         gate = loaded("gate")
+        folder = pathlib.Path(tempfile.mkdtemp(dir=os.fsdecode(self.folder)))
+        gate.MEMORY, gate.GROUPS = folder / "meminfo", folder
+        for name, text in [("meminfo", f"MemFree: 1 kB\nMemAvailable: {free} kB"), *group]:
+            (folder / name).parent.mkdir(exist_ok=True)
+            (folder / name).write_text(f"{text}\n")
+        with mock.patch("os.sched_getaffinity", return_value=set(range(processors))):
+            return gate.checks_at_once()
+
+    def test_a_check_gets_a_processor_and_its_memory(self):
         for processors, free, jobs in [(4, 24, 4), (2, 24, 2), (8, 24, 4), (4, 11, 2), (4, 3, 1), (1, 24, 1)]:
-            gate.MEMORY = pathlib.Path(os.fsdecode(self.file(b"free", f"MemAvailable: {free}000000 kB\n".encode())))
-            with mock.patch("os.sched_getaffinity", return_value=set(range(processors))):
-                self.assertEqual(gate.checks_at_once(), jobs, (processors, free))
-        gate.MEMORY = pathlib.Path("/none")
+            self.assertEqual(self.checks(processors, 1_000_000 * free), jobs, (processors, free))
+        gate = loaded("gate")
+        gate.MEMORY = gate.GROUPS = pathlib.Path("/none")
         self.assertEqual(gate.checks_at_once(), len(os.sched_getaffinity(0)))
+
+    def test_a_control_group_limits_the_checks(self):
+        period = ("cpu/cpu.cfs_period_us", "100000")
+        for group, jobs in [
+            ([("cpu.max", "max 100000")], 8), ([("cpu.max", "250000 100000")], 2), ([("cpu.max", "50000 100000")], 1),
+            ([("cpu/cpu.cfs_quota_us", "-1"), period], 8), ([("cpu/cpu.cfs_quota_us", "300000"), period], 3),
+            ([("memory.max", "max"), ("memory.stat", "anon 7")], 8),
+            ([("memory.max", "16000000000"), ("memory.stat", "file 9\nanon 500000000")], 3),
+            ([("memory/memory.limit_in_bytes", "11000000000"), ("memory/memory.stat", "total_rss 5")], 2),
+        ]:
+            self.assertEqual(self.checks(8, 100_000_000, group), jobs, group)
 
     def test_rt_ci_is_told_how_many_checks_to_run_unless_it_was(self):
         gate = loaded("gate")
