@@ -2,15 +2,17 @@
  * Link libllbm.a, which tools/library builds. docs/EMBEDDING.md describes each call, and says what is proved of it.
  *
  * What a caller has to promise, since nothing checks it: A handle is a struct of zeroes until a call sets it, and then what the last call
- * left there; its fields are neither read, written nor copied, and all its calls are made by one thread, one after another, none from a
- * signal handler and none in the forked child of a process with several threads. Each pointer is to as many bytes as the length after it
- * says, and is not null, also where the length is 0; bytes behind a `const` pointer do not change while the call runs, and no other pointer
- * of the call leads to the bytes behind a pointer that is not `const`. `malloc`, `realloc` and `free` are those of one allocator, and align
- * a block to each power of two up to 16 that divides its size. The thread's stack has 256 KiB; no proof covers how deep it gets.
+ * left there. Its fields are neither read nor written. It may be moved (copied to another place), if the handle in the old place is not used
+ * any more. All calls of a handle are made by one thread, one after another, none from a signal handler and none in the forked child of a
+ * process with several threads. No call is left by `longjmp`, or because its thread is canceled. `it` is not null and leads to a handle.
+ * Each other pointer is to as many bytes as the length after it says, and is not null, also where the length is 0. Bytes behind a `const`
+ * pointer do not change while the call runs, and no other pointer of the call leads to what is behind a pointer that is not `const`, `it`
+ * included. `malloc`, `realloc` and `free` are those of one allocator, and align a block to each power of two up to 16 that divides its
+ * size. The thread's stack has 256 KiB; no proof covers how deep it gets.
  *
  * What a call returns: the status of the program's command. 0: done. 1: of llb_run, a vertex failed; of llb_line, the line ended the
- * session. 2: what was handed in is refused. 3: memory was refused. 4: of llb_line, no session is open. At 2 and 3 the messages have a line
- * `fault` with its number (docs/FAULTS.md), but at 3 only where there was memory for it.
+ * session. 2: what was handed in is refused. 3: memory was refused. 4: of llb_line, no session is open. At 2 the messages are a line `fault`
+ * with its number (docs/FAULTS.md). At 3 output and messages may be cut short anywhere, or be empty, since there may be no memory for them.
  *
  * If a call returns 2 or 3, the local trees and the session are as they were: a line, too, is either done, with its whole reply as the
  * output, or not done. What the call before wrote, its output and its messages, is removed by each call but llb_output and llb_messages. */

@@ -4,6 +4,7 @@ import { keysOf, partsOf } from './looks.mjs';
 import { entryOf, linesByPath } from './tree_text.mjs';
 
 const EMPTY = 'd 0755 0 0 /\n';
+const MOST_SPOKEN = 3;
 
 /** Returns the paths that differ between two texts of trees, in path order, each with its entry before and after. */
 export function compared(before, after) {
@@ -41,14 +42,15 @@ export function wordsOf({ before, after }) {
 }
 
 function workTexts(session, worker) {
-  return new Map(partsOf(session, worker).map((part) => [part.name, session.tree(part.line)]));
+  return new Map(partsOf(session, worker).map(({ name, line }) => [name, { line, text: session.tree(line) }]));
 }
 
 function cacheTexts(session) {
   const found = new Map();
   for (const key of keysOf(session)) {
     for (let i = 0; i < key.instances; i += 1) {
-      found.set(`cache ${key.id}, instance ${i}`, session.tree(`cache ${key.number} ${i}`));
+      const line = `cache ${key.number} ${i}`;
+      found.set(`cache ${key.id}, instance ${i}`, { line, text: session.tree(line) });
     }
   }
   return found;
@@ -64,18 +66,18 @@ function baseOf(name, session, event, entry, texts) {
   const input = entry?.actions[Number(result?.[1])]?.input ?? -1;
   if (!result || input < 0) return EMPTY;
   const inputs = session.graph.vertices[event.vertex].inputs.length;
-  return texts.get(input < inputs ? `input ${input}` : `result ${input - inputs}`) ?? EMPTY;
+  return texts.get(input < inputs ? `input ${input}` : `result ${input - inputs}`)?.text ?? EMPTY;
 }
 
 function pairsOfStep(session, event, entry, before, after) {
   const pairs = [];
-  for (const [name, text] of after.work) {
-    const old = before.work.get(name) ?? baseOf(name, session, event, entry, after.work);
-    if (text !== null && old !== text) pairs.push({ name, before: old, after: text });
+  for (const [name, { line, text }] of after.work) {
+    const old = before.work.get(name)?.text ?? baseOf(name, session, event, entry, after.work);
+    if (text !== null && old !== text) pairs.push({ name, line, before: old, after: text });
   }
-  for (const [name, text] of after.caches) {
-    const old = before.caches.get(name) ?? EMPTY;
-    if (text !== null && old !== text) pairs.push({ name, before: old, after: text });
+  for (const [name, { line, text }] of after.caches) {
+    const old = before.caches.get(name)?.text ?? EMPTY;
+    if (text !== null && old !== text) pairs.push({ name, line, before: old, after: text });
   }
   return pairs;
 }
@@ -111,5 +113,15 @@ export function changesOf(session, entry) {
 }
 
 function shown(pairs) {
-  return pairs.map(({ name, before, after }) => ({ name, changes: compared(before, after) }));
+  return pairs.map(({ name, line, before, after }) => ({ name, line, changes: compared(before, after) }));
+}
+
+/** Returns what an event changed in a few words, as `added /a; changed /b, /c`; empty where it changed nothing. */
+export function changesInWords(parts) {
+  const changes = parts.flatMap((part) => part.changes);
+  return ['added', 'removed', 'changed'].flatMap((kind) => {
+    const paths = [...new Set(changes.filter((change) => change.kind === kind).map(({ path }) => path))];
+    const more = paths.length > MOST_SPOKEN ? ` and ${paths.length - MOST_SPOKEN} more` : '';
+    return paths.length ? [`${kind} ${paths.slice(0, MOST_SPOKEN).join(', ')}${more}`] : [];
+  }).join('; ');
 }

@@ -1,103 +1,128 @@
 /** The view *What changed*: what the event at the session's place did, whole trees folder by folder, and caches. */
 
-import { changesOf, wordsOf } from './changes.mjs';
 import { contentsOf } from './contents.mjs';
 import { by, make } from './dom.mjs';
 import { explained } from './faults.mjs';
-import { elementOf, treeOf } from './folders.mjs';
-import { allTrees, holdersOf, keysOf } from './looks.mjs';
+import { FolderView } from './folders.mjs';
 import { faultOf, wordsOf as eventWords } from './record.mjs';
 
-const MOST_CHANGES = 200;
 const SIGNS = { added: '+', removed: '−', changed: '~' };
 
-function hasContent(entry) {
-  return entry !== null && entry.kind === 'f';
+function summaryElement(words) {
+  return make('ul', { class: 'summary', 'aria-label': 'summary' }, ...words.map((text) => make('li', { text })));
 }
 
-function changeElement(change) {
-  const summary = make('summary', {},
-    make('span', { class: 'sign', 'aria-hidden': 'true', text: SIGNS[change.kind] }),
-    make('span', { class: 'hidden', text: `${change.kind} ` }),
-    make('span', { class: 'path', text: change.path }), make('span', { class: 'note', text: ` ${wordsOf(change)}` }));
-  const details = make('details', { class: `change ${change.kind}` }, summary);
-  const { before, after } = change;
-  if (!hasContent(before) && !hasContent(after)) {
-    details.append(make('p', { class: 'note', text: 'a directory has no content' }));
-    return details;
-  }
-  details.addEventListener('toggle', () => {
-    if (details.open && details.children.length === 1) {
-      details.append(contentsOf(before?.content ?? null, after?.content ?? null));
-    }
-  });
-  return details;
-}
-
-function comparedElement({ name, changes }) {
-  const count = (kind) => changes.filter((change) => change.kind === kind).length;
-  const counts = ['added', 'removed', 'changed'].filter(count).map((kind) => `${count(kind)} ${kind}`).join(', ');
-  const more = changes.length - MOST_CHANGES;
-  return make('section', { class: 'compared' },
-    make('h4', {}, name, make('span', { class: 'note', text: ` ${counts}` })),
-    ...changes.slice(0, MOST_CHANGES).map(changeElement),
-    ...(more > 0 ? [make('p', { class: 'note', text: `and ${more} more paths` })] : []));
-}
-
-/** The view of what the event at a session's place changed. */
+/** The view of what the event at a session's place did. `looker` asks for what is shown. */
 export class ChangesView {
-  constructor() {
+  constructor(looker) {
+    this.looker = looker;
     this.choice = by('tree-choice');
-    this.choice.addEventListener('change', () => this.showTree());
+    this.choice.addEventListener('change', () => {
+      this.chosen = this.choice.value;
+      this.showTree();
+    });
   }
 
-  /** Shows another session. `entries` has what the definition says of each vertex. */
-  open(session, entries) {
+  /** Shows another session. `entries` has what the definition says of each vertex, `notes` what BuildKit does. */
+  open(session, entries, notes) {
     this.session = session;
     this.entries = entries;
-    this.wanted = null;
+    this.notes = notes;
+    this.chosen = null;
   }
 
-  /** Shows what the event at the session's place did. */
-  update(statuses) {
+  /** Shows what happened at the session's place, at once. */
+  happened() {
     const { event } = this.session.ways.at;
     const entry = event ? this.entries[event.vertex] : null;
-    const found = changesOf(this.session, entry);
-    const words = event ? `${eventWords(event, entry)}. ${explained(faultOf(event))}` : 'Nothing has happened yet.';
-    by('happened').textContent = words.trim();
-    const parts = found.compared.filter(({ changes }) => changes.length).map(comparedElement);
+    const done = event ? `${eventWords(event, entry)}. ${explained(faultOf(event))}`.trim() : '';
+    const words = done || 'Nothing has happened yet.';
+    by('happened').textContent = words;
+    const notes = event ? this.notes.at(event) : [];
+    by('step-notes').replaceChildren(...notes.map(({ words: said }) => make('li', { text: said })));
+    return words;
+  }
+
+  /** Shows what the event at the session's place did, once that is known, and returns it in words. */
+  async update() {
+    const words = this.happened();
+    const { event } = this.session.ways.at;
+    const found = await this.looker.look(this.chosen ?? '');
+    if (event !== this.session.ways.at.event) return null;
+    const parts = found.compared.map((part, number) => this.compared(part, number));
     const nothing = make('p', { class: 'note', text: event ? 'It changed no path of a tree.' : '' });
     by('changes').replaceChildren(...(parts.length ? parts : [nothing]));
-    if (found.trees.length) this.wanted = found.trees[0].line;
-    this.chooseTree();
-    this.showCaches(statuses);
+    this.showCaches(found.caches);
+    await this.chooseTree(found);
+    return found.spoken ? `${words} It ${found.spoken}.` : words;
   }
 
-  chooseTree() {
-    const trees = allTrees(this.session);
-    const worker = this.session.ways.at.event?.worker;
-    const usual = trees.find(({ line }) => line === this.wanted)
-      ?? trees.find(({ line }) => line.startsWith(`work ${worker} `));
-    this.choice.replaceChildren(...trees.map(({ name, line }) => make('option', { value: line, text: name })));
-    this.choice.disabled = !trees.length;
-    const chosen = usual ?? trees.at(-1);
-    if (chosen) this.choice.value = chosen.line;
-    this.showTree();
+  compared({ name, counts, summary, changes, more }, part) {
+    const kinds = Object.keys(counts).filter((kind) => counts[kind]);
+    const shown = kinds.map((kind) => `${counts[kind]} ${kind}`).join(', ');
+    return make('section', { class: 'compared' },
+      make('h4', {}, name, make('span', { class: 'note', text: ` ${shown}` })), summaryElement(summary),
+      ...changes.map((change) => this.change(change, part)),
+      ...(more > 0 ? [make('p', { class: 'note', text: `and ${more.toLocaleString('en')} more paths` })] : []));
   }
 
-  showTree() {
+  change({ path, kind, words, hasContent }, part) {
+    const summary = make('summary', {},
+      make('span', { class: 'sign', 'aria-hidden': 'true', text: SIGNS[kind] }),
+      make('span', { class: 'hidden', text: `${kind} ` }),
+      make('span', { class: 'path', text: path }), make('span', { class: 'note', text: ` ${words}` }));
+    const details = make('details', { class: `change ${kind}` }, summary);
+    if (!hasContent) details.append(make('p', { class: 'note', text: 'a directory has no content' }));
+    else {
+      details.addEventListener('toggle', () => {
+        if (!details.open || details.children.length > 1) return;
+        details.append(contentsOf((wantsHex) => this.looker.call('contents', part, path, wantsHex)));
+      });
+    }
+    return details;
+  }
+
+  /** Shows the tree of an output of a vertex that is done, and keeps showing it. */
+  choose(vertex, output) {
+    this.chosen = `tree ${vertex} ${output}`;
+    this.addOption({ name: `output ${vertex}.${output}`, line: this.chosen });
+    this.choice.value = this.chosen;
+    return this.showTree();
+  }
+
+  addOption({ name, line }) {
+    const isThere = [...this.choice.options].some((option) => option.value === line);
+    if (!isThere) this.choice.append(make('option', { value: line, text: name }));
+    this.choice.disabled = false;
+  }
+
+  // The tree that was chosen by hand stays while it is there; else the event's own is shown.
+  chooseTree({ trees, usual, hasChosen }) {
+    if (!hasChosen) this.chosen = null;
+    const none = [make('option', { value: '', text: 'no tree is there yet' })];
+    const options = trees.map(({ name, line }) => make('option', { value: line, text: name }));
+    this.choice.replaceChildren(...(options.length ? options : none));
+    this.choice.disabled = !options.length;
+    const line = this.chosen ?? usual;
+    const output = /^tree ([0-9]+) ([0-9]+)$/.exec(line);
+    if (output) this.addOption({ name: `output ${output[1]}.${output[2]}`, line });
+    this.choice.value = line;
+    return this.showTree();
+  }
+
+  async showTree() {
     const line = this.choice.value;
-    this.wanted = line;
-    const text = line ? this.session.tree(line) : null;
-    const none = make('p', { class: 'note', text: 'No tree is there yet.' });
-    by('tree').replaceChildren(text === null ? none : elementOf(treeOf(text), true));
+    const ask = (...call) => this.looker.call(...call);
+    const [root, summary] = line
+      ? await Promise.all([new FolderView(line, ask).root(), ask('summary', line)]) : [null, []];
+    if (this.choice.value !== line) return;
+    by('tree').replaceChildren(...(root ? [summaryElement(summary), root] : []));
   }
 
-  showCaches(statuses) {
-    const rows = keysOf(this.session).map((key) => {
-      const holders = holdersOf(key, statuses, this.entries);
+  showCaches(caches) {
+    const rows = caches.map((key) => {
       const seed = key.seed === '-' ? 'none' : key.seed;
-      const cells = [key.id, key.mode, key.instances, seed, holders.join('; ') || 'nobody'];
+      const cells = [key.id, key.mode, key.instances, seed, key.holders.join('; ') || 'nobody'];
       return make('tr', {}, ...cells.map((text) => make('td', { text })));
     });
     by('caches').replaceChildren(...rows);

@@ -4,14 +4,17 @@
  * left out.
  */
 
+import { orderOf } from './order.mjs';
 import { sha256 } from './sha256.mjs';
-import { fieldsOf, message, number, parts, text } from './wire.mjs';
+import { fieldsOf, message, number, parts, scan, text } from './wire.mjs';
 
 const CUSTOM_NAME = 'llb.customname';
 const COMMAND = 'com.docker.dockerfile.v1.command';
 const LOCAL = 'local://';
 const MODES = ['shared', 'private', 'locked'];
 const CACHE = 3;
+const [INPUT, EXEC, SOURCE, FILE, MERGE] = [1, 2, 3, 4, 6];
+const decoder = new TextDecoder();
 const ACTIONS = { 4: 'copy', 5: 'mkfile', 6: 'mkdir', 7: 'rm' };
 
 function optional(read, otherwise) {
@@ -31,7 +34,6 @@ function mapOf(fields, field) {
 }
 
 function nameOf(metadata) {
-  const decoder = new TextDecoder();
   const described = mapOf(fieldsOf(metadata), 2);
   const name = described.get(CUSTOM_NAME) ?? described.get(COMMAND);
   return name ? decoder.decode(name) : '';
@@ -63,40 +65,87 @@ function execOf(fields, inputs) {
   return { kind: 'exec', line: script, actions: [], mounts: parts(fields, 2).map((one) => mountOf(one, inputs)) };
 }
 
-function opOf(bytes) {
-  const fields = fieldsOf(bytes);
-  const inputs = parts(fields, 1).map((one) => {
-    const input = fieldsOf(one);
-    return { digest: text(input, 1), index: number(input, 2) };
+function inputAt(bytes, from, to) {
+  const input = { digest: '', index: 0 };
+  scan(bytes, from, to, (field, value, start, end) => {
+    if (field === 1) input.digest = decoder.decode(bytes.subarray(start, end));
+    else if (field === 2) input.index = Number(BigInt.asIntN(64, BigInt(value ?? 0)));
   });
-  const kind = [2, 3, 4, 6].findLast((field) => fields.has(field));
+  return input;
+}
+
+function opOf(fields, inputs) {
+  const kind = [EXEC, SOURCE, FILE, MERGE].findLast((field) => fields.has(field));
   const body = kind ? message(fields, kind) : new Map();
-  if (kind === 2) return { inputs, ...execOf(body, inputs) };
-  const none = { inputs, actions: [], mounts: [] };
-  if (kind === 3) return { ...none, kind: 'source', line: text(body, 1) };
-  if (kind === 6) return { ...none, kind: 'merge', line: `merge of ${parts(body, 1).length}` };
-  if (kind !== 4) return { ...none, kind: '', line: '' };
+  if (kind === EXEC) return execOf(body, inputs);
+  const none = { actions: [], mounts: [] };
+  if (kind === SOURCE) return { ...none, kind: 'source', line: text(body, 1) };
+  if (kind === MERGE) return { ...none, kind: 'merge', line: `merge of ${parts(body, 1).length}` };
+  if (kind !== FILE) return NOTHING;
   const actions = parts(body, 2).map(actionOf);
   return { ...none, kind: 'file', line: actions.map((action) => action.line).join('; '), actions };
 }
 
-const NOTHING = { inputs: [], kind: '', line: '', actions: [], mounts: [] };
+const NOTHING = { kind: '', line: '', actions: [], mounts: [] };
 
+/** An entry of a definition. Its inputs are read at once, all else of it when it is asked for. */
+class Entry {
+  constructor(row, digest, bytes) {
+    this.row = row;
+    this.digest = digest;
+    this.bytes = bytes;
+    this.metadata = null;
+    this.isSource = false;
+    this.inputs = [];
+    this.read = null;
+    optional(() => this.scan(), null);
+  }
+
+  // Reads the inputs, and whether it is a source.
+  scan() {
+    const { bytes, inputs } = this;
+    scan(bytes, 0, bytes.length, (field, _value, start, end) => {
+      if (field === SOURCE) this.isSource = true;
+      else if (field === INPUT) inputs.push(inputAt(bytes, start, end));
+    });
+  }
+
+  get op() {
+    this.read ??= optional(() => opOf(fieldsOf(this.bytes), this.inputs), NOTHING);
+    return this.read;
+  }
+
+  get kind() { return this.op.kind; }
+
+  get line() { return this.op.line; }
+
+  get actions() { return this.op.actions; }
+
+  get mounts() { return this.op.mounts; }
+
+  get name() {
+    return this.metadata ? optional(() => nameOf(this.metadata), '') : '';
+  }
+}
+
+const known = new WeakMap();
+
+// The entries of a definition by digest, in the order of rows, and the last one; they are kept with its bytes.
 function entriesOf(definition) {
+  if (known.has(definition)) return known.get(definition);
   const first = new Map();
   const fields = optional(() => fieldsOf(definition), new Map());
   let terminal = null;
   parts(fields, 1).forEach((bytes, row) => {
     const digest = `sha256:${sha256(bytes)}`;
-    if (!first.has(digest)) first.set(digest, { row, digest, ...optional(() => opOf(bytes), NOTHING) });
+    if (!first.has(digest)) first.set(digest, new Entry(row, digest, bytes));
     terminal = first.get(digest);
   });
   const metadata = optional(() => mapOf(fields, 2), new Map());
-  for (const entry of first.values()) {
-    const held = metadata.get(entry.digest);
-    entry.name = held ? optional(() => nameOf(held), '') : '';
-  }
-  return { entries: first, terminal };
+  for (const entry of first.values()) entry.metadata = metadata.get(entry.digest) ?? null;
+  const found = { entries: first, terminal };
+  known.set(definition, found);
+  return found;
 }
 
 // The rows that the result needs.
@@ -107,34 +156,16 @@ function reached(entries, terminal) {
     const entry = entries.get(waiting.pop());
     if (entry && !found.has(entry)) {
       found.add(entry);
-      waiting.push(...entry.inputs.map((input) => input.digest));
+      for (const { digest } of entry.inputs) waiting.push(digest);
     }
   }
   return found;
 }
 
-// The next number goes to the least row that is reached and whose inputs are all numbered.
-function numbered(entries, rows) {
-  const order = [];
-  const done = new Set();
-  const left = [...rows].sort((a, b) => a.row - b.row);
-  const isNext = (entry) => entry.inputs.every((input) => done.has(entries.get(input.digest)));
-  const users = new Map();
-  for (const entry of left) {
-    for (const { digest } of entry.inputs) users.set(digest, [...(users.get(digest) ?? []), entry]);
-  }
-  const ready = left.filter(isNext);
-  while (ready.length) {
-    const entry = ready.shift();
-    done.add(entry);
-    order.push(entry);
-    for (const user of new Set(users.get(entry.digest) ?? [])) {
-      if (!isNext(user) || done.has(user)) continue;
-      const place = ready.findIndex((other) => other.row > user.row);
-      ready.splice(place < 0 ? ready.length : place, 0, user);
-    }
-  }
-  return order;
+function numbered(entries, found) {
+  const byRow = new Map([...found].sort((a, b) => a.row - b.row).map((entry) => [entry.row, entry]));
+  const rowsOf = (entry) => entry.inputs.map(({ digest }) => entries.get(digest)?.row).filter((row) => byRow.has(row));
+  return orderOf(new Map([...byRow].map(([row, entry]) => [row, rowsOf(entry)]))).map((row) => byRow.get(row));
 }
 
 /** Returns the entries of a definition that are vertices, by vertex number; none where it can't be read. */
@@ -145,9 +176,27 @@ export function verticesOf(definition) {
   }, []);
 }
 
+/** Returns what each entry of a definition is, by its digest; empty where it can't be read. */
+export function rowsOf(definition) {
+  return optional(() => entriesOf(definition).entries, new Map());
+}
+
+/** Returns what the entry of a row is for a person: its name and what it does; empty where it can't be read. */
+export function rowInWords(definition, row) {
+  return optional(() => {
+    const rows = parts(fieldsOf(definition), 1);
+    const entry = entriesOf(definition).entries.get(`sha256:${sha256(rows[row])}`);
+    return [...new Set([entry.name, entry.line])].filter(Boolean).join(': ');
+  }, '');
+}
+
 /** Returns the names of the local sources that a definition needs. */
 export function localsOf(definition) {
-  const lines = verticesOf(definition).filter((one) => one.kind === 'source').map((one) => one.line);
+  const lines = optional(() => {
+    const { entries, terminal } = entriesOf(definition);
+    const sources = [...reached(entries, terminal)].filter((one) => one.isSource);
+    return sources.sort((a, b) => a.row - b.row).map((one) => one.line);
+  }, []);
   return [...new Set(lines.filter((line) => line.startsWith(LOCAL)).map((line) => line.slice(LOCAL.length)))];
 }
 

@@ -1,68 +1,72 @@
-/** A tree folder by folder: what is in a folder is made when it is opened. */
+/** A tree folder by folder: what is in a folder is asked for when it is opened. */
 
 import { make } from './dom.mjs';
-import { bytesOfHex, entryOf, linesOf } from './tree_text.mjs';
-import { hexLines, textOf } from './contents.mjs';
+import { counted } from './summary.mjs';
 
-const MOST_ENTRIES = 300;
-const MOST_BYTES = 65536;
+function contentElement({ text, size, isCut }) {
+  const more = isCut ? `\nand more: ${counted(size, 'byte')} in all` : '';
+  return make('pre', { class: 'content', tabindex: 0, text: text + more });
+}
 
-/** Returns the tree of a text: folders with what is in them, by name. */
-export function treeOf(text) {
-  const root = { name: '/', line: '', inside: new Map() };
-  for (const line of linesOf(text)) {
-    const path = line.slice(line.indexOf('/'));
-    if (path === '/') {
-      root.line = line;
-      continue;
-    }
-    const names = path.slice(1).split('/');
-    const name = names.pop();
-    let folder = root;
-    for (const above of names) folder = folder.inside.get(above);
-    folder.inside.set(name, { name, line, inside: line.startsWith('d') ? new Map() : null });
+function nameOf(path) {
+  return path === '/' ? '' : path.slice(path.lastIndexOf('/') + 1);
+}
+
+/** Shows the tree of a line. `ask` returns a promise of an answer to `folder` and `file` of the looks. */
+export class FolderView {
+  constructor(line, ask) {
+    this.line = line;
+    this.ask = ask;
   }
-  return root;
-}
 
-function content(entry) {
-  const bytes = bytesOfHex(entry.content.slice(0, 2 * MOST_BYTES));
-  const text = textOf(bytes);
-  const more = entry.content.length / 2 > MOST_BYTES ? `\nand more: ${entry.content.length / 2} bytes in all` : '';
-  return make('pre', { class: 'content', tabindex: 0, text: (text ?? hexLines(bytes).join('\n')) + more });
-}
+  /** Returns a promise of the element of the root, which is open; null if there is no tree. */
+  async root() {
+    const found = await this.ask('folder', this.line, '/', 0);
+    return found && this.element(found.entry, found);
+  }
 
-function opened(node) {
-  if (!node.inside) return content(entryOf(node.line));
-  const nodes = [...node.inside.values()];
-  const list = make('ul', {}, ...nodes.slice(0, MOST_ENTRIES).map((one) => make('li', {}, elementOf(one))));
-  if (nodes.length > MOST_ENTRIES) {
-    const rest = nodes.slice(MOST_ENTRIES);
-    const more = make('button', { type: 'button', text: `${rest.length} more` });
-    more.addEventListener('click', () => {
-      more.parentNode.replaceWith(...rest.map((one) => make('li', {}, elementOf(one))));
+  async listInto(list, path, found, from) {
+    list.append(...found.inside.map((entry) => make('li', {}, this.element(entry))));
+    const rest = found.count - from - found.inside.length;
+    if (rest <= 0) return;
+    const more = make('button', { type: 'button', text: `${rest.toLocaleString('en')} more` });
+    const row = make('li', {}, more);
+    more.addEventListener('click', async () => {
+      const next = from + found.inside.length;
+      const answer = await this.ask('folder', this.line, path, next);
+      row.remove();
+      this.listInto(list, path, answer, next);
     });
-    list.append(make('li', {}, more));
+    list.append(row);
   }
-  return list;
-}
 
-/** Returns an element for a node of a tree, which opens by a click. */
-export function elementOf(node, isOpen = false) {
-  const { kind, mode, owner, content: digits } = entryOf(node.line);
-  const entries = node.inside?.size === 1 ? '1 entry' : `${node.inside?.size} entries`;
-  const count = kind === 'd' ? entries : `${digits.length / 2} bytes`;
-  const mark = kind === 'd' ? `${node.name}${node.name === '/' ? '' : '/'}` : node.name;
-  const summary = make('summary', {}, make('span', { class: 'path', text: mark }),
-    make('span', { class: 'note', text: ` ${mode} ${owner}, ${count}` }));
-  const details = make('details', { class: kind === 'd' ? 'folder' : 'file' }, summary);
-  const fill = () => {
-    if (details.open && details.children.length === 1) details.append(opened(node));
-  };
-  details.addEventListener('toggle', fill);
-  if (isOpen) {
-    details.open = true;
-    fill();
+  list(path, found) {
+    const list = make('ul');
+    this.listInto(list, path, found, 0);
+    return list;
   }
-  return details;
+
+  async inside(entry) {
+    if (entry.kind === 'f') return contentElement(await this.ask('file', this.line, entry.path));
+    return this.list(entry.path, await this.ask('folder', this.line, entry.path, 0));
+  }
+
+  // An entry of a tree, which opens by a click; one whose list is given is open.
+  element(entry, found = null) {
+    const isFolder = entry.kind === 'd';
+    const count = isFolder ? '' : `, ${counted(entry.size, 'byte')}`;
+    const inFolder = found ? `, ${counted(found.count, 'entry', 'entries')}` : '';
+    const summary = make('summary', {},
+      make('span', { class: 'path', text: `${nameOf(entry.path)}${isFolder ? '/' : ''}` }),
+      make('span', { class: 'note', text: ` ${entry.mode} ${entry.owner}${count}${inFolder}` }));
+    const details = make('details', { class: isFolder ? 'folder' : 'file' }, summary);
+    if (found) {
+      details.open = true;
+      details.append(this.list(entry.path, found));
+    }
+    details.addEventListener('toggle', async () => {
+      if (details.open && details.children.length === 1) details.append(await this.inside(entry));
+    });
+    return details;
+  }
 }

@@ -31,19 +31,21 @@ export class GraphView {
     new ResizeObserver(this.refresh).observe(this.frame);
   }
 
-  /** Shows another graph. `entries` has what the definition says of each vertex. */
-  open(graph, entries) {
+  /** Shows another graph. `entries` has what the definition says of each vertex, `notes` what BuildKit does. */
+  open(graph, entries, notes = null) {
     this.graph = graph;
     this.entries = entries;
+    this.notes = notes;
     this.placed = layout(graph);
     this.selected = null;
-    this.statuses = [];
+    this.statuses = null;
     this.breaks = { claim: new Set(), settle: new Set() };
     for (const box of this.shown.values()) box.remove();
     this.shown.clear();
     this.spans = this.edgeSpans();
     this.lines = new Map();
     this.near = null;
+    this.edgeWindow = '';
     this.edges.replaceChildren();
     this.space.style.width = `${this.placed.width}px`;
     this.space.style.height = `${this.placed.height}px`;
@@ -119,8 +121,17 @@ export class GraphView {
     this.renderEdges(window);
   }
 
-  // Edges stay in the page while any part of the window that they lie in is seen.
+  // Edges stay in the page while any part of the window that they lie in is seen. A step seldom moves the window.
   renderEdges(window) {
+    const key = `${window.left} ${window.right} ${window.top} ${window.bottom}`;
+    if (key !== this.edgeWindow) this.placeEdges(window);
+    this.edgeWindow = key;
+    if (this.near === this.selected) return;
+    for (const [number, line] of this.lines) line.setAttribute('class', this.edgeClass(this.spans[number]));
+    this.near = this.selected;
+  }
+
+  placeEdges(window) {
     this.spans.forEach((edge, number) => {
       const isSeen = edge.right >= window.left && edge.left <= window.right
         && edge.bottom >= window.top && edge.top <= window.bottom;
@@ -133,9 +144,6 @@ export class GraphView {
         this.edges.append(this.lines.get(number));
       }
     });
-    if (this.near === this.selected) return;
-    for (const [number, line] of this.lines) line.setAttribute('class', this.edgeClass(this.spans[number]));
-    this.near = this.selected;
   }
 
   edgeClass({ from, to }) {
@@ -153,17 +161,22 @@ export class GraphView {
 
   box(vertex) {
     const { x, y } = this.placed.boxes[vertex];
-    const { kind } = this.graph.vertices[vertex];
     const entry = this.entries[vertex];
     const said = entry?.name || entry?.line || '';
     const main = make(
       'button', { class: 'vertex', type: 'button', title: said, onclick: () => this.onSelect(vertex) },
-      make('span', { class: 'vertex-name', text: `${vertex} ${kind}` }), make('span', { class: 'vertex-status' }),
+      make('span', { class: 'vertex-name', text: this.labelOf(vertex) }), make('span', { class: 'vertex-status' }),
       make('span', { class: 'vertex-line', text: short(said) }),
     );
     main.addEventListener('keydown', (event) => this.key(event, vertex));
     const mark = make('button', { class: 'mark', type: 'button', onclick: () => this.turn(vertex) });
     return make('div', { class: 'box', style: `left:${x}px;top:${y}px`, 'data-vertex': vertex }, main, mark);
+  }
+
+  // A vertex by its number, or a row of a definition that is refused by its own.
+  labelOf(vertex) {
+    const { kind, row } = this.graph.vertices[vertex];
+    return `${row === undefined ? vertex : `row ${row}`} ${kind}`;
   }
 
   breakOf(vertex) {
@@ -178,20 +191,25 @@ export class GraphView {
 
   dress(vertex) {
     const box = this.shown.get(vertex);
-    const status = this.statuses[vertex] ?? { word: 'waiting', worker: null, rest: '' };
+    const status = this.statuses?.of(vertex) ?? { word: 'waiting', worker: null, rest: '' };
     const words = status.worker === null ? status.word : `running, worker ${status.worker}`;
     const isResult = this.graph.result.startsWith(`${vertex}.`);
     const at = this.breakOf(vertex);
-    const key = `${status.word} ${status.rest} ${at} ${this.selected === vertex}`;
+    const notes = this.notes?.of(vertex).length ?? 0;
+    const key = `${status.word} ${status.rest} ${at} ${this.selected === vertex} ${notes}`;
     if (box.dataset.key === key) return;
     box.dataset.key = key;
     box.className = `box ${status.word}${this.selected === vertex ? ' selected' : ''}${isResult ? ' result' : ''}`;
     const [main, mark] = box.children;
+    box.querySelector('.vertex-name').textContent = `${this.labelOf(vertex)}${notes ? ' ≠' : ''}`;
     box.querySelector('.vertex-status').textContent = status.worker === null ? status.word : `worker ${status.worker}`;
     const entry = this.entries[vertex];
     const failed = status.word === 'failed' ? ` at ${status.rest}` : '';
-    main.setAttribute('aria-label', `vertex ${vertex}, ${this.graph.vertices[vertex].kind}, ${words}${failed}`
-      + `${entry?.name ? `, ${entry.name}` : ''}${isResult ? ', the result' : ''}`);
+    const { row } = this.graph.vertices[vertex];
+    mark.hidden = row !== undefined;
+    main.setAttribute('aria-label', `${row === undefined ? 'vertex ' : ''}${this.labelOf(vertex)}, ${words}${failed}`
+      + `${entry?.name ? `, ${entry.name}` : ''}${isResult ? ', the result' : ''}`
+      + `${notes ? `, ${notes} ${notes === 1 ? 'note' : 'notes'} of BuildKit` : ''}`);
     main.setAttribute('aria-pressed', String(this.selected === vertex));
     mark.textContent = MARKS[at];
     mark.className = `mark ${at}`;

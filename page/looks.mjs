@@ -1,5 +1,7 @@
 /** What a session shows of its trees: those that a worker works on, the outputs of vertices, and caches. */
 
+import { GIVEN } from './session.mjs';
+
 const PART = /^([0-9]+) (local|input|result [0-9]+|laid|mount \/.*)$/;
 const KEY = /^([0-9]+) (shared|locked|private) ([0-9]+) (\S+) (.*)$/;
 
@@ -32,21 +34,39 @@ export function keysOf(session) {
 /** Returns the workers whose vertices mount a key, as `worker 0 (vertex 2, at /cache)`. */
 export function holdersOf(key, statuses, vertices) {
   const found = [];
-  statuses.forEach((status, vertex) => {
-    if (status.worker === null) return;
+  for (const { vertex, worker } of statuses.running()) {
     const isOf = (mount) => mount.isCache && mount.id === key.id && mount.mode === key.mode && mount.seed === key.seed;
     for (const mount of vertices[vertex]?.mounts.filter(isOf) ?? []) {
-      found.push(`worker ${status.worker} (vertex ${vertex}, at ${mount.dest})`);
+      found.push(`worker ${worker} (vertex ${vertex}, at ${mount.dest})`);
     }
-  });
+  }
   return found;
 }
 
-/** Returns all trees that can be shown: of running workers, outputs of vertices that are done, and caches. */
-export function allTrees(session) {
+const MOST_OUTPUTS = 200;
+
+// The trees of the vertices that are done: the first ones, and the result's.
+function outputsOf(session, statuses) {
   const found = [];
+  const add = (vertex) => {
+    const { outputs } = session.graph.vertices[vertex];
+    for (let i = 0; i < outputs; i += 1) found.push({ name: `output ${vertex}.${i}`, line: `tree ${vertex} ${i}` });
+  };
+  for (const vertex of statuses.all('done')) {
+    if (found.length >= MOST_OUTPUTS) break;
+    add(vertex);
+  }
+  const result = Number.parseInt(session.graph.result, 10);
+  const hasResult = found.some(({ line }) => line.startsWith(`tree ${result} `));
+  if (!hasResult && statuses.of(result).word === 'done') add(result);
+  return found;
+}
+
+/** Returns the trees that can be chosen: of local sources, running workers, caches, and of up to 200 vertices. */
+export function allTrees(session) {
+  const found = [...session.locals.keys()].map((name) => ({ name: `local source ${name}`, line: GIVEN + name }));
   const statuses = session.statuses();
-  const workers = statuses.map((status) => status.worker).filter((worker) => worker !== null);
+  const workers = statuses.running().map(({ worker }) => worker);
   for (const worker of workers.sort((a, b) => a - b)) {
     for (const { name, line } of partsOf(session, worker)) found.push({ name: `worker ${worker}, ${name}`, line });
   }
@@ -55,10 +75,5 @@ export function allTrees(session) {
       found.push({ name: `cache ${key.id}, instance ${i} (${key.mode})`, line: `cache ${key.number} ${i}` });
     }
   }
-  statuses.forEach((status, vertex) => {
-    if (status.word !== 'done') return;
-    const { outputs } = session.graph.vertices[vertex];
-    for (let i = 0; i < outputs; i += 1) found.push({ name: `output ${vertex}.${i}`, line: `tree ${vertex} ${i}` });
-  });
-  return found;
+  return [...found, ...outputsOf(session, statuses)];
 }

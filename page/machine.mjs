@@ -6,12 +6,14 @@
  */
 
 const PREFIX = 'llb_';
+const PROOF = 'llbm.proof';
 const HANDLE_BYTES = 16;
 
 /** The module stopped: its stack or its memory has ended. The answer of the call is not known. */
 export class Trap extends Error {
   constructor(cause) {
-    super(`the machine stopped in the middle of a call, since its stack or its memory has ended (${cause.message})`);
+    super('the machine stopped in the middle of a call: its stack or its memory has ended, or it has no proof and a '
+      + `check failed (${cause.message})`);
     this.name = 'Trap';
   }
 }
@@ -34,6 +36,12 @@ export class Machine {
     const type = given.headers.get('content-type') ?? '';
     if (type.startsWith('application/wasm')) return new Machine(await WebAssembly.compileStreaming(given));
     return new Machine(await WebAssembly.compile(await given.arrayBuffer()));
+  }
+
+  /** Returns `proved` or `not proved`, as the module says of its code; empty if it says nothing. */
+  proof() {
+    const [found] = WebAssembly.Module.customSections(this.module, PROOF);
+    return found ? decoder.decode(found) : '';
   }
 
   /** Returns a new handle, which holds nothing. */

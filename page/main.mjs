@@ -1,55 +1,110 @@
 /** The page: its views over one session. */
 
+import { buildNamedBy, buildOf } from './build_link.mjs';
 import { ChangesView } from './changes_view.mjs';
 import { verticesOf } from './definition.mjs';
 import { by, make, oncePerFrame } from './dom.mjs';
-import { explained, loadFaults } from './faults.mjs';
+import { explained } from './faults.mjs';
+import { foreignOf, foreignStatuses } from './foreign.mjs';
+import { detailsOf, showForeign } from './foreign_view.mjs';
 import { GraphView } from './graph_view.mjs';
 import { listen } from './keyboard.mjs';
+import { Looker } from './looker.mjs';
 import { Machine } from './machine.mjs';
+import { VertexNotes } from './notes.mjs';
 import { OpenView } from './open_view.mjs';
-import { assembled, Session } from './session.mjs';
+import { assembled, refusalOf, Session } from './session.mjs';
+import { SearchView } from './search_view.mjs';
 import { givenBy } from './share.mjs';
 import { shareView } from './share_view.mjs';
+import { loadTables } from './tables.mjs';
 import { TimeView } from './time_view.mjs';
 
 const MODULE = 'llbm.wasm';
+const NO_BREAKS = { claim: new Set(), settle: new Set() };
 
 class Page {
   constructor(machine) {
     this.machine = machine;
     this.session = null;
     this.selected = null;
-    this.openView = new OpenView(machine, (given) => this.open(given));
+    this.foreign = null;
+    this.openView = new OpenView(machine, (given) => this.open(given), (definition) => this.openForeign(definition));
     this.graph = new GraphView(
       (vertex, focus) => this.select(vertex, focus), (vertex, kind) => this.setBreak(vertex, kind),
     );
     this.time = new TimeView((place) => this.move(() => this.session.to(place)));
-    this.changes = new ChangesView();
+    this.looker = new Looker();
+    this.changes = new ChangesView(this.looker);
+    this.search = new SearchView(this.looker, (event) => this.move(() => this.goTo(event)));
     this.share = shareView();
-    this.lookLater = oncePerFrame(() => setTimeout(() => this.guarded(() => this.look())));
+    this.isLooking = false;
+    this.lookLater = oncePerFrame(() => setTimeout(() => this.look()));
   }
 
   /** Opens a session. Throws where the machine refuses what is given. */
   open(given) {
     const session = new Session(this.machine, given.definition, given.locals, given.workers);
     for (const line of given.lines ?? []) session.event(line);
+    session.follow(given.record ?? []);
     this.session = session;
+    this.foreign = null;
     this.given = given;
     this.entries = verticesOf(given.definition);
     this.selected = null;
-    by('views').classList.remove('empty');
+    by('views').className = '';
     by('to-share').disabled = false;
     const { vertices, result } = session.graph;
     const word = vertices.length === 1 ? 'vertex' : 'vertices';
-    by('graph-size').textContent = `${vertices.length} ${word}, result ${result}`;
+    const memory = Math.ceil(session.handle.memory() / 2 ** 20);
+    by('graph-size').textContent = `${vertices.length} ${word}, result ${result}; the machine has ${memory} MiB`;
     const workers = Array.from({ length: given.workers }, (_, worker) => worker);
     by('worker').replaceChildren(...workers.map((worker) => make('option', { value: worker, text: worker })));
-    this.graph.open(session.graph, this.entries);
-    this.time.open(session);
-    this.changes.open(session, this.entries);
+    this.notes = new VertexNotes(this.entries);
+    this.looker.open(this.machine, session, given).catch((fault) => this.say(fault.message));
+    this.search.clear();
+    this.isLooking = false;
+    this.graph.open(session.graph, this.entries, this.notes);
+    this.time.open(session, this.entries);
+    this.changes.open(session, this.entries, this.notes);
     this.say('');
     this.update();
+  }
+
+  /** Opens a build of the page's server: at the beginning of its record, which *Next* follows. */
+  openBuild(build) {
+    if (refusalOf(this.machine, build.definition)) {
+      this.openForeign(build.definition);
+      return;
+    }
+    this.open(build);
+    if (build.error) this.say(`This build failed: ${build.error}`);
+    const { session } = this;
+    build.notes().then((served) => {
+      if (this.session !== session) return;
+      this.notes.add(served);
+      this.update();
+    }, () => {});
+  }
+
+  /** Draws a definition that the machine refuses. Throws where it can't be read into rows. */
+  openForeign(definition) {
+    const foreign = foreignOf(definition);
+    this.session = null;
+    this.foreign = foreign;
+    this.entries = foreign.entries;
+    this.selected = null;
+    by('views').className = 'foreign';
+    by('to-share').disabled = true;
+    by('graph-size').textContent = `${foreign.graph.vertices.length} entries, inputs above`;
+    by('vertex-details').replaceChildren();
+    this.statuses = foreignStatuses(foreign);
+    this.notes = new VertexNotes(this.entries);
+    this.graph.open(foreign.graph, this.entries, this.notes);
+    this.graph.update(this.statuses, NO_BREAKS);
+    showForeign(foreign, (vertex) => this.select(vertex, true), () => this.openView.takeAdopted(foreign.adoption));
+    this.say('');
+    document.body.dataset.looked = 'yes';
   }
 
   /** Shows a message; none where the text is empty. */
@@ -89,17 +144,53 @@ class Page {
       this.time.update();
       this.showVertex();
       by('back').disabled = by('first').disabled = !event;
+      this.updateWorker();
     });
     document.body.dataset.looked = 'no';
+    this.changes.happened();
     this.lookLater();
   }
 
-  look() {
+  /** Enables what the chosen worker can do. */
+  updateWorker() {
+    const runs = this.statuses.running().some(({ worker }) => worker === this.worker());
+    by('cancel').disabled = !runs;
+    by('step').disabled = !runs && this.statuses.all('ready').next().done === true;
+  }
+
+  /** Shows what the event at the present place did. A look that is not ended is waited for, since places may change. */
+  async look() {
+    const { session } = this;
+    if (this.isLooking || !session) return;
+    this.isLooking = true;
     try {
-      this.changes.update(this.statuses);
-    } finally {
-      document.body.dataset.looked = 'yes';
+      const { at } = session.ways;
+      const spoken = await this.changes.update();
+      if (this.session !== session) return;
+      this.isLooking = false;
+      if (at !== session.ways.at) {
+        this.lookLater();
+        return;
+      }
+      if (spoken !== null) by('spoken').textContent = spoken;
+    } catch (fault) {
+      if (this.session !== session) return;
+      this.isLooking = false;
+      this.say(`What changed can't be shown: ${fault.message}`);
     }
+    document.body.dataset.looked = 'yes';
+  }
+
+  /** Goes to an event of a search: on the way that the session is on, or on as the machine chooses. */
+  goTo({ number }) {
+    const { session } = this;
+    const place = session.ways.path(session.ways.end()).find((one) => one.event?.number === number);
+    if (place) {
+      session.to(place);
+      return;
+    }
+    session.to(session.ways.end());
+    while (session.ways.at.event?.number !== number && session.event('next'));
   }
 
   select(vertex, focus = false) {
@@ -114,19 +205,34 @@ class Page {
       by('vertex-details').replaceChildren();
       return;
     }
-    const { kind, steps, inputs } = this.session.graph.vertices[vertex];
     const entry = this.entries[vertex];
-    const { word, rest } = this.statuses[vertex];
+    const notes = this.notes.of(vertex).map(({ words }) => make('li', { text: words }));
+    const noted = make('ul', { class: 'notes', 'aria-label': 'what BuildKit does otherwise' }, ...notes);
+    if (this.foreign) {
+      const said = [...new Set([entry?.name, entry?.line])].filter(Boolean).join(': ');
+      const head = make('p', {}, make('strong', { text: this.graph.labelOf(vertex) }), ` ${said}`);
+      by('vertex-details').replaceChildren(head, ...detailsOf(this.foreign, vertex), noted);
+      return;
+    }
+    const { kind, steps, inputs } = this.session.graph.vertices[vertex];
+    const { word, rest } = this.statuses.of(vertex);
     const edges = inputs.map((edge) => `${edge.vertex}.${edge.output}`).join(' ') || 'none';
     const status = `${word} ${rest}`.trim();
+    const { outputs } = this.session.graph.vertices[vertex];
+    const trees = word === 'done' ? Array.from({ length: outputs }, (_, output) => make('button', {
+      type: 'button', text: `Tree ${vertex}.${output}`, onclick: () => this.changes.choose(vertex, output),
+    })) : [];
     by('vertex-details').replaceChildren(
       make('p', {}, make('strong', { text: `${vertex} ${kind}` }), ` ${status}, steps ${steps}, inputs ${edges}`),
       ...(entry?.name ? [make('p', { text: entry.name })] : []),
       ...(entry?.line ? [make('code', { text: entry.line })] : []),
+      ...(trees.length ? [make('p', {}, ...trees)] : []),
+      noted,
     );
   }
 
   setBreak(vertex, kind) {
+    if (!this.session) return;
     this.guarded(() => this.session.setBreak(vertex, kind));
     this.graph.update(this.statuses, this.session.breaks);
   }
@@ -143,7 +249,7 @@ class Page {
 
   next() {
     this.move(() => {
-      if (!this.session.event('next')) this.sayEnd();
+      if (!this.session.next()) this.sayEnd();
     });
   }
 
@@ -154,7 +260,7 @@ class Page {
   }
 
   sayEnd() {
-    const failed = this.session.statuses().filter((status) => status.word === 'failed').length;
+    const failed = this.session.statuses().count('failed');
     this.say(failed ? `The run is complete: ${failed} failed.` : 'The run is complete.');
   }
 
@@ -189,6 +295,7 @@ class Page {
       last: () => this.move(() => this.session.to(this.session.ways.end())),
     };
     for (const id of ['next', 'back', 'go', 'step', 'cancel', 'first']) by(id).addEventListener('click', moves[id]);
+    by('worker').addEventListener('change', () => this.updateWorker());
     by('break-fail').addEventListener('change', (event) => {
       if (this.session) this.guarded(() => this.session.setBreakAtFailures(event.target.checked));
     });
@@ -198,13 +305,60 @@ class Page {
     listen({
       ArrowRight: moves.next, n: moves.next, ArrowLeft: moves.back, b: moves.back, g: moves.go, s: moves.step,
       c: moves.cancel, Home: moves.first, End: moves.last, f: () => this.fork(), o: () => this.openView.show(),
+      '/': () => by('search').focus(),
       h: () => this.showShare(), '?': () => by('keys-view').showModal(),
-      v: () => this.session && this.select(this.selected ?? 0, true),
+      v: () => (this.session || this.foreign) && this.select(this.selected ?? 0, true),
       digit: (n) => {
-        if (n < (this.session?.workers ?? 0)) by('worker').value = n;
+        if (n >= (this.session?.workers ?? 0)) return;
+        by('worker').value = n;
+        this.updateWorker();
       },
     });
   }
+}
+
+/** Opens what the link of the page carries; shows the view *Open* if it carries nothing that can be read. */
+async function openLink(page, machine) {
+  page.say('');
+  const name = buildNamedBy(location.hash);
+  if (name !== null) {
+    await openServed(page, machine, name);
+    return;
+  }
+  try {
+    const given = await givenBy(location.hash);
+    if (given) page.open({ ...given, definition: assembled(machine, given.text) });
+    else page.openView.show();
+  } catch (fault) {
+    const words = `The link is not readable: ${fault.message}. ${explained(fault.message)}`.trim();
+    page.say(words);
+    page.openView.show();
+    page.openView.showFault(new Error(words));
+  }
+}
+
+async function openServed(page, machine, name) {
+  let build = null;
+  try {
+    build = await buildOf(machine, name);
+    page.openBuild(build);
+  } catch (fault) {
+    const words = `The build ${name} can't be opened: ${fault.message}. ${explained(fault.message)}`.trim();
+    page.say(words);
+    if (build) page.openView.takeBuild(build);
+    page.openView.show();
+    page.openView.showFault(new Error(words));
+  }
+}
+
+/** Says what the module says of its proof, unless it is proved. */
+function sayProof(proof) {
+  const words = proof === 'not proved'
+    ? 'Not proved: the machine of this page was compiled without proof. Where rt ci has run, tools/wasm makes one with '
+      + 'proof.'
+    : 'Whether the machine of this page is proved is not known: its module does not say it.';
+  by('unproved').textContent = words;
+  by('unproved').hidden = proof === 'proved';
 }
 
 async function start() {
@@ -212,17 +366,19 @@ async function start() {
   const machine = await Machine.from(fetch(MODULE));
   machine.handle();
   document.body.dataset.module = (performance.now() - began).toFixed(1);
+  sayProof(machine.proof());
   const page = new Page(machine);
   page.listen();
-  await Promise.all([loadFaults('faults.json'), page.openView.loadExamples('examples/list.json')]);
-  const given = await givenBy(location.hash).catch((fault) => page.say(`The link is not readable: ${fault.message}`));
-  if (given) page.guarded(() => page.open({ ...given, definition: assembled(machine, given.text) }));
-  else page.openView.show();
+  await Promise.all([loadTables('tables.json'), page.openView.loadExamples('examples/list.json')]);
+  await openLink(page, machine);
+  addEventListener('hashchange', () => openLink(page, machine));
   document.body.dataset.ready = 'yes';
 }
 
 start().catch((fault) => {
   by('said').hidden = false;
-  by('said').textContent = `The machine could not be loaded: ${fault.message}`;
+  by('said').textContent = `The machine could not be loaded: ${fault.message}. It is the file ${MODULE}. tools/wasm `
+    + 'makes it, where rt ci has proved the library, and tools/wasm --unproved makes one without proof. Then load this '
+    + 'page again.';
   document.body.dataset.ready = 'no';
 });

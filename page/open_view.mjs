@@ -1,37 +1,70 @@
 /** The view *Open*: a definition, the trees of its local sources, and the number of workers. */
 
-import { isText, localsOf } from './definition.mjs';
+import { fragmentFor, servedBuilds } from './build_link.mjs';
+import { isText, rowInWords } from './definition.mjs';
 import { by, make } from './dom.mjs';
 import { explained } from './faults.mjs';
-import { assembled, disassembled } from './session.mjs';
-import { treeOfBytes, treeOfFiles } from './sources.mjs';
+import { definitionOf, treeOfFile } from './reading.mjs';
+import { disassembled, refusalOf } from './session.mjs';
+import { treeOfFiles } from './sources.mjs';
 
+const EMPTY = 'd 0755 0 0 /\n';
 const MOST_SHOWN = 200000;
 const MOST_LEFT_OUT = 3;
 
-/** The view by which a definition is opened. `onOpen` is called with a definition, trees and workers. */
+/**
+ * The view by which a definition is opened. `onOpen` is called with a definition, trees and workers, `onForeign` with a
+ * definition that the machine refuses but that can be drawn.
+ */
 export class OpenView {
-  constructor(machine, onOpen) {
+  constructor(machine, onOpen, onForeign) {
     this.machine = machine;
     this.onOpen = onOpen;
+    this.onForeign = onForeign;
+    this.origins = new Map();
     this.given = null;
     this.trees = new Map();
+    this.readings = 0;
     this.dialog = by('open-view');
     by('definition-file').addEventListener('change', (event) => this.takeFile(event.target.files[0]));
     by('definition').addEventListener('input', () => this.wrote());
     this.takeDrops(by('definition'), (files) => this.takeFile(files[0]));
     by('open-close').addEventListener('click', () => this.dialog.close());
+    by('build').addEventListener('change', (event) => {
+      if (!event.target.value) return;
+      this.dialog.close();
+      const fragment = fragmentFor(event.target.value);
+      if (location.hash === fragment) dispatchEvent(new HashChangeEvent('hashchange'));
+      location.hash = fragment;
+    });
     by('example').addEventListener('change', (event) => this.takeExample(event.target.value));
     by('open-form').addEventListener('submit', (event) => {
       event.preventDefault();
-      this.submit();
+      this.reading(() => this.submit());
     });
   }
 
   /** Shows the view. */
   show() {
-    by('open-said').replaceChildren();
+    this.clearFault();
+    this.showDefinition();
+    this.loadBuilds();
     this.dialog.showModal();
+  }
+
+  /** Lists the builds that the page's server has, if it is one of builds. */
+  async loadBuilds() {
+    const builds = await servedBuilds();
+    by('builds').hidden = !builds.length;
+    const options = builds.map(({ name, error }) => (
+      make('option', { value: name, text: error ? `${name}: failed` : name })));
+    by('build').replaceChildren(make('option', { value: '', text: 'choose one' }), ...options);
+  }
+
+  /** Puts what a build has into the view, where it can't be opened as it is. */
+  takeBuild({ definition, locals, name }) {
+    this.trees = new Map(locals.map(([local, text]) => [local, { text, from: name }]));
+    this.take(definition, name);
   }
 
   /** Lists the examples of the page in its menu. */
@@ -53,18 +86,25 @@ export class OpenView {
     });
   }
 
-  /** Takes an example by its name. */
+  /** Takes an example by its name. Until its files are there, nothing can be opened. */
   async takeExample(name) {
     const example = this.examples.find((one) => one.name === name);
     if (!example) return;
-    const given = (path) => fetch(`examples/${path}`);
-    const definition = await (await given(example.definition)).arrayBuffer();
-    this.trees.clear();
-    for (const [local, from] of Object.entries(example.locals)) {
-      this.trees.set(local, { text: await (await given(from)).text(), from });
+    by('open-now').disabled = true;
+    try {
+      const given = async (path) => (await fetch(`examples/${path}`)).arrayBuffer();
+      const definition = new Uint8Array(await given(example.definition));
+      const trees = await Promise.all(Object.entries(example.locals).map(async ([local, from]) => (
+        [local, { text: new TextDecoder().decode(await given(from)), from }])));
+      this.trees = new Map(trees);
+      by('workers').value = example.workers;
+      this.take(definition, example.title);
+      this.dialog.dataset.example = name;
+    } catch (fault) {
+      this.showFault(new Error(`the example can't be loaded: ${fault.message}`));
+    } finally {
+      by('open-now').disabled = false;
     }
-    by('workers').value = example.workers;
-    this.take(new Uint8Array(definition), example.title);
   }
 
   async takeFile(file) {
@@ -81,72 +121,145 @@ export class OpenView {
       this.given = field.value.length > MOST_SHOWN ? bytes : null;
       if (this.given) field.value = '';
     } else this.given = bytes;
-    by('definition-said').textContent = this.given ? `${name || 'A definition'}: ${bytes.length} bytes` : '';
-    this.showLocals();
+    this.name = this.given ? `${name || 'A definition'}: ${bytes.length} bytes` : '';
+    this.origins.clear();
+    this.showDefinition();
+  }
+
+  /** Takes a definition that was adopted. `sources` has its local sources with what they were before. */
+  takeAdopted({ data, changes, sources }) {
+    this.take(data, `The adopted definition, after ${changes.length} changes`);
+    this.origins = new Map(sources.map(({ name, identifier }) => [name, identifier]));
+    this.show();
   }
 
   wrote() {
     this.given = null;
-    by('definition-said').textContent = '';
+    this.name = '';
+    this.clearFault();
     clearTimeout(this.waits);
-    this.waits = setTimeout(() => this.showLocals(), 300);
+    this.waits = setTimeout(() => this.showDefinition(), 300);
   }
 
-  // The bytes of the definition; a text is assembled by the machine.
-  definition() {
-    const bytes = this.given ?? new TextEncoder().encode(by('definition').value);
-    return isText(bytes) || !this.given ? assembled(this.machine, bytes) : bytes;
-  }
-
-  /** Shows a row for each local source that the definition needs. */
-  showLocals() {
-    let names = [];
-    try {
-      names = localsOf(this.definition());
-    } catch {
-      // Why it is no definition is shown once it is to be opened.
+  // A promise of the definition and the names of its sources, which a worker reads, once.
+  read() {
+    const given = this.given ?? by('definition').value;
+    if (this.made?.given !== given) {
+      const bytes = this.given ?? new TextEncoder().encode(given);
+      this.made = { given, read: definitionOf(this.machine, bytes, isText(bytes) || !this.given) };
     }
-    const none = make('p', { class: 'note', text: 'The definition needs none.' });
-    by('locals').replaceChildren(...(names.length ? names.map((name) => this.row(name)) : [none]));
+    return this.made.read;
+  }
+
+  // Does what waits for a worker; meanwhile the page says so to whoever watches it.
+  async reading(work) {
+    this.readings += 1;
+    document.body.dataset.reading = 'yes';
+    try {
+      await work();
+    } finally {
+      this.readings -= 1;
+      if (!this.readings) document.body.dataset.reading = 'no';
+    }
+  }
+
+  /** Shows what is known of the definition, and a row for each local source that it needs. */
+  showDefinition() {
+    this.clearFault();
+    return this.reading(() => this.showWhatIsRead());
+  }
+
+  async showWhatIsRead() {
+    if (!this.given && by('definition').value.trim() === '') {
+      this.made = null;
+      this.showRead('', [], 'Give a definition first.');
+      return;
+    }
+    const read = this.read();
+    const isAsked = () => this.made?.read === read;
+    try {
+      const { definition, names } = await read;
+      if (!isAsked()) return;
+      const refusal = refusalOf(this.machine, definition);
+      const none = refusal ? 'Which trees it needs is not known, since the definition is refused.' : 'It needs none.';
+      this.showRead(refusal, names, none, placeOf(definition, refusal));
+    } catch (fault) {
+      if (!isAsked()) return;
+      this.showRead(fault.message, [], 'Which trees it needs is not known, since the definition is refused.');
+    }
+  }
+
+  // Shows why the definition is refused, if it is, and its local sources, or a sentence in their place.
+  showRead(refusal, names, none, place = '') {
+    const why = refusal ? `llbm refuses it: ${refusal}. ${explained(refusal)}` : '';
+    const draw = canBeDrawn(refusal) ? 'Open draws it, with all that is refused and what adopting would change' : '';
+    by('definition-said').textContent = [this.name, why, place, draw].filter(Boolean).join('. ');
+    by('definition-said').classList.toggle('fault', Boolean(refusal));
+    const rows = names.map((name) => this.row(name));
+    by('locals').replaceChildren(...(rows.length ? rows : [make('p', { class: 'note', text: none })]));
   }
 
   row(name) {
-    const tree = this.trees.get(name);
-    const said = make('span', { class: 'note', text: tree ? `${tree.from}: ${count(tree.text)}` : 'no tree yet' });
+    const said = make('span', { class: 'note' });
     const take = async (read, from) => {
+      this.trees.set(name, { bad: `${from} is being read` });
+      this.clearFault();
       try {
         const { text, leftOut } = await read();
-        this.trees.set(name, { text, from });
-        said.textContent = `${from}: ${count(text)}${leftWords(leftOut)}`;
+        this.trees.set(name, { text, from, leftOut });
       } catch (fault) {
-        said.textContent = `${from}: ${fault.message}`;
+        this.trees.set(name, { bad: `${from}: ${fault.message}` });
       }
+      this.tell(said, name);
     };
-    const bytes = async (file) => treeOfBytes(new Uint8Array(await file.arrayBuffer()));
     const file = make('input', { type: 'file', 'aria-label': `tar or tree text for ${name}` });
-    file.addEventListener('change', () => file.files[0] && take(() => bytes(file.files[0]), file.files[0].name));
+    file.addEventListener('change', () => file.files[0] && take(() => treeOfFile(file.files[0]), file.files[0].name));
     const folder = make('input', { type: 'file', webkitdirectory: true, 'aria-label': `folder for ${name}` });
     folder.addEventListener('change', () => {
       if (folder.files.length) take(() => treeOfFiles([...folder.files]), 'a folder');
     });
     const canFolder = 'webkitdirectory' in folder;
-    const row = make('div', { class: 'local', 'data-name': name }, make('strong', { text: name }), said,
-      make('label', {}, 'file ', file), canFolder ? make('label', {}, 'folder ', folder) : '');
-    this.takeDrops(row, (files) => take(() => bytes(files[0]), files[0].name));
+    const empty = make('button', { type: 'button', text: 'empty tree', 'aria-label': `the empty tree for ${name}` });
+    empty.addEventListener('click', () => take(() => ({ text: EMPTY, leftOut: [] }), 'the empty tree'));
+    const origin = this.origins.get(name);
+    const was = origin && origin !== `local://${name}` ? [make('span', { class: 'note', text: `was ${origin}` })] : [];
+    const row = make('div', { class: 'local', 'data-name': name }, make('strong', { text: name }), ...was, said,
+      make('label', {}, 'file ', file), canFolder ? make('label', {}, 'folder ', folder) : '', empty);
+    this.takeDrops(row, (files) => take(() => treeOfFile(files[0]), files[0].name));
+    this.tell(said, name);
     return row;
   }
 
+  // Says which tree a source has, or why what was given is none.
+  tell(said, name) {
+    const tree = this.trees.get(name);
+    const isBad = Boolean(tree?.bad);
+    said.className = isBad ? 'fault' : 'note';
+    if (isBad) said.textContent = `not taken: ${tree.bad}. It has no tree now.`;
+    else said.textContent = tree ? `${tree.from}: ${count(tree.text)}${leftWords(tree.leftOut ?? [])}` : 'no tree yet';
+  }
+
+  // The trees of the sources that a definition needs; those without one are left to the machine to refuse.
+  givenTrees(names) {
+    const bad = names.find((name) => this.trees.get(name)?.bad);
+    if (bad !== undefined) throw new Error(`The tree of ${bad} was not taken: ${this.trees.get(bad).bad}.`);
+    return names.filter((name) => this.trees.has(name)).map((name) => [name, this.trees.get(name).text]);
+  }
+
   /** Opens what the view has, or shows why that is refused. */
-  submit() {
+  async submit() {
     try {
-      const definition = this.definition();
-      const locals = localsOf(definition).filter((name) => this.trees.has(name))
-        .map((name) => [name, this.trees.get(name).text]);
-      this.onOpen({ definition, locals, workers: Number(by('workers').value) });
+      const { definition, names } = await this.read();
+      if (canBeDrawn(refusalOf(this.machine, definition))) this.onForeign(definition);
+      else this.onOpen({ definition, locals: this.givenTrees(names), workers: Number(by('workers').value) });
       this.dialog.close();
     } catch (fault) {
       this.showFault(fault);
     }
+  }
+
+  clearFault() {
+    by('open-said').replaceChildren();
   }
 
   /** Shows why something was refused. */
@@ -165,6 +278,18 @@ export class OpenView {
   }
 }
 
+// Whether a definition is refused for what is in its rows.
+function canBeDrawn(refusal) {
+  return /^fault (?:8[2-9]|90)\b/.test(refusal);
+}
+
+// The entry that the line of a fault names.
+function placeOf(definition, refusal) {
+  const row = /^fault (?:82|8[4-9]|90) ([0-9]+)/.exec(refusal)?.[1];
+  const words = row === undefined ? '' : rowInWords(definition, Number(row));
+  return words ? `Row ${row} is ${words}` : '';
+}
+
 function leftWords(leftOut) {
   if (!leftOut.length) return '';
   const more = leftOut.length > MOST_LEFT_OUT ? ` and ${leftOut.length - MOST_LEFT_OUT} more` : '';
@@ -172,7 +297,8 @@ function leftWords(leftOut) {
 }
 
 function count(text) {
-  const lines = text.split('\n').length - 1;
+  let lines = 0;
+  for (let at = text.indexOf('\n'); at >= 0; at = text.indexOf('\n', at + 1)) lines += 1;
   return `${lines} ${lines === 1 ? 'entry' : 'entries'}`;
 }
 

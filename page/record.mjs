@@ -13,6 +13,15 @@ export function eventOf(line) {
   };
 }
 
+/** Returns the events of a record's text, each step with the vertex that its worker claimed last. */
+export function eventsOfRecord(text) {
+  const held = new Map();
+  return text.split('\n').map(eventOf).filter(Boolean).map((event) => {
+    if (event.kind === 'claim') held.set(event.worker, event.vertex);
+    return { ...event, vertex: event.vertex ?? held.get(event.worker) ?? null };
+  });
+}
+
 /** Returns whether an event is a settle of a vertex that failed. */
 export function isFailure(event) {
   return event.kind === 'settle' && event.reply.endsWith(' failed');
@@ -48,14 +57,6 @@ export function wordsOf(event, entry = null) {
 export function faultOf(event) {
   const found = /^fault [0-9]+ ([0-9]+)$/.exec(event.kind === 'step' ? event.reply : '');
   return found ? `fault ${found[1]}` : '';
-}
-
-/** Returns the statuses of a session's `status`, by vertex: a word, and the rest of its line. */
-export function statusesOf(lines) {
-  return lines.map((line) => {
-    const [, word, rest] = /^[0-9]+ ([a-z]+) ?(.*)$/.exec(line) ?? ['', 'unknown', ''];
-    return { word, rest, worker: word === 'running' ? Number(rest) : null };
-  });
 }
 
 /** Returns the graph of `show`: vertices with their kind, steps, outputs and inputs, and the result. */

@@ -5,11 +5,15 @@
  */
 
 import { STATUS } from './machine.mjs';
-import { eventOf, graphOf, statusesOf } from './record.mjs';
+import { eventOf, graphOf } from './record.mjs';
+import { Statuses } from './statuses.mjs';
 import { linesOf } from './tree_text.mjs';
 import { Ways } from './ways.mjs';
 
 const decoder = new TextDecoder();
+
+/** What is before the name of a local source in the line for its tree, which the page has and no line of a session. */
+export const GIVEN = 'given ';
 
 /** The machine refused what it was given; the message has its line, as `fault 121 source`. */
 export class Refused extends Error {
@@ -42,19 +46,55 @@ export function disassembled(machine, definition) {
   return handle.text();
 }
 
+const shown = new WeakMap();
+
+// The text of a definition's graph, or the line of the fault for which it is refused; it is kept with its bytes.
+function shownBy(machine, definition) {
+  if (!shown.has(definition)) {
+    const handle = machine.handle();
+    const isDone = handle.show(definition) === STATUS.done;
+    const fault = isDone ? '' : handle.messages().trim() || 'no memory';
+    shown.set(definition, { text: isDone ? handle.text() : '', fault });
+  }
+  return shown.get(definition);
+}
+
+/** Returns a definition, given by its bytes or by the text of its entries, and what the machine shows of it. */
+export function readDefinition(machine, bytes, isWritten) {
+  const definition = isWritten ? assembled(machine, bytes) : bytes;
+  return { definition, shown: shownBy(machine, definition) };
+}
+
+/** Keeps what a machine showed of a definition. */
+export function keepShown(definition, what) {
+  shown.set(definition, what);
+}
+
+/** Returns the line of the fault for which the machine refuses a definition; empty if it takes it. */
+export function refusalOf(machine, definition) {
+  return shownBy(machine, definition).fault;
+}
+
+/** Returns the text of the graph of a definition. Throws if the machine refuses it. */
+export function graphText(machine, definition) {
+  const { text, fault } = shownBy(machine, definition);
+  if (fault) throw new Refused(fault, 'the definition');
+  return text;
+}
+
 /** A session over a definition, and where it is. */
 export class Session {
-  /** Opens a session. `locals` has the tree text of each local source by its name. */
-  constructor(machine, definition, locals, workers) {
-    const shown = machine.handle();
-    checked(shown, shown.show(definition), 'the definition');
-    this.graph = graphOf(linesOf(shown.text()));
+  /** Opens a session. `locals` has the tree text of each local source by its name, `text` that of the graph. */
+  constructor(machine, definition, locals, workers, text = graphText(machine, definition)) {
+    this.graph = graphOf(linesOf(text));
     this.handle = machine.handle();
     for (const [name, text] of locals) {
       checked(this.handle, this.handle.local(name, text), `the tree of ${name}`);
     }
     checked(this.handle, this.handle.open(definition, workers), 'the session');
     this.workers = workers;
+    this.locals = new Map(locals);
+    this.follows = false;
     this.ways = new Ways();
     this.breaks = { claim: new Set(), settle: new Set(), fail: false };
   }
@@ -74,15 +114,16 @@ export class Session {
     return linesOf(decoder.decode(this.bytes(line)));
   }
 
-  /** Returns the text of a tree that a line asks for, or null where there is none. */
+  /** Returns the text of a tree that a line asks for, or null where there is none; `given NAME` is a source's tree. */
   tree(line) {
+    if (line.startsWith(GIVEN)) return this.locals.get(line.slice(GIVEN.length)) ?? null;
     const text = decoder.decode(this.bytes(line));
     return text === 'none\n' || text.startsWith('fault ') ? null : text;
   }
 
-  /** Returns the status of each vertex. */
+  /** Returns the statuses of the vertices. */
   statuses() {
-    return statusesOf(this.lines('status'));
+    return new Statuses(decoder.decode(this.bytes('status')));
   }
 
   // Adds the events of an answer to the way.
@@ -105,8 +146,34 @@ export class Session {
     return this.took(this.lines(line))[0] ?? null;
   }
 
+  /** Takes the events of a record: `next` and `go` follow them, and each line of the machine has to be the record's. */
+  follow(events) {
+    this.ways.lay(events);
+    this.follows = events.length > 0;
+  }
+
+  /** Does the next event: of the record that is followed, or the one that the machine chooses; null at the end. */
+  next() {
+    const place = this.follows ? this.ways.ahead() : null;
+    if (!place) return this.event('next');
+    this.to(place);
+    return place.event;
+  }
+
+  // Goes along the record that is followed, to a breakpoint or its end.
+  goAlong() {
+    for (let place = this.ways.ahead(); place; place = this.ways.ahead()) {
+      this.to(place);
+      const { kind, vertex, reply } = place.event;
+      const isFail = kind === 'settle' && reply.endsWith(' failed') && this.breaks.fail;
+      if (isFail || this.breaks[kind]?.has?.(vertex)) return 'stop';
+    }
+    return 'end';
+  }
+
   /** Goes on to a breakpoint or to the end; returns `stop` or `end`. */
   go() {
+    if (this.follows && this.ways.ahead()) return this.goAlong();
     const lines = this.lines('go');
     this.took(lines);
     return lines.at(-1);
@@ -119,8 +186,7 @@ export class Session {
   step(worker) {
     const event = this.event(`step ${worker}`) ?? this.event(`settle ${worker}`);
     if (event) return event;
-    for (const [vertex, status] of this.statuses().entries()) {
-      if (status.word !== 'ready') continue;
+    for (const vertex of this.statuses().all('ready')) {
       const claim = this.event(`claim ${worker} ${vertex}`);
       if (claim) return claim;
     }
@@ -140,7 +206,9 @@ export class Session {
     for (let n = 0; n < back; n += 1) this.back();
     for (const next of forth) {
       const event = this.event(next.event.command);
-      if (event?.line !== next.event.line) throw new Differs(`${next.event.line}, and now ${event?.line ?? 'nothing'}`);
+      const line = event?.line ?? 'nothing';
+      const wanted = next.event.line;
+      if (line !== wanted) throw new Differs(`The record has "${wanted}", and the machine says "${line}".`);
     }
   }
 

@@ -35,14 +35,24 @@ function isText(value) {
   return typeof value === 'string';
 }
 
-/** Returns what a fragment carries, or null if it carries nothing. Throws where it can't be read. */
-export async function givenBy(fragment) {
-  if (!fragment.startsWith(MARK)) return null;
-  const bytes = await through(new DecompressionStream('deflate-raw'), bytesOf(fragment.slice(MARK.length)));
-  const { text, locals, workers, lines } = JSON.parse(new TextDecoder().decode(bytes));
+function checked({ text, locals, workers, lines }) {
   const isLocal = (local) => Array.isArray(local) && local.length === 2 && local.every(isText);
   const isGood = isText(text) && Number.isInteger(workers) && Array.isArray(lines) && lines.every(isText)
     && Array.isArray(locals) && locals.every(isLocal);
-  if (!isGood) throw new Error('the link does not carry a session');
+  if (!isGood) throw new Error('what it carries is not a session');
   return { text, locals, workers, lines };
+}
+
+/** Returns what a fragment carries, or null if there is none. Throws where it can't be read, with a cause in words. */
+export async function givenBy(fragment) {
+  if (fragment === '' || fragment === '#') return null;
+  if (!fragment.startsWith(MARK)) throw new Error('what is after # is not a session of this page');
+  let given;
+  try {
+    const bytes = await through(new DecompressionStream('deflate-raw'), bytesOf(fragment.slice(MARK.length)));
+    given = JSON.parse(new TextDecoder().decode(bytes));
+  } catch (cause) {
+    throw new Error('it is cut off or damaged, so that it can\'t be unpacked: ask for the whole link', { cause });
+  }
+  return checked(given);
 }

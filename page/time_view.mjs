@@ -1,10 +1,12 @@
 /**
- * The view *Time*: workers as rows, events as marks in their order. The way that the session is on is drawn in full,
- * and each other way below it, from the event at which it left. Only marks inside the window are in the page.
+ * The view *Time*: workers as rows, events as marks in their order, and a row for each cache with who holds it. The way
+ * that the session is on is drawn in full, and each other way below it, from the event at which it left. Only marks
+ * inside the window are in the page.
  */
 
 import { by, draw, oncePerFrame } from './dom.mjs';
 import { isFailure, isFault, wordsOf } from './record.mjs';
+import { Track } from './track.mjs';
 
 const STEP = 22;
 const ROW = 24;
@@ -12,7 +14,12 @@ const LEFT = 78;
 const TOP = 22;
 const GAP = 14;
 const AROUND = 100;
+const MOST_OF_A_LABEL = 11;
 const SHAPES = { claim: 'M-6 -6L6 0L-6 6Z', settle: 'M-6 -6H6V6H-6Z', cancel: 'M-6 -6L6 6M6 -6L-6 6' };
+
+function short(text) {
+  return text.length > MOST_OF_A_LABEL ? `${text.slice(0, MOST_OF_A_LABEL - 1)}…` : text;
+}
 
 function classOf(event) {
   return isFailure(event) || isFault(event) ? `event ${event.kind} bad` : `event ${event.kind}`;
@@ -31,9 +38,10 @@ export class TimeView {
     this.slider.addEventListener('input', () => this.slid());
   }
 
-  /** Shows another session. */
-  open(session) {
+  /** Shows another session. `entries` has what the definition says of each vertex. */
+  open(session, entries) {
     this.session = session;
+    this.track = new Track(entries);
     this.frame.scrollTo(0, 0);
     this.update();
   }
@@ -42,7 +50,7 @@ export class TimeView {
   update() {
     const { ways } = this.session;
     this.end = ways.end();
-    this.path = ways.path(this.end);
+    this.track.follow(ways, this.end);
     this.slider.max = this.end.number;
     this.slider.value = ways.at.number;
     const { event } = ways.at;
@@ -55,15 +63,21 @@ export class TimeView {
   }
 
   slid() {
-    this.onPlace(this.path[Number(this.slider.value)]);
+    this.onPlace(this.track.path[Number(this.slider.value)]);
+  }
+
+  get lanes() {
+    return this.track.lanes;
   }
 
   // A row for each worker, and below a row for each other way.
   rowsOf() {
-    const own = new Set(this.path.map((place) => place.way));
+    if (this.session.ways.count === 1) return [];
+    const { path } = this.track;
+    const own = new Set(path.map((place) => place.way));
     const others = this.session.ways.branches().filter(({ way, places }) => places.length && !own.has(way));
     const used = this.session.ways.branches().filter(({ way }) => own.has(way));
-    const onPath = new Set(this.path);
+    const onPath = new Set(path);
     for (const { way, places } of used) {
       const left = places.filter((place) => !onPath.has(place));
       if (left.length) others.push({ way, places: left, from: left[0].before });
@@ -80,7 +94,7 @@ export class TimeView {
   }
 
   below(row) {
-    return TOP + this.session.workers * ROW + GAP + row * ROW + ROW / 2;
+    return TOP + (this.session.workers + this.lanes.length) * ROW + GAP + row * ROW + ROW / 2;
   }
 
   reveal() {
@@ -100,7 +114,8 @@ export class TimeView {
     const first = Math.max(0, Math.floor((scrollLeft - LEFT - AROUND) / STEP));
     const last = Math.ceil((scrollLeft + clientWidth - LEFT + AROUND) / STEP);
     this.svg.replaceChildren(
-      ...this.spans(first, last), ...this.path.slice(Math.max(1, first), last + 1).map((place) => this.mark(place)),
+      ...this.spans(first, last), ...this.holds(first, last),
+      ...this.track.path.slice(Math.max(1, first), last + 1).map((place) => this.mark(place)),
       ...this.rows.flatMap((row, i) => this.other(row, i, first, last)), this.cursor(), ...this.labels(scrollLeft),
     );
   }
@@ -111,26 +126,30 @@ export class TimeView {
       draw('text', { x: left + 4, y: y + 4, text }));
     const workers = Array.from({ length: this.session.workers }, (_, worker) => worker);
     const rows = workers.map((worker) => label(this.y(worker), `worker ${worker}`));
-    return [...rows, ...this.rows.map(({ way }, i) => label(this.below(i), `way ${way + 1}`))];
+    const lanes = this.lanes.map(({ id }, i) => label(this.y(this.session.workers + i), short(id)));
+    return [...rows, ...lanes, ...this.rows.map(({ way }, i) => label(this.below(i), `way ${way + 1}`))];
+  }
+
+  // A bar for each hold of a cache, in the cache's row, with the worker that holds it.
+  holds(first, last) {
+    return this.lanes.flatMap(({ id, mode, holds }, i) => {
+      const y = this.y(this.session.workers + i);
+      return this.track.within(holds, first, last).flatMap(({ worker, vertex, from, to }) => {
+        const words = `cache ${id} (${mode}): worker ${worker} holds it for vertex ${vertex}, events ${from} to ${to}`;
+        const [x, width] = [this.x(from), Math.max(4, (to - from) * STEP)];
+        const title = draw('title', { text: words });
+        const bar = draw('rect', { class: `held ${mode}`, x, y: y - 8, width, height: 16 }, title);
+        return [bar, draw('text', { class: 'held-by', x: x + 3, y: y + 4, text: `w${worker}` })];
+      });
+    });
   }
 
   // A bar from each claim to the settle or cancel of the same worker.
   spans(first, last) {
-    const bars = [];
-    const since = new Map();
-    const bar = (worker, from, to) => {
-      if (to >= first && from <= last) {
-        const [y, width] = [this.y(worker) - 4, (to - from) * STEP];
-        bars.push(draw('rect', { class: 'span', x: this.x(from), y, width, height: 8 }));
-      }
-      since.delete(worker);
-    };
-    for (const { event, number } of this.path) {
-      if (event?.kind === 'claim') since.set(event.worker, number);
-      else if (event && event.kind !== 'step') bar(event.worker, since.get(event.worker), number);
-    }
-    for (const [worker, from] of since) bar(worker, from, this.end.number);
-    return bars;
+    return this.track.within(this.track.bars, first, last).map(({ worker, from, to }) => {
+      const [y, width] = [this.y(worker) - 4, (to - from) * STEP];
+      return draw('rect', { class: 'span', x: this.x(from), y, width, height: 8 });
+    });
   }
 
   mark(place, y = this.y(place.event.worker)) {
@@ -165,6 +184,7 @@ export class TimeView {
 
   cursor() {
     const x = this.x(this.session.ways.at.number);
-    return draw('line', { class: 'cursor', x1: x, x2: x, y1: 2, y2: TOP + this.session.workers * ROW + 4 });
+    const rows = this.session.workers + this.lanes.length;
+    return draw('line', { class: 'cursor', x1: x, x2: x, y1: 2, y2: TOP + rows * ROW + 4 });
   }
 }

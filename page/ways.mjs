@@ -26,7 +26,8 @@ export class Ways {
 
   /** Adds an event after the place where the session is, or finds it there, and goes to it. */
   add(event) {
-    let next = this.at.after.find((place) => place.event.command === event.command);
+    const { command, line } = event;
+    let next = this.at.after.find((place) => place.event.command === command && place.event.line === line);
     if (!next) {
       const way = this.at.after.length ? this.count : this.at.way;
       if (this.at.after.length) this.count += 1;
@@ -37,6 +38,26 @@ export class Ways {
     this.keep(next);
     this.end();
     return next;
+  }
+
+  /** Lays events ahead of the beginning, as a way that was gone already; none of them is done yet. */
+  lay(events) {
+    let place = this.root;
+    for (const event of events) {
+      const next = new Place(place, event, 0);
+      place.after.push(next);
+      place = next;
+    }
+    this.keep(place);
+    this.last = place;
+  }
+
+  /** Returns the next place of the way that the session is on, or null at its end. */
+  ahead() {
+    let one = this.end();
+    if (one === this.at) return null;
+    while (one.before !== this.at) one = one.before;
+    return one;
   }
 
   // Each way remembers where it was last: the slider goes over the places up to there.
@@ -76,12 +97,16 @@ export class Ways {
     });
   }
 
-  /** Returns how to get to a place: how many events back, and the commands of the events from there. */
-  route(place) {
-    const here = new Set(this.path());
-    const commands = [];
-    let one = place;
-    for (; !here.has(one); one = one.before) commands.push(one);
-    return { back: this.at.number - one.number, forth: commands.reverse() };
+  /** Returns how to get to a place from another one: how many events back, and the places from there. */
+  route(place, from = this.at) {
+    const forth = [];
+    let [one, other] = [place, from];
+    while (one !== other) {
+      if (one.number >= other.number) {
+        forth.push(one);
+        one = one.before;
+      } else other = other.before;
+    }
+    return { back: from.number - one.number, forth: forth.reverse() };
   }
 }

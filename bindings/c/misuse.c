@@ -1,6 +1,6 @@
 /* What a caller may do wrong, or do oddly, and want of memory.
  *
- *     cc -pthread -Wl,--wrap=malloc,--wrap=realloc -o misuse misuse.c ../../out/libllbm.a
+ *     cc -pthread -Wl,--wrap=malloc,--wrap=realloc,--wrap=free -o misuse misuse.c ../../out/libllbm.a
  *     ./misuse ../../examples/tour.text ../../examples/tour.tree
  *
  * Out: a line for each check that failed; a line for each call with the requests for memory that were refused in turn, and the statuses that
@@ -19,12 +19,31 @@ static int passed, failed;
 static uint8_t text[ROOM], tree[ROOM], definition[ROOM];
 static size_t text_length, tree_length, definition_length;
 
+/* How many blocks of this thread are not freed. */
+static _Thread_local long blocks;
+
 void *__real_malloc(size_t size);
 void *__real_realloc(void *at, size_t size);
+void __real_free(void *at);
 
 static bool is_refused(void) { return left > 0 && --left == 0; }
-void *__wrap_malloc(size_t size) { return is_refused() ? NULL : __real_malloc(size); }
-void *__wrap_realloc(void *at, size_t size) { return is_refused() ? NULL : __real_realloc(at, size); }
+
+void *__wrap_malloc(size_t size) {
+    void *made = is_refused() ? NULL : __real_malloc(size);
+    blocks += made != NULL;
+    return made;
+}
+
+void *__wrap_realloc(void *at, size_t size) {
+    void *made = is_refused() ? NULL : __real_realloc(at, size);
+    blocks += made != NULL && at == NULL;
+    return made;
+}
+
+void __wrap_free(void *at) {
+    blocks -= at != NULL;
+    __real_free(at);
+}
 
 static void check(bool is_right, const char *what) {
     if (is_right) {
@@ -52,6 +71,16 @@ static bool is(llb *it, size_t (*from)(llb *, uint8_t *, size_t), const char *wa
     uint8_t found[ROOM];
     size_t length = from(it, found, sizeof found);
     return length == strlen(wanted) && memcmp(found, wanted, length) == 0;
+}
+
+/* Whether the messages are a line `fault` with its number, or a front of this line. */
+static bool is_front_of_a_fault(llb *it) {
+    const char *word = "fault ";
+    uint8_t found[ROOM];
+    size_t length = llb_messages(it, found, sizeof found), i = 0;
+    while (i < length && i < strlen(word) && found[i] == word[i]) i++;
+    while (i >= strlen(word) && i < length && found[i] >= '0' && found[i] <= '9') i++;
+    return i == length || (found[i] == '\n' && i + 1 == length);
 }
 
 static const char *OPENED = "0 ready\n1 ready\n2 waiting\n";
@@ -172,11 +201,13 @@ static void refuse(const char *name, uint8_t (*call)(llb *), const char *reply) 
             refused++;
             threes += status == 3;
             check(status == 3 || reply, name);
+            check(status != 3 || is_front_of_a_fault(&it), "the messages are a front of the fault's line");
             check(is_as_it_was(&it, reply), "the session is as it was");
         }
         check(!was_refused || call(&it) == 0, "the same call with memory");
         check(llb_run(&it, definition, definition_length) == 0, "the local trees are as they were");
         llb_close(&it);
+        check(blocks == 0, "a handle that is closed has freed all its memory");
         if (!was_refused) {
             check(status == 0, name);
             break;

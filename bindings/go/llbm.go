@@ -9,8 +9,10 @@ import "C"
 
 import (
 	"fmt"
+	"math"
 	"runtime"
 	"strings"
+	"sync"
 )
 
 // A Fault is why a call failed.
@@ -31,6 +33,7 @@ func (f *Fault) Error() string {
 // another, so goroutines may share it.
 type Machine struct {
 	calls chan func(*C.llb)
+	end   sync.Once
 }
 
 // New makes a machine without local trees. It ends with Close.
@@ -46,10 +49,13 @@ func New() *Machine {
 	return m
 }
 
-// Close frees the local trees and the session, and ends the machine.
+// Close frees the local trees and the session, and ends the machine. A second Close does nothing; no other call
+// may follow.
 func (m *Machine) Close() {
-	m.do(func(it *C.llb) C.uint8_t { C.llb_close(it); return 0 })
-	close(m.calls)
+	m.end.Do(func() {
+		m.do(func(it *C.llb) C.uint8_t { C.llb_close(it); return 0 })
+		close(m.calls)
+	})
 }
 
 // AddLocal adds a local tree, by its text; of two under one name, the later holds.
@@ -88,8 +94,13 @@ func (m *Machine) Disassemble(definition []byte) (string, error) {
 
 // Open opens a session on a definition and the local trees, in the place of the one that was open.
 func (m *Machine) Open(definition []byte, workers int) error {
+	// A number that does not fit is handed in as the largest that does, and is refused like it.
+	number := C.uint32_t(math.MaxUint32)
+	if workers >= 0 && uint64(workers) < math.MaxUint32 {
+		number = C.uint32_t(workers)
+	}
 	_, _, err := m.do(func(it *C.llb) C.uint8_t {
-		return C.llb_open(it, first(definition), size(definition), C.uint32_t(workers))
+		return C.llb_open(it, first(definition), size(definition), number)
 	})
 	return err
 }

@@ -106,6 +106,25 @@ func TestFaults(t *testing.T) {
 	}
 }
 
+func TestWorkers(t *testing.T) {
+	m := machine(t)
+	if err := m.AddLocal("source", string(example(t, "tour.tree"))); err != nil {
+		t.Fatal(err)
+	}
+	for _, workers := range []int{0, 65, 1 << 32, 1<<32 + 1, -1} {
+		var fault *Fault
+		if err := m.Open(example(t, "tour.definition"), workers); !errors.As(err, &fault) || fault.Number != 122 {
+			t.Error(workers, err)
+		}
+	}
+}
+
+func TestSecondClose(t *testing.T) {
+	m := New()
+	m.Close()
+	m.Close()
+}
+
 func TestSession(t *testing.T) {
 	m := machine(t)
 	if err := m.AddLocal("source", string(example(t, "tour.tree"))); err != nil {

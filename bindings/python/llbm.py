@@ -13,6 +13,7 @@ from types import TracebackType
 LIBRARY = os.environ.get("LIBLLBM", "libllbm.so")
 
 OK, ENDED, REFUSED, NO_MEMORY, NO_SESSION = range(5)
+MOST = 2**32 - 1
 
 
 class Fault(Exception):
@@ -34,8 +35,11 @@ class Machine:
     """Local trees, at most one session, and the calls of the library on them."""
 
     def __init__(self, library: str = LIBRARY) -> None:
-        """Loads the library, and makes a machine without local trees."""
-        self._library = ctypes.CDLL(library)
+        """Loads the library, and makes a machine without local trees; OSError if there is no such library."""
+        try:
+            self._library = ctypes.CDLL(library)
+        except OSError as fault:
+            raise OSError(f"{fault}; LIBLLBM has to name the shared object of libllbm.a (docs/EMBEDDING.md)") from fault
         for name in ("llb_output", "llb_messages"):
             getattr(self._library, name).restype = ctypes.c_size_t
         self._handle = _Handle()
@@ -67,7 +71,9 @@ class Machine:
 
     def open(self, definition: bytes, workers: int = 2) -> None:
         """Opens a session on a definition and the local trees, in the place of the one that was open."""
-        self._checked(self._call("llb_open", definition, more=(ctypes.c_uint32(workers),)))
+        # A number that does not fit is handed in as the largest that does, and is refused like it.
+        number = ctypes.c_uint32(workers if 0 <= workers < MOST else MOST)
+        self._checked(self._call("llb_open", definition, more=(number,)))
 
     def line(self, line: str) -> str | None:
         """Returns the reply to a line of the session; None if the line ended it."""

@@ -52,6 +52,17 @@ class Definitions(unittest.TestCase):
             self.machine.line("status")
         self.assertEqual((4, 0), (none.exception.status, none.exception.number))
 
+    def test_a_number_of_workers_that_is_too_large_or_negative(self) -> None:
+        definition = (EXAMPLES / "tour.definition").read_bytes()
+        self.machine.add_local("source", TREE)
+        for workers in (0, 65, 2**32, 2**32 + 1, -1, -(2**32) + 1):
+            with self.assertRaisesRegex(Fault, "fault 122"):
+                self.machine.open(definition, workers)
+
+    def test_a_library_that_is_missing(self) -> None:
+        with self.assertRaisesRegex(OSError, "none.so.*LIBLLBM"):
+            Machine("/none.so")
+
     def test_a_session_of_the_tour(self) -> None:
         self.machine.add_local("source", TREE)
         self.machine.open((EXAMPLES / "tour.definition").read_bytes())

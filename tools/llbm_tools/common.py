@@ -4,7 +4,6 @@ import contextlib
 import os
 import re
 import shutil
-import subprocess
 import sys
 
 from llbm_tools import paths
@@ -53,27 +52,16 @@ def check_open(stream: object, name: str) -> None:
         raise OSError(None, f"{name} is closed")
 
 
-def data_in(file: str | None) -> bytes:
-    """Returns the bytes of a file, or of standard input for `-` or None; at most one byte more than the limit."""
-    if file in (None, "-"):
-        check_open(sys.stdin, "standard input")
-        return sys.stdin.buffer.read(MOST_BYTES + 1)
-    with open(file or "-", "rb") as opened:
-        return opened.read(MOST_BYTES + 1)
-
-
 def discard_output() -> None:
     """Redirects standard output to /dev/null, so that buffered output does not fail again at exit."""
     os.dup2(os.open(os.devnull, os.O_WRONLY), 1)
 
 
-def os_error_text(fault: OSError) -> str:
-    """Returns a failed read or write as one line."""
-    return f"{fault.filename or 'a read or a write failed'}: {fault.strerror}"
-
-
 def said_by(program: str | os.PathLike[str]) -> str:
     """Returns what a program prints on standard error for `--version`; nothing if it does not end in time."""
+    # Most tools start no program: without this module they start sooner.
+    import subprocess
+
     try:
         done = subprocess.run(
             [program, "--version"], stdin=subprocess.DEVNULL, capture_output=True, timeout=MOST_SECONDS
@@ -98,15 +86,20 @@ def not_llbm(program: str) -> str:
         return f"the program does not start: {fault.strerror}"
 
 
+def program_place(word: str | None) -> str:
+    """Returns the given program, else the first of this folder's places of one at which there is a program."""
+    if word is not None:
+        return word
+    places = [paths.INSTALLED_PROGRAM] if paths.INSTALLED.is_file() else [paths.PROVED, paths.UNPROVED]
+    return str(next((place for place in places if shutil.which(place)), places[0]))
+
+
 def program_named(word: str | None) -> str:
     """Returns the given program, else that of the installation or repository around this folder.
 
     A proved one comes before one that is not; that the program is not proved is said on standard error.
     """
-    if word is not None:
-        return word
-    places = [paths.INSTALLED_PROGRAM] if paths.INSTALLED.is_file() else [paths.PROVED, paths.UNPROVED]
-    found = next((place for place in places if shutil.which(place)), None)
-    if found and is_unproved(found):
-        say(f"{os.path.relpath(found)}: the program is not proved")
-    return str(found or places[0])
+    place = program_place(word)
+    if word is None and is_unproved(place):
+        say(f"the program is not proved: {os.path.relpath(place)}")
+    return place

@@ -1,7 +1,6 @@
-"""Standard input, standard output and exit statuses for the tools of trees and archives."""
+"""Standard output, new files and exit statuses, and what a tool says if a file can't be used."""
 
 import contextlib
-import errno
 import os
 import shutil
 import sys
@@ -9,16 +8,12 @@ import tempfile
 from collections.abc import Callable, Iterator
 from typing import BinaryIO, cast
 
-from llbm_tools.common import discard_output, not_llbm, os_error_text, program_named, say
+from llbm_tools.common import discard_output, not_llbm, program_named, say
+from llbm_tools.os_errors import WRONGLY_NAMED, in_words, os_error_text
 
 REFUSED, FAILED, INTERRUPTED = 2, 3, 130
 
 PIECE = 1 << 20
-
-
-WRONGLY_NAMED = (
-    errno.ENOENT, errno.ENOTDIR, errno.EISDIR, errno.EACCES, errno.EPERM, errno.ELOOP, errno.ENAMETOOLONG
-)  # fmt: skip
 
 
 class Refused(Exception):
@@ -29,13 +24,22 @@ class Failed(Exception):
     """A read or a write failed; the message says which."""
 
 
+def of_place(fault: OSError, place: str) -> Refused | Failed:
+    """Returns the end of a tool that can't use a place: a refusal if it was named wrongly, else a failure."""
+    line = f"{in_words(fault)}: {place}"
+    return Refused(line) if fault.errno in WRONGLY_NAMED else Failed(line)
+
+
 def status_of(fault: OSError) -> int:
     """Returns the exit status for a failed call: a file that was named wrongly is refused, all else is a failure."""
     return REFUSED if fault.filename is not None and fault.errno in WRONGLY_NAMED else FAILED
 
 
 def exit_status(work: Callable[[], int | None]) -> int:
-    """Does the work, prints why it was refused or failed, and returns the exit status."""
+    """Does the work, prints why it was refused or failed, and returns the exit status.
+
+    If the reader of the output has closed it, as `head` does, nothing is printed.
+    """
     try:
         return work() or 0
     except Refused as fault:
@@ -44,6 +48,10 @@ def exit_status(work: Callable[[], int | None]) -> int:
         return REFUSED
     except Failed as fault:
         say(str(fault))
+        discard_output()
+        return FAILED
+    except BrokenPipeError:
+        discard_output()
         return FAILED
     except OSError as fault:
         say(os_error_text(fault))
@@ -53,6 +61,7 @@ def exit_status(work: Callable[[], int | None]) -> int:
         say("out of memory")
         return FAILED
     except KeyboardInterrupt:
+        discard_output()
         return INTERRUPTED
 
 
@@ -60,7 +69,7 @@ def why_not(named: str) -> str:
     """Returns why what is named can't be used as the program; empty if it can."""
     found = shutil.which(named)
     if found is None:
-        return "is not a program" if os.path.exists(named) else "there is no such program"
+        return "not a program" if os.path.exists(named) else "there is no such program"
     return not_llbm(found)
 
 
@@ -72,48 +81,8 @@ def program_at(word: str | None, others: str = "--llbm PROGRAM names another one
     named = program_named(word)
     cause = why_not(named)
     if cause:
-        raise Refused(f"{named}: {cause}; {others}")
+        raise Refused(f"{cause}: {named}; {others}")
     return os.path.abspath(shutil.which(named) or named)
-
-
-def is_standard_input(file: str | None) -> bool:
-    """Returns whether a file of the command line is standard input: none is given, or `-`, or /dev/stdin."""
-    return file in (None, "-", "/dev/stdin")
-
-
-def check_inputs(*files: str | None) -> None:
-    """Checks that at most one of these inputs is standard input."""
-    if sum(map(is_standard_input, files)) > 1:
-        raise Refused("only one input can come from standard input")
-
-
-def standard_input() -> BinaryIO:
-    """Returns standard input, if it is open."""
-    if sys.stdin is None:
-        raise Failed("standard input is closed")
-    return sys.stdin.buffer
-
-
-def input_lines() -> Iterator[bytes]:
-    """Yields the lines of standard input."""
-    lines = standard_input()
-    try:
-        yield from lines
-    except OSError as fault:
-        raise Failed(f"standard input could not be read: {fault.strerror}") from fault
-
-
-@contextlib.contextmanager
-def opened_file(place: str) -> Iterator[BinaryIO]:
-    """Yields a file that the command line names; one that does not exist is refused."""
-    try:
-        file = open(place, "rb")
-    except (FileNotFoundError, IsADirectoryError, NotADirectoryError) as fault:
-        raise Refused(f"{place}: {fault.strerror}") from fault
-    except OSError as fault:
-        raise Failed(f"{place}: {fault.strerror}") from fault
-    with file:
-        yield file
 
 
 @contextlib.contextmanager
@@ -122,6 +91,8 @@ def temporary_file(what: str) -> Iterator[BinaryIO]:
     try:
         with tempfile.TemporaryFile() as stored:
             yield cast(BinaryIO, stored)
+    except BrokenPipeError:
+        raise
     except OSError as fault:
         raise Failed(f"{what} could not be stored: {fault.strerror}") from fault
 
@@ -134,12 +105,12 @@ def write_output(stored: BinaryIO, what: str) -> None:
     try:
         shutil.copyfileobj(stored, sys.stdout.buffer, PIECE)
         sys.stdout.flush()
+    except (BrokenPipeError, KeyboardInterrupt):
+        discard_output()
+        raise
     except OSError as fault:
         discard_output()
         raise Failed(f"{what} could not be written: {fault.strerror}") from fault
-    except KeyboardInterrupt:
-        discard_output()
-        raise
 
 
 def mode_of_new_files() -> int:
@@ -166,10 +137,9 @@ def write_and_rename(stored: BinaryIO, place: str) -> None:
 def write_new_file(stored: BinaryIO, place: str) -> None:
     """Writes a temporary file to a new path, completely or not at all."""
     if os.path.lexists(place):
-        raise Refused(f"{place}: already exists")
+        raise Refused(f"this exists already: {place}")
     stored.seek(0)
     try:
         write_and_rename(stored, place)
     except OSError as fault:
-        kind = Refused if fault.errno in WRONGLY_NAMED else Failed
-        raise kind(f"{place}: {fault.strerror}") from fault
+        raise of_place(fault, place) from fault

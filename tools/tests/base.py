@@ -19,7 +19,9 @@ import argparse, importlib, os, sys
 sys.argv = sys.argv[1:]
 folder, name = os.path.split(sys.argv[0])
 sys.path.insert(0, folder)
-tool = importlib.import_module("llbm_tools." + name.replace("-", "_"))
+from llbm_tools.installing import tool_parsers
+tool = importlib.import_module(tool_parsers.module_of(name))
+importlib.import_module("llbm_tools.building.one_build")
 argparse.ArgumentParser().format_help()
 os.setgroups([])
 os.setgid(65534)
@@ -51,19 +53,19 @@ def command(tool, *words, before=()):
 def run(tool, *words, text=b"", before=(), **settings):
     """Runs a tool with these words, and this text on standard input."""
     return subprocess.run(
-        command(tool, *words, before=before), input=text, capture_output=True, timeout=120, **settings
+        command(tool, *words, before=before), input=text, capture_output=True, timeout=600, **settings
     )
 
 
 def run_into(output, tool, *words):
     """Runs a tool with an open file as its standard output."""
-    return subprocess.run(command(tool, *words), stdout=output, stderr=subprocess.PIPE, timeout=120)
+    return subprocess.run(command(tool, *words), stdout=output, stderr=subprocess.PIPE, timeout=600)
 
 
 def run_closed(descriptor, tool, *words):
     """Runs a tool with a closed standard stream."""
     return subprocess.run(
-        command(tool, *words), capture_output=True, timeout=120, preexec_fn=lambda: os.close(descriptor)
+        command(tool, *words), capture_output=True, timeout=600, preexec_fn=lambda: os.close(descriptor)
     )
 
 
@@ -110,6 +112,12 @@ class Folder(unittest.TestCase):
         if done.stdout != output:
             self.fail(f"{done.stdout[:2000]} is not {output[:2000]}")
 
+    def check_accepted(self, place):
+        """Checks that `lint` finds no fault in a definition; there may be notes."""
+        done = run("lint", place)
+        self.assertEqual((done.returncode, done.stderr), (0, b""))
+        self.assertFalse([line for line in done.stdout.splitlines() if not line.startswith(b"note ")])
+
     def check_success(self, done, output=b"", errors=b""):
         """Checks that the run ended with status 0, and its output."""
         self.check_run(done, 0, output, errors)
@@ -121,6 +129,17 @@ class Folder(unittest.TestCase):
     def read(self, name=b"out", *words):
         """Runs the tool that makes a text of a directory."""
         return run("tree-of-directory", *words, self.place(name))
+
+
+class WithPrograms(Folder):
+    """A test with shell programs."""
+
+    def program(self, *lines):
+        """Writes a shell program with these lines."""
+        name = f"program-{len(os.listdir(self.folder))}"
+        place = self.file(name.encode(), "\n".join([FAKE_SHELL, *lines, ""]).encode())
+        os.chmod(place, 0o755)
+        return os.fsdecode(place)
 
 
 def varint(number):

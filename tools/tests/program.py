@@ -8,7 +8,8 @@ import resource
 import subprocess
 import unittest
 
-from llbm_tools import faults, limited
+from llbm_tools.definitions import faults
+from llbm_tools.fuzzing import limited
 from tests import base
 from tests.base import ROOT, Folder, run
 
@@ -85,6 +86,29 @@ class WithProgram(Folder):
             self.assertEqual(done.returncode, 0, done.stderr)
             self.assertEqual(self.text_of(workers), text)
 
+    def test_a_run_is_kept_in_a_folder(self):
+        tree, definition = EXAMPLES / "tour.tree", EXAMPLES / "tour.definition"
+        given = definition.read_bytes()
+        words = ["run", "--llbm", base.llbm, "--record", self.at / "kept", "run", "--workers", "2", f"source={tree}"]
+        done = run(*words, text=given)
+        self.assertEqual((done.returncode, done.stderr), (0, b""))
+        self.assertEqual(done.stdout, self.output("run", f"source={tree}", given=given))
+        session = self.output("step", "--workers", "2", definition, f"source={tree}", given=b"go\n")
+        kept = {path.name: path.read_bytes() for path in (self.at / "kept").iterdir()}
+        named = f"source={self.at / 'kept' / '0.tree'}\n".encode()
+        wanted = {"definition": given, "0.tree": tree.read_bytes(), "sources": named, "record": session}
+        self.assertEqual(kept, wanted)
+        done = run(*words, text=given)
+        self.check_run(done, 2, b"", f"this exists already: {self.at / 'kept'}\n".encode())
+
+    def test_a_run_that_is_refused_or_is_none_is_not_kept(self):
+        definition = EXAMPLES / "tour.definition"
+        for words, line in [(["run"], b"fault 121 source\n"), (["show"], b"--record is for `run` alone\n")]:
+            done = run("run", "--llbm", base.llbm, "--record", self.at / "kept", *words, text=definition.read_bytes())
+            self.assertEqual((done.returncode, done.stdout), (2, b""))
+            self.assertTrue(done.stderr.startswith(line), done.stderr)
+            self.assertFalse((self.at / "kept").exists())
+
     def test_graphs_are_numbered_as_the_program_numbers_them(self):
         for name, given in self.definitions():
             text = self.output("show", given=given)
@@ -111,7 +135,7 @@ class WithProgram(Folder):
         done = self.build(given, f"empty={self.at / 'empty'}")
         self.assertEqual(done.returncode, 1)
         lines = done.stderr.decode().splitlines()
-        place = lines.index((folder / "words").read_text().strip())
+        place = lines.index("failed 1 command 1 status 1")
         self.assertIn("  command 1: cp /none /b", lines[place:])
         self.assertEqual(lines[-1], "nothing is written")
         self.assertFalse((self.at / "out").exists())
@@ -129,6 +153,9 @@ class WithProgram(Folder):
             self.assertEqual(done.returncode, 2)
             explained = run("explain", "--definition", self.place(b"definition"), *line.split(" "))
             meaning = [f"  {text}" for text in explained.stdout.decode().splitlines()]
+            # What `explain` refuses, a build says below the explanation.
+            refused = [text.partition(": ")[0] for text in explained.stderr.decode().splitlines()]
+            meaning += [f"  the definition: {cause}" for cause in refused]
             meaning += ["  without a tree: src (vertex 0)"] * (line == "fault 121 src")
             self.assertEqual(done.stderr.decode().splitlines()[1:], [line, *meaning, "nothing is written"])
 
@@ -225,8 +252,9 @@ class WithProgram(Folder):
 
     def test_each_line_for_173_is_accepted(self):
         lines = [re.sub("[VWIK]", "0", row.line) for row in faults.read_page().lines[173]]
-        self.assertEqual((len(set(lines)), lines[-1]), (18, "quit"))
-        answers = self.output("step", EXAMPLES / "first-run.definition", given="\n".join(lines).encode())
+        self.assertEqual((len(set(lines)), lines.pop(lines.index("quit"))), (18, "quit"))
+        given = "\n".join([*lines, "quit"]).encode()
+        answers = self.output("step", "--looks", EXAMPLES / "first-run.definition", given=given)
         self.assertNotIn(b"fault 173", answers)
 
     def test_a_text_that_is_too_long_is_refused(self):
@@ -236,7 +264,7 @@ class WithProgram(Folder):
         given = base.ending(base.source("local://src"))
         done = self.build(given, "--by-value", f"src={self.at / 'in'}")
         self.assertEqual(done.returncode, 2)
-        self.assertIn(b"\nthe text has ", done.stderr)
+        self.assertIn(b"\nsrc is too long to be given by value, over 67,108,864 bytes: ", done.stderr)
         self.assertTrue(done.stderr.endswith(b": --by-value asks for it\nnothing is written\n"), done.stderr)
         text = self.file(b"text", self.read(b"in").stdout)
         done = self.llbm("run", f"src={os.fsdecode(text)}", given=given)

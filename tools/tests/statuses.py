@@ -19,47 +19,45 @@ class Statuses(Folder):
                 ("adopt", place), ("adopt", "--rules", place, TOUR), ("adopt", TOUR, "-o", self.place(b"no", b"out")),
                 ("lint", place), ("explain", "--definition", place, "fault", "1"), ("tree-of-tar", place),
                 ("graph-of-show", "--definition", place), ("json-of-show", "--definition", place),
-                ("diff-of-trees", place, TOUR), ("tree-of-directory", place), ("replay", place),
-                ("fuzz", "1", "--llbm", place), ("measure", "--llbm", place), ("tries", place),
-                ("replay", "--llbm", place, ROOT / "README.md"), ("run", "--llbm", place),
+                ("diff-of-trees", place, TOUR), ("tree-of-directory", place), ("transcripts", place),
+                ("fuzz", "1", "--llbm", place), ("measure", "--llbm", place),
+                ("transcripts", "--llbm", place, ROOT / "README.md"), ("run", "--llbm", place),
                 ("trace-of-record", "--definition", place), ("explain-run", place), ("tree-of-image", place),
                 ("directory-of-tree", self.place(b"none", b"none", b"out")), ("impact", place, TOUR),
                 ("impact", TOUR, TOUR, "--before", b"source=" + place), ("build", place, self.place(b"out")),
-                ("tar-of-tree", self.place(b"none", b"none", b"out")), ("test", place), ("more-edits", place),
+                ("tar-of-tree", self.place(b"none", b"none", b"out")), ("test", place),
             ]:
                 done = run(tool, *words, text=SHOWN)
                 self.assertEqual((done.returncode, done.stdout), (2, b""), (tool, words, done.stderr))
                 self.assertTrue(done.stderr, tool)
         for tool in ["adopt", "lint", "tree-of-tar"]:
             self.assertEqual(run(tool, self.folder).returncode, 2, tool)
-        done = run("adopt", TOUR, "-o", self.place(b"none", b"out"))
-        self.assertEqual(done.stderr, self.place(b"none", b"out") + b": there is no such directory to write it in\n")
+        place = self.place(b"none", b"out")
+        done = run("adopt", TOUR, "-o", place)
+        self.assertEqual(done.stderr, b"there is no such directory to write it in: " + place + b"\n")
 
     def test_a_directory_is_no_program(self):
         for tool, *words in [
             ("build", TOUR, self.place(b"out")), ("explain-run", TOUR), ("fuzz", "1"), ("measure", "chain"), ("run",),
-            ("replay", ROOT / "README.md"), ("test", "statuses"),
+            ("transcripts", ROOT / "README.md"), ("test", "statuses"),
         ]:
             done = run(tool, "--llbm", self.folder, *words, text=SHOWN)
             self.assertEqual((done.returncode, done.stdout), (2, b""), (tool, done.stderr))
-            self.assertIn(self.folder + b": is not a program", done.stderr, tool)
-        done = run("tries", self.folder)
-        self.check_run(done, 2, b"", self.folder + b": is not a program; PROGRAM names another one\n")
+            self.assertIn(b"not a program: " + self.folder, done.stderr, tool)
 
     def test_a_program_that_is_not_llbm_is_named(self):
         for tool, *words in [
             ("build", TOUR, self.place(b"out"), f"source={ROOT / 'examples'}"), ("explain-run", TOUR, "source=/none"),
-            ("fuzz", "1"), ("measure", "chain"), ("replay", ROOT / "README.md"), ("run",), ("test", "statuses"),
+            ("fuzz", "1"), ("measure", "chain"), ("transcripts", ROOT / "README.md"), ("run",), ("test", "statuses"),
         ]:
             option = ["--llbm", "/bin/true"]
             done = run(tool, *option, *words, text=SHOWN)
             self.assertEqual((done.returncode, done.stdout), (2, b""), (tool, done.stderr))
-            self.assertIn(b"/bin/true: this is not the program llbm", done.stderr, tool)
-        self.assertIn(b"/bin/true: this is not the program llbm", run("tries", "/bin/true").stderr)
+            self.assertIn(b"this is not the program llbm: /bin/true", done.stderr, tool)
         for tool, *words in [("install", self.place(b"here")), ("dist", "-o", self.folder)]:
             done = run(tool, "--llbm", "/bin/true", *words)
             self.assertEqual((done.returncode, done.stdout), (2, b""), (tool, done.stderr))
-            self.assertIn(b"/bin/true: this is not the program llbm", done.stderr, tool)
+            self.assertIn(b"this is not the program llbm: /bin/true", done.stderr, tool)
 
     def test_a_full_device_is_status_3(self):
         for tool, *words in [
@@ -78,7 +76,7 @@ class Statuses(Folder):
             self.assertEqual(run("adopt", "--all", *words, text=data).returncode, 0, words)
         for words in [("-",), ("/dev/stdin",)]:
             done = run("explain-run", "--llbm", "/bin/true", *words, text=data)
-            self.assertIn(b"/bin/true: this is not", done.stderr)
+            self.assertIn(b"this is not the program llbm: /bin/true", done.stderr)
         self.assertIn(b"entry 0", run("adopt", "--all", "-", "-o", "-", text=data).stderr)
         done = run("explain", "--definition", "-", "fault", "88", "0", "Source", text=data)
         self.assertIn(b"docker-image://docker.io/library/alpine", done.stdout)

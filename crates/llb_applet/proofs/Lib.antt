@@ -1,7 +1,7 @@
-pub mod Looking
-pub mod Gathering
-pub mod Exchanged
-pub mod Again
-pub mod Ands
-pub mod Chains
-mod Begins
+pub mod FirstBadPosition
+pub mod CallWordGathering
+pub mod MountTreeExchange
+pub mod ScriptTextRoundTrip
+pub mod AndOnlyScripts
+pub mod DirectoryChains
+mod FirstCommandOfScript

@@ -1,7 +1,7 @@
 -- The result of each command, applet by applet. If a command succeeds, with status 0, the result is the view after the command. If it fails,
 -- with status 1, the result is nothing, and the view is unchanged.
 use Rattle.std.specs.Prelude.{ℕ, Bool, true, false, if◌then◌else◌, List, [], ◌∷◌, ◌++◌, length, ◌-◌, slice_get, Option, Some, None, is_some}
-use Rattle.std.specs.Prelude.{option_map, option_and_then, unwrap_or, codes}
+use Rattle.std.specs.Prelude.{option_map, option_and_then, unwrap_or, codes, IsSome}
 use Rattle.std.specs.List.{flat_map}
 use Rattle.std.specs.Result.{result_ok}
 use Rattle.std.specs.FinMap as finite
@@ -15,7 +15,7 @@ use Rattle.llb_applet.specs.declared.command.Kind.{Kind}
 use Rattle.llb_applet.specs.declared.command.Kind.TheVariants.{Something, File, Dir}
 use Rattle.llb_applet.specs.declared.command.Command.{Command}
 use Rattle.llb_applet.specs.declared.command.Command.TheVariants as command
-use Rattle.llb_applet.specs.Spots.{Mounts, spot_of, tree_at, entry_at, file_in, with_file, with_dir, without_spot, with_new_dir, with_dirs}
+use Rattle.llb_applet.specs.ViewSpots.{Mounts, spot_of, tree_at, entry_at, file_in, with_file, with_dir, without_spot, with_new_dir, with_dirs}
 
 infixl 10 ◌>>=◌
 -- f applied to a value, if there is one; else nothing
@@ -127,6 +127,22 @@ run setting view (command.Test kind path) = spot_by setting view path >>= λ spo
 run setting view (command.Listing path out) = listing_by setting view path >>= writes setting view out
 run setting view (command.Envfile out) = writes setting view out (flat_map line setting.env)
 run setting view (command.Sha256 path out) = file_by setting view path >>= λ file. writes setting view out (line (digits_of file.1))
+
+-- a command may be refused memory: not `true` and `false`, nor one that begins with a word which has to be a path and is none
+abbrev pub MayWant : Setting → Command → Type 0
+MayWant setting command.True = ⊥
+MayWant setting command.False = ⊥
+MayWant setting (command.Mkdir parents path) = IsSome (path_by setting path)
+MayWant setting (command.Rm path) = IsSome (path_by setting path)
+MayWant setting (command.Write path word) = Unit {0}
+MayWant setting (command.Append path word) = IsSome (path_by setting path)
+MayWant setting (command.Cp from to) = IsSome (path_by setting from)
+MayWant setting (command.Concat out parts) = Unit {0}
+MayWant setting (command.Chmod mode path) = IsSome (path_by setting path)
+MayWant setting (command.Test kind path) = IsSome (path_by setting path)
+MayWant setting (command.Listing path out) = IsSome (path_by setting path)
+MayWant setting (command.Envfile out) = Unit {0}
+MayWant setting (command.Sha256 path out) = IsSome (path_by setting path)
 
 -- the status of a command with this result: 0 if the result is a view, 1 if it is nothing
 abbrev pub status_of : Option Mounts → ℕ

@@ -2,10 +2,10 @@
 //! first two words.
 
 ghost use Rattle.std.specs.Prelude.{◌≡◌, ◌+◌, ◌≤◌, ◌<◌, ◌^◌, ◌++◌, ◌∷◌, [], List, ℕ};
-ghost use Rattle.llb_applet.specs.Faults.{Gives, MemoryLast};
+ghost use Rattle.llb_applet.specs.CallResults.{Gives, MemoryLast};
 ghost use Rattle.llb_applet.specs.Scripts.{commands_of};
 ghost use Rattle.llb_applet.specs.Words.{calls_of};
-ghost use Rattle.llb_applet.specs.Reading.{IsBegun, Judges, JudgesCall, verdict};
+ghost use Rattle.llb_applet.specs.CallReading.{IsBegun, Judges, JudgesCall, verdict};
 
 use crate::applet::Applet;
 use crate::command::is_form;

@@ -1,12 +1,13 @@
 //! The changes of a view at a spot. A change takes the mount's tree out, changes it and puts it back; a change that is refused, or for which memory is refused,
 //! leaves the view as it was.
 
-ghost use Rattle.std.specs.Prelude.{◌≡◌, ◌+◌, ◌<◌, ◌≤◌, [], false, length, Ok, IfOk, OnErr};
+ghost use Rattle.std.specs.Prelude.{◌≡◌, ◌+◌, ◌<◌, ◌≤◌, ◌&&◌, ◌||◌, not, is_some, [], false, length, Ok, IfOk, OnErr};
 ghost use Rattle.std.specs.FinMap as finite;
 ghost use Rattle.llb_tree.specs.Tree as tree;
 ghost use Rattle.llb_tree.specs.Tree.{Gives, empty_tree, is_dir};
-ghost use Rattle.llb_applet.specs.Spots.{IsSpot, tree_at, with_change, with_file, with_dir, without_spot, with_new_dir, with_dirs, dirs_below, put_then_below};
-ghost use Rattle.llb_applet.specs.Changes.{PutsAside, Does, settled};
+ghost use Rattle.llb_applet.specs.ViewSpots.{IsSpot, IsWritable, tree_at, entry_at, is_dest, with_change, with_file, with_dir, without_spot, with_new_dir};
+ghost use Rattle.llb_applet.specs.ViewSpots.{with_dirs, dirs_below, put_then_below};
+ghost use Rattle.llb_applet.specs.ViewChanges.{PutsAside, Does, settled};
 
 use crate::fault::Memory;
 use crate::spot::Spot;
@@ -53,7 +54,8 @@ pub fn put_file(
     content: Bytes,
 ) -> Result<bool, Memory>
     requires { spot.now.mount < length view.old }
-    ensures { Does result (with_file view.old spot.now meta content) view.old view.new }
+    ensures does { Does result (with_file view.old spot.now meta content) view.old view.new }
+    ensures last { OnErr result ((IsWritable view.old spot.now) × ((is_dest spot.now && not (is_some (entry_at view.old spot.now))) ≡ false)) }
 {
     if spot.is_dest() {
         if !spot.is_there(view) {
@@ -72,7 +74,8 @@ fn put_there(
     content: Bytes,
 ) -> Result<bool, Memory>
     requires { spot.now.mount < length view.old }
-    ensures { Does result (with_change view.old spot.now.mount (tree.put_file (tree_at view.old spot.now) spot.now.place meta content)) view.old view.new }
+    ensures does { Does result (with_change view.old spot.now.mount (tree.put_file (tree_at view.old spot.now) spot.now.place meta content)) view.old view.new }
+    ensures last { OnErr result (IsWritable view.old spot.now) }
 {
     match put_aside(alloc, view, spot.mount)? {
         None => Ok(false),
@@ -94,7 +97,8 @@ pub fn put_shared(
     content: Content,
 ) -> Result<bool, Memory>
     requires { spot.now.mount < length view.old }
-    ensures { Does result (with_file view.old spot.now meta content) view.old view.new }
+    ensures does { Does result (with_file view.old spot.now meta content) view.old view.new }
+    ensures last { OnErr result ((IsWritable view.old spot.now) × ((is_dest spot.now && not (is_some (entry_at view.old spot.now))) ≡ false)) }
 {
     if spot.is_dest() {
         if !spot.is_there(view) {
@@ -113,7 +117,8 @@ fn share_there(
     content: Content,
 ) -> Result<bool, Memory>
     requires { spot.now.mount < length view.old }
-    ensures { Does result (with_change view.old spot.now.mount (tree.put_file (tree_at view.old spot.now) spot.now.place meta content)) view.old view.new }
+    ensures does { Does result (with_change view.old spot.now.mount (tree.put_file (tree_at view.old spot.now) spot.now.place meta content)) view.old view.new }
+    ensures last { OnErr result (IsWritable view.old spot.now) }
 {
     match put_aside(alloc, view, spot.mount)? {
         None => Ok(false),
@@ -130,7 +135,8 @@ fn share_there(
 /// as it was.
 pub fn put_dir(alloc: Global, view: &mut View, spot: &Spot, meta: Meta) -> Result<bool, Memory>
     requires { spot.now.mount < length view.old }
-    ensures { Does result (with_dir view.old spot.now meta) view.old view.new }
+    ensures does { Does result (with_dir view.old spot.now meta) view.old view.new }
+    ensures last { OnErr result (IsWritable view.old spot.now) }
 {
     match put_aside(alloc, view, spot.mount)? {
         None => Ok(false),
@@ -146,7 +152,8 @@ pub fn put_dir(alloc: Global, view: &mut View, spot: &Spot, meta: Meta) -> Resul
 /// 75 `Memory` alone; then too the view is as it was.
 pub fn remove(alloc: Global, view: &mut View, spot: &Spot) -> Result<bool, Memory>
     requires { spot.now.mount < length view.old }
-    ensures { Does result (without_spot view.old spot.now) view.old view.new }
+    ensures does { Does result (without_spot view.old spot.now) view.old view.new }
+    ensures last { OnErr result ((IsWritable view.old spot.now) × (is_dest spot.now ≡ false)) }
 {
     if spot.is_dest() {
         return Ok(false);
@@ -165,7 +172,8 @@ pub fn remove(alloc: Global, view: &mut View, spot: &Spot) -> Result<bool, Memor
 /// entry at it, or if the change is refused. Fails with 75 `Memory` alone; then too the view is as it was.
 pub fn make_dir(alloc: Global, view: &mut View, spot: &Spot) -> Result<bool, Memory>
     requires { spot.now.mount < length view.old }
-    ensures { Does result (with_new_dir view.old spot.now) view.old view.new }
+    ensures does { Does result (with_new_dir view.old spot.now) view.old view.new }
+    ensures last { OnErr result ((IsWritable view.old spot.now) × ((is_dest spot.now || is_some (entry_at view.old spot.now)) ≡ false)) }
 {
     if spot.is_dest() {
         return Ok(false);
@@ -180,12 +188,16 @@ pub fn make_dir(alloc: Global, view: &mut View, spot: &Spot) -> Result<bool, Mem
 /// and leaves the view as it was, if the change is refused. Fails with 75 `Memory` alone; then too the view is as it was.
 pub fn make_dirs(alloc: Global, view: &mut View, spot: &Spot) -> Result<bool, Memory>
     requires { IsSpot view.old spot.now }
-    ensures { Does result (with_dirs view.old spot.now) view.old view.new }
+    ensures does { Does result (with_dirs view.old spot.now) view.old view.new }
+    ensures last { OnErr result ((IsWritable view.old spot.now) × (is_dest spot.now ≡ false) × (is_dir (entry_at view.old spot.now) ≡ false)) }
 {
     if spot.is_dir(view) {
         return Ok(true);
     }
     if spot.is_dest() {
+        return Ok(false);
+    }
+    if view.is_read_only(spot.mount) {
         return Ok(false);
     }
     let selector = view.selector(spot.mount).copy()?;

@@ -2,7 +2,7 @@
 
 ghost use Rattle.std.specs.Prelude.{◌≡◌, List, ℕ, is_some, Ok};
 ghost use Rattle.llb_applet.specs.declared.applet.Applet.TheVariants.{Mkdir, Concat, Chmod, Test};
-ghost use Rattle.llb_applet.specs.Faults.{Gives};
+ghost use Rattle.llb_applet.specs.CallResults.{Gives};
 ghost use Rattle.llb_applet.specs.Calls.{alone, pair, kind_of, form, command_of, IsFront};
 
 use crate::applet::{Applet, is_word};
@@ -53,7 +53,6 @@ pub enum Command {
     Sha256 { path: Text, out: Text },
 }
 
-// This `Drop` is written by hand, so it is proved once; a derived `Drop` is proved again in every function that drops such a value.
 impl Drop for Command {
     fn drop(self) {
         match self {

@@ -1,11 +1,11 @@
 //! The contents that commands write.
 
-ghost use Rattle.std.specs.Prelude.{◌≡◌, ◌++◌, [], length, ◌∷◌, IfOk, OnOk, option_map, unwrap_or};
+ghost use Rattle.std.specs.Prelude.{◌≡◌, ◌++◌, [], length, ◌∷◌, IfOk, OnOk, OnErr, IsSome, option_map, unwrap_or};
 ghost use Rattle.std.specs.List.{flat_map};
 ghost use Rattle.std.specs.FinMap as finite;
 ghost use Rattle.llb_tree.specs.Tree.{is_dir};
-ghost use Rattle.llb_applet.specs.Spots.{IsSpot, entry_at, file_in};
-ghost use Rattle.llb_applet.specs.Commands.{line, file_by, joined, listed, line_of, listing_by};
+ghost use Rattle.llb_applet.specs.ViewSpots.{IsSpot, entry_at, file_in};
+ghost use Rattle.llb_applet.specs.Commands.{line, path_by, file_by, joined, listed, line_of, listing_by};
 ghost use Rattle.llb_wire.specs.Digest.{digits_of};
 
 use crate::fault::Memory;
@@ -55,7 +55,8 @@ fn content_by<'v>(
     view: &'v View,
     word: &Text,
 ) -> Result<Option<&'v Bytes>, Memory>
-    ensures { IfOk result (λ b. option_map (λ b. b.now) b ≡ option_map (λ f. f.1) (file_by setting.now view.now word.now)) }
+    ensures content { IfOk result (λ b. option_map (λ b. b.now) b ≡ option_map (λ f. f.1) (file_by setting.now view.now word.now)) }
+    ensures last { OnErr result (IsSome (path_by setting.now word.now)) }
 {
     match spot_by(alloc, setting, view, word)? {
         None => Ok(None),
@@ -128,7 +129,8 @@ pub fn listing_by(
     setting: &Setting,
     view: &View,
 ) -> Result<Option<Bytes>, Memory>
-    ensures { IfOk result (λ b. b ≡ listing_by setting.now view.now path.now) }
+    ensures content { IfOk result (λ b. b ≡ listing_by setting.now view.now path.now) }
+    ensures last { OnErr result (IsSome (path_by setting.now path.now)) }
 {
     let Some(spot) = spot_by(alloc, setting, view, path)? else {
         return Ok(None);
@@ -163,7 +165,8 @@ pub fn sha256_by(
     setting: &Setting,
     view: &View,
 ) -> Result<Option<Bytes>, Memory>
-    ensures { IfOk result (λ b. b ≡ option_map (λ f. line (digits_of f.1)) (file_by setting.now view.now path.now)) }
+    ensures content { IfOk result (λ b. b ≡ option_map (λ f. line (digits_of f.1)) (file_by setting.now view.now path.now)) }
+    ensures last { OnErr result (IsSome (path_by setting.now path.now)) }
 {
     match content_by(alloc, setting, view, path)? {
         None => Ok(None),

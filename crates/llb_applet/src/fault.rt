@@ -2,7 +2,7 @@
 //! refusal: its number, and its argument. The operator `?` turns each error for refused memory into `Memory`.
 
 ghost use Rattle.std.specs.Prelude.{Some};
-ghost use Rattle.llb_applet.specs.Faults.{script_text};
+ghost use Rattle.llb_applet.specs.CallResults.{script_text};
 
 use llb_tree::TreeFault;
 use llb_wire::Text;

@@ -1,7 +1,7 @@
 //! The commands of a script with their joins. A join says by the last status whether a command runs.
 
 ghost use Rattle.std.specs.Prelude.{Ok};
-ghost use Rattle.llb_applet.specs.Faults.{Gives};
+ghost use Rattle.llb_applet.specs.CallResults.{Gives};
 
 use crate::command::Command;
 use crate::fault::ScriptFault;
@@ -24,7 +24,6 @@ pub struct Joined {
     pub command: Command,
 }
 
-// This `Drop` is written by hand, so it is proved once; a derived `Drop` is proved again in every function that drops such a value.
 impl Drop for Joined {
     fn drop(self) {
         let Joined {

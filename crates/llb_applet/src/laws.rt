@@ -2,7 +2,7 @@
 
 ghost use Rattle.std.specs.Prelude.{◌≡◌, None, true};
 ghost use Rattle.llb_applet.specs.Words.{bad_place_of};
-ghost use Rattle.llb_applet.specs.Laws.{IsShellText, texts_of, only_ands, IsSplitAtAnds};
+ghost use Rattle.llb_applet.specs.ScriptTextLaws.{IsShellText, texts_of, only_ands, IsSplitAtAnds};
 
 /// Proves that a text in which `read_script` finds no bad position (73 `ShellSyntax`) is a list of calls, each of one or more words, with a separator between
 /// each two calls; and that the text of these calls, with single spaces between their words and separators, is read as the same commands.

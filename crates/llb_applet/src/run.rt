@@ -1,11 +1,11 @@
 //! Runs a command on a view. A command that is done changes one mount's tree in place, or nothing; a command that fails, or for which memory is refused, leaves
 //! the view as it was. Each function for one command returns whether the command is done.
 
-ghost use Rattle.std.specs.Prelude.{◌≡◌, ◌≢◌, IfOk, IfSome, OnOk, OnErr, option_and_then};
+ghost use Rattle.std.specs.Prelude.{◌≡◌, ◌≢◌, IfOk, IfSome, OnOk, OnErr, IsSome, option_and_then};
 ghost use Rattle.llb_applet.specs.declared.command.Command.TheVariants as command;
-ghost use Rattle.llb_applet.specs.Spots.{IsSpot, entry_at};
-ghost use Rattle.llb_applet.specs.Commands.{run, status_of, left, writes, written, copied, target_of, with_mode, is_kind};
-ghost use Rattle.llb_applet.specs.Changes.{Does};
+ghost use Rattle.llb_applet.specs.ViewSpots.{IsSpot, entry_at};
+ghost use Rattle.llb_applet.specs.Commands.{run, status_of, left, writes, written, copied, target_of, with_mode, is_kind, path_by, MayWant};
+ghost use Rattle.llb_applet.specs.ViewChanges.{Does};
 
 use crate::change::{make_dir, make_dirs, put_dir, put_file, put_shared, remove};
 use crate::command::{Command, Kind};
@@ -26,7 +26,8 @@ fn mkdir(
     setting: &Setting,
     view: &mut View,
 ) -> Result<bool, Memory>
-    ensures { Does result (run setting.now view.old (command.Mkdir parents path.now)) view.old view.new }
+    ensures does { Does result (run setting.now view.old (command.Mkdir parents path.now)) view.old view.new }
+    ensures last { OnErr result (IsSome (path_by setting.now path.now)) }
 {
     match spot_by(alloc, setting, view, path)? {
         None => Ok(false),
@@ -41,7 +42,8 @@ fn mkdir(
 
 // Removes what is at and below a path.
 fn rm(alloc: Global, path: &Text, setting: &Setting, view: &mut View) -> Result<bool, Memory>
-    ensures { Does result (run setting.now view.old (command.Rm path.now)) view.old view.new }
+    ensures does { Does result (run setting.now view.old (command.Rm path.now)) view.old view.new }
+    ensures last { OnErr result (IsSome (path_by setting.now path.now)) }
 {
     match spot_by(alloc, setting, view, path)? {
         None => Ok(false),
@@ -82,7 +84,8 @@ fn write_some(
     setting: &Setting,
     view: &mut View,
 ) -> Result<bool, Memory>
-    ensures { Does result (option_and_then (writes setting.now view.old path.now) content) view.old view.new }
+    ensures does { Does result (option_and_then (writes setting.now view.old path.now) content) view.old view.new }
+    ensures last { OnErr result (IsSome content) }
 {
     match content {
         None => Ok(false),
@@ -98,7 +101,8 @@ fn append(
     setting: &Setting,
     view: &mut View,
 ) -> Result<bool, Memory>
-    ensures { Does result (run setting.now view.old (command.Append path.now word.now)) view.old view.new }
+    ensures does { Does result (run setting.now view.old (command.Append path.now word.now)) view.old view.new }
+    ensures last { OnErr result (IsSome (path_by setting.now path.now)) }
 {
     match spot_by(alloc, setting, view, path)? {
         None => Ok(false),
@@ -117,7 +121,8 @@ fn cp(
     setting: &Setting,
     view: &mut View,
 ) -> Result<bool, Memory>
-    ensures { Does result (copied setting.now view.old from.now to.now) view.old view.new }
+    ensures does { Does result (copied setting.now view.old from.now to.now) view.old view.new }
+    ensures last { OnErr result (IsSome (path_by setting.now from.now)) }
 {
     let Some(source) = path_by(alloc, setting, from)? else {
         return Ok(false);
@@ -168,7 +173,8 @@ fn chmod(
     setting: &Setting,
     view: &mut View,
 ) -> Result<bool, Memory>
-    ensures { Does result (run setting.now view.old (command.Chmod mode path.now)) view.old view.new }
+    ensures does { Does result (run setting.now view.old (command.Chmod mode path.now)) view.old view.new }
+    ensures last { OnErr result (IsSome (path_by setting.now path.now)) }
 {
     match spot_by(alloc, setting, view, path)? {
         None => Ok(false),
@@ -209,7 +215,8 @@ fn test(
     setting: &Setting,
     view: &View,
 ) -> Result<bool, Memory>
-    ensures { Does result (run setting.now view.now (command.Test kind path.now)) view.now view.now }
+    ensures does { Does result (run setting.now view.now (command.Test kind path.now)) view.now view.now }
+    ensures last { OnErr result (IsSome (path_by setting.now path.now)) }
 {
     match spot_by(alloc, setting, view, path)? {
         None => Ok(false),
@@ -236,7 +243,8 @@ fn done(
     setting: &Setting,
     view: &mut View,
 ) -> Result<bool, Memory>
-    ensures { Does result (run setting.now view.old command.now) view.old view.new }
+    ensures does { Does result (run setting.now view.old command.now) view.old view.new }
+    ensures last { OnErr result (MayWant setting.now command.now) }
 {
     match command {
         Command::True => Ok(true),
@@ -283,6 +291,7 @@ pub fn run_command(
     ensures status { IfOk result (λ status. status ≡ status_of (run setting.now view.old command.now)) }
     ensures view { OnOk result (view.new ≡ left view.old (run setting.now view.old command.now)) }
     ensures kept { IfOk result (λ status. status ≢ 0 → view.new ≡ view.old) }
+    ensures last { OnErr result (MayWant setting.now command.now) }
     ensures err { OnErr result (view.new ≡ view.old) }
 {
     if done(alloc, command, setting, view)? {

@@ -2,7 +2,7 @@
 //! a fault 71 `NoApplet`, so want of memory can hide no other refusal.
 
 ghost use Rattle.std.specs.Prelude.{◌≡◌, ◌+◌, ◌<◌, ◌++◌, ◌∷◌, [], List, ℕ, length, OnOk, IsTrue, slice_index_or, Ok};
-ghost use Rattle.llb_applet.specs.Faults.{Gives, MemoryLast};
+ghost use Rattle.llb_applet.specs.CallResults.{Gives, MemoryLast};
 ghost use Rattle.llb_applet.specs.Scripts.{is_shell, script_of, commands_in, commands_of, BeginsWithThen};
 ghost use Rattle.llb_applet.specs.Words.{calls_of, first_call};
 
@@ -25,7 +25,6 @@ pub struct Script {
     commands: Arc<Vec<Joined>>,
 }
 
-// This `Drop` is written by hand, so it is proved once; a derived `Drop` is proved again in every function that drops such a value.
 impl Drop for Script {
     fn drop(self) {
         let Script { commands: _ } = self;
@@ -84,7 +83,7 @@ pub struct Reading {
 }
 
 impl Reading {
-    ghost use Rattle.llb_applet.specs.Reading.{some_word, ahead, with_call, Reads};
+    ghost use Rattle.llb_applet.specs.CallReading.{some_word, ahead, with_call, Reads};
 
     // Takes the text between two spaces: a separator ends the current call, any other word is added to the call, and an empty text is no word.
     fn take(&mut self, alloc: Global, part: &str) -> Result<(), ScriptFault>

@@ -13,7 +13,6 @@ pub struct Setting {
     pub env: Many<Text>,
 }
 
-// This `Drop` is written by hand, so it is proved once; a derived `Drop` is proved again in every function that drops such a value.
 impl Drop for Setting {
     fn drop(self) {
         let Setting { cwd: _, env: _ } = self;

@@ -1,10 +1,10 @@
 //! The spot that a path names on a view: a mount, and a path in the mount's tree. A word names no spot if it is no path, or if
 //! the path in the tree would have more than 128 names.
 
-ghost use Rattle.std.specs.Prelude.{◌≡◌, ◌<◌, ◌++◌, length, IfOk, IfSome, option_map, is_some};
+ghost use Rattle.std.specs.Prelude.{◌≡◌, ◌<◌, ◌++◌, length, IfOk, IfSome, OnErr, IsSome, option_map, is_some};
 ghost use Rattle.llb_tree.specs.Tree.{meta_in, is_dir};
-ghost use Rattle.llb_tree.specs.Rows.{seen};
-ghost use Rattle.llb_applet.specs.Spots.{IsSpot, spot_of, entry_at, is_dest, file_in};
+ghost use Rattle.llb_tree.specs.PathEntries.{seen};
+ghost use Rattle.llb_applet.specs.ViewSpots.{IsSpot, spot_of, entry_at, is_dest, file_in};
 ghost use Rattle.llb_applet.specs.Commands.{path_by, spot_by, new_meta, meta_there};
 
 use crate::fault::Memory;
@@ -21,7 +21,6 @@ pub struct Spot {
     pub place: Path,
 }
 
-// This `Drop` is written by hand, so it is proved once; a derived `Drop` is proved again in every function that drops such a value.
 impl Drop for Spot {
     fn drop(self) {
         let Spot {
@@ -34,7 +33,8 @@ impl Drop for Spot {
 
 /// Reads a word as a path, relative to the setting's cwd; `None` if the word is no path. Fails with 75 `Memory` alone.
 pub fn path_by(alloc: Global, setting: &Setting, word: &Text) -> Result<Option<Path>, Memory>
-    ensures { IfOk result (λ p. p ≡ path_by setting.now word.now) }
+    ensures means { IfOk result (λ p. p ≡ path_by setting.now word.now) }
+    ensures last { OnErr result (IsSome (path_by setting.now word.now)) }
 {
     match Path::read_from(alloc, &setting.cwd, word.as_str()) {
         Ok(path) => Ok(Some(path)),
@@ -48,6 +48,7 @@ pub fn path_by(alloc: Global, setting: &Setting, word: &Text) -> Result<Option<P
 pub fn spot_of(view: &View, path: &Path) -> Result<Option<Spot>, Memory>
     ensures means { IfOk result (λ s. s ≡ spot_of view.now path.now) }
     ensures spot { IfOk result (λ s. IfSome s (λ spot. IsSpot view.now spot)) }
+    ensures last { OnErr result (IsSome (spot_of view.now path.now)) }
 {
     let (mount, dropped) = view.route(path);
     let selector = view.selector(mount);
@@ -97,6 +98,7 @@ pub fn spot_by(
 ) -> Result<Option<Spot>, Memory>
     ensures means { IfOk result (λ s. s ≡ spot_by setting.now view.now word.now) }
     ensures spot { IfOk result (λ s. IfSome s (λ spot. IsSpot view.now spot)) }
+    ensures last { OnErr result (IsSome (path_by setting.now word.now)) }
 {
     match path_by(alloc, setting, word)? {
         Some(path) => spot_of(view, &path),

@@ -2,7 +2,7 @@
 use Rattle.std.proofs.Common.{◌≡◌, ℕ, ◌<◌, ◌≤◌, ◌⊎◌, nat_lt, ◌==◌, ◌||◌, false, cond, inl, inr, List, [], ◌∷◌}
 use Rattle.std.proofs.lemmas.Bool.{cond_both, or_cases, or_parts, eqb-true, ltb-true, ltb-false}
 use Rattle.hex.specs.Hex.{encode_lower}
-use Rattle.llb_asm.specs.Values.{escaped}
+use Rattle.llb_asm.specs.FieldValueTexts.{escaped}
 
 -- a fact of each of the three ways to write a byte, with a backslash, as two digits or as it is, is one of what is written
 pub escaped_by : (P : List ℕ → Type 0) (b : ℕ) → ((b ≡ 34) ⊎ (b ≡ 92) → P (92 ∷ b ∷ [])) → ((b < 32) ⊎ (b ≡ 127) → P (92 ∷ 120 ∷ encode_lower (b ∷ [])))

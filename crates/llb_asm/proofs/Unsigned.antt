@@ -3,10 +3,10 @@ use Rattle.std.proofs.Common.{◌≡◌, ℕ, ◌-◌, ◌^◌, ◌<◌, ◌≤�
 use Rattle.std.proofs.Common.{None, sym, ap, ◌∙◌, arith}
 use Rattle.std.specs.Option.{option_map}
 use Rattle.std.proofs.lemmas.Bool.{cases_lt, lt-ltb, ne_eqb}
-use Rattle.llb_wire.specs.Texts.{then_in, where_so}
+use Rattle.llb_wire.specs.TextComparison.{then_in, where_so}
 use Rattle.llb_wire.specs.Decimal.{capped, magnitude, below}
-use Rattle.llb_wire.proofs.Capped.{capped_low, capped_high}
-use Rattle.llb_asm.specs.Values.{signed_in, negated}
+use Rattle.llb_wire.proofs.CappedNumbers.{capped_low, capped_high}
+use Rattle.llb_asm.specs.FieldValueTexts.{signed_in, negated}
 
 -- a number that is held and below a limit is the number of a text without a sign
 pub signed_plain : (limit n : ℕ) (text : List ℕ) → limit ≤ 2 ^ 63 → (1 ≤ length text → get_or text 0 0 ≡ 45 → ⊥)

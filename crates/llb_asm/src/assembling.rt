@@ -1,9 +1,10 @@
 //! Reads the lines of a text, one after another; keeps the entries that are complete, and the op that is open.
 
 ghost use Rattle.std.specs.Prelude.{◌≡◌, IfOk, []};
-ghost use Rattle.llb_asm.specs.Lines.{kept};
-ghost use Rattle.llb_asm.specs.Reading.{Assembles};
-ghost use Rattle.llb_asm.specs.Running.{progresses, progress_of, open_op_of, step_of, step_in, closed_on, run_from, between, fault_at, GivesEntries, reached};
+ghost use Rattle.llb_asm.specs.ItemLines.{kept};
+ghost use Rattle.llb_asm.specs.TextGrammar.{Assembles};
+ghost use Rattle.llb_asm.specs.LineReader.{progresses, progress_of, open_op_of, step_of, step_in, closed_on, run_from, between, fault_at, GivesEntries};
+ghost use Rattle.llb_asm.specs.LineReader.{reached};
 
 use crate::earlier::Earlier;
 use crate::entry::{Begun, begun_in, entry_in};
@@ -27,7 +28,7 @@ impl Refusal {
     }
 }
 
-#[tactic(auto, using(crate::proofs::Room::begun_room))]
+#[tactic(auto, using(crate::proofs::EntryLimits::begun_room))]
 /// Reads the first line of an entry. If the line is `raw HEX`, appends this entry to the earlier entries; if it is `op {`, returns an open op without items.
 /// Otherwise returns why the line is refused.
 fn begin(
@@ -47,7 +48,7 @@ fn begin(
     }
 }
 
-#[tactic(auto, using(crate::proofs::Room::entry_room))]
+#[tactic(auto, using(crate::proofs::EntryLimits::entry_room))]
 // Reads the closing line of the current message. Returns the op if it is still open. Otherwise appends the op's entry to the earlier entries and
 // returns `None`, or returns why the entry is refused.
 fn close(
@@ -103,7 +104,7 @@ fn step(
 }
 
 /// Reads the lines of a text, and appends the entries that they spell to the earlier entries. Fails as `assemble` does.
-#[tactic(auto, unfolding(crate::specs::Running::run_from))]
+#[tactic(auto, unfolding(crate::specs::LineReader::run_from))]
 fn read_lines(alloc: Global, earlier: &mut Earlier, text: &[u8]) -> Result<(), AsmFault>
     ensures { GivesEntries (reached earlier.new result) (run_from 0 (between earlier.old) (kept text.now)) }
 {

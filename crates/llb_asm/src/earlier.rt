@@ -3,7 +3,7 @@
 ghost use Rattle.std.specs.Prelude.{◌≡◌, ◌+◌, ◌++◌, ◌∷◌, ◌≤◌, [], OnOk, length, true, not, nat_lt};
 ghost use Rattle.llb_wire.specs.Spelling.{shortest, varint_text};
 ghost use Rattle.llb_ops.specs.Limits.{entry_limit, entries_limit};
-ghost use Rattle.llb_asm.specs.Reading.{record_length, is_within, labels_of};
+ghost use Rattle.llb_asm.specs.TextGrammar.{record_length, is_within, labels_of};
 
 use crate::labels::digest_of;
 use llb_ops::{DEFINITION_LIMIT, ENTRIES_LIMIT, ENTRY_LIMIT};
@@ -11,7 +11,7 @@ use llb_wire::{Bytes, Memory, Text};
 use std::alloc::Global;
 use std::marker::Model;
 
-#[tactic(auto, using(crate::proofs::Lengths::length_last, crate::proofs::Lengths::length_small, crate::proofs::Lengths::length_positive))]
+#[tactic(auto, using(crate::proofs::PrintedLengths::length_last, crate::proofs::PrintedLengths::length_small, crate::proofs::PrintedLengths::length_positive))]
 /// Returns how many bytes the shortest varint of a number has, at most `more` + 1.
 fn shortest_length(value: u64, more: u32) -> usize
     requires { more ≤ 9 }
@@ -42,7 +42,6 @@ pub struct Earlier {
     size: usize,
 }
 
-// This `Drop` is written by hand, so it is proved once; a derived `Drop` is proved again in every function that drops such a value.
 impl Drop for Earlier {
     fn drop(self) {
         let Earlier {
@@ -55,7 +54,7 @@ impl Drop for Earlier {
 
 impl Model for Earlier {
     ghost use Rattle.std.specs.Prelude.{List, ℕ};
-    ghost use Rattle.llb_asm.specs.Reading.{IsKept};
+    ghost use Rattle.llb_asm.specs.TextGrammar.{IsKept};
 
     ghost Value = { List (List ℕ) };
 

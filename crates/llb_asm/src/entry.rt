@@ -1,10 +1,10 @@
 //! Reads the first line of an entry. Makes the entry of an op when the op's closing line has been read.
 
 ghost use Rattle.std.specs.Prelude.{◌≡◌, IfOk};
-ghost use Rattle.llb_asm.specs.Line.{parted};
+ghost use Rattle.llb_asm.specs.EntryLine.{parted};
 ghost use Rattle.llb_ops.specs.Messages.{op_of};
 ghost use Rattle.llb_ops.specs.Writing.{op_bytes};
-ghost use Rattle.llb_asm.specs.Reading.{begun_by, begun_in, canonical_of, entry_in};
+ghost use Rattle.llb_asm.specs.TextGrammar.{begun_by, begun_in, canonical_of, entry_in};
 
 use crate::earlier::Earlier;
 use crate::fault::Rule;
@@ -43,7 +43,7 @@ fn begun_by(alloc: Global, line: &[u8]) -> Result<Result<Begun, Refusal>, Memory
 }
 
 /// Returns what a line begins, or why the line is refused: the line begins no entry, or a limit would be exceeded.
-#[tactic(auto, unfolding(crate::specs::Reading::begun_in))]
+#[tactic(auto, unfolding(crate::specs::TextGrammar::begun_in))]
 pub(crate) fn begun_in(
     alloc: Global,
     earlier: &Earlier,
@@ -89,7 +89,7 @@ fn written(alloc: Global, op: Op) -> Result<Option<Bytes>, Memory>
 
 // Returns the canonical bytes of the op that the records are read as. Refuses the line if these bytes exceed the limits,
 // or if the records can't be read as an op.
-#[tactic(auto, unfolding(crate::specs::Reading::entry_in))]
+#[tactic(auto, unfolding(crate::specs::TextGrammar::entry_in))]
 pub(crate) fn entry_in(
     alloc: Global,
     earlier: &Earlier,

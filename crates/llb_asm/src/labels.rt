@@ -3,8 +3,8 @@
 
 ghost use Rattle.std.specs.Prelude.{◌≡◌, ◌++◌, ◌∷◌, [], IfOk, OnOk, OnErr};
 ghost use Rattle.llb_wire.specs.Digest.{digest_text};
-ghost use Rattle.llb_asm.specs.Labels.{IsIndex};
-ghost use Rattle.llb_asm.specs.Plain.{label_for};
+ghost use Rattle.llb_asm.specs.DigestTextIndex.{IsIndex};
+ghost use Rattle.llb_asm.specs.DisassembledText.{label_for};
 
 use llb_wire::{Memory, Text, text_of_digest};
 use sha2::{Digest, Sha256};
@@ -38,7 +38,6 @@ pub struct Labels {
     first: BTreeMap<String, u64>,
 }
 
-// This `Drop` is written by hand, so it is proved once; a derived `Drop` is proved again in every function that drops such a value.
 impl Drop for Labels {
     fn drop(self) {
         let Labels { texts: _, first: _ } = self;
@@ -47,7 +46,7 @@ impl Drop for Labels {
 
 impl Model for Labels {
     ghost use Rattle.std.specs.Prelude.{List, ℕ};
-    ghost use Rattle.llb_asm.specs.Labels.{IsIndex};
+    ghost use Rattle.llb_asm.specs.DigestTextIndex.{IsIndex};
 
     ghost Value = { List (List ℕ) };
 

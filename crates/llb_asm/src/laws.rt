@@ -1,7 +1,7 @@
 //! Laws that hold for all texts and all entries.
 
-ghost use Rattle.llb_asm.specs.Reading.{HasOneAnswer};
-ghost use Rattle.llb_asm.specs.Plain.{ReadsBack};
+ghost use Rattle.llb_asm.specs.TextGrammar.{HasOneAnswer};
+ghost use Rattle.llb_asm.specs.DisassembledText.{ReadsBack};
 
 use llb_ops::Entries;
 

@@ -5,9 +5,9 @@ ghost use Rattle.std.specs.Option.{option_map};
 ghost use Rattle.std.specs.Str.{is_utf8};
 ghost use Rattle.llb_ops.specs.Table.{row_seen, row_named};
 ghost use Rattle.llb_ops.specs.Writing.{set_number, set_bytes};
-ghost use Rattle.llb_ops.specs.Fields.{may_follow, may_be_empty};
-ghost use Rattle.llb_asm.specs.Line.{parted, inside, held_in, held_by, extra_in, field_in, line_in, follows, has_room, behind, at_end, number_record};
-ghost use Rattle.llb_asm.specs.Line.{bytes_record, string_record, labelled_record, spelled_record, opening_in};
+ghost use Rattle.llb_ops.specs.CanonicalFields.{may_follow, may_be_empty};
+ghost use Rattle.llb_asm.specs.EntryLine.{parted, inside, held_in, held_by, extra_in, field_in, line_in, follows, has_room, behind, at_end, number_record};
+ghost use Rattle.llb_asm.specs.EntryLine.{bytes_record, string_record, labelled_record, spelled_record, opening_in};
 
 use crate::fault::Rule;
 use crate::lines::is_text;
@@ -131,7 +131,7 @@ fn space(line: &[u8]) -> Option<usize>
 
 // Splits a line, at its first space, into the name and the value of an item; `None` if the line has no space or is not
 // UTF-8.
-#[tactic(auto, unfolding(crate::specs::Line::parted))]
+#[tactic(auto, unfolding(crate::specs::EntryLine::parted))]
 pub(crate) fn parted(line: &[u8]) -> Option<(&[u8], &[u8])>
     ensures { option_map (λ p. (p.0.now, p.1.now)) result ≡ parted line.now }
 {
@@ -160,7 +160,7 @@ fn is_left_out(field: NamedField, is_default: bool) -> bool
     is_default && !may_be_empty(field)
 }
 
-#[tactic(auto, using(crate::proofs::Records::number_spelled))]
+#[tactic(auto, using(crate::proofs::WireRecords::number_spelled))]
 fn number_record(alloc: Global, field: NamedField, value: u64) -> Result<Held, Memory>
     ensures { IfOk result (λ h. h ≡ number_record field value) }
 {
@@ -173,7 +173,7 @@ fn number_record(alloc: Global, field: NamedField, value: u64) -> Result<Held, M
 }
 
 // Appends the record of a field with these bytes.
-#[tactic(auto, using(crate::proofs::Records::bytes_spelled))]
+#[tactic(auto, using(crate::proofs::WireRecords::bytes_spelled))]
 pub(crate) fn put_bytes(out: &mut Vec<u8>, number: u32, bytes: &[u8]) -> Result<(), Memory>
     ensures { OnOk result (out.new.items ≡ out.old.items ++ set_bytes number bytes.now) }
 {
@@ -250,7 +250,7 @@ fn opening_in(field: NamedField, message: MessageName, text: &[u8]) -> Result<He
 }
 
 /// Reads the text of a field's value, and returns what the line of the field adds, or why the line is refused.
-#[tactic(auto, unfolding(crate::specs::Line::held_in))]
+#[tactic(auto, unfolding(crate::specs::EntryLine::held_in))]
 fn held_in(
     alloc: Global,
     labels: &[Text],
@@ -318,7 +318,7 @@ fn field_in(
 
 // Returns what a line adds to the current message, or why the line is refused. The labels are the digest texts of
 // the earlier entries.
-#[tactic(auto, unfolding(crate::specs::Line::line_in))]
+#[tactic(auto, unfolding(crate::specs::EntryLine::line_in))]
 pub(crate) fn line_in(
     alloc: Global,
     labels: &[Text],

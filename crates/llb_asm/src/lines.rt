@@ -2,7 +2,7 @@
 
 ghost use Rattle.std.specs.Prelude.{◌≡◌};
 ghost use Rattle.std.specs.Str.{is_utf8};
-ghost use Rattle.llb_asm.specs.Lines.{is_blank, without_front, without_end, stripped, is_dropped};
+ghost use Rattle.llb_asm.specs.ItemLines.{is_blank, without_front, without_end, stripped, is_dropped};
 
 use std::str::from_utf8;
 
@@ -24,7 +24,7 @@ fn is_blank(byte: u8) -> bool
     byte == b' ' || byte == b'\t' || byte == b'\r'
 }
 
-#[tactic(auto, using(crate::proofs::Blanks::front_blank, crate::proofs::Blanks::front_kept))]
+#[tactic(auto, using(crate::proofs::TrimmedLines::front_blank, crate::proofs::TrimmedLines::front_kept))]
 fn without_front(line: &[u8]) -> &[u8]
     ensures { result.now ≡ without_front line.now }
 {
@@ -38,7 +38,7 @@ fn without_front(line: &[u8]) -> &[u8]
     rest
 }
 
-#[tactic(auto, using(crate::proofs::Blanks::end_blank, crate::proofs::Blanks::end_kept))]
+#[tactic(auto, using(crate::proofs::TrimmedLines::end_blank, crate::proofs::TrimmedLines::end_kept))]
 fn without_end(line: &[u8]) -> &[u8]
     ensures { result.now ≡ without_end line.now }
 {
@@ -53,7 +53,7 @@ fn without_end(line: &[u8]) -> &[u8]
 }
 
 /// Returns a line without the spaces, tabs and carriage returns at its start and at its end.
-#[tactic(auto, unfolding(crate::specs::Lines::stripped))]
+#[tactic(auto, unfolding(crate::specs::ItemLines::stripped))]
 pub(crate) fn stripped(line: &[u8]) -> &[u8]
     ensures { result.now ≡ stripped line.now }
 {

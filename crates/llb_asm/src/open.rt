@@ -1,8 +1,8 @@
 //! An op that is open: the current message, and the messages around it.
 
 ghost use Rattle.std.specs.Prelude.{◌≡◌, ◌<◌, ◌^◌, ◌++◌, ◌∷◌, IfOk, length, reverse};
-ghost use Rattle.llb_asm.specs.Reading.{is_within, item_at, labels_of, added};
-ghost use Rattle.llb_asm.specs.Running.{OpenOp, open_op_of, at_front, room_in, hand_of, with_item, closing_of, ended};
+ghost use Rattle.llb_asm.specs.TextGrammar.{is_within, item_at, labels_of, added};
+ghost use Rattle.llb_asm.specs.LineReader.{OpenOp, open_op_of, at_front, room_in, hand_of, with_item, closing_of, ended};
 
 use crate::earlier::{Earlier, record_length};
 use crate::fault::Rule;
@@ -37,7 +37,7 @@ pub enum Closed {
     Still(Open),
 }
 
-#[tactic(auto, using(crate::proofs::Lengths::no_room, crate::proofs::Lengths::turned_below))]
+#[tactic(auto, using(crate::proofs::PrintedLengths::no_room, crate::proofs::PrintedLengths::turned_below))]
 // Returns whether the entry would be within the limits if the current message had `size` bytes and all open messages were closed after it.
 fn has_room(earlier: &Earlier, below: &[Frame], size: usize) -> bool
     ensures { result ≡ room_in (is_within earlier.now) (reverse below.now) size }

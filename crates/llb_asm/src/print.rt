@@ -4,14 +4,14 @@ ghost use Rattle.std.specs.Prelude.{◌≡◌, ◌<◌, ◌+◌, ◌*◌, ◌++�
 ghost use Rattle.std.specs.Prelude.{true, false};
 ghost use Rattle.std.specs.Str.{is_utf8};
 ghost use Rattle.llb_wire.specs.Digest.{digest_text};
-ghost use Rattle.llb_ops.specs.Fields.{Fields, AreFields, IsBytesOf, bytes_of, without_empty};
+ghost use Rattle.llb_ops.specs.CanonicalFields.{Fields, AreFields, IsBytesOf, bytes_of, without_empty};
 ghost use Rattle.llb_ops.specs.Limits.{entry_limit};
 ghost use Rattle.llb_ops.specs.Table.{row_seen};
 ghost use Rattle.llb_ops.specs.declared.table.MessageName.TheVariants as named;
-ghost use Rattle.llb_asm.specs.Values.{number_text};
-ghost use Rattle.llb_asm.specs.Plain.{string_for, held_text, item_line, closing_line, opening, extra_lines, field_lines, line_text, text_of_lines};
-ghost use Rattle.llb_asm.specs.Plain.{IsStructured, Form, HasForm, entry_lines, Formed, AreFormed, plain_lines, plain_text};
-ghost use Rattle.llb_asm.specs.Printing.{Prints, Finds, held_lines};
+ghost use Rattle.llb_asm.specs.FieldValueTexts.{number_text};
+ghost use Rattle.llb_asm.specs.DisassembledText.{string_for, held_text, item_line, closing_line, opening, extra_lines, field_lines, line_text, text_of_lines};
+ghost use Rattle.llb_asm.specs.DisassembledText.{IsStructured, Form, HasForm, entry_lines, Formed, AreFormed, plain_lines, plain_text};
+ghost use Rattle.llb_asm.specs.PrintedPrefix.{Prints, Finds, held_lines};
 
 use crate::entry::canonical;
 use crate::fault::AsmFault;

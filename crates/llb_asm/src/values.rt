@@ -3,10 +3,10 @@
 ghost use Rattle.std.specs.Prelude.{◌≡◌, ◌==◌, ◌||◌, ◌^◌, ◌≤◌, ◌++◌, nat_lt, IfOk, OnOk};
 ghost use Rattle.std.specs.Option.{option_map};
 ghost use Rattle.llb_wire.specs.Hexadecimal.{hex_text};
-ghost use Rattle.llb_asm.specs.Values.{signed_in, flag_in, number_in, string_in, bytes_spelled, label_in, number_text};
+ghost use Rattle.llb_asm.specs.FieldValueTexts.{signed_in, flag_in, number_in, string_in, bytes_spelled, label_in, number_text};
 ghost use Rattle.llb_wire.specs.Decimal.{capped, magnitude};
-ghost use Rattle.llb_asm.specs.Values.{string_text, label_text, escaped, escape_of, lower_digit, Leads, Continues, string_from, closed, backslash};
-ghost use Rattle.llb_asm.specs.Values.{first, signed_text, flag_text, ValuesAreReadBack, ValuesAreSolid};
+ghost use Rattle.llb_asm.specs.FieldValueTexts.{string_text, label_text, escaped, escape_of, lower_digit, Leads, Continues, string_from, closed, backslash};
+ghost use Rattle.llb_asm.specs.FieldValueTexts.{first, signed_text, flag_text, ValuesAreReadBack, ValuesAreSolid};
 ghost use Rattle.std.specs.Fmt.{decimal};
 ghost use Rattle.llb_ops.specs.declared.table.FieldKind.TheVariants as kind;
 
@@ -16,7 +16,7 @@ use std::alloc::Global;
 use std::str::from_utf8;
 
 // Reads a decimal number from `-limit` to `limit - 1`, and returns it in two's complement; `None` for any other text.
-#[tactic(auto, unfolding(crate::specs::Values::signed_in))]
+#[tactic(auto, unfolding(crate::specs::FieldValueTexts::signed_in))]
 fn signed_in(limit: u64, text: &[u8]) -> Option<u64>
     requires { limit ≤ 2 ^ 63 }
     ensures { result ≡ signed_in limit text.now }
@@ -150,7 +150,7 @@ pub(crate) fn string_in(alloc: Global, text: &[u8]) -> Result<Option<Bytes>, Mem
 }
 
 // Reads the bytes that lower-case hexadecimal digits spell; `-` spells no bytes. `None` for any other text.
-#[tactic(auto, unfolding(crate::specs::Values::bytes_spelled))]
+#[tactic(auto, unfolding(crate::specs::FieldValueTexts::bytes_spelled))]
 pub(crate) fn bytes_spelled(alloc: Global, text: &[u8]) -> Result<Option<Bytes>, Memory>
     ensures { IfOk result (λ o. o ≡ bytes_spelled text.now) }
 {
@@ -167,7 +167,7 @@ pub(crate) fn bytes_spelled(alloc: Global, text: &[u8]) -> Result<Option<Bytes>,
 }
 
 /// Reads the number of an entry from a label (`%` and the number); a number above 2^64 - 1 is read as 2^64 - 1. `None` for any other text.
-#[tactic(auto, unfolding(crate::specs::Values::label_in))]
+#[tactic(auto, unfolding(crate::specs::FieldValueTexts::label_in))]
 pub(crate) fn label_in(text: &[u8]) -> Option<u64>
     ensures { result ≡ option_map capped (label_in text.now) }
 {

@@ -11,21 +11,21 @@ use Rattle.llb_tree.specs.Tree.{TreeMap}
 use Rattle.llb_events.specs.declared.event.Stepped.TheVariants as did
 use Rattle.llb_model.specs.Table.{HasStepped, Reply, with_step, step_reply}
 use Rattle.llb_model.specs.Caches.{Instance, Has, Distinct, trees_at}
-use Rattle.llb_model.specs.Bridge.{store_of, put_each}
+use Rattle.llb_model.specs.CacheBridge.{store_of, put_each}
 use Rattle.llb_model.specs.Program.{Build, MicroStep, Left, key_of, mount_of, program_at, step_on}
 use Rattle.llb_model.specs.State.{Execution, program_in}
-use Rattle.llb_execution.specs.Parts.{work_with, mounts_in, shown_in, is_skipped}
+use Rattle.llb_execution.specs.ModelValues.{work_with, mounts_in, shown_in, is_skipped}
 use Rattle.llb_events.specs.declared.refusal.StepFault.{StepFault}
 use Rattle.llb_events.specs.Faults.{step_memory}
 use Rattle.llb_board.specs.Supplies.{Supplies, supplies_of, supplies_for, mounts_at, needs_at}
 use Rattle.llb_board.specs.WorkerRules.{worked_to, written_by, worked_in}
 use Rattle.llb_board.specs.declared.workers.seat.Execution as own
 use Rattle.llb_model.proofs.Lists.{length_map}
-use Rattle.llb_board.proofs.Needed.{few_needs}
-use Rattle.llb_board.proofs.Skipping.{put_each_same, skip_to}
-use Rattle.llb_board.proofs.Stepping.{last_of}
-use Rattle.llb_board.proofs.Steps.{goes_to}
-use Rattle.llb_board.proofs.Wanting.{needs_apart, needs_within}
+use Rattle.llb_board.proofs.CachesOfViews.{few_needs}
+use Rattle.llb_board.proofs.SkippedCommands.{put_each_same, skip_to}
+use Rattle.llb_board.proofs.MicroStepsOnLeases.{last_of}
+use Rattle.llb_board.proofs.UnfaultedMicroSteps.{goes_to}
+use Rattle.llb_board.proofs.NeedsByMount.{needs_apart, needs_within}
 
 -- the vertex has the micro-step at the number of those done, and none has faulted
 module _ (b : Build) (rows : List Row) (x : Execution) (m : MicroStep) (clean : x.fault ≡ None)

@@ -3,12 +3,12 @@ use Rattle.std.specs.Prelude.{◌≡◌, ◌≢◌, ℕ, Some, option_map, slice
 use Rattle.llb_cache.specs.declared.key.Mode.TheVariants.{Locked}
 use Rattle.llb_tree.specs.Tree.{TreeMap}
 use Rattle.llb_model.specs.Caches.{Instance, content, Has, IsExclusive}
-use Rattle.llb_model.specs.Laws.{with_content, with_content_after}
+use Rattle.llb_model.specs.WholeRunLaws.{with_content, with_content_after}
 use Rattle.llb_model.specs.State.{Execution, Runs, State}
 use Rattle.llb_events.specs.declared.event.Event.{Event}
 use Rattle.llb_model.specs.Table.{Reply, worker_of, table}
-use Rattle.llb_model.specs.Order.{at_first, order, claims_in, StandsIn}
-use Rattle.llb_board.specs.Seen.{BoardValue, Replays, replies_in}
+use Rattle.llb_model.specs.ClaimOrder.{at_first, order, claims_in, StandsIn}
+use Rattle.llb_board.specs.BoardValue.{BoardValue, Replays, replies_in}
 use Rattle.llb_board.specs.Laws.{SettledArePlain}
 
 -- worker w is running and holds instance p

@@ -8,7 +8,7 @@ use Rattle.llb_events.specs.declared.fault.VertexFault.{VertexFault}
 use Rattle.llb_model.specs.Program.{Build, Workspace}
 use Rattle.llb_model.specs.State.{Execution, program_in}
 use Rattle.llb_model.specs.Table.{Job}
-use Rattle.llb_execution.specs.Parts.{work_with}
+use Rattle.llb_execution.specs.ModelValues.{work_with}
 use Rattle.llb_board.specs.declared.workers.seat.Seat.{Seat}
 use Rattle.llb_board.specs.declared.workers.seat.Seat.TheVariants as seat
 

@@ -4,7 +4,7 @@ use Rattle.llb_model.specs.State.{Execution, WorkerStatus, Idle, Runs}
 use Rattle.llb_model.specs.Table.{Job, Reply, settle_grant}
 use Rattle.llb_model.specs.Run.{run}
 use Rattle.llb_model.specs.Landing.{steps_by, landing}
-use Rattle.llb_board.specs.Seen.{BoardValue, kept_along}
+use Rattle.llb_board.specs.BoardValue.{BoardValue, kept_along}
 use Rattle.llb_execution.specs.Jobs.{OutcomeValue}
 use Rattle.llb_board.specs.Jobs.{has_shared, IsRunOf}
 use Rattle.llb_board.specs.declared.fault.LandFault.{LandFault}

@@ -8,7 +8,7 @@ use Rattle.llb_model.specs.State.{State, Execution, Runs, Settled, ending_at, is
 use Rattle.llb_events.specs.declared.event.Event.{Event}
 use Rattle.llb_model.specs.Table.{Reply, worker_of, table}
 use Rattle.llb_model.specs.Run.{chosen}
-use Rattle.llb_board.specs.Seen.{BoardValue}
+use Rattle.llb_board.specs.BoardValue.{BoardValue}
 
 -- every settled vertex with no cache mount at or before it has its plain outcome
 abbrev pub SettledArePlain : BoardValue → Type 0

@@ -4,7 +4,7 @@ use Rattle.std.specs.Prelude.{if◌then◌else◌}
 use Rattle.llb_cache.specs.declared.key.Key.{Key}
 use Rattle.llb_cache.specs.declared.need.Need as cache_need
 use Rattle.llb_cache.specs.declared.growth.Growth.{Growth}
-use Rattle.llb_cache.specs.Growth.{growth_at}
+use Rattle.llb_cache.specs.LeaseGrowth.{growth_at}
 use Rattle.llb_cache.specs.Caches as cache
 use Rattle.llb_cache.specs.Caches.{Leases, is_held, is_locked}
 use Rattle.llb_tree.specs.Tree.{TreeMap}
@@ -12,7 +12,7 @@ use Rattle.llb_ops.specs.declared.op.Input.{Input}
 use Rattle.llb_loader.specs.declared.graph.Edge.{Edge}
 use Rattle.llb_loader.specs.declared.graph.Vertex.{Vertex}
 use Rattle.llb_model.specs.Caches.{Instance, place}
-use Rattle.llb_model.specs.Bridge.{store_of, asked, places_taken}
+use Rattle.llb_model.specs.CacheBridge.{store_of, asked, places_taken}
 use Rattle.llb_model.specs.Program.{Need, base_in}
 use Rattle.llb_model.specs.State.{first_trees}
 use Rattle.llb_events.specs.declared.refusal.ClaimFault.{ClaimFault}

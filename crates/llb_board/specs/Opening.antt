@@ -3,8 +3,8 @@ use Rattle.std.specs.Prelude.{ℕ, nat_le, Bool, true, false, ◌&&◌, List, Op
 use Rattle.llb_wire.specs.Answer as answer
 use Rattle.llb_cache.specs.Caches.{CachesValue}
 use Rattle.llb_model.specs.Program.{Build}
-use Rattle.llb_loader.specs.Missing.{missing_local}
-use Rattle.llb_board.specs.Seen.{BoardValue, opened}
+use Rattle.llb_loader.specs.FirstMissingTree.{missing_local}
+use Rattle.llb_board.specs.BoardValue.{BoardValue, opened}
 use Rattle.llb_board.specs.declared.fault.OpenFault.{OpenFault}
 use Rattle.llb_board.specs.declared.fault.OpenFault.TheVariants as opening
 

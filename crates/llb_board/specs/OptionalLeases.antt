@@ -3,7 +3,7 @@ use Rattle.std.specs.Prelude.{ℕ, List, [], ◌∷◌, Option, Some, None, slic
 use Rattle.llb_cache.specs.Caches as cache
 use Rattle.llb_cache.specs.Caches.{Leases}
 use Rattle.llb_cache.specs.declared.growth.Growth.{Growth}
-use Rattle.llb_cache.specs.Growth.{LentValue, unmade, lent_again}
+use Rattle.llb_cache.specs.LeaseGrowth.{LentValue, unmade, lent_again}
 use Rattle.llb_cache.specs.declared.need.Instance.{Instance}
 use Rattle.llb_cache.specs.declared.need.Need as cache_need
 use Rattle.llb_cache.specs.declared.fault.LeaseFault.{LeaseFault}

@@ -6,7 +6,7 @@ use Rattle.llb_events.specs.declared.refusal.ClaimFault.{ClaimFault}
 use Rattle.llb_events.specs.declared.refusal.StepFault.{StepFault}
 use Rattle.llb_events.specs.declared.refusal.SettleFault.{SettleFault}
 use Rattle.llb_events.specs.declared.refusal.CancelFault.{CancelFault}
-use Rattle.llb_board.specs.Seen.{BoardValue, recorded}
+use Rattle.llb_board.specs.BoardValue.{BoardValue, recorded}
 
 -- the board after a claim, with the claim appended to its record, and the reply; or the table's refusal
 abbrev pub claim_of : BoardValue → ℕ → ℕ → Result (BoardValue × Reply) ClaimFault

@@ -8,7 +8,7 @@ use Rattle.llb_loader.specs.Rules.{kind_mounts}
 use Rattle.llb_model.specs.Caches.{Instance}
 use Rattle.llb_model.specs.Program.{Build, Need, key_of, mount_of, needs_of, MicroStep, program_at}
 use Rattle.llb_model.specs.State.{WorkerStatus, Idle, Runs}
-use Rattle.llb_execution.specs.Parts.{mounts_in, shown_in}
+use Rattle.llb_execution.specs.ModelValues.{mounts_in, shown_in}
 use Rattle.llb_board.specs.declared.workers.seat.Seat.{Seat}
 use Rattle.llb_board.specs.declared.workers.seat.Execution as own
 use Rattle.llb_board.specs.declared.workers.seat.Seat.TheVariants as seat

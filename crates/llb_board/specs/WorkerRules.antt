@@ -5,12 +5,12 @@ use Rattle.llb_tree.specs.Tree.{TreeMap}
 use Rattle.llb_cache.specs.declared.need.Need as cache_need
 use Rattle.llb_cache.specs.Caches.{CachesValue, Row}
 use Rattle.llb_model.specs.Caches.{Instance, trees_at}
-use Rattle.llb_model.specs.Bridge.{store_of, asked, put_each, places_taken}
+use Rattle.llb_model.specs.CacheBridge.{store_of, asked, put_each, places_taken}
 use Rattle.llb_model.specs.Program.{Build, MicroStep, Left, needs_of, start_with, step_on}
 use Rattle.llb_model.specs.State.{Status, Settled, WorkerStatus, Idle, Runs, Execution, program_in, is_finished, next_step, ending_from, begin_at}
 use Rattle.llb_model.specs.Table.{Reply, Claimed, execution_on, job_on}
 use Rattle.llb_model.specs.Table.{with_step, step_reply}
-use Rattle.llb_execution.specs.Parts.{work_with}
+use Rattle.llb_execution.specs.ModelValues.{work_with}
 use Rattle.llb_events.specs.declared.refusal.ClaimFault.{ClaimFault}
 use Rattle.llb_events.specs.declared.refusal.ClaimFault.TheVariants as claim
 use Rattle.llb_events.specs.declared.refusal.StepFault.{StepFault}

@@ -5,7 +5,7 @@ use Rattle.llb_cache.specs.Caches.{Row, Leases}
 use Rattle.llb_loader.specs.declared.graph.Vertex.{Vertex}
 use Rattle.llb_tree.specs.Tree.{TreeMap}
 use Rattle.llb_model.specs.Caches.{put_all}
-use Rattle.llb_model.specs.Bridge.{store_of, AreLeased, asked}
+use Rattle.llb_model.specs.CacheBridge.{store_of, AreLeased, asked}
 use Rattle.llb_model.specs.Program.{Build, needs_of, start_with}
 use Rattle.llb_model.specs.State.{State, Running, Execution, WorkerStatus, Idle, Runs, held, held_key, places_for}
 use Rattle.llb_model.specs.Table.{Job, Reply, Claimed, claim_start, claim_at, claim_grant, step_grant}

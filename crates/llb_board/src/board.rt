@@ -8,22 +8,22 @@ ghost use Rattle.llb_events.specs.declared.event.Settled.TheVariants as ended;
 ghost use Rattle.llb_model.specs.Table.{Claimed, HasStepped, HasSettled, HasCancelled};
 ghost use Rattle.llb_model.specs.Outcome.{output_in};
 ghost use Rattle.llb_model.specs.State.{ending_at, is_failed, ending_of};
-ghost use Rattle.llb_loader.specs.Missing.{missing_local};
-ghost use Rattle.llb_model.specs.Room.{most_events, owed, still_to_come};
+ghost use Rattle.llb_loader.specs.FirstMissingTree.{missing_local};
+ghost use Rattle.llb_model.specs.EventBounds.{most_events, owed, still_to_come};
 ghost use Rattle.llb_model.specs.Run.{chosen, is_complete};
-ghost use Rattle.llb_model.specs.Laws.{IsReached};
+ghost use Rattle.llb_model.specs.WholeRunLaws.{IsReached};
 ghost use Rattle.llb_loader.specs.Graph.{IsGraph};
 ghost use Rattle.llb_board.specs.Links.{users_of};
 ghost use Rattle.llb_wire.specs.Answer.{MemoryLast};
 ghost use Rattle.llb_cache.specs.Caches.{leases};
 ghost use Rattle.llb_model.specs.Caches.{content, place};
-ghost use Rattle.llb_model.specs.Bridge.{store_of, HoldsAs};
+ghost use Rattle.llb_model.specs.CacheBridge.{store_of, HoldsAs};
 ghost use Rattle.llb_events.specs.Faults.{step_memory, GivesStep, GivesSettle, GivesCancel};
 ghost use Rattle.llb_events.specs.Faults.{GivesClaim, claim_memory, claim_may_want};
 ghost use Rattle.llb_board.specs.Statuses.{look_at, worker_look};
-ghost use Rattle.llb_board.specs.Looks.{worked_on, cached_at};
+ghost use Rattle.llb_board.specs.WorkedOnAndCachedTrees.{worked_on, cached_at};
 ghost use Rattle.llb_board.specs.Vertices.{all_waiting, status_of};
-ghost use Rattle.llb_board.specs.Seen.{BoardValue, Replays, opened, replies_in};
+ghost use Rattle.llb_board.specs.BoardValue.{BoardValue, Replays, opened, replies_in};
 ghost use Rattle.llb_board.specs.declared.fault.OpenFault.TheVariants as opening;
 ghost use Rattle.llb_board.specs.Opening.{may_work, open_memory, GivesOpen, open_of, open_with, returned, may_want_memory};
 ghost use Rattle.llb_board.specs.Rules.{claim_of, step_of, settle_of, cancel_of};
@@ -63,7 +63,6 @@ pub struct Board {
     history: History,
 }
 
-// This `Drop` is written by hand, so it is proved once; a derived `Drop` is proved again in every function that drops such a value.
 impl Drop for Board {
     fn drop(self) {
         let Board {
@@ -78,10 +77,10 @@ impl Drop for Board {
 
 impl Model for Board {
     ghost use Rattle.std.specs.Coded.{codes};
-    ghost use Rattle.llb_tree.specs.Coded.{coded_tree};
-    ghost use Rattle.llb_model.specs.Coded.{coded_store};
-    ghost use Rattle.llb_board.specs.Seen.{BoardValue, seen};
-    ghost use Rattle.llb_board.specs.Kept.{IsBoard};
+    ghost use Rattle.llb_tree.specs.CodedTrees.{coded_tree};
+    ghost use Rattle.llb_model.specs.CodedStores.{coded_store};
+    ghost use Rattle.llb_board.specs.BoardValue.{BoardValue, seen};
+    ghost use Rattle.llb_board.specs.BoardInvariant.{IsBoard};
 
     ghost Value = { BoardValue };
 

@@ -20,7 +20,6 @@ pub(crate) struct History {
     cancels: Vec<usize>,
 }
 
-// This `Drop` is written by hand, so it is proved once; a derived `Drop` is proved again in every function that drops such a value.
 impl Drop for History {
     fn drop(self) {
         let History {

@@ -4,11 +4,11 @@
 ghost use Rattle.std.specs.Prelude.{◌≡◌, ◌↔◌, ◌<◌, ℕ, None, true, length, slice_get};
 ghost use Rattle.llb_model.specs.Outcome.{outcome};
 ghost use Rattle.llb_model.specs.Run.{chosen, is_complete, StandsPlainly};
-ghost use Rattle.llb_model.specs.Consistent.{IsConsistent};
+ghost use Rattle.llb_model.specs.ConsistentStates.{IsConsistent};
 ghost use Rattle.llb_model.specs.Landing.{LandsAsBlock};
-ghost use Rattle.llb_model.specs.Laws as machine;
+ghost use Rattle.llb_model.specs.WholeRunLaws as machine;
 ghost use Rattle.llb_board.specs.Laws.{SettledArePlain, ChosenIsGranted, OthersKeep, OneWorkerEach, ReadyBehindDone, BlockedBehindAFailure, OutcomeByInputs};
-ghost use Rattle.llb_board.specs.Begun.{BegunArePlain, ClaimsArePlain, KnownLand};
+ghost use Rattle.llb_board.specs.PlainVertexJobs.{BegunArePlain, ClaimsArePlain, KnownLand};
 ghost use Rattle.llb_board.specs.Headline.{Headline, StandsInClaimOrder};
 
 use crate::board::Board;

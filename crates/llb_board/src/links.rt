@@ -23,7 +23,6 @@ pub(crate) struct Links {
     reached: Vec<u32>,
 }
 
-// This `Drop` is written by hand, so it is proved once; a derived `Drop` is proved again in every function that drops such a value.
 impl Drop for Links {
     fn drop(self) {
         let Links {

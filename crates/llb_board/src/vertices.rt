@@ -48,7 +48,6 @@ pub(crate) struct Vertices {
     first_open: u32,
 }
 
-// This `Drop` is written by hand, so it is proved once; a derived `Drop` is proved again in every function that drops such a value.
 impl Drop for Vertices {
     fn drop(self) {
         let Vertices {
@@ -64,7 +63,7 @@ impl Drop for Vertices {
 impl Model for Vertices {
     ghost use Rattle.std.specs.Prelude.{map};
     ghost use Rattle.std.specs.Coded.{codes};
-    ghost use Rattle.llb_tree.specs.Coded.{coded_tree};
+    ghost use Rattle.llb_tree.specs.CodedTrees.{coded_tree};
     ghost use Rattle.llb_board.specs.Vertices.{VerticesValue, IsInStep, status_of};
 
     ghost Value = { VerticesValue };

@@ -3,7 +3,7 @@
 
 ghost use Rattle.std.specs.Prelude.{◌≡◌, ◌↔◌, ◌<◌, ◌≤◌, [], IsTrue, length, option_map, replicate, slice_get, IfOk, IfErr};
 ghost use Rattle.llb_cache.specs.Caches.{leases};
-ghost use Rattle.llb_model.specs.Bridge.{HoldsAs};
+ghost use Rattle.llb_model.specs.CacheBridge.{HoldsAs};
 ghost use Rattle.llb_model.specs.State.{Execution, Idle, runs, places_at};
 ghost use Rattle.llb_board.specs.Supplies.{supplies_for};
 ghost use Rattle.llb_board.specs.Statuses.{look_of};
@@ -41,7 +41,6 @@ pub(crate) struct Workers {
     caches: Caches,
 }
 
-// This `Drop` is written by hand, so it is proved once; a derived `Drop` is proved again in every function that drops such a value.
 impl Drop for Workers {
     fn drop(self) {
         let Workers {
@@ -54,9 +53,9 @@ impl Drop for Workers {
 impl Model for Workers {
     ghost use Rattle.std.specs.Coded.{codes};
     ghost use Rattle.std.specs.Prelude.{map};
-    ghost use Rattle.llb_tree.specs.Coded.{coded_tree};
+    ghost use Rattle.llb_tree.specs.CodedTrees.{coded_tree};
     ghost use Rattle.llb_board.specs.Supplies.{ready_made};
-    ghost use Rattle.llb_board.specs.Views.{at_of, leased_by};
+    ghost use Rattle.llb_board.specs.WorkerModelValues.{at_of, leased_by};
     ghost use Rattle.llb_board.specs.Workers.{WorkersValue, IsCrew};
 
     ghost Value = { WorkersValue };

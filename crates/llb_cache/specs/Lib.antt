@@ -1,13 +1,14 @@
--- Read first Caches (keys with their instances, leases, and what each call does to them), Key (which keys are the same) and Faults (how calls fail). Then
--- Growing (what is prepared for a lease), Growth (what a lease adds to the rows, and how this is removed), Marks (the marks of leased instances), KeyOrder and
--- RowOrder (the order in which keys are searched), FirstRows (the row of a key) and LawsOfKeys (`same_key` is an equivalence, as the `Eq` of `Key` requires).
+-- Read first Caches (keys with their instances, leases, and what each call does to them), Key (which keys are the same) and CallResults (how calls fail). Then
+-- LeasePreparation (what is prepared for a lease), LeaseGrowth (what a lease adds to the rows, and how this is removed), InstanceMarks (the marks of leased
+-- instances), KeyOrder and RowOrder (the order in which keys are searched), FirstRows (the row of a key) and LawsOfKeys (`same_key` is an equivalence, as the
+-- `Eq` of `Key` requires).
 pub mod Key
 pub mod LawsOfKeys
 pub mod KeyOrder
 pub mod Caches
-pub mod Faults
+pub mod CallResults
 pub mod RowOrder
-pub mod Growth
-pub mod Growing
-pub mod Marks
+pub mod LeaseGrowth
+pub mod LeasePreparation
+pub mod InstanceMarks
 pub mod FirstRows

@@ -5,7 +5,7 @@ ghost use Rattle.std.specs.Prelude.{◌≡◌, ◌≢◌, ◌↔◌, IsTrue, ◌
 ghost use Rattle.std.specs.Map.{keys_of};
 ghost use Rattle.llb_cache.specs.Caches.{IsOut, place_for, AreExclusive, IsCaches, leases, lease_of, place_at, places_of, trees_of};
 ghost use Rattle.llb_cache.specs.Caches.{tree_at, with_content, given_back, is_locked, is_held, number_for, place};
-ghost use Rattle.llb_cache.specs.Faults.{Gives, MemoryLast};
+ghost use Rattle.llb_cache.specs.CallResults.{Gives, MemoryLast};
 
 use crate::copying::{copied_leases, copied_marks, copied_rows, same_rows};
 use crate::fault::{LeaseFault, Memory};
@@ -54,7 +54,6 @@ pub struct Caches {
     pub(crate) out: Vec<Option<Many<Instance>>>,
 }
 
-// This `Drop` is written by hand, so it is proved once; a derived `Drop` is proved again in every function that drops such a value.
 impl Drop for Caches {
     fn drop(self) {
         let Caches {
@@ -67,9 +66,9 @@ impl Drop for Caches {
 
 impl Model for Caches {
     ghost use Rattle.std.specs.Coded.{codes};
-    ghost use Rattle.llb_tree.specs.Coded.{coded_tree};
+    ghost use Rattle.llb_tree.specs.CodedTrees.{coded_tree};
     ghost use Rattle.llb_cache.specs.Caches.{CachesValue};
-    ghost use Rattle.llb_cache.specs.Marks.{IsMarked};
+    ghost use Rattle.llb_cache.specs.InstanceMarks.{IsMarked};
     ghost use Rattle.llb_cache.specs.RowOrder.{AreOrdered};
 
     ghost Value = { CachesValue };

@@ -4,8 +4,8 @@ ghost use Rattle.std.specs.Prelude.{◌≡◌, ◌<◌, ◌≤◌, ◌+◌, ℕ,
 ghost use Rattle.std.specs.List.{All};
 ghost use Rattle.std.specs.Map.{keys_of};
 ghost use Rattle.llb_cache.specs.Caches.{same_place, made, made_all, free_lease, with_lease, places_of, put, trees_of, trimmed};
-ghost use Rattle.llb_cache.specs.Growing.{shown, FitsIn};
-ghost use Rattle.llb_cache.specs.Marks.{Remarks, is_one_of};
+ghost use Rattle.llb_cache.specs.LeasePreparation.{shown, FitsIn};
+ghost use Rattle.llb_cache.specs.InstanceMarks.{Remarks, is_one_of};
 ghost use Rattle.llb_cache.specs.RowOrder.{AreOrdered, HasRoom};
 
 use crate::fault::Memory;

@@ -4,8 +4,8 @@ ghost use Rattle.std.specs.Prelude.{◌≡◌, ◌≢◌, List, length, AllPairs
 ghost use Rattle.std.specs.Map.{keys_of};
 ghost use Rattle.llb_cache.specs.Caches.{IsOut, AreThere, granted, place_for};
 ghost use Rattle.llb_cache.specs.declared.need.Need as asked;
-ghost use Rattle.llb_cache.specs.Growth.{growth_at, growths, unmade_one, unmade, taken_back};
-ghost use Rattle.llb_cache.specs.Marks.{Unmarks};
+ghost use Rattle.llb_cache.specs.LeaseGrowth.{growth_at, growths, unmade_one, unmade, taken_back};
+ghost use Rattle.llb_cache.specs.InstanceMarks.{Unmarks};
 ghost use Rattle.llb_cache.specs.RowOrder.{AreOrdered};
 
 use crate::caches::{Caches, Lease};

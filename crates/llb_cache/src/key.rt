@@ -26,7 +26,6 @@ pub struct Seed {
     pub index: u32,
 }
 
-// This `Drop` is written by hand, so it is proved once; a derived `Drop` is proved again in every function that drops such a value.
 impl Drop for Seed {
     fn drop(self) {
         let Seed {
@@ -44,7 +43,6 @@ pub struct Key {
     pub mode: Mode,
 }
 
-// This `Drop` is written by hand, so it is proved once; a derived `Drop` is proved again in every function that drops such a value.
 impl Drop for Key {
     fn drop(self) {
         let Key {

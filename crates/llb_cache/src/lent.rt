@@ -5,9 +5,9 @@ ghost use Rattle.std.specs.Prelude.{◌≡◌, ◌<◌, ◌≤◌, true, [], len
 ghost use Rattle.std.specs.List.{All};
 ghost use Rattle.std.specs.Map.{keys_of};
 ghost use Rattle.llb_cache.specs.Caches.{leases, free_lease, with_lease, same_place, trees_of};
-ghost use Rattle.llb_cache.specs.Growing.{HasRoomFor, FitEach};
-ghost use Rattle.llb_cache.specs.Growth.{CanLend, lent_again};
-ghost use Rattle.llb_cache.specs.Marks.{Remarks, is_one_of};
+ghost use Rattle.llb_cache.specs.LeasePreparation.{HasRoomFor, FitEach};
+ghost use Rattle.llb_cache.specs.LeaseGrowth.{CanLend, lent_again};
+ghost use Rattle.llb_cache.specs.InstanceMarks.{Remarks, is_one_of};
 ghost use Rattle.llb_cache.specs.RowOrder.{AreOrdered};
 
 use crate::caches::{Caches, Lease};
@@ -29,7 +29,6 @@ pub struct Lent {
     out: Vec<Option<Many<Instance>>>,
 }
 
-// This `Drop` is written by hand, so it is proved once; a derived `Drop` is proved again in every function that drops such a value.
 impl Drop for Lent {
     fn drop(self) {
         let Lent {
@@ -42,8 +41,8 @@ impl Drop for Lent {
 
 impl Model for Lent {
     ghost use Rattle.std.specs.Prelude.{◌≡◌, [], vec_capacity};
-    ghost use Rattle.llb_cache.specs.Growth.{LentValue};
-    ghost use Rattle.llb_cache.specs.Growing.{FitEach};
+    ghost use Rattle.llb_cache.specs.LeaseGrowth.{LentValue};
+    ghost use Rattle.llb_cache.specs.LeasePreparation.{FitEach};
 
     ghost Value = { LentValue };
 

@@ -12,7 +12,6 @@ pub(crate) struct Marks {
     items: Vec<bool>,
 }
 
-// This `Drop` is written by hand, so it is proved once; a derived `Drop` is proved again in every function that drops such a value.
 impl Drop for Marks {
     fn drop(self) {
         let Marks { items: _ } = self;

@@ -5,7 +5,7 @@ ghost use Rattle.std.specs.Prelude.{◌≡◌, ◌<◌, ◌+◌, ℕ, false, [],
 ghost use Rattle.std.specs.Prelude.{is_some, option_map, position, slice_get};
 ghost use Rattle.std.specs.Map.{keys_of, values_of, lookup};
 ghost use Rattle.llb_cache.specs.Caches.{with_trees};
-ghost use Rattle.llb_cache.specs.Growth.{front, shorter};
+ghost use Rattle.llb_cache.specs.LeaseGrowth.{front, shorter};
 ghost use Rattle.llb_cache.specs.Key.{same_key};
 ghost use Rattle.llb_cache.specs.RowOrder.{has_key, is_before, IsPlace, AreOrdered, HasRoom};
 
@@ -22,7 +22,6 @@ pub(crate) struct Rows {
     pub(crate) order: Vec<usize>,
 }
 
-// This `Drop` is written by hand, so it is proved once; a derived `Drop` is proved again in every function that drops such a value.
 impl Drop for Rows {
     fn drop(self) {
         let Rows {

@@ -8,7 +8,7 @@ ghost use Rattle.std.specs.Map.{keys_of, values_of};
 ghost use Rattle.llb_tree.specs.Tree.{TreeMap};
 ghost use Rattle.llb_cache.specs.Key.{same_key};
 ghost use Rattle.llb_cache.specs.Caches.{place, trees_of, is_held, leases, taken, number_for, is_locked, is_locked_and_held, free_lease};
-ghost use Rattle.llb_cache.specs.Growing.{shown, FitsIn, IsRefusal};
+ghost use Rattle.llb_cache.specs.LeasePreparation.{shown, FitsIn, IsRefusal};
 
 use crate::caches::Caches;
 use crate::fault::{LeaseFault, Memory};

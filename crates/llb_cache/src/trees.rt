@@ -1,7 +1,7 @@
 //! The trees of a key's instances, and room for one more tree, which is allocated before the caches change.
 
 ghost use Rattle.std.specs.Prelude.{◌≡◌, ◌↔◌, IsTrue, ◌<◌, ◌++◌, List, [], ◌∷◌, length, slice_get, slice_set, option_map, IfOk, Some};
-ghost use Rattle.llb_cache.specs.Growth.{front};
+ghost use Rattle.llb_cache.specs.LeaseGrowth.{front};
 
 use crate::fault::Memory;
 use llb_tree::Tree;
@@ -14,7 +14,6 @@ pub(crate) struct Trees {
     items: Vec<Tree>,
 }
 
-// This `Drop` is written by hand, so it is proved once; a derived `Drop` is proved again in every function that drops such a value.
 impl Drop for Trees {
     fn drop(self) {
         let Trees { items: _ } = self;
@@ -25,7 +24,7 @@ impl Model for Trees {
     ghost use Rattle.std.specs.Prelude.{List};
     ghost use Rattle.std.specs.Coded.{codes};
     ghost use Rattle.llb_tree.specs.Tree.{TreeMap};
-    ghost use Rattle.llb_tree.specs.Coded.{coded_tree};
+    ghost use Rattle.llb_tree.specs.CodedTrees.{coded_tree};
 
     ghost Value = { List TreeMap };
 

@@ -1,14 +1,14 @@
-pub mod Printing
-pub mod Reaching
-pub mod Ending
-pub mod Answering
-pub mod Entering
-pub mod Matching
-pub mod Gathering
-pub mod Alike
-pub mod Texts
-pub mod Numbers
-mod StepFacts
-pub mod Stepped
-mod Always
-pub mod Lines
+pub mod TextsOfLines
+pub mod AllDoneIfResultTree
+pub mod DriverRunEnds
+pub mod RunOutput
+pub mod SubcommandEntry
+pub mod ArgumentMatches
+pub mod SourceFileReading
+pub mod SameEntriesSameOutput
+pub mod EntryTextOutput
+pub mod NumberParsing
+mod StepCommandLine
+pub mod SteppingOutput
+mod ReachedStates
+pub mod FailureLines

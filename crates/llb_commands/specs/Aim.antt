@@ -2,20 +2,20 @@
 -- text, a definition with its entries, the graph that the definition is loaded as, a board and a stepper.
 use Rattle.std.specs.Prelude.{◌≡◌, ◌≤◌, ◌<◌, ℕ, List, length, Some, Ok}
 use Rattle.llb_ops.specs.Definition.{definition_of}
-use Rattle.llb_asm.specs.Lines.{kept}
-use Rattle.llb_asm.specs.Reading.{SpellsEntries}
+use Rattle.llb_asm.specs.ItemLines.{kept}
+use Rattle.llb_asm.specs.TextGrammar.{SpellsEntries}
 use Rattle.llb_loader.specs.Graph.{Numbered}
-use Rattle.llb_loader.specs.Load.{IsGraphIn}
+use Rattle.llb_loader.specs.LoadResult.{IsGraphIn}
 use Rattle.llb_model.specs.State.{opening}
 use Rattle.llb_model.specs.Table.{Reply}
 use Rattle.llb_model.specs.Run.{run}
-use Rattle.llb_board.specs.Seen.{BoardValue, Replays}
+use Rattle.llb_board.specs.BoardValue.{BoardValue, Replays}
 use Rattle.llb_board.specs.Laws.{SettledArePlain}
 use Rattle.llb_board.specs.Headline.{LockedOnce}
 use Rattle.llb_stepper.specs.Replies.{RepliesAreRecorded}
 use Rattle.llb_stepper.specs.Records.{RecordIsTheRun, ReplaysOnAStepper}
 use Rattle.llb_stepper.specs.Stepping.{Stepping, PastIsTheRecords, IsReplayed}
-use Rattle.llb_session.specs.Told.{GoPrintsTheRun}
+use Rattle.llb_session.specs.GoOutput.{GoPrintsTheRun}
 use Rattle.llb_commands.specs.Assembly.{IsAssembled}
 
 -- The definition is accepted: it is loaded as the graph. The machine's board and the stepper's board are both over this graph, each with some local trees.

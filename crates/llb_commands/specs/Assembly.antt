@@ -2,14 +2,14 @@
 use Rattle.std.specs.Prelude.{◌≡◌, ◌⊎◌, ◌<◌, ℕ, List, length, Ok, Err, Bool, true, false, IfSome}
 use Rattle.llb_ops.specs.declared.fault.OpFault.{OpFault}
 use Rattle.llb_ops.specs.Definition.{definition_of, definition_bytes}
-use Rattle.llb_asm.specs.Lines.{kept}
-use Rattle.llb_asm.specs.Reading as asm
-use Rattle.llb_asm.specs.Reading.{SpellsEntries}
+use Rattle.llb_asm.specs.ItemLines.{kept}
+use Rattle.llb_asm.specs.TextGrammar as asm
+use Rattle.llb_asm.specs.TextGrammar.{SpellsEntries}
 use Rattle.llb_asm.specs.declared.fault.AsmFault.{AsmFault}
 use Rattle.llb_asm.specs.declared.fault.AsmFault.TheVariants.{Line, UnknownLabel, Memory, Write}
-use Rattle.llb_asm.specs.Plain.{Formed, AreFormed, plain_text}
-use Rattle.llb_loader.specs.Locals.{Local}
-use Rattle.llb_commands.specs.Answer.{Yields}
+use Rattle.llb_asm.specs.DisassembledText.{Formed, AreFormed, plain_text}
+use Rattle.llb_loader.specs.LocalSources.{Local}
+use Rattle.llb_commands.specs.ProgramOutput.{Yields}
 use Rattle.llb_ops.specs.declared.fault.OpFault.TheVariants.{OverLimit}
 use Rattle.llb_loader.specs.declared.fault.LoadFault.TheVariants.{Definition}
 use Rattle.llb_commands.specs.declared.fault.ProgramFault.{ProgramFault}

@@ -4,10 +4,13 @@ use Rattle.std.specs.Prelude.{Option, Some, None, is_some, option_map, option_an
 use Rattle.std.specs.Borrow.{Bor}
 use Rattle.std.specs.List.{position_or_len, before_first, after_first}
 use Rattle.std.specs.Str.Parse.{digits_value, without_leading_plus}
+use Rattle.llb_session.specs.declared.request.Looks.{Looks}
+use Rattle.llb_session.specs.declared.request.Looks.TheVariants.{Refused, Allowed}
+use Rattle.llb_wire.specs.TextComparison.{is_text}
 use Rattle.llb_commands.specs.Faults.{TellsLine}
 use Rattle.clap.specs.Words.{App, Kinds, Row, Rule, Text, all_of, first_of, new_app, new_rule, one_of, with_rule, with_subcommand}
 use Rattle.clap.specs.ValueTests.{is_unsigned_in}
-use Rattle.clap.specs.declared.builder.action.ArgAction.TheVariants.{Append, Set}
+use Rattle.clap.specs.declared.builder.action.ArgAction.TheVariants.{Append, Set, SetTrue}
 use Rattle.clap.specs.declared.builder.value_parser.ValueParser.TheVariants.{Signed}
 use Rattle.clap.specs.declared.error.kind.ErrorKind.{ErrorKind}
 use Rattle.clap.specs.declared.error.kind.ErrorKind.TheVariants.{OutOfMemory}
@@ -42,13 +45,17 @@ workers_rule = record (new_rule (codes "workers")) {
   parser = Some (Signed (pos 0) (pos 4294967295));
 }
 
+-- the rule by which `clap` reads the option `--looks`, which takes no value
+abbrev pub looks_rule : Rule
+looks_rule = record (new_rule (codes "looks")) { long = Some (codes "looks"); action = Some SetTrue }
+
 -- `clap`'s description of the command `run`
 abbrev pub run_app : App
 run_app = with_rule (with_rule (new_app (codes "run")) workers_rule) local_rule
 
 -- `clap`'s description of the command `step`: the word for the file comes before the words for local sources
 abbrev pub step_app : App
-step_app = with_rule (with_rule (with_rule (new_app (codes "step")) workers_rule) file_rule) local_rule
+step_app = with_rule (with_rule (with_rule (with_rule (new_app (codes "step")) workers_rule) looks_rule) file_rule) local_rule
 
 -- the given app with one more command, which takes no words
 abbrev pub with_plain : App → Text → App
@@ -58,7 +65,8 @@ with_plain app name = with_subcommand app (new_app name).top
 abbrev pub graph_app : App
 graph_app = with_subcommand (with_plain (with_subcommand base_app run_app.top) (codes "show")) step_app.top
 
--- `clap`'s description of the program: `run` takes workers and local sources, `step` takes these and a file, and the other commands take no words
+-- `clap`'s description of the program: `run` takes workers and local sources, `step` takes these, a file and whether it answers looks, and the other commands
+-- take no words
 abbrev pub llbm_app : App
 llbm_app = with_plain (with_plain graph_app (codes "asm")) (codes "dis")
 
@@ -123,15 +131,26 @@ IsWorkers Run rows n = n ≡ unwrap_or (option_and_then number_of (one_of (codes
 IsWorkers Step rows n = n ≡ unwrap_or (option_and_then number_of (one_of (codes "workers") rows)) 2
 IsWorkers _ rows n = n ≡ 1
 
+-- the looks that a flag allows, given the text that `clap` has for the flag: `true` if the words have it, and else `false`
+abbrev pub looks_by : Option Text → Looks
+looks_by None = Refused
+looks_by (Some text) = if is_text text (codes "true") then Allowed else Refused
+
+-- looks are allowed if the words of `step` have the option `--looks`; for any other command they are refused
+abbrev pub IsLooks : Command → List Row → Looks → Type 0
+IsLooks Step rows looks = looks ≡ looks_by (first_of (codes "looks") rows)
+IsLooks _ rows looks = looks ≡ Refused
+
 -- the file is the file that the words of `step` name; for any other command there is no file
 abbrev pub IsFile : Command → List Row → Option (Bor Text) → Type 0
 IsFile Step rows file = option_map (λ w. w.now) file ≡ first_of (codes "file") rows
 IsFile _ rows file = file ≡ None
 
--- the line has the command of this name, and the number of workers, the file and the local sources that are in these matches of `clap`
+-- the line has the command of this name, and the number of workers, the looks, the file and the local sources that are in these matches of `clap`
 pub record SaysCommand (name : Text) (rows : List Row) (line : Line) : Type 0 where
   pub command : name_of line.command ≡ name
   pub workers : IsWorkers line.command rows line.workers
+  pub looks : IsLooks line.command rows line.looks
   pub file : IsFile line.command rows line.file
   pub locals : AreSplit (local_words rows) line.locals
 

@@ -3,7 +3,7 @@ use Rattle.std.specs.Prelude.{◌≡◌, ◌⊎◌, ℕ, List, ◌++◌, Option,
 use Rattle.std.specs.Io.KnownBytes.{Appends}
 use Rattle.llb_ops.specs.Faults.{op_text}
 use Rattle.llb_asm.specs.Faults.{asm_text}
-use Rattle.llb_treetext.specs.Faults.{reading_text, printing_text}
+use Rattle.llb_treetext.specs.CallResults.{reading_text, printing_text}
 use Rattle.llb_loader.specs.Faults.{load_text}
 use Rattle.llb_work.specs.Faults.{run_text}
 use Rattle.llb_commands.specs.Io.{Stream, IsWritten}

@@ -6,8 +6,8 @@ use Rattle.llb_wire.specs.Answer as answer
 use Rattle.llb_loader.specs.declared.graph.Edge.{Edge}
 use Rattle.llb_loader.specs.declared.graph.Vertex.{Vertex}
 use Rattle.llb_loader.specs.Graph.{Numbered}
-use Rattle.llb_ops.specs.Kinds.{kind_text}
-use Rattle.llb_commands.specs.Output as output
+use Rattle.llb_ops.specs.OpKindNames.{kind_text}
+use Rattle.llb_commands.specs.WrittenPrefix as output
 use Rattle.llb_commands.specs.declared.fault.OutputFault.{OutputFault}
 use Rattle.llb_commands.specs.declared.fault.OutputFault.TheVariants.{Write, Memory}
 

@@ -1,16 +1,16 @@
--- Read first Aim (all that is promised for a graph, a board and a stepper), then Io (what the streams of a call hold) and Answer (what a run prints for the
--- bytes that it reads) with GraphText and Output, Assembly (asm and dis), Stepping (a session), CommandLine (what the words ask for), Pages (the page for
--- words that ask for help), Sources (files of local sources), Bounded (reading within bounds), Faults (what a fault prints, with its status) and Commands (how
--- each command and the program end). Running and AssemblyParts have the steps of a run and of assembling.
+-- Read first Aim (all that is promised for a graph, a board and a stepper), then Io (what the streams of a call hold) and ProgramOutput (what a run prints for
+-- the bytes that it reads) with GraphText and WrittenPrefix, Assembly (asm and dis), Stepping (a session), CommandLine (what the words ask for), HelpPages (the
+-- page for words that ask for help), Sources (files of local sources), BoundedReading (reading within bounds), Faults (what a fault prints, with its status)
+-- and Commands (how each command and the program end). Running and AssemblyParts have the steps of a run and of assembling.
 pub mod Io
-pub mod Bounded
+pub mod BoundedReading
 pub mod Faults
-pub mod Answer
+pub mod ProgramOutput
 pub mod Running
-pub mod Output
+pub mod WrittenPrefix
 pub mod GraphText
 pub mod CommandLine
-pub mod Pages
+pub mod HelpPages
 pub mod Sources
 pub use Rattle.std.specs.Io.KnownBytes.{Appends, Consumes, IsAtEnd, Keeps}
 pub mod Assembly

@@ -2,14 +2,14 @@
 use Rattle.std.specs.Prelude.{◌≡◌, ◌⊎◌, ℕ, List, [], length, Option, Some, None, Result, Ok, Err, IfSome, ⊤, if◌then◌else◌}
 use Rattle.llb_tree.specs.Tree.{TreeMap}
 use Rattle.llb_loader.specs.Graph.{Numbered}
-use Rattle.llb_loader.specs.Load.{IsGraphIn}
-use Rattle.llb_loader.specs.Locals.{Local}
-use Rattle.llb_board.specs.Seen.{BoardValue, opened}
-use Rattle.llb_model.specs.Consistent.{IsConsistent}
+use Rattle.llb_loader.specs.LoadResult.{IsGraphIn}
+use Rattle.llb_loader.specs.LocalSources.{Local}
+use Rattle.llb_board.specs.BoardValue.{BoardValue, opened}
+use Rattle.llb_model.specs.ConsistentStates.{IsConsistent}
 use Rattle.llb_treetext.specs.TreeText.{tree_text}
 use Rattle.llb_work.specs.declared.end.RunFault.{RunFault}
-use Rattle.llb_commands.specs.Answer.{build_of, IsEnd, YieldsNone, YieldsAll, YieldsPart, IsRefused, IsNotRun, DrawsAll, DrawsPart}
-use Rattle.llb_commands.specs.Answer.{failed_lines}
+use Rattle.llb_commands.specs.ProgramOutput.{build_of, IsEnd, YieldsNone, YieldsAll, YieldsPart, IsRefused, IsNotRun, DrawsAll, DrawsPart}
+use Rattle.llb_commands.specs.ProgramOutput.{failed_lines}
 use Rattle.llb_commands.specs.Faults.{Tells}
 use Rattle.llb_commands.specs.Io.{Stream, IsKept, IsPartWritten, IsWritten}
 use Rattle.llb_commands.specs.declared.fault.ProgramFault.{ProgramFault}

@@ -2,10 +2,10 @@
 use Rattle.std.specs.Prelude.{◌≡◌, ◌<◌, ◌≤◌, ◌⊎◌, ℕ, List, [], ◌∷◌, length, if◌then◌else◌, Option, Result, Ok, Err, IfSome}
 use Rattle.llb_tree.specs.Tree.{TreeMap}
 use Rattle.llb_treetext.specs.declared.fault.TextFault.{TextFault}
-use Rattle.llb_treetext.specs.Faults.{is_memory}
-use Rattle.llb_treetext.specs.Reading.{Answers, MemoryIsLast}
-use Rattle.llb_loader.specs.Locals as given
-use Rattle.llb_loader.specs.Locals.{with_local}
+use Rattle.llb_treetext.specs.CallResults.{is_memory}
+use Rattle.llb_treetext.specs.TextGrammar.{Answers, MemoryIsLast}
+use Rattle.llb_loader.specs.LocalSources as given
+use Rattle.llb_loader.specs.LocalSources.{with_local}
 use Rattle.llb_commands.specs.declared.words.Local.{Local}
 use Rattle.llb_commands.specs.Faults.{TellsLine, source_text}
 use Rattle.llb_commands.specs.declared.sources.SourceFault.{SourceFault}

@@ -3,7 +3,7 @@
 ghost use Rattle.std.specs.Prelude.{◌≡◌};
 ghost use Rattle.llb_commands.specs.Assembly.{Assembles, IsAssembled, IsNoText};
 ghost use Rattle.llb_commands.specs.AssemblyParts.{assembling_fault, text_unread_as, EndsIn, IsDefinitionIn, IsDefinitionOf};
-ghost use Rattle.llb_commands.specs.Output.{PrintsOut};
+ghost use Rattle.llb_commands.specs.WrittenPrefix.{PrintsOut};
 
 use crate::bounded::{LIMIT, READS, ReadFault, read_bounded};
 use crate::fault::{OutputFault, ProgramFault, refusal};

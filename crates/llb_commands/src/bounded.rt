@@ -1,7 +1,7 @@
 //! Reads an input to its end, within bounds on the bytes and on the reads.
 
 ghost use Rattle.std.specs.Prelude.{◌≢◌, IfErr};
-ghost use Rattle.llb_commands.specs.Bounded.{ReadsAll};
+ghost use Rattle.llb_commands.specs.BoundedReading.{ReadsAll};
 ghost use Rattle.llb_commands.specs.declared.bounded.ReadFault.TheVariants.{Failed};
 
 use std::alloc::Global;

@@ -1,7 +1,7 @@
-//! The command line, which `clap` reads. `run` takes the number of workers, and local sources as NAME=FILE; `step` takes these and the file of a definition;
-//! `show`, `asm` and `dis` take no words. No words at all mean `run`. The texts of the pages of help are in `pages`.
+//! The command line, which `clap` reads. `run` takes the number of workers, and local sources as NAME=FILE; `step` takes these, the file of a definition, and
+//! whether looks are answered; `show`, `asm` and `dis` take no words. No words at all mean `run`. The texts of the pages of help are in `pages`.
 
-ghost use Rattle.std.specs.Prelude.{◌≡◌, false, map, IfOk, IfErr};
+ghost use Rattle.std.specs.Prelude.{◌≡◌, false, map, option_map, IfOk, IfErr};
 ghost use Rattle.clap.specs.Words.{app_of, kind_of, fault_of, found_of, new_app, rows_of, rule_of, subcommand_of};
 ghost use Rattle.clap.specs.declared.builder.command.Command.TheViews.{out-Command as fields_of};
 ghost use Rattle.llb_commands.specs.CommandLine.{
@@ -13,11 +13,14 @@ ghost use Rattle.llb_commands.specs.CommandLine.{
   local_rule,
   file_rule,
   workers_rule,
+  looks_rule,
   local_words,
   named_local_words,
   AreSplit,
   IsFile,
+  IsLooks,
   IsName,
+  looks_by,
   IsWorkers,
   name_of,
   Says,
@@ -26,12 +29,13 @@ ghost use Rattle.llb_commands.specs.CommandLine.{
   RefusesWord,
   IsFaultOfKind,
 };
-ghost use Rattle.llb_commands.specs.Pages.{IsByWordsWithPage};
+ghost use Rattle.llb_commands.specs.HelpPages.{IsByWordsWithPage};
 
 use crate::pages::{VERSION, named, named_first, page_for};
 use crate::words::{Command, Line, Local, Refusal, WordsFault};
 use clap::error::ErrorKind;
 use clap::{Arg, ArgAction, ArgMatches, Error, value_parser};
+use llb_session::Looks;
 use llb_wire::Many;
 use std::alloc::{AllocError, Global};
 use std::convert::AsStr;
@@ -72,6 +76,17 @@ fn workers_arg<'a>(alloc: Global, help: &'a str) -> Arg<'a>
         .value_parser(value_parser!(u32))
 }
 
+// Returns `clap`'s description of the option that allows looks.
+fn looks_arg<'a>(alloc: Global) -> Arg<'a>
+    ensures rule { rule_of result ≡ looks_rule }
+    ensures plain { result.global ≡ false }
+{
+    Arg::new(alloc, "looks")
+        .long("looks")
+        .help("Answer looks at workers and caches")
+        .action(ArgAction::SetTrue)
+}
+
 // Returns `clap`'s description of the command `run`.
 fn run_command<'a>(alloc: Global) -> Result<clap::Command<'a>, AllocError>
     ensures app { IfOk result (λ c. app_of c ≡ run_app) }
@@ -91,6 +106,7 @@ fn step_command<'a>(alloc: Global) -> Result<clap::Command<'a>, AllocError>
     clap::Command::new(alloc, "step")
         .about("Steps through the run of a definition, by commands on standard input")
         .arg(workers_arg(alloc, "The number of workers, 1 to 64; without it, 2"))?
+        .arg(looks_arg(alloc))?
         .arg(file_arg(alloc))?
         .arg(local_arg(alloc))
 }
@@ -194,6 +210,26 @@ fn workers_in(command: Command, matches: &ArgMatches<'_>) -> u32
     }
 }
 
+// Returns the looks that a flag allows, given the text that `clap` has for the flag.
+fn looks_by(text: Option<&str>) -> Looks
+    ensures { result ≡ looks_by (option_map (λ t. t.now) text.entry) }
+{
+    match text {
+        Some("true") => Looks::Allowed,
+        _ => Looks::Refused,
+    }
+}
+
+// Returns whether the words of `step` allow looks, by what `clap` found in them; for any other command they are refused.
+fn looks_in(command: Command, matches: &ArgMatches<'_>) -> Looks
+    ensures { IsLooks command (rows_of (found_of matches.now)) result }
+{
+    match command {
+        Command::Step => looks_by(matches.get_str("looks")),
+        _ => Looks::Refused,
+    }
+}
+
 // Returns the file that `clap` found for the command `step`; `None` for any other command.
 fn file_in<'a>(command: Command, matches: &ArgMatches<'a>) -> Option<&'a str>
     ensures { IsFile command (rows_of (found_of matches.now)) result }
@@ -204,7 +240,7 @@ fn file_in<'a>(command: Command, matches: &ArgMatches<'a>) -> Option<&'a str>
     }
 }
 
-// Returns the `Line` with this command, and with the number of workers, the file and the local sources that `clap` found in the words (`matches`).
+// Returns the `Line` with this command, and with the number of workers, the looks, the file and the local sources that `clap` found in the words (`matches`).
 fn line_of<'a>(
     alloc: Global,
     command: Command,
@@ -217,6 +253,7 @@ fn line_of<'a>(
     Ok(Line {
         command,
         workers: workers_in(command, matches),
+        looks: looks_in(command, matches),
         file: file_in(command, matches),
         locals,
     })
@@ -229,6 +266,7 @@ fn bare_run<'a>(alloc: Global) -> Line<'a>
     Line {
         command: Command::Run,
         workers: 1,
+        looks: Looks::Refused,
         file: None,
         locals: Many::new(Vec::new(alloc)),
     }

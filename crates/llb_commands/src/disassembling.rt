@@ -1,10 +1,10 @@
 //! The command `dis`: reads a definition, and writes the text of its entries.
 
 ghost use Rattle.std.specs.Prelude.{◌≡◌, List};
-ghost use Rattle.llb_asm.specs.Plain.{Formed, AreFormed, plain_text};
+ghost use Rattle.llb_asm.specs.DisassembledText.{Formed, AreFormed, plain_text};
 ghost use Rattle.llb_commands.specs.Assembly.{Disassembles, IsDisassembled, IsUnread};
 ghost use Rattle.llb_commands.specs.AssemblyParts.{entries_fault, AreEntriesIn, EndsIn};
-ghost use Rattle.llb_commands.specs.Output.{PrintsOut};
+ghost use Rattle.llb_commands.specs.WrittenPrefix.{PrintsOut};
 
 use crate::bounded::{LIMIT, READS, read_bounded};
 use crate::fault::{ProgramFault, refusal};

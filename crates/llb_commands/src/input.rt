@@ -10,8 +10,8 @@ use llb_ops::OpFault;
 use std::alloc::Global;
 use std::io::Read;
 
-// Returns the fault with which the program ends if the loader fails with this fault: a refusal, unless memory was refused.
-fn passed_on(fault: LoadFault) -> ProgramFault
+/// Returns the fault with which the program ends if the loader fails with this fault: a refusal, unless memory was refused.
+pub(crate) fn passed_on(fault: LoadFault) -> ProgramFault
     ensures { result ≡ passed_on fault }
 {
     match fault {

@@ -1,11 +1,14 @@
 //! Laws that relate texts, definitions and runs.
 
-ghost use Rattle.std.specs.Prelude.{IfOk};
+ghost use Rattle.std.specs.Prelude.{◌⊎◌, IfErr, IfOk};
 ghost use Rattle.llb_loader.specs.Graph.{Numbered};
 ghost use Rattle.llb_commands.specs.Aim.{Aim, IsAccepted};
+ghost use Rattle.llb_commands.specs.ProgramOutput.{IsNotRun};
 ghost use Rattle.llb_commands.specs.Assembly.{RunsAlike};
+ghost use Rattle.llb_commands.specs.Running.{IsRefusal};
 
 use crate::fault::ProgramFault;
+use crate::input::passed_on;
 use crate::opening::opened;
 use llb_asm::one_answer;
 use llb_board::Board;
@@ -66,7 +69,8 @@ pub struct BoardOptions {
     pub workers: u32,
 }
 
-/// Shows that the premises of `aim` can be met: loads a definition, opens boards over its graph, makes a stepper, and calls `aim` on them.
+/// Shows that the premises of `aim` can be met: loads a definition, opens boards over its graph, makes a stepper, and calls `aim` on them. Fails with the fault
+/// of the definition (81 to 90), with 121 or 122 of the first board or, if the first board is opened, of the second, or if memory is refused (91, 123, 184).
 pub fn aim_is_met(
     alloc: Global,
     text: &[u8],
@@ -75,12 +79,14 @@ pub fn aim_is_met(
     board: BoardOptions,
     stepper: BoardOptions,
 ) -> Result<(Board, Stepper), ProgramFault>
-    ensures { IfOk result (λ made. (graph : Numbered) × IsAccepted definition.now graph made.0 made.1
+    ensures met { IfOk result (λ made. (graph : Numbered) × IsAccepted definition.now graph made.0 made.1
         × Aim text.now definition.now entries.now graph made.0 made.1) }
+    ensures refused { IfErr result (λ e. IsRefusal e → IsNotRun board.workers board.locals e definition.now
+        ⊎ IsNotRun stepper.workers stepper.locals e definition.now) }
 {
     let graph = match load(alloc, definition.as_slice()) {
         Ok(graph) => graph,
-        Err(fault) => return Err(ProgramFault::Refused(fault)),
+        Err(fault) => return Err(passed_on(fault)),
     };
     let Ok(first) = graph.copy() else {
         return Err(ProgramFault::Memory);

@@ -42,5 +42,5 @@ pub use performing::{Streams, program};
 pub use run::{run_many_over, run_over};
 pub use show::show_over;
 pub use sources::{SourceFault, Sources, add_local, source_refusal};
-pub use stepping::step_over;
+pub use stepping::{look_over, step_over};
 pub use words::{Command, Line, Local, WordsFault, words_refusal};

@@ -1,8 +1,8 @@
 //! Opens the board on which the graph of a definition is run.
 
 ghost use Rattle.std.specs.Prelude.{◌≡◌, [], IfOk, IfErr};
-ghost use Rattle.llb_board.specs.Seen.{opened};
-ghost use Rattle.llb_commands.specs.Answer.{build_of, IsUnopened};
+ghost use Rattle.llb_board.specs.BoardValue.{opened};
+ghost use Rattle.llb_commands.specs.ProgramOutput.{build_of, IsUnopened};
 ghost use Rattle.llb_commands.specs.Running.{IsRefusal, Opens};
 
 use crate::fault::ProgramFault;

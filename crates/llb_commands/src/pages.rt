@@ -3,7 +3,7 @@
 //! pages that `clap` renders.
 
 ghost use Rattle.std.specs.Prelude.{◌≡◌, map};
-ghost use Rattle.llb_commands.specs.Pages.{command_named, help_page, named_first, page_for};
+ghost use Rattle.llb_commands.specs.HelpPages.{command_named, help_page, named_first, page_for};
 
 use crate::words::Command;
 use clap::error::ErrorKind;
@@ -62,6 +62,7 @@ Arguments:
 
 Options:
       --workers <N>  The number of workers, 1 to 64; without it, 2
+      --looks        Answer looks at workers and caches
   -h, --help         Print help
 ";
 

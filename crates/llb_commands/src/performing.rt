@@ -73,7 +73,7 @@ fn perform<T: Threads + Wait + Sync, S: Sources, R: Read, W: Write, E: Write>(
                 return words_refusal(&WordsFault::Words(None), err);
             };
             let board = board_of(alloc, sources, file, locals, line.workers);
-            session_over(alloc, board, input, out, err)
+            session_over(alloc, board, line.looks, input, out, err)
         }
         Command::Assemble => asm_over(alloc, input, out, err),
         Command::Disassemble => dis_over(alloc, input, out, err),

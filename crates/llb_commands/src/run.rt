@@ -2,12 +2,12 @@
 
 ghost use Rattle.std.specs.Prelude.{ℕ, List, Option, length, OnOk};
 ghost use Rattle.std.specs.Io.KnownBytes.{Appends};
-ghost use Rattle.llb_loader.specs.Locals.{Local};
+ghost use Rattle.llb_loader.specs.LocalSources.{Local};
 ghost use Rattle.llb_model.specs.Outcome.{output_in};
 ghost use Rattle.llb_model.specs.State.{ending_at};
 ghost use Rattle.llb_treetext.specs.TreeText.{tree_text};
-ghost use Rattle.llb_commands.specs.Answer.{Runs, failed_line, failed_lines};
-ghost use Rattle.llb_commands.specs.Output.{PrintsOut};
+ghost use Rattle.llb_commands.specs.ProgramOutput.{Runs, failed_line, failed_lines};
+ghost use Rattle.llb_commands.specs.WrittenPrefix.{PrintsOut};
 ghost use Rattle.llb_commands.specs.Io.{Stream};
 ghost use Rattle.llb_commands.specs.Running.{Answers, Ends, Finishes, IsWhole, Opens, Shows};
 

@@ -1,9 +1,9 @@
 //! The command `show`: reads a definition, loads it, and prints the text of its graph.
 
 ghost use Rattle.std.specs.Prelude.{◌≡◌};
-ghost use Rattle.llb_commands.specs.Answer.{Draws};
+ghost use Rattle.llb_commands.specs.ProgramOutput.{Draws};
 ghost use Rattle.llb_commands.specs.GraphText.{graph_text};
-ghost use Rattle.llb_commands.specs.Output.{PrintsOut};
+ghost use Rattle.llb_commands.specs.WrittenPrefix.{PrintsOut};
 ghost use Rattle.llb_commands.specs.Running.{ShowsIn};
 
 use crate::fault::{OutputFault, ProgramFault, refusal};

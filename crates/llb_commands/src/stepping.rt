@@ -1,16 +1,17 @@
 //! The command `step`: reads a definition, loads it, opens a board, and replies to the commands of a session.
 
 ghost use Rattle.std.specs.Prelude.{◌≡◌, ℕ, List, Option};
-ghost use Rattle.llb_loader.specs.Locals.{Local};
+ghost use Rattle.llb_loader.specs.LocalSources.{Local};
 ghost use Rattle.llb_commands.specs.Running.{Opens};
 ghost use Rattle.llb_commands.specs.Stepping.{Steps, StepsIn, session_fault};
+ghost use Rattle.llb_session.specs.declared.request.Looks.TheVariants.{Refused, Allowed};
 
 use crate::bounded::{LIMIT, READS};
 use crate::fault::{OutputFault, ProgramFault, refusal};
 use crate::opening::open_over;
 use llb_board::Board;
 use llb_loader::Locals;
-use llb_session::{SessionFault, converse};
+use llb_session::{Looks, Session, SessionFault, converse};
 use llb_stepper::Stepper;
 use std::alloc::Global;
 use std::io::{Read, Write};
@@ -31,16 +32,18 @@ fn session_fault(fault: SessionFault) -> ProgramFault
 fn stepped<C: Read, W: Write>(
     alloc: Global,
     board: Result<Board, ProgramFault>,
+    looks: Looks,
     commands: &mut C,
     out: &mut W,
 ) -> Result<(), ProgramFault>
-    ensures { (workers : ℕ) (locals : List Local) (file : Option (List ℕ)) → Opens workers locals file board → StepsIn workers locals file
+    ensures { (workers : ℕ) (locals : List Local) (file : Option (List ℕ)) → Opens workers locals file board → StepsIn looks workers locals file
         (record { before = C.remaining commands.old; after = C.remaining commands.new })
         (record { before = W.contents out.old; after = W.contents out.new }) result }
 {
     let board = board?;
-    let mut stepper = Stepper::new(alloc, board);
-    match converse(alloc, &mut stepper, commands, out, LIMIT, READS) {
+    let stepper = Stepper::new(alloc, board);
+    let mut session = Session { stepper, looks };
+    match converse(alloc, &mut session, commands, out, LIMIT, READS) {
         Ok(()) => Ok(()),
         Err(fault) => Err(session_fault(fault)),
     }
@@ -50,24 +53,26 @@ fn stepped<C: Read, W: Write>(
 pub(crate) fn session_over<C: Read, W: Write, E: Write>(
     alloc: Global,
     board: Result<Board, ProgramFault>,
+    looks: Looks,
     commands: &mut C,
     out: &mut W,
     err: &mut E,
 ) -> u8
-    ensures { (workers : ℕ) (locals : List Local) (file : Option (List ℕ)) → Opens workers locals file board → Steps workers locals file (record {
+    ensures { (workers : ℕ) (locals : List Local) (file : Option (List ℕ)) → Opens workers locals file board → Steps looks workers locals file (record {
       input = record { before = C.remaining commands.old; after = C.remaining commands.new };
       output = record { before = W.contents out.old; after = W.contents out.new };
       errors = record { before = E.contents err.old; after = E.contents err.new };
     }) result }
 {
-    match stepped(alloc, board, commands, out) {
+    match stepped(alloc, board, looks, commands, out) {
         Ok(()) => 0,
         Err(fault) => refusal(&fault, err),
     }
 }
 
-/// Reads a definition from `file`, and replies to the lines of `commands` on a board with this number of workers and caches without instances.
-/// The replies, also the refusals of commands, go to `out`, line by line. If the call fails, the line of the fault goes to `err`.
+/// Reads a definition from `file`, and replies to the lines of `commands` on a board with this number of workers and caches without instances. A line that
+/// looks at workers or caches is refused like any other line that is no command (173). The replies, also the refusals of commands, go to `out`, line by line.
+/// If the call fails, the line of the fault goes to `err`.
 ///
 /// Returns the exit status. It is 0 if the session ended, by a line `quit` or with the commands. It is 2 if the definition is refused (81 to 90),
 /// a local source has no tree (121), or the number of workers is 0 or more than 64 (122); then nothing is written to `out`. It is also 2 if the
@@ -82,12 +87,33 @@ pub fn step_over<R: Read, C: Read, W: Write, E: Write>(
     locals: Locals,
     workers: u32,
 ) -> u8
-    ensures { Steps workers locals (R.remaining file.old) (record {
+    ensures { Steps Refused workers locals (R.remaining file.old) (record {
       input = record { before = C.remaining commands.old; after = C.remaining commands.new };
       output = record { before = W.contents out.old; after = W.contents out.new };
       errors = record { before = E.contents err.old; after = E.contents err.new };
     }) result }
 {
     let board = open_over(alloc, file, locals, workers);
-    session_over(alloc, board, commands, out, err)
+    session_over(alloc, board, Looks::Refused, commands, out, err)
+}
+
+/// Does what `step_over` does, but also answers the lines that look at the work of workers and at caches (`work ..`, `caches`, `cache ..`). The arguments and
+/// the exit status are those of `step_over`.
+pub fn look_over<R: Read, C: Read, W: Write, E: Write>(
+    alloc: Global,
+    file: &mut R,
+    commands: &mut C,
+    out: &mut W,
+    err: &mut E,
+    locals: Locals,
+    workers: u32,
+) -> u8
+    ensures { Steps Allowed workers locals (R.remaining file.old) (record {
+      input = record { before = C.remaining commands.old; after = C.remaining commands.new };
+      output = record { before = W.contents out.old; after = W.contents out.new };
+      errors = record { before = E.contents err.old; after = E.contents err.new };
+    }) result }
+{
+    let board = open_over(alloc, file, locals, workers);
+    session_over(alloc, board, Looks::Allowed, commands, out, err)
 }

@@ -2,8 +2,9 @@
 
 ghost use Rattle.std.specs.Prelude.{◌≡◌, Some};
 ghost use Rattle.llb_commands.specs.CommandLine.{words_status, words_text, TellsWords};
-ghost use Rattle.llb_commands.specs.Pages.{TellsWithPage};
+ghost use Rattle.llb_commands.specs.HelpPages.{TellsWithPage};
 
+use llb_session::Looks;
 use llb_wire::Many;
 use std::alloc::{AllocError, AllocFailed};
 use std::fmt;
@@ -37,6 +38,8 @@ pub struct Line<'a> {
     pub command: Command,
     /// The number of workers; if none is given, 2 for a session, and 1 for every other command.
     pub workers: u32,
+    /// Whether a session answers looks; refused for every other command.
+    pub looks: Looks,
     /// The file of the definition, if the command takes one.
     pub file: Option<&'a str>,
     /// The local sources, in the order of the words.

@@ -6,32 +6,44 @@ use Rattle.std.proofs.Common.{append_assoc}
 use Rattle.std.specs.Prelude.{option_map, slice_get}
 use Rattle.std.specs.FinMap as finite
 use Rattle.llb_loader.specs.declared.graph.Vertex.{Vertex}
-use Rattle.llb_loader.specs.Rows.{Reached}
+use Rattle.llb_loader.specs.ReachedRows.{Reached}
 use Rattle.llb_loader.specs.Graph.{Numbered, IsGraph, links}
+use Rattle.llb_loader.specs.LocalSources.{tree_of_local}
 use Rattle.llb_model.specs.Program.{program_of}
 use Rattle.llb_model.specs.Outcome.{outcome}
 use Rattle.llb_tree.specs.PathOrder.{path_cmp-IsTotalOrder, path_cmp-IsAntisymmetric}
 use Rattle.llb_tree.specs.Meta.{MetaValue}
 use Rattle.llb_tree.specs.Tree.{TreeMap, Entry, Dir, File}
-use Rattle.llb_contents.specs.Alike.{IsKept, BothOptions, AreLike, AreAlike, RelatesStep}
-use Rattle.llb_contents.specs.Laws.{ExpandsTo, spelled_from, spelled, has_mark, step_digests, IsLiteral, HaveAlikeSources, HasAlikeOutcomes, HandsTokensOn}
-use Rattle.llb_contents.proofs.Outcomes.{hands_on, hands_on_but}
-use Rattle.llb_contents.proofs.Written.{relates_steps}
-use Rattle.llb_contents.proofs.Literals.{literal_kept, literal_itself, literal_digest, weaker_outcomes, reached_through}
+use Rattle.llb_contents.specs.AlikeTrees.{IsKept, BothOptions, AreLike, AreAlike, BothOutcomes}
+use Rattle.llb_contents.specs.ContentLaws.{ExpandsTo, spelled_from, spelled, has_mark, step_digests, HasNames, IsLiteral, IsSourceOf, HaveAlikeSources}
+use Rattle.llb_contents.specs.ContentLaws.{HandsTokensOn}
+use Rattle.llb_contents.proofs.NamedTrees.{Alike, Writes}
+use Rattle.llb_contents.proofs.Outcomes.{hands_on_but}
+use Rattle.llb_contents.proofs.WrittenContents.{IsName, a_name, relates_steps}
+use Rattle.llb_contents.proofs.ContentsByValue.{literal_kept, literal_itself, literal_digest, weaker_outcomes, reached_through}
+use Rattle.llb_contents.proofs.AlikeStateWrites.{weaker_tree}
 use Rattle.std.proofs.lemmas.Bool.{or_parts}
 
 abbrev some_bytes : List ℕ → Option (List ℕ)
 some_bytes xs = Some xs
 
+-- trees with names only, of which the first is given
+pub named_option : (R : List ℕ → List ℕ → Type 0) (o p : Option TreeMap) → BothOptions (AreAlike R) o p → ((t : TreeMap) → o ≡ Some t → HasNames t)
+    → BothOptions (Alike IsName R) o p
+named_option R None None h names = tt
+named_option R (Some t) (Some u) h names = record { like = h; named = names t refl }
+named_option R None (Some u) h names = absurd h
+named_option R (Some t) None h names = absurd h
+
 module _ (table : ℕ → List ℕ) where
   -- a byte that begins no token
-  literal : (b n : ℕ) (bytes : List ℕ) → (b == 255) ≡ false
+  pub literal : (b n : ℕ) (bytes : List ℕ) → (b == 255) ≡ false
       → spelled_from table (b ∷ bytes) 0 n ≡ option_map (λ rest. b ∷ rest) (spelled_from table bytes 0 0)
   literal b n bytes plain =
       ap (λ t. cond t (spelled_from table bytes 4 0) (option_map (λ rest. b ∷ rest) (spelled_from table bytes 0 0))) plain
 
   -- the byte that begins a token
-  token : (b n : ℕ) (bytes : List ℕ) → (b == 255) ≡ true → spelled_from table (b ∷ bytes) 0 n ≡ spelled_from table bytes 4 0
+  pub token : (b n : ℕ) (bytes : List ℕ) → (b == 255) ≡ true → spelled_from table (b ∷ bytes) 0 n ≡ spelled_from table bytes 4 0
   token b n bytes is =
       ap (λ t. cond t (spelled_from table bytes 4 0) (option_map (λ rest. b ∷ rest) (spelled_from table bytes 0 0))) is
 
@@ -76,7 +88,7 @@ module _ (table : ℕ → List ℕ) where
   -- ---- what writes no token
 
   -- a content without the byte that begins tokens expands to itself
-  unmarked : (a : List ℕ) → has_mark a ≡ false → spelled table a ≡ Some a
+  pub unmarked : (a : List ℕ) → has_mark a ≡ false → spelled table a ≡ Some a
   unmarked [] none = refl
   unmarked (b ∷ a) none =
       literal b 0 a (or_parts (b == 255) (has_mark a) none).0
@@ -84,20 +96,41 @@ module _ (table : ℕ → List ℕ) where
 
 -- with tokens for contents in local trees, the outcome is the one with the contents
 pub hands_tokens_on : (g : Numbered) → IsGraph g → HandsTokensOn g
-hands_tokens_on g graph table ls ms v written digests sources =
-    hands_on_but (ExpandsTo (spelled table)) (spelled_kept table) g graph ls ms v
-    (λ k x before there. by_digest k x before there (digests k x before there)) sources
+hands_tokens_on g graph table ls ms v written names digests sources =
+    weaker_outcomes (Alike IsName E) (AreAlike E) (λ t u h. h.like) (outcome (record { graph = g; locals = ls }) v)
+    (outcome (record { graph = g; locals = ms }) v)
+    (hands_on_but IsName a_name E (spelled_kept table) g graph ls ms v (λ k x before there. by_digest k x before there (digests k x before there))
+    (λ name of. named_option E (tree_of_local ls name) (tree_of_local ms name) (sources name of) (λ t is. names name t of is)))
   where
+    E : List ℕ → List ℕ → Type 0
+    E = ExpandsTo (spelled table)
+
+    Known : ℕ → Type 0
+    Known k =
+        BothOptions (BothOutcomes (Alike IsName E)) (outcome (record { graph = g; locals = ls }) k) (outcome (record { graph = g; locals = ms }) k)
+
     by_digest : (k : ℕ) (x : Vertex) → Reached (links g.vertices) v k → slice_get g.vertices k ≡ Some x
         → (list_any step_digests (program_of x).steps ≡ false) ⊎ HaveAlikeSources IsLiteral g k ls ms
-        → All (RelatesStep (ExpandsTo (spelled table))) (program_of x).steps ⊎ HasAlikeOutcomes (ExpandsTo (spelled table)) g ls ms k
-    by_digest k x before there (inl none) =
-        inl (relates_steps (ExpandsTo (spelled table)) (unmarked table) (program_of x).steps (written k x before there) (inl none))
+        → All (Writes IsName E) (program_of x).steps ⊎ Known k
+    by_digest k x before there (inl none) = inl (relates_steps E (unmarked table) x (written k x before there) (inl none))
     by_digest k x before there (inr literal) =
-        inr (weaker_outcomes IsLiteral (ExpandsTo (spelled table)) (λ a b is. unmarked table a is.plain ∙ ap some_bytes is.same)
+        inr (weaker_outcomes (Alike IsName IsLiteral) (Alike IsName E)
+        (weaker_tree IsName IsLiteral E (λ a b is. unmarked table a is.plain ∙ ap some_bytes is.same))
         (outcome (record { graph = g; locals = ls }) k) (outcome (record { graph = g; locals = ms }) k)
-        (hands_on IsLiteral literal_kept g graph ls ms k (λ j y under at. relates_steps IsLiteral literal_itself (program_of y).steps
-        (written j y (reached_through (links g.vertices) v k j before under) at) (inr literal_digest)) literal))
+        (hands_on_but IsName a_name IsLiteral literal_kept g graph ls ms k
+        (λ j y under at. inl (relates_steps IsLiteral literal_itself y (written j y (reached_through (links g.vertices) v k j before under) at)
+        (inr literal_digest)))
+        (λ name of. named_option IsLiteral (tree_of_local ls name) (tree_of_local ms name) (literal name of)
+        (λ t is. names name t (under_top of) is))))
+      where
+        under_top : {name : List ℕ} → IsSourceOf g k name → IsSourceOf g v name
+        under_top of = record {
+          number = of.number;
+          source = of.source;
+          before = reached_through (links g.vertices) v k of.number before of.before;
+          there = of.there;
+          named = of.named;
+        }
 
 -- ---- one tree for each
 

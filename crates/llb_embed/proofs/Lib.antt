@@ -1,4 +1,4 @@
-pub mod Pieces
-pub mod Glued
-pub mod Calling
-pub mod Telling
+pub mod KeptMachineValue
+pub mod DropGlue
+pub mod HandleAfterCalls
+pub mod MessageLineCalls

@@ -2,7 +2,7 @@
 use Rattle.std.specs.Prelude.{◌≡◌, ℕ, true, if◌then◌else◌, List, [], Option, None, Some}
 use Rattle.llb_embed.specs.declared.held.Held.{Held}
 use Rattle.llb_embed.specs.declared.handle.Llb.{Llb}
-use Rattle.llb_embed.specs.Kept.{IsKept}
+use Rattle.llb_embed.specs.KeptPointer.{IsKept}
 
 -- the value that a handle holds, if there is one
 abbrev pub held_in : Llb → Option Held

@@ -3,13 +3,13 @@
 ghost use Rattle.llb_embed.specs.Handle.{IsEmpty};
 
 use llb_loader::Locals;
-use llb_stepper::Stepper;
+use llb_session::Session;
 use std::alloc::Global;
 
 /// Local trees, a session if one is open, how many lines were sent to the session, and the output and the messages of the last call.
 pub struct Held {
     pub locals: Locals,
-    pub session: Option<Stepper>,
+    pub session: Option<Session>,
     pub lines: u64,
     pub output: Vec<u8>,
     pub messages: Vec<u8>,

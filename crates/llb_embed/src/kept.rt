@@ -5,7 +5,7 @@ ghost use Rattle.std.specs.declared.option.Option.{Option};
 ghost use Rattle.std.specs.declared.option.Option.TheVariants.{None, Some};
 ghost use Rattle.std.specs.declared.alloc.Global.{Global};
 ghost use Rattle.llb_embed.specs.declared.held.Held.{Held};
-ghost use Rattle.llb_embed.specs.Kept.{kept_owns, coded_kept, IsKept};
+ghost use Rattle.llb_embed.specs.KeptPointer.{kept_owns, coded_kept, IsKept};
 
 use crate::held::Held;
 use std::alloc::Global;

@@ -14,9 +14,9 @@
 #![tactic(auto)]
 
 ghost use Rattle.std.specs.Prelude.{◌≡◌, length, None};
-ghost use Rattle.llb_embed.specs.Copied.{copied};
+ghost use Rattle.llb_embed.specs.BufferCopies.{copied};
 ghost use Rattle.llb_embed.specs.Handle.{held_in, messages_in, output_in, Calls, IsSound};
-ghost use Rattle.llb_embed.specs.Working.{Added, Opened, Replied, Ran, Shown, Assembled, Disassembled};
+ghost use Rattle.llb_embed.specs.HandleCalls.{Added, Opened, Replied, Ran, Shown, Assembled, Disassembled};
 
 mod handle;
 mod held;
@@ -33,7 +33,7 @@ const NO_MEMORY: u8 = 3;
 
 /// Reads a text as a tree, and adds the tree as the local tree of a name; a tree that the name had before is replaced. Returns 0 if the tree is added; 2 if the
 /// text is refused (31 to 33, 185) or the name is not UTF-8 (183); 3 if memory is refused (34, 92, 184). With 2 or 3 no tree is added, and the messages say why
-/// (with 3 they are empty or cut short if memory for them is refused).
+/// (with 3 they may be cut short anywhere, or be empty).
 #[unsafe(no_mangle)]
 pub extern "C" fn llb_local(alloc: Global, it: &mut Llb, name: &[u8], text: &[u8]) -> u8
     requires { IsSound it.old }
@@ -50,7 +50,7 @@ pub extern "C" fn llb_local(alloc: Global, it: &mut Llb, name: &[u8], text: &[u8
 
 /// Opens a session on a definition, with this number of workers, on the local trees. Returns 0 if the session is open; 2 if the definition is refused (81 to
 /// 90), a local source has no tree (121), or the number of workers is not 1 to 64 (122); 3 if memory is refused (91, 92, 123, 184). With 2 or 3 a session that
-/// was open before is unchanged, and the messages say why (with 3 they are empty or cut short if memory for them is refused).
+/// was open before is unchanged, and the messages say why (with 3 they may be cut short anywhere, or be empty).
 #[unsafe(no_mangle)]
 pub extern "C" fn llb_open(alloc: Global, it: &mut Llb, definition: &[u8], workers: u32) -> u8
     requires { IsSound it.old }
@@ -67,7 +67,7 @@ pub extern "C" fn llb_open(alloc: Global, it: &mut Llb, definition: &[u8], worke
 
 /// Sends a line, without its line end, to the session; the output is the reply. Returns 0 if the session goes on; 1 if the line ends the session, and then no
 /// session is open; 4 if no session was open; 3 if memory is refused for the reply that would report a refusal (184); 2 if the session has already got 2^64 - 1
-/// lines (185). With 2 or 3 the session is unchanged, and the messages say why (with 3 they are empty or cut short if memory for them is refused). If what the
+/// lines (185). With 2 or 3 the session is unchanged, and the messages say why (with 3 they may be cut short anywhere, or be empty). If what the
 /// line asks for is refused (171 to 174), the status is 0 and the reply reports the refusal.
 #[unsafe(no_mangle)]
 pub extern "C" fn llb_line(alloc: Global, it: &mut Llb, line: &[u8]) -> u8
@@ -85,7 +85,7 @@ pub extern "C" fn llb_line(alloc: Global, it: &mut Llb, line: &[u8]) -> u8
 
 /// Runs a definition on the local trees with one worker; the output is the text of the result. Returns the status of `llbm run`: 0 if the output is the whole
 /// text; 1 if a vertex failed, and then the messages have a line for each failed vertex; 2 if the definition is refused, or a local source has no tree; 3 if
-/// memory is refused. With 2 or 3 the messages say why (with 3 they are empty or cut short if memory for them is refused).
+/// memory is refused. With 2 or 3 the messages say why (with 3 output and messages may be cut short anywhere, or be empty).
 #[unsafe(no_mangle)]
 pub extern "C" fn llb_run(alloc: Global, it: &mut Llb, definition: &[u8]) -> u8
     requires { IsSound it.old }

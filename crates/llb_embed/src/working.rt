@@ -1,17 +1,18 @@
 //! What the exported calls do to the value in the handle.
 
-ghost use Rattle.std.specs.Prelude.{◌≡◌, length, []};
-ghost use Rattle.llb_embed.specs.Copied.{copied};
-ghost use Rattle.llb_embed.specs.Working.{Added, Opened, Replied, Ran, Shown, Assembled, Disassembled};
+ghost use Rattle.std.specs.Prelude.{◌≡◌, ◌<◌, ◌+◌, ◌^◌, length, []};
+ghost use Rattle.llb_embed.specs.BufferCopies.{copied};
+ghost use Rattle.llb_embed.specs.HandleCalls.{Added, Opened, Replied, Refused, Ran, Shown, Assembled, Disassembled};
 
 use crate::held::Held;
 use llb_commands::{
     ProgramFault, SourceFault, WordsFault, add_local, asm_over, dis_over, open_over, refusal,
     run_over, show_over, source_refusal, words_refusal,
 };
-use llb_session::respond;
-use llb_stepper::Stepper;
+use llb_session::{Looks, Session, respond};
+use llb_stepper::{Stepper, StepperFault};
 use std::alloc::Global;
+use std::io::Write;
 use std::str::from_utf8;
 
 const DONE: u8 = 0;
@@ -58,7 +59,7 @@ pub(crate) fn local(alloc: Global, held: &mut Held, name: &[u8], text: &[u8]) ->
     }
 }
 
-/// Opens a session, in place of the open session if there is one, and returns the status; if no session can be opened,
+/// Opens a session with looks, in place of the open session if there is one, and returns the status; if no session can be opened,
 /// writes the reason to the messages.
 pub(crate) fn open(alloc: Global, held: &mut Held, definition: &[u8], workers: u32) -> u8
     ensures { Opened definition.now workers held.old held.new result }
@@ -70,7 +71,10 @@ pub(crate) fn open(alloc: Global, held: &mut Held, definition: &[u8], workers: u
     let mut input = definition;
     match open_over(alloc, &mut input, locals, workers) {
         Ok(board) => {
-            held.session = Some(Stepper::new(alloc, board));
+            held.session = Some(Session {
+                stepper: Stepper::new(alloc, board),
+                looks: Looks::Allowed,
+            });
             held.lines = 0;
             DONE
         }
@@ -78,19 +82,35 @@ pub(crate) fn open(alloc: Global, held: &mut Held, definition: &[u8], workers: u
     }
 }
 
-/// Replies to a line of the open session, and returns the status, which is 4 if no session is open. If memory is refused, or
-/// the session has had 2^64 - 1 lines, writes the reason to the messages.
+// Puts the line that reports a refusal into the output, counts the line of the session, and returns the status. If memory for the line is refused, writes the
+// reason to the messages; then no line is counted.
+fn refused(held: &mut Held, fault: &StepperFault) -> u8
+    requires output { held.old.output.items ≡ [] }
+    requires messages { held.old.messages.items ≡ [] }
+    requires few { held.old.lines + 1 < 2 ^ 64 }
+    ensures { Refused fault.now held.old held.new result }
+{
+    if writeln!(held.output, "fault {fault}").is_err() {
+        held.output.clear();
+        return refusal(&ProgramFault::Memory, &mut held.messages);
+    }
+    held.lines += 1;
+    DONE
+}
+
+/// Replies to a line of the open session, and returns the status, which is 4 if no session is open. If memory for the line that reports a refusal is refused,
+/// or the session has had 2^64 - 1 lines, writes the reason to the messages.
 pub(crate) fn reply(alloc: Global, held: &mut Held, line: &[u8]) -> u8
     ensures { Replied line.now held.old held.new result }
 {
     clear(held);
-    let Some(stepper) = &mut held.session else {
+    let Some(session) = &mut held.session else {
         return NO_SESSION;
     };
     if held.lines == u64::MAX {
         return refusal(&ProgramFault::TooLong, &mut held.messages);
     }
-    match respond(alloc, stepper, held.lines + 1, line) {
+    match respond(alloc, session, held.lines + 1, line) {
         Ok(Some(text)) => {
             held.lines += 1;
             held.output = text;
@@ -100,7 +120,7 @@ pub(crate) fn reply(alloc: Global, held: &mut Held, line: &[u8]) -> u8
             held.session = None;
             ENDED
         }
-        Err(_) => refusal(&ProgramFault::Memory, &mut held.messages),
+        Err(fault) => refused(held, &fault),
     }
 }
 

@@ -1,3 +1,3 @@
--- Read Faults first (the texts of refusals, and how the results of events are specified), then Failure (the text of a vertex's failure).
+-- Read Faults first (the texts of refusals, and how the results of events are specified), then FailureText (the text of a vertex's failure).
 pub mod Faults
-pub mod Failure
+pub mod FailureText

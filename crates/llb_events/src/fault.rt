@@ -1,7 +1,7 @@
 //! Why a vertex fails. The text of a failure is the end of the output line that names the vertex.
 
 ghost use Rattle.std.specs.Prelude.{Some};
-ghost use Rattle.llb_events.specs.Failure.{failure_text};
+ghost use Rattle.llb_events.specs.FailureText.{failure_text};
 
 use llb_wire::Same;
 use std::error::Error;

@@ -1,5 +1,5 @@
-//! Calls each function of the assembler once, on a definition of two entries. Further texts and entries are tested in `llbm`, by the commands `asm` and
-//! `dis`.
+//! Calls each function of the assembler once, on a definition of two entries. Further texts and entries are tested by the commands `asm` and `dis`
+//! (`tests/assembling`).
 
 use super::printed::is_so;
 use llb_asm::{assemble, disassemble, one_answer, reads_back};

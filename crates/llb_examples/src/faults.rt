@@ -1,6 +1,6 @@
 //! Tests the texts that faults print. In a refusal of the program, the word `fault` is before such a text. The faults of
 //! records and messages, the loader's other refusals, each feature and each rule are tested elsewhere: in the module `loader`, and by whole commands
-//! in the modules `show`, `taken_ops`, `taken_executions` and `taken_caches` of `llbm`.
+//! in the files of `tests/definitions`, `tests/executions` and `tests/caches`.
 
 use super::printed::prints;
 use llb_applet::ScriptFault;

@@ -1,5 +1,5 @@
-//! Calls of `llb_fileop`. The trees that file actions make, and the faults of file actions, are tested in `llbm` by the program
-//! (`file_actions`).
+//! Calls of `llb_fileop`. The trees that file actions make, and the faults of file actions, are tested by the program
+//! (`tests/actions`).
 
 use super::ops::{COPY, MAKES_A};
 use super::printed::{is_same, say, say_fault, say_path, say_tree};

@@ -1,9 +1,7 @@
-//! Tests the calls of the libraries below the board. What shows in the program's output is not tested here, but by the program's transcripts
-//! (`crates/llbm/src/tests`). The expected values are written by hand from the rules.
+//! Tests the calls of the libraries below the board. What shows in the program's output is not tested here, but by the transcripts of the repository's folder
+//! `tests`. The expected values are written by hand from the rules.
 #![tactic(auto)]
 
-#[cfg(test)]
-mod applet;
 #[cfg(test)]
 mod asm;
 #[cfg(test)]
@@ -46,7 +44,5 @@ mod tree;
 mod trees;
 #[cfg(test)]
 mod treetext;
-#[cfg(test)]
-mod views;
 #[cfg(test)]
 mod wire;

@@ -1,5 +1,5 @@
 //! Tests of laying one tree over another: examples with three trees, and calls of the laws of laying on pairs of trees. What a merge op makes of its inputs
-//! is tested in `llbm`, by whole commands (`src/tests/layers.rt`).
+//! is tested by whole commands (`tests/merges`).
 
 use super::overlay::lent;
 use super::printed::{Row, is_same, made, prints, tree_text};

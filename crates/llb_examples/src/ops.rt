@@ -1,5 +1,5 @@
 //! Tests of reading and writing entries and definitions. An op that was read is checked by its canonical bytes, which are the bytes that `write_op` returns
-//! for the op. The fields of ops are tested in `llbm`, by whole commands (`src/tests/messages.rt`).
+//! for the op. The fields of ops are tested by whole commands (`tests/assembling/messages.md`).
 
 use super::printed::{holds, is_so, row_holds};
 use llb_ops::{

@@ -5,7 +5,7 @@ use Rattle.llb_model.specs.Caches.{Distinct}
 use Rattle.llb_model.specs.Program.{Program, Work, Left}
 use Rattle.llb_model.specs.Table.{Job}
 use Rattle.llb_model.specs.Landing.{AreLeft, further}
-use Rattle.llb_execution.specs.Parts.{mounts_in, shown_in}
+use Rattle.llb_execution.specs.ModelValues.{mounts_in, shown_in}
 
 -- the micro-steps of a program can be done on this work: the numbers of the mounts that show caches are distinct, and each is the number of a mount; there is a
 -- tree for each of these mounts; and there are fewer than 2^32 micro-steps

@@ -7,7 +7,7 @@ ghost use Rattle.llb_tree.specs.Tree.{empty_tree};
 ghost use Rattle.llb_applet.specs.Commands.{run};
 ghost use Rattle.llb_model.specs.Caches.{Distinct};
 ghost use Rattle.llb_model.specs.Program.{Mounted, filled, taken, after_run};
-ghost use Rattle.llb_execution.specs.Parts.{work_with};
+ghost use Rattle.llb_execution.specs.ModelValues.{work_with};
 
 use crate::refusal::NoMemory;
 use llb_applet::{Command, Setting, run_command};

@@ -4,7 +4,7 @@ ghost use Rattle.std.specs.Prelude.{◌≡◌, ◌+◌, ◌<◌, ◌^◌, length
 ghost use Rattle.std.specs.List.{All};
 ghost use Rattle.llb_model.specs.Caches.{Distinct};
 ghost use Rattle.llb_model.specs.Landing.{AreLeft, further};
-ghost use Rattle.llb_execution.specs.Parts.{left_with, mounts_in, shown_in};
+ghost use Rattle.llb_execution.specs.ModelValues.{left_with, mounts_in, shown_in};
 
 use crate::steps::Steps;
 use crate::workspace::Workspace;

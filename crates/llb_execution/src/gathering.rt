@@ -1,6 +1,6 @@
 //! Copies the trees of a vertex's inputs from the vertices that are done. A copy shares the memory of its tree.
 
-ghost use Rattle.std.specs.Prelude.{◌≡◌, ℕ, Option, IfOk, option_map};
+ghost use Rattle.std.specs.Prelude.{◌≡◌, ℕ, Option, IfOk, OnErr, is_some, true, option_map};
 ghost use Rattle.llb_model.specs.Outcome.{Ending, inputs_from, output_in};
 
 use crate::refusal::NoMemory;
@@ -20,15 +20,32 @@ pub trait Outputs {
 }
 
 /// Returns copies of the trees that edges lead to, in the order of the edges; `None` if an edge leads to a vertex that is not done or that lacks the edge's
-/// output. Fails with 5 `Memory` alone.
+/// output. Fails with 5 `Memory`, and only if there are all these trees.
 pub fn gathered<O: Outputs>(
     alloc: Global,
     outputs: &O,
     edges: &[Edge],
 ) -> Result<Option<Vec<Tree>>, Memory>
-    ensures { IfOk result (λ trees. option_map (λ v. v.items) trees ≡ inputs_from (O.ending outputs.now) edges.now) }
+    ensures trees { IfOk result (λ trees. option_map (λ v. v.items) trees ≡ inputs_from (O.ending outputs.now) edges.now) }
+    ensures last { OnErr result (is_some (inputs_from (O.ending outputs.now) edges.now) ≡ true) }
 {
+    if !are_there(outputs, edges) {
+        return Ok(None);
+    }
     Ok(all_at(alloc, outputs, edges)?)
+}
+
+// Returns whether each edge leads to an output of a vertex that is done. Does not allocate.
+fn are_there<O: Outputs>(outputs: &O, edges: &[Edge]) -> bool
+    ensures { result ≡ is_some (inputs_from (O.ending outputs.now) edges.now) }
+{
+    for edge in edges {
+        match outputs.tree(*edge) {
+            Some(_tree) => {}
+            None => return false,
+        }
+    }
+    true
 }
 
 // Returns copies of the trees that edges lead to; `None` if an edge leads to a vertex that is not done or that lacks the edge's output.

@@ -3,7 +3,7 @@
 
 ghost use Rattle.std.specs.Prelude.{◌≡◌};
 ghost use Rattle.llb_execution.specs.Jobs.{IsWorkable};
-ghost use Rattle.llb_execution.specs.Parts.{work_with};
+ghost use Rattle.llb_execution.specs.ModelValues.{work_with};
 
 use crate::program::Program;
 use crate::workspace::Workspace;
@@ -22,7 +22,6 @@ pub struct Job {
     instances: Many<u32>,
 }
 
-// This `Drop` is written by hand, so it is proved once; a derived `Drop` is proved again in every function that drops such a value.
 impl Drop for Job {
     fn drop(self) {
         let Job {
@@ -39,8 +38,8 @@ impl Drop for Job {
 
 impl Model for Job {
     ghost use Rattle.std.specs.Coded.{codes};
-    ghost use Rattle.llb_tree.specs.Coded.{coded_tree};
-    ghost use Rattle.llb_execution.specs.Parts.{work_with};
+    ghost use Rattle.llb_tree.specs.CodedTrees.{coded_tree};
+    ghost use Rattle.llb_execution.specs.ModelValues.{work_with};
     ghost use Rattle.llb_model.specs.Table as table;
     ghost use Rattle.llb_execution.specs.Jobs.{IsWorkable};
 

@@ -4,8 +4,8 @@
 ghost use Rattle.std.specs.Prelude.{◌≡◌, ◌++◌, ◌∷◌, [], ℕ, List, Option, length, map, option_map, slice_get};
 ghost use Rattle.llb_tree.specs.Tree.{TreeMap};
 ghost use Rattle.llb_model.specs.Program.{filled};
-ghost use Rattle.llb_execution.specs.Looks.{trees_with, looked, tree_or, last_tree, next_place, shown_tree, role_in, roles_of};
-ghost use Rattle.llb_execution.specs.Looks.{Local, Laid, input_role, mount_role, results_from};
+ghost use Rattle.llb_execution.specs.WorkspaceTrees.{trees_with, looked, tree_or, last_tree, next_place, shown_tree, role_in, roles_of};
+ghost use Rattle.llb_execution.specs.WorkspaceTrees.{Local, Laid, input_role, mount_role, results_from};
 
 use crate::workspace::{WorkState, Workspace};
 use llb_mount::View as Mounts;

@@ -2,7 +2,7 @@
 
 ghost use Rattle.std.specs.Prelude.{◌≡◌, ◌∷◌, [], map, option_map, slice_get};
 ghost use Rattle.llb_model.specs.Program.{ReadLocal, Act, LayInput, runs_of};
-ghost use Rattle.llb_execution.specs.Parts.{step_in};
+ghost use Rattle.llb_execution.specs.ModelValues.{step_in};
 
 use llb_applet::{Joined, Setting};
 use llb_ops::Action;

@@ -1,7 +1,7 @@
 //! Does the work on a job away from any board: the remaining micro-steps, up to and with the first that has a fault. The result depends on the job alone.
 
 ghost use Rattle.std.specs.Prelude.{◌≡◌, IfOk, IsTrue, Err};
-ghost use Rattle.llb_execution.specs.Parts.{left_with};
+ghost use Rattle.llb_execution.specs.ModelValues.{left_with};
 ghost use Rattle.llb_execution.specs.Jobs.{IsOutcome};
 ghost use Rattle.llb_execution.specs.declared.fault.WorkFault.TheVariants as work;
 
@@ -29,8 +29,8 @@ pub struct Outcome {
 
 impl Model for Outcome {
     ghost use Rattle.std.specs.Coded.{codes};
-    ghost use Rattle.llb_tree.specs.Coded.{coded_tree};
-    ghost use Rattle.llb_execution.specs.Parts.{left_with};
+    ghost use Rattle.llb_tree.specs.CodedTrees.{coded_tree};
+    ghost use Rattle.llb_execution.specs.ModelValues.{left_with};
     ghost use Rattle.llb_execution.specs.Jobs.{OutcomeValue, IsOutcome};
 
     ghost Value = { OutcomeValue };

@@ -6,7 +6,7 @@ ghost use Rattle.std.specs.List.{range_with_len};
 ghost use Rattle.llb_tree.specs.Tree.{empty_tree};
 ghost use Rattle.llb_loader.specs.Rules.{mount_outputs};
 ghost use Rattle.llb_model.specs.Program.{program_of, tree_for, outputs_of};
-ghost use Rattle.llb_execution.specs.Parts.{own_of};
+ghost use Rattle.llb_execution.specs.ModelValues.{own_of};
 ghost use Rattle.llb_execution.specs.Outputs.{actions_in, numbers_of, tree_by, first_placed, placed, placed_by};
 
 use crate::workspace::WorkState;

@@ -20,7 +20,6 @@ pub struct Program {
     pub(crate) output_numbers: Vec<i64>,
 }
 
-// This `Drop` is written by hand, so it is proved once; a derived `Drop` is proved again in every function that drops such a value.
 impl Drop for Program {
     fn drop(self) {
         let Program {

@@ -4,7 +4,7 @@
 ghost use Rattle.std.specs.Prelude.{◌≡◌, ◌↔◌, IsTrue, [], ◌∷◌, map};
 ghost use Rattle.llb_loader.specs.Rules.{mount_outputs};
 ghost use Rattle.llb_model.specs.Program.{ReadLocal, Act, LayInput, runs_of, program_of};
-ghost use Rattle.llb_execution.specs.Parts.{steps_in, own_of};
+ghost use Rattle.llb_execution.specs.ModelValues.{steps_in, own_of};
 
 use crate::program::Program;
 use crate::steps::{ByKind, Steps};

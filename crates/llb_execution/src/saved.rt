@@ -1,8 +1,8 @@
 //! Copies of what a micro-step can change in a workspace, made before the micro-step and put back to undo the micro-step.
 
 ghost use Rattle.std.specs.Prelude.{◌≡◌, IfOk};
-ghost use Rattle.llb_execution.specs.Saves.{saved_in, saved_of, put_back, PutsBack};
-ghost use Rattle.llb_execution.specs.Parts.{own_of};
+ghost use Rattle.llb_execution.specs.SavedWorkspaces.{saved_in, saved_of, put_back, PutsBack};
+ghost use Rattle.llb_execution.specs.ModelValues.{own_of};
 
 use crate::refusal::NoMemory;
 use crate::workspace::{WorkState, Workspace};
@@ -29,8 +29,8 @@ pub(crate) enum StateBefore {
 
 impl Model for Saved {
     ghost use Rattle.std.specs.Coded.{codes};
-    ghost use Rattle.llb_tree.specs.Coded.{coded_tree};
-    ghost use Rattle.llb_execution.specs.Saves.{Saved as SavedValue, saved_in};
+    ghost use Rattle.llb_tree.specs.CodedTrees.{coded_tree};
+    ghost use Rattle.llb_execution.specs.SavedWorkspaces.{Saved as SavedValue, saved_in};
 
     ghost Value = { SavedValue };
 

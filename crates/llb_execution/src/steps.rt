@@ -4,7 +4,7 @@ ghost use Rattle.std.specs.Prelude.{◌≡◌, ◌<◌, ◌^◌, [], IfOk, lengt
 ghost use Rattle.llb_loader.specs.Graph.{IsVertexOf};
 ghost use Rattle.llb_model.specs.Program.{LayInput, runs_of, program_of, steps_of};
 ghost use Rattle.llb_ops.specs.declared.merge.MergeInput as merge_input;
-ghost use Rattle.llb_execution.specs.Parts.{step_in, steps_in};
+ghost use Rattle.llb_execution.specs.ModelValues.{step_in, steps_in};
 
 use crate::micro_step::{MicroStep, act_at, lay_at, read_at, run_at};
 use crate::mounting::setting_with;
@@ -22,7 +22,6 @@ pub struct Steps {
     pub(crate) by: ByKind,
 }
 
-// This `Drop` is written by hand, so it is proved once; a derived `Drop` is proved again in every function that drops such a value.
 impl Drop for Steps {
     fn drop(self) {
         let Steps { by: _ } = self;
@@ -42,7 +41,7 @@ pub(crate) enum ByKind {
 impl Model for Steps {
     ghost use Rattle.std.specs.Prelude.{List};
     ghost use Rattle.llb_model.specs.Program as model;
-    ghost use Rattle.llb_execution.specs.Parts.{steps_in};
+    ghost use Rattle.llb_execution.specs.ModelValues.{steps_in};
 
     ghost Value = { List model.MicroStep };
 

@@ -6,15 +6,15 @@ ghost use Rattle.std.specs.Prelude.{◌≡◌, ◌<◌, List, length, map, optio
 ghost use Rattle.std.specs.List.{All};
 ghost use Rattle.llb_tree.specs.Tree.{TreeMap, empty_tree};
 ghost use Rattle.llb_merge.specs.Laying.{lay};
-ghost use Rattle.llb_fileop.specs.Faults.{Gives};
+ghost use Rattle.llb_fileop.specs.CallResults.{Gives};
 ghost use Rattle.llb_fileop.specs.declared.fault.ActFault.{ActFault};
 ghost use Rattle.llb_loader.specs.Graph.{IsVertexOf};
 ghost use Rattle.llb_model.specs.Caches.{Distinct};
 ghost use Rattle.llb_model.specs.Program.{program_of, workspace_on, local_tree, mount_of, needs_of, trees_in, base_in, with_tree, with_result, tried};
 ghost use Rattle.llb_model.specs.Program.{tree_fault_number, fault_number, is_and, all_and, is_run, exit_of, last_of, lay_on, run_on, step_on, outputs_of};
-ghost use Rattle.llb_execution.specs.Saves.{put_back, Results, Laid};
-ghost use Rattle.llb_execution.specs.Saves as saves;
-ghost use Rattle.llb_execution.specs.Parts.{step_in, own_of, work_with, left_with, is_skipped, mounts_in, shown_in};
+ghost use Rattle.llb_execution.specs.SavedWorkspaces.{put_back, Results, Laid};
+ghost use Rattle.llb_execution.specs.SavedWorkspaces as saves;
+ghost use Rattle.llb_execution.specs.ModelValues.{step_in, own_of, work_with, left_with, is_skipped, mounts_in, shown_in};
 
 use crate::filling::run_filled;
 use crate::micro_step::MicroStep;
@@ -40,7 +40,6 @@ pub struct Workspace {
     pub(crate) own: WorkState,
 }
 
-// This `Drop` is written by hand, so it is proved once; a derived `Drop` is proved again in every function that drops such a value.
 impl Drop for Workspace {
     fn drop(self) {
         let Workspace { own: _ } = self;
@@ -59,9 +58,9 @@ pub(crate) enum WorkState {
 
 impl Model for Workspace {
     ghost use Rattle.std.specs.Coded.{codes};
-    ghost use Rattle.llb_tree.specs.Coded.{coded_tree};
+    ghost use Rattle.llb_tree.specs.CodedTrees.{coded_tree};
     ghost use Rattle.llb_model.specs.Program as model;
-    ghost use Rattle.llb_execution.specs.Parts.{own_of};
+    ghost use Rattle.llb_execution.specs.ModelValues.{own_of};
 
     ghost Value = { model.Workspace };
 

@@ -8,7 +8,7 @@ use Rattle.std.specs.Ordering.{eq_by_cmp}
 use Rattle.std.specs.FinMap as finite
 use Rattle.std.specs.FinMap.Entries.{below_all}
 use Rattle.llb_wire.specs.Answer.{◌>>=◌}
-use Rattle.llb_wire.proofs.RuleSteps.{bind_ok}
+use Rattle.llb_wire.proofs.RuleComposition.{bind_ok}
 use Rattle.llb_tree.specs.Path.{path_cmp, is_within}
 use Rattle.llb_tree.specs.PathOrder.{path_cmp-IsTotalOrder, path_cmp-IsAntisymmetric, same_path}
 use Rattle.llb_tree.specs.Meta.{MetaValue, new_dir_meta}
@@ -16,22 +16,22 @@ use Rattle.llb_tree.specs.Tree.{TreeMap, Entry, Dir, File, moved, with_tree, gra
 use Rattle.llb_tree.specs.Tree.{all_dirs, walk, dir_fits, file_fits, not_root, put_dir, IsDirAt, IsTree, is_dir}
 use Rattle.llb_tree.specs.declared.fault.TreeFault.{TreeFault}
 use Rattle.llb_tree.specs.declared.fault.TreeFault.TheVariants.{BadName, Conflict}
-use Rattle.llb_tree.proofs.Inside.{IsTree-tree_at}
-use Rattle.llb_tree.proofs.Within.{within_split}
-use Rattle.llb_tree.proofs.Orders.{and_first}
+use Rattle.llb_tree.proofs.SubtreeEntries.{IsTree-tree_at}
+use Rattle.llb_tree.proofs.PathsBelow.{within_split}
+use Rattle.llb_tree.proofs.EntryOrder.{and_first}
 use Rattle.llb_tree.proofs.Entries.{entries-root}
-use Rattle.llb_tree.proofs.Closed.{get-insert_cases}
-use Rattle.llb_tree.proofs.Grafted.{find_moved, get_inside, get_outside}
+use Rattle.llb_tree.proofs.ParentClosure.{get-insert_cases}
+use Rattle.llb_tree.proofs.GraftedTrees.{find_moved, get_inside, get_outside}
 use Rattle.llb_fileop.specs.Copying.{fits, meets, landed, all_land, land, laid_on, at_target, parents_for, copy_to}
 use Rattle.llb_fileop.specs.Making.{kept_or_made, make_all}
 use Rattle.llb_ops.specs.declared.actions.CopyFile.{CopyFile}
 use Rattle.llb_fileop.specs.Owners.{copied}
-use Rattle.llb_fileop.specs.Parts.{put, put_some, laid, land_at, placed, AgreeOn}
-use Rattle.llb_fileop.proofs.Answering.{same_Ok}
-use Rattle.llb_fileop.proofs.Passing.{Pair, ties_itself, found_at}
-use Rattle.llb_fileop.proofs.Laid.{get-laid_on, get-whole}
-use Rattle.llb_fileop.proofs.Landing.{fits-Ok, fits_short}
-use Rattle.llb_fileop.proofs.Moved.{find_beside}
+use Rattle.llb_fileop.specs.CopyPlacement.{put, put_some, laid, land_at, placed, AgreeOn}
+use Rattle.llb_fileop.proofs.ResultEqualities.{same_Ok}
+use Rattle.llb_fileop.proofs.PathOrderTraversal.{Pair, ties_itself, found_at}
+use Rattle.llb_fileop.proofs.TreeOverlays.{get-laid_on, get-whole}
+use Rattle.llb_fileop.proofs.EntryPlacement.{fits-Ok, fits_short}
+use Rattle.llb_fileop.proofs.EntryRelocation.{find_beside}
 
 -- ---- what a landing means for each entry
 

@@ -1,9 +1,9 @@
-pub mod Answering
+pub mod ResultEqualities
 pub mod Parents
-pub mod Passing
-pub mod Below
-pub mod Laid
-pub mod Landing
-pub mod Moved
+pub mod PathOrderTraversal
+pub mod MatchedSubtrees
+pub mod TreeOverlays
+pub mod EntryPlacement
+pub mod EntryRelocation
 pub mod Grafting
-pub mod Copied
+pub mod CopyByPath

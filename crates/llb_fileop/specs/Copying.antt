@@ -15,7 +15,7 @@ use Rattle.llb_tree.specs.declared.fault.TreeFault.TheVariants.{NotFound, Confli
 use Rattle.llb_glob.specs.declared.item.Item.{Item}
 use Rattle.llb_glob.specs.Pattern.{pattern_of}
 use Rattle.llb_fileop.specs.declared.fault.ActFault.{ActFault}
-use Rattle.llb_fileop.specs.Faults.{on_tree, on_pattern}
+use Rattle.llb_fileop.specs.CallResults.{on_tree, on_pattern}
 use Rattle.llb_fileop.specs.Owners.{copied}
 use Rattle.llb_fileop.specs.Making.{make_all}
 use Rattle.llb_fileop.specs.Removing.{matching}

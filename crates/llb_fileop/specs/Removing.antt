@@ -12,7 +12,7 @@ use Rattle.llb_glob.specs.declared.item.Item.{Item}
 use Rattle.llb_glob.specs.Matching.{path_matches}
 use Rattle.llb_glob.specs.Pattern.{pattern_of}
 use Rattle.llb_fileop.specs.declared.fault.ActFault.{ActFault}
-use Rattle.llb_fileop.specs.Faults.{on_tree, on_pattern}
+use Rattle.llb_fileop.specs.CallResults.{on_tree, on_pattern}
 
 -- the result of a removal if nothing is there: the unchanged tree, if this is allowed; else the fault `NotFound`
 abbrev pub absent : Bool → TreeMap → Result TreeMap TreeFault

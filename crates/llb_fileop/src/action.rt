@@ -2,8 +2,8 @@
 
 ghost use Rattle.std.specs.Prelude.{option_map, unwrap_or};
 ghost use Rattle.llb_tree.specs.Tree.{empty_tree};
-ghost use Rattle.llb_fileop.specs.Faults.{Gives};
-ghost use Rattle.llb_fileop.specs.Act.{act};
+ghost use Rattle.llb_fileop.specs.CallResults.{Gives};
+ghost use Rattle.llb_fileop.specs.FileActions.{act};
 
 use crate::copying::copy;
 use crate::fault::ActFault;

@@ -4,10 +4,10 @@
 ghost use Rattle.std.specs.Prelude.{◌≡◌, ◌≤◌, ◌++◌, length, IsSome};
 ghost use Rattle.std.specs.FinMap as finite;
 ghost use Rattle.llb_tree.specs.Tree as trees;
-ghost use Rattle.llb_fileop.specs.Faults.{Gives, on_tree};
+ghost use Rattle.llb_fileop.specs.CallResults.{Gives, on_tree};
 ghost use Rattle.llb_fileop.specs.Owners.{copied};
 ghost use Rattle.llb_fileop.specs.Copying.{copy, copy_one, copy_chosen, resolved, OnePath, EachMatch, target, last_name, at_target};
-ghost use Rattle.llb_fileop.specs.Parts.{land_at, placed};
+ghost use Rattle.llb_fileop.specs.CopyPlacement.{land_at, placed};
 
 use crate::dest::resolve;
 use crate::fault::ActFault;

@@ -1,7 +1,7 @@
 //! Resolves a destination text to a path.
 
 ghost use Rattle.std.specs.Prelude.{◌≡◌};
-ghost use Rattle.llb_fileop.specs.Faults.{Gives, MemoryLast, on_tree};
+ghost use Rattle.llb_fileop.specs.CallResults.{Gives, MemoryLast, on_tree};
 ghost use Rattle.llb_fileop.specs.Copying.{resolved};
 
 use crate::fault::ActFault;

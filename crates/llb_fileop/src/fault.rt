@@ -1,10 +1,8 @@
 //! Why an action is refused. A fault prints what follows the word `fault` in a refusal: the number of the fault, and after 51 the number of the
-//! tree's fault. The operator `?` turns each error for refused memory into `Memory`.
+//! tree's fault. The operator `?` turns refused memory into `Memory`.
 
 use llb_glob::PatternFault;
 use llb_tree::TreeFault;
-use llb_wire::Memory;
-use std::alloc::{AllocError, AllocFailed};
 use thiserror::Error;
 
 /// Why an action is refused.
@@ -21,42 +19,9 @@ pub enum ActFault {
     Memory,
 }
 
-impl From<AllocError> for ActFault {
-    ghost use Rattle.std.specs.Prelude.{◌≡◌};
-    ghost use Rattle.llb_fileop.specs.declared.fault.ActFault.TheVariants.{Memory};
-
-    ghost from_gives = { λ _ e. e ≡ Memory };
-
-    fn from(_: AllocError) -> ActFault {
-        ActFault::Memory
-    }
-}
-
-impl<T: Drop> From<AllocFailed<T>> for ActFault {
-    ghost use Rattle.std.specs.Prelude.{◌≡◌};
-    ghost use Rattle.llb_fileop.specs.declared.fault.ActFault.TheVariants.{Memory};
-
-    ghost from_gives = { λ _ e. e ≡ Memory };
-
-    fn from(_: AllocFailed<T>) -> ActFault {
-        ActFault::Memory
-    }
-}
-
-impl From<Memory> for ActFault {
-    ghost use Rattle.std.specs.Prelude.{◌≡◌};
-    ghost use Rattle.llb_fileop.specs.declared.fault.ActFault.TheVariants as fault;
-
-    ghost from_gives = { λ _ e. e ≡ fault.Memory };
-
-    fn from(_: Memory) -> ActFault {
-        ActFault::Memory
-    }
-}
-
 impl From<TreeFault> for ActFault {
     ghost use Rattle.std.specs.Prelude.{◌≡◌};
-    ghost use Rattle.llb_fileop.specs.Faults.{of_tree};
+    ghost use Rattle.llb_fileop.specs.CallResults.{of_tree};
 
     ghost from_gives = { λ t e. e ≡ of_tree t };
 
@@ -70,7 +35,7 @@ impl From<TreeFault> for ActFault {
 
 impl From<PatternFault> for ActFault {
     ghost use Rattle.std.specs.Prelude.{◌≡◌};
-    ghost use Rattle.llb_fileop.specs.Faults.{of_pattern};
+    ghost use Rattle.llb_fileop.specs.CallResults.{of_pattern};
 
     ghost from_gives = { λ t e. e ≡ of_pattern t };
 

@@ -1,6 +1,6 @@
 //! A law about copies that are not refused. Its function does nothing at run time.
 
-ghost use Rattle.llb_fileop.specs.Laws.{CopiesOne};
+ghost use Rattle.llb_fileop.specs.CopyLaws.{CopiesOne};
 
 use llb_ops::CopyFile;
 use llb_tree::{Path, Tree};

@@ -1,7 +1,7 @@
 //! File actions: making a file or a directory, removing, and copying. The crate is built on `llb_glob` and `llb_ops`, and does not use graphs.
 //!
 //! Types: `ActFault` (51 with the fault of a tree, 52 a bad pattern, 53 `Memory`).
-//! Promise: `act` returns exactly the tree after the action, or the first fault, by the rule of the same name (`specs/Act.antt`); the tree before
+//! Promise: `act` returns exactly the tree after the action, or the first fault, by the rule of the same name (`specs/FileActions.antt`); the tree before
 //! the action is borrowed, so it stays unchanged. Law: `copies_one` says where each entry of a copied source is after the copy.
 //!
 //! A caller:
@@ -21,7 +21,6 @@ mod laws;
 mod making;
 mod merging;
 mod owner;
-mod parts;
 mod removing;
 
 pub use action::act;

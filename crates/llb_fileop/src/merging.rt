@@ -1,16 +1,15 @@
 //! Puts copied entries into a tree. A file is put at its target. A directory and what is below it are merged into the directory at the target: the copied
 //! directory is laid over a copy of the target's directory, and the result replaces the target's directory.
 
-ghost use Rattle.std.specs.Prelude.{◌≡◌, ◌≤◌, [], length, false, Ok, None, Some, IsSome, map, IfErr};
+ghost use Rattle.std.specs.Prelude.{◌≡◌, ◌≤◌, [], length, false, Ok, None, Some, IsSome, is_some, map, IfErr};
 ghost use Rattle.std.specs.FinMap as finite;
-ghost use Rattle.llb_tree.specs.Rows.{seen};
+ghost use Rattle.llb_tree.specs.PathEntries.{seen};
 ghost use Rattle.llb_tree.specs.Tree.{is_memory, Gives, content_of, moved, IsDirAt, IsTree, is_dir};
 ghost use Rattle.llb_fileop.specs.Owners.{copied};
 ghost use Rattle.llb_fileop.specs.Copying.{landed, land, meets, at_target};
-ghost use Rattle.llb_fileop.specs.Parts.{put, put_some, laid, all_below, all_meet, land_at};
+ghost use Rattle.llb_fileop.specs.CopyPlacement.{put, put_some, laid, all_below, all_meet, land_at};
 
 use crate::owner::{copied, settings};
-use crate::parts::is_there;
 use llb_ops::CopyFile;
 use llb_tree::{Content, Entry, Path, Tree, TreeFault};
 use std::alloc::Global;
@@ -57,6 +56,14 @@ pub fn land_dir(
         return Err(TreeFault::Conflict);
     }
     merge_at(action, source, goal, tree)
+}
+
+// Returns whether there is an entry at a path.
+fn is_there(tree: &Tree, path: &Path) -> bool
+    ensures there { result ≡ is_some (finite.get tree.now path.now) }
+    ensures tree { IsTree tree.now }
+{
+    tree.get(path).is_some()
 }
 
 // Puts a copy of the entry that the tree `from` has at `path` at the target `goal`; does nothing if `from` has no entry at `path`.

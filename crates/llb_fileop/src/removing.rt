@@ -1,7 +1,7 @@
 //! Removes a path, or all paths that match a pattern, from a copy of a tree. The copy shares with the tree what is not removed.
 
 ghost use Rattle.llb_tree.specs.Tree as tree;
-ghost use Rattle.llb_fileop.specs.Faults.{Gives};
+ghost use Rattle.llb_fileop.specs.CallResults.{Gives};
 ghost use Rattle.llb_fileop.specs.Removing.{rm, rm_path, rm_pattern, absent};
 
 use crate::fault::ActFault;

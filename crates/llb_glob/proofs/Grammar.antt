@@ -2,18 +2,18 @@
 use Rattle.std.proofs.Common.{◌≡◌, ℕ, List, [], ◌∷◌, Result, Ok, Err, refl, sym, ap, ◌∙◌, subst}
 use Rattle.std.specs.Str.{chars}
 use Rattle.llb_wire.specs.Answer.{◌>>=◌}
-use Rattle.llb_wire.proofs.RuleSteps.{bind_ok}
+use Rattle.llb_wire.proofs.RuleComposition.{bind_ok}
 use Rattle.llb_tree.specs.declared.fault.TreeFault.{TreeFault}
 use Rattle.llb_tree.specs.Path.{path_of}
 use Rattle.llb_glob.specs.declared.fault.PatternFault.{PatternFault}
 use Rattle.llb_glob.specs.declared.fault.PatternFault.TheVariants.{BadPattern}
 use Rattle.llb_glob.specs.declared.item.Item.{Item}
-use Rattle.llb_glob.specs.Items.{items_of}
+use Rattle.llb_glob.specs.ItemReading.{items_of}
 use Rattle.llb_glob.specs.Pattern.{each_cut, cut_path, pattern_of}
-use Rattle.llb_glob.specs.Spelling.{SpellEach, SpellsPattern}
+use Rattle.llb_glob.specs.PatternGrammar.{SpellEach, SpellsPattern}
 use Rattle.llb_glob.proofs.Refusals.{NothingElse, else-path}
-use Rattle.llb_glob.proofs.Spelled.{spelled_is_read}
-use Rattle.llb_glob.proofs.Read.{read_is_spelled}
+use Rattle.llb_glob.proofs.ReadingCompleteness.{spelled_is_read}
+use Rattle.llb_glob.proofs.ReadingSoundness.{read_is_spelled}
 
 each_read : (parts : List (List Item)) (names : List (List ℕ)) → SpellEach parts names → each_cut names ≡ Ok parts
 each_read [] [] spells = refl

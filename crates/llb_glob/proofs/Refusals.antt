@@ -11,7 +11,7 @@ use Rattle.llb_glob.specs.declared.cursor.Stage.TheVariants.{Outside, Opened, Ca
 use Rattle.llb_glob.specs.declared.cursor.Cursor.{Cursor}
 use Rattle.llb_glob.specs.ClassValue.{ClassValue}
 use Rattle.llb_glob.specs.Class.{none_yet}
-use Rattle.llb_glob.specs.Items.{start, closed, dashed, inside, plain, quoted, cut, class_by, is_whole, ended, items_from, items_of}
+use Rattle.llb_glob.specs.ItemReading.{start, closed, dashed, inside, plain, quoted, cut, class_by, is_whole, ended, items_from, items_of}
 use Rattle.llb_glob.specs.Pattern.{each_cut, cut_path}
 
 -- a value, or a bad pattern

@@ -8,7 +8,7 @@ use Rattle.llb_tree.specs.declared.fault.TreeFault.{TreeFault}
 use Rattle.llb_glob.specs.declared.fault.PatternFault.{PatternFault}
 use Rattle.llb_glob.specs.declared.fault.PatternFault.TheVariants.{BadPattern}
 use Rattle.llb_glob.specs.declared.item.Item.{Item}
-use Rattle.llb_glob.specs.Items.{items_of}
+use Rattle.llb_glob.specs.ItemReading.{items_of}
 
 -- the parts of a pattern: each of these names, which a path's text was cut into, read as items; or the first fault
 abbrev pub each_cut : List (List ℕ) → Result (List (List Item)) PatternFault

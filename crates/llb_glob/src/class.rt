@@ -31,7 +31,6 @@ pub struct Class {
     spans: Vec<Span>,
 }
 
-// This `Drop` is written by hand, so it is proved once; a derived `Drop` is proved again in every function that drops such a value.
 impl Drop for Class {
     fn drop(self) {
         let Class {

@@ -2,7 +2,7 @@
 //! the stage of the reader and on whether a `\` quotes the character, and on nothing further back.
 
 ghost use Rattle.std.specs.Prelude.{◌≡◌};
-ghost use Rattle.llb_glob.specs.Items.{at, start, literal, outside, inside, closed, dashed, plain, cut, is_whole};
+ghost use Rattle.llb_glob.specs.ItemReading.{at, start, literal, outside, inside, closed, dashed, plain, cut, is_whole};
 
 use crate::fault::PatternFault;
 use crate::item::{Item, Letter};

@@ -40,7 +40,7 @@ impl<T: Drop> From<AllocFailed<T>> for PatternFault {
 
 impl From<TreeFault> for PatternFault {
     ghost use Rattle.std.specs.Prelude.{◌≡◌};
-    ghost use Rattle.llb_glob.specs.Faults.{renamed};
+    ghost use Rattle.llb_glob.specs.CallResults.{renamed};
 
     ghost from_gives = { λ t e. e ≡ renamed t };
 

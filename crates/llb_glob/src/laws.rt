@@ -3,8 +3,8 @@
 ghost use Rattle.std.specs.Prelude.{◌≡◌, ◌↔◌, List, Ok, Err};
 ghost use Rattle.llb_glob.specs.declared.item.Item.{Item};
 ghost use Rattle.llb_glob.specs.Pattern.{pattern_of};
-ghost use Rattle.llb_glob.specs.Simple.{simple_pattern_of};
-ghost use Rattle.llb_glob.specs.Spelling.{SpellsPattern};
+ghost use Rattle.llb_glob.specs.ClasslessPatterns.{simple_pattern_of};
+ghost use Rattle.llb_glob.specs.PatternGrammar.{SpellsPattern};
 
 use crate::fault::PatternFault;
 

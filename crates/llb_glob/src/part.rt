@@ -3,8 +3,8 @@
 
 ghost use Rattle.std.specs.Prelude.{◌≡◌, ◌↔◌, ◌≤◌, ◌∷◌, ℕ, List, length, is_ok, IsTrue};
 ghost use Rattle.std.specs.Str.{chars};
-ghost use Rattle.llb_glob.specs.Faults.{Gives};
-ghost use Rattle.llb_glob.specs.Items.{items_of};
+ghost use Rattle.llb_glob.specs.CallResults.{Gives};
+ghost use Rattle.llb_glob.specs.ItemReading.{items_of};
 ghost use Rattle.llb_glob.specs.Matching.{MatchesName};
 
 use crate::class::Class;
@@ -23,7 +23,6 @@ pub struct Part {
     items: Vec<Item>,
 }
 
-// This `Drop` is written by hand, so it is proved once; a derived `Drop` is proved again in every function that drops such a value.
 impl Drop for Part {
     fn drop(self) {
         let Part { items: _ } = self;
@@ -92,7 +91,7 @@ pub struct Reading {
 }
 
 impl Reading {
-    ghost use Rattle.llb_glob.specs.Reading.{ahead, Reads};
+    ghost use Rattle.llb_glob.specs.PartReading.{ahead, Reads};
 
     // Reads the next character. Fails with 41 `BadPattern` or 42 `Memory`.
     fn take(&mut self, alloc: Global, letter: char) -> Result<(), PatternFault>

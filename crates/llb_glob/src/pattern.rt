@@ -3,7 +3,7 @@
 
 ghost use Rattle.std.specs.Prelude.{◌≡◌, ◌↔◌, List, ℕ, [], is_ok, IsTrue};
 ghost use Rattle.llb_tree.specs.Path.{enter};
-ghost use Rattle.llb_glob.specs.Faults.{Gives, MemoryLast};
+ghost use Rattle.llb_glob.specs.CallResults.{Gives, MemoryLast};
 ghost use Rattle.llb_glob.specs.Matching.{Matches, path_matches};
 ghost use Rattle.llb_glob.specs.Pattern.{each_cut, pattern_of};
 
@@ -18,7 +18,6 @@ pub struct Pattern {
     parts: Vec<Part>,
 }
 
-// This `Drop` is written by hand, so it is proved once; a derived `Drop` is proved again in every function that drops such a value.
 impl Drop for Pattern {
     fn drop(self) {
         let Pattern { parts: _ } = self;
@@ -124,7 +123,7 @@ struct Walk {
 }
 
 impl Walk {
-    ghost use Rattle.llb_glob.specs.Walk.{Stands, Enters};
+    ghost use Rattle.llb_glob.specs.TextCheckCounts.{Stands, Enters};
 
     // Applies the next part of a text: changes the two counts as the part changes the path, by the definition `enter` of `llb_tree`. Returns false if `enter`
     // refuses the part.

@@ -4,7 +4,7 @@
 
 ghost use Rattle.std.specs.Prelude.{◌↔◌, ℕ, ◌+◌, ◌<◌, ◌≤◌, List, ◌∷◌, length, IsTrue, slice_index};
 ghost use Rattle.llb_glob.specs.Matching.{Takes, MatchesName};
-ghost use Rattle.llb_glob.specs.Places.{IsIn, Reaches, AreStarts};
+ghost use Rattle.llb_glob.specs.PositionSets.{IsIn, Reaches, AreStarts};
 
 use crate::item::{Item, Letter};
 

@@ -4,8 +4,8 @@ use Rattle.std.specs.Prelude.{Some, None, is_some, true, false, slice_get, if◌
 use Rattle.std.proofs.lemmas.List.{drop_all}
 use Rattle.std.proofs.lemmas.Option.{slice_get_within, get_or_from_slice_get}
 use Rattle.llb_loader.specs.declared.graph.Vertex.{Vertex}
-use Rattle.llb_loader.specs.Locals.{Local, local_name, tree_of_local}
-use Rattle.llb_loader.specs.Missing.{lacks, missing_local, first_of}
+use Rattle.llb_loader.specs.LocalSources.{Local, local_name, tree_of_local}
+use Rattle.llb_loader.specs.FirstMissingTree.{lacks, missing_local, first_of}
 
 -- the item at a place, before those after it
 drop_at : {A : Type 0} (xs : List A) (i : ℕ) (x : A) → slice_get xs i ≡ Some x → drop i xs ≡ x ∷ drop (i + 1) xs

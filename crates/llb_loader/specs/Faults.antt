@@ -4,7 +4,7 @@ use Rattle.std.specs.Fmt.{decimal}
 use Rattle.llb_wire.specs.Answer as answer
 use Rattle.llb_ops.specs.declared.fault.OpFault.{OpFault}
 use Rattle.llb_ops.specs.declared.fault.OpFault.TheVariants as op
-use Rattle.llb_applet.specs.Faults.{script_text}
+use Rattle.llb_applet.specs.CallResults.{script_text}
 use Rattle.llb_ops.specs.Faults.{op_text}
 use Rattle.llb_loader.specs.declared.fault.Feature.{Feature}
 use Rattle.llb_loader.specs.declared.fault.Feature.TheVariants as feature

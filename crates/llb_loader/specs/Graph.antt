@@ -10,10 +10,10 @@ use Rattle.llb_ops.specs.declared.merge.MergeOp.{MergeOp}
 use Rattle.llb_ops.specs.declared.exec.ExecOp.{ExecOp}
 use Rattle.llb_ops.specs.declared.exec.Meta.{Meta}
 use Rattle.llb_ops.specs.declared.source.SourceOp.{SourceOp}
-use Rattle.llb_ops.specs.Within.{IsWithinLimits}
+use Rattle.llb_ops.specs.OpsWithinLimits.{IsWithinLimits}
 use Rattle.llb_loader.specs.declared.graph.Edge.{Edge}
 use Rattle.llb_loader.specs.declared.graph.Vertex.{Vertex}
-use Rattle.llb_loader.specs.Rows.{Reached}
+use Rattle.llb_loader.specs.ReachedRows.{Reached}
 use Rattle.llb_loader.specs.Features.{feature_of}
 use Rattle.llb_loader.specs.Rules.{owner_of, owner_by_name, IsInput, ActionInputs, SecondInputs, outputs_of, count_outputs, AreOutputs}
 use Rattle.llb_loader.specs.Rules.{step_count, output_count, MeetsRules, mount_outputs, ShowsInput, AreMountOutputs, HasOptions, IsShared}
@@ -21,7 +21,7 @@ use Rattle.llb_applet.specs.declared.join.Joined.{Joined}
 use Rattle.llb_applet.specs.Scripts.{script_of}
 use Rattle.llb_loader.specs.Mounts.{bind, cache, tmpfs, read_as, dests_of, keys_of, AreApart}
 use Rattle.llb_loader.specs.Scripts.{script_in}
-use Rattle.llb_loader.specs.Locals.{source_name}
+use Rattle.llb_loader.specs.LocalSources.{source_name}
 
 -- a graph: its vertices by number, and the edge to the output that is its result
 pub record Numbered : Type 0 where

@@ -10,7 +10,7 @@ use Rattle.llb_loader.specs.declared.fault.LoadFault.{LoadFault}
 use Rattle.llb_loader.specs.declared.fault.LoadFault.TheVariants.{TooFew, Collision, NoResult, UnknownDigest, Cycle, Unsupported, Invalid, BadIndex}
 use Rattle.llb_loader.specs.declared.fault.Feature.{Feature}
 use Rattle.llb_loader.specs.declared.fault.Rule.{Rule}
-use Rattle.llb_loader.specs.Rows.{Reached}
+use Rattle.llb_loader.specs.ReachedRows.{Reached}
 use Rattle.llb_loader.specs.Numbering.{IsNumbering, HasCycle, rank_in}
 use Rattle.llb_loader.specs.RowLookup.{row_at, AllSame, Collides, Least, IsTerminal, terminal_in, row_named, graph_of}
 use Rattle.llb_loader.specs.Features.{feature_of}

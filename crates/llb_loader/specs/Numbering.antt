@@ -1,7 +1,7 @@
 -- How the rows that are reached from `start`, the row of the result, get their vertex numbers. `g` has for each row the rows that its inputs name.
 use Rattle.std.specs.Prelude.{ℕ, suc, ◌<◌, ◌≤◌, ◌==◌, cond, List, [], ◌∷◌, length, take, slice_index}
 use Rattle.std.specs.List.{All, Contains}
-use Rattle.llb_loader.specs.Rows.{inputs, HasEdge, Reached}
+use Rattle.llb_loader.specs.ReachedRows.{inputs, HasEdge, Reached}
 
 -- row k is reached from the row `start`, is not one of the rows `done`, which have numbers, and all rows that its inputs name are in `done`
 pub record IsReady (g : List (List ℕ)) (start : ℕ) (done : List ℕ) (k : ℕ) : Type 0 where

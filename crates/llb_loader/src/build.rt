@@ -2,11 +2,11 @@
 
 ghost use Rattle.std.specs.Prelude.{◌≡◌, ◌≢◌, ◌<◌, ℕ, length, slice_index, IfOk};
 ghost use Rattle.std.specs.List.{All};
-ghost use Rattle.llb_loader.specs.Rows.{lists, inputs, InRange};
+ghost use Rattle.llb_loader.specs.ReachedRows.{lists, inputs, InRange};
 ghost use Rattle.llb_loader.specs.Rules.{IsBelow};
 ghost use Rattle.llb_loader.specs.Scripts.{script_in, commands_in};
 ghost use Rattle.llb_loader.specs.Linking.{op_at, input_at};
-ghost use Rattle.llb_loader.specs.Building.{IsBuildable, IsBuilt, AreBuilt, edge_at, edge_to};
+ghost use Rattle.llb_loader.specs.VertexBuilding.{IsBuildable, IsBuilt, AreBuilt, edge_at, edge_to};
 
 use crate::graph::{Edge, Vertex};
 use crate::op_sizes::{count_of, steps_of};

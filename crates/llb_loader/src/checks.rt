@@ -3,15 +3,16 @@
 
 ghost use Rattle.std.specs.Prelude.{◌≡◌, ◌<◌, ◌≤◌, ◌↔◌, ℕ, false, cond, length, map, IfOk, IfErr, OnOk, IsTrue, MatchOption};
 ghost use Rattle.std.specs.List.{All};
-ghost use Rattle.llb_ops.specs.Within.{IsWithinLimits};
+ghost use Rattle.llb_ops.specs.OpsWithinLimits.{IsWithinLimits};
 ghost use Rattle.llb_loader.specs.Faults.{is_memory};
-ghost use Rattle.llb_loader.specs.Placing.{IsMarked};
+ghost use Rattle.llb_loader.specs.WaitingRows.{IsMarked};
 ghost use Rattle.llb_loader.specs.RowLookup.{IsIndex, graph_of, rows_named};
-ghost use Rattle.llb_loader.specs.Rows.{lists, InRange, inputs};
+ghost use Rattle.llb_loader.specs.ReachedRows.{lists, InRange, inputs};
 ghost use Rattle.llb_loader.specs.Linking.{op_at};
 ghost use Rattle.llb_loader.specs.Features.{feature_of};
 ghost use Rattle.llb_loader.specs.Rules.{IsBelow, MeetsRules, output_count};
-ghost use Rattle.llb_loader.specs.Checks.{NamesAll, FirstUnknown, FitsAll, FirstBad, asked_of, RefusesIndex, RefusesUnknown, RefusesFeature, RefusesRule};
+ghost use Rattle.llb_loader.specs.ReachedRowChecks.{NamesAll, FirstUnknown, FitsAll, FirstBad, asked_of, RefusesIndex, RefusesUnknown, RefusesFeature};
+ghost use Rattle.llb_loader.specs.ReachedRowChecks.{RefusesRule};
 
 use crate::fault::LoadFault;
 use crate::features::first_feature;

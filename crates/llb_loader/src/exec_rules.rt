@@ -7,7 +7,7 @@ ghost use Rattle.llb_ops.specs.declared.op.Input.{Input};
 ghost use Rattle.llb_ops.specs.declared.op.Kind.TheVariants as kind;
 ghost use Rattle.llb_loader.specs.Rules.{IsBelow, ShowsInput, HasOptions, IsShared, IsKnownSharing, HasWord, AreMountOutputs, mount_outputs, none};
 ghost use Rattle.llb_loader.specs.MountTypes.{number_of};
-ghost use Rattle.llb_loader.specs.Checking.{IsFirstBroken, exec_rules, word_rules, path_rules, mount_rules, cache_rules, script_rules};
+ghost use Rattle.llb_loader.specs.RulesByKind.{IsFirstBroken, exec_rules, word_rules, path_rules, mount_rules, cache_rules, script_rules};
 
 use crate::cache_mounts::caches_apart;
 use crate::fault::Rule;

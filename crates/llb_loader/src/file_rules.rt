@@ -3,7 +3,7 @@
 ghost use Rattle.std.specs.Prelude.{◌≡◌, ◌+◌, ◌↔◌, Some, IfOk, IsTrue};
 ghost use Rattle.llb_ops.specs.declared.op.Kind.TheVariants as kind;
 ghost use Rattle.llb_loader.specs.Rules.{TakeInputs, TakesSecond, IsInput, outputs_of};
-ghost use Rattle.llb_loader.specs.Checking.{IsFirstBroken, file_rules};
+ghost use Rattle.llb_loader.specs.RulesByKind.{IsFirstBroken, file_rules};
 
 use crate::fault::Rule;
 use crate::indices::{are_outputs, is_input};

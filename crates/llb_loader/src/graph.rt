@@ -2,7 +2,7 @@
 
 ghost use Rattle.std.specs.Prelude.{◌≡◌, IfOk, option_map};
 ghost use Rattle.llb_loader.specs.Graph.{IsGraph};
-ghost use Rattle.llb_loader.specs.Locals.{local_name};
+ghost use Rattle.llb_loader.specs.LocalSources.{local_name};
 
 use crate::fault::Memory;
 use llb_applet::Script;
@@ -34,7 +34,6 @@ pub struct Vertex {
     pub outputs: u32,
 }
 
-// This `Drop` is written by hand, so it is proved once; a derived `Drop` is proved again in every function that drops such a value.
 impl Drop for Vertex {
     fn drop(self) {
         let Vertex {
@@ -67,7 +66,6 @@ pub struct Graph {
     result: Edge,
 }
 
-// This `Drop` is written by hand, so it is proved once; a derived `Drop` is proved again in every function that drops such a value.
 impl Drop for Graph {
     fn drop(self) {
         let Graph {

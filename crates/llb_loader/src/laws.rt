@@ -1,9 +1,9 @@
 //! Laws of the numbering, and of the results of loading.
 
 ghost use Rattle.std.specs.Prelude.{◌≡◌};
-ghost use Rattle.llb_loader.specs.Rows.{lists};
+ghost use Rattle.llb_loader.specs.ReachedRows.{lists};
 ghost use Rattle.llb_loader.specs.Numbering.{IsNumbering, GoesDown, rank_in};
-ghost use Rattle.llb_loader.specs.Laws.{HasOneAnswer, HasOneAnswerIn};
+ghost use Rattle.llb_loader.specs.UniqueResult.{HasOneAnswer, HasOneAnswerIn};
 
 use crate::row::Row;
 

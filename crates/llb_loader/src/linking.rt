@@ -2,13 +2,13 @@
 
 ghost use Rattle.std.specs.Prelude.{◌≡◌, ◌<◌, ◌≤◌, true, false, length, IfOk, IfErr};
 ghost use Rattle.std.specs.List.{All};
-ghost use Rattle.llb_ops.specs.Within.{IsWithinLimits};
+ghost use Rattle.llb_ops.specs.OpsWithinLimits.{IsWithinLimits};
 ghost use Rattle.llb_loader.specs.Faults.{is_memory};
 ghost use Rattle.llb_loader.specs.RowLookup.{AreFirsts, IsIndex};
-ghost use Rattle.llb_loader.specs.Bare.{AreBare, bared, bytes_of, with_bytes};
+ghost use Rattle.llb_loader.specs.BareRows.{AreBare, bared, bytes_of, with_bytes};
 ghost use Rattle.llb_loader.specs.Linking.{IsApart, IsWhole, Refused, GraphOf};
-ghost use Rattle.llb_loader.specs.Link.{IsGraphOf, IsRefusalOf};
-ghost use Rattle.llb_loader.specs.Stages.{AreNames, IsLinked, IsLinkedFrom, plan_in};
+ghost use Rattle.llb_loader.specs.LinkResult.{IsGraphOf, IsRefusalOf};
+ghost use Rattle.llb_loader.specs.LinkingStages.{AreNames, IsLinked, IsLinkedFrom, plan_in};
 
 use crate::build::{first_edge, vertices_of};
 use crate::checks::{check_features, check_indexes, check_names, check_rules, counts_of};
@@ -38,7 +38,6 @@ struct Linked {
     seen: Vec<bool>,
 }
 
-// This `Drop` is written by hand, so it is proved once; a derived `Drop` is proved again in every function that drops such a value.
 impl Drop for Linked {
     fn drop(self) {
         let Linked {

@@ -2,9 +2,9 @@
 
 ghost use Rattle.std.specs.Prelude.{◌≡◌, ◌≤◌, false, length, IfOk, IfErr};
 ghost use Rattle.llb_loader.specs.Faults.{is_memory};
-ghost use Rattle.llb_loader.specs.Link.{IsGraphOf, IsRefusalOf};
-ghost use Rattle.llb_loader.specs.Load.{IsGraphIn, IsRefusalIn, rows_from};
-ghost use Rattle.llb_loader.specs.Bare.{titles_from};
+ghost use Rattle.llb_loader.specs.LinkResult.{IsGraphOf, IsRefusalOf};
+ghost use Rattle.llb_loader.specs.LoadResult.{IsGraphIn, IsRefusalIn, rows_from};
+ghost use Rattle.llb_loader.specs.BareRows.{titles_from};
 
 use crate::digest::digest_of;
 use crate::fault::LoadFault;

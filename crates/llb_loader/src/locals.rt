@@ -2,7 +2,7 @@
 
 ghost use Rattle.std.specs.Prelude.{◌≡◌, ◌↔◌, ℕ, IsTrue, List, [], Some, cond, IfOk, OnOk, OnErr, IfSome, option_map, slice_get, string_bytes};
 ghost use Rattle.std.specs.Str.{bytes_eq};
-ghost use Rattle.llb_loader.specs.Locals.{locals_of, tree_of_local, with_local};
+ghost use Rattle.llb_loader.specs.LocalSources.{locals_of, tree_of_local, with_local};
 
 use crate::fault::Memory;
 use indexmap::IndexMap;
@@ -16,7 +16,6 @@ pub struct Locals {
     trees: IndexMap<String, Tree>,
 }
 
-// This `Drop` is written by hand, so it is proved once; a derived `Drop` is proved again in every function that drops such a value.
 impl Drop for Locals {
     fn drop(self) {
         let Locals { trees: _ } = self;
@@ -26,8 +25,8 @@ impl Drop for Locals {
 impl Model for Locals {
     ghost use Rattle.std.specs.Prelude.{List};
     ghost use Rattle.std.specs.Coded.{codes};
-    ghost use Rattle.llb_tree.specs.Coded.{coded_tree};
-    ghost use Rattle.llb_loader.specs.Locals.{Local, locals_of};
+    ghost use Rattle.llb_tree.specs.CodedTrees.{coded_tree};
+    ghost use Rattle.llb_loader.specs.LocalSources.{Local, locals_of};
 
     ghost Value = { List Local };
 
@@ -38,7 +37,7 @@ impl Model for Locals {
 
 impl Locals {
     /// Makes a list without names and trees.
-    #[tactic(auto, unfolding(crate::specs::Locals::locals_of))]
+    #[tactic(auto, unfolding(crate::specs::LocalSources::locals_of))]
     pub fn new(alloc: Global) -> Locals
         ensures { result ≡ [] }
     {
@@ -50,7 +49,7 @@ impl Locals {
     /// Adds a tree under a name. The tree replaces the tree that the name had; if the name had none, the new tree comes after all others.
     ///
     /// Fails with 92 `Memory` alone; then the list is unchanged.
-    #[tactic(auto, using(crate::proofs::Trees::locals_added, crate::proofs::Trees::last_given))]
+    #[tactic(auto, using(crate::proofs::LocalTreeMaps::locals_added, crate::proofs::LocalTreeMaps::last_given))]
     pub fn add(&mut self, name: Text, tree: Tree) -> Result<(), Memory>
         ensures ok { OnOk result (self.new ≡ with_local self.old name tree) }
         ensures last { OnOk result ((other : List ℕ) → tree_of_local self.new other ≡ cond (bytes_eq name other) (Some tree) (tree_of_local self.old other)) }
@@ -121,7 +120,7 @@ fn same_trees(trees: &IndexMap<String, Tree>, others: &IndexMap<String, Tree>) -
 }
 
 // Returns whether two lists have the same name with the same tree at index `i`, or both have no index `i`.
-#[tactic(auto, using(crate::proofs::Trees::local_at))]
+#[tactic(auto, using(crate::proofs::LocalTreeMaps::local_at))]
 fn same_at(trees: &IndexMap<String, Tree>, others: &IndexMap<String, Tree>, i: usize) -> bool
     ensures { IsTrue result ↔ (slice_get (locals_of trees.now.entries) i ≡ slice_get (locals_of others.now.entries) i) }
 {

@@ -1,7 +1,7 @@
 //! Finds the first local source of a graph for which no tree is given.
 
 ghost use Rattle.std.specs.Prelude.{◌≡◌, option_map};
-ghost use Rattle.llb_loader.specs.Missing.{missing_local};
+ghost use Rattle.llb_loader.specs.FirstMissingTree.{missing_local};
 
 use crate::graph::Graph;
 use crate::locals::Locals;

@@ -5,9 +5,9 @@ ghost use Rattle.std.specs.Option.{IfSome, IfNone};
 ghost use Rattle.std.specs.List.{All};
 ghost use Rattle.std.specs.Ordering.{nat_cmp};
 ghost use Rattle.std.specs.BTreeSet.{contains};
-ghost use Rattle.llb_loader.specs.Rows.{lists, InRange, inputs, Reached};
+ghost use Rattle.llb_loader.specs.ReachedRows.{lists, InRange, inputs, Reached};
 ghost use Rattle.llb_loader.specs.Numbering.{IsNumbering, HasCycle};
-ghost use Rattle.llb_loader.specs.Placing.{IsMarked, IsChecked, IsPlacing};
+ghost use Rattle.llb_loader.specs.WaitingRows.{IsMarked, IsChecked, IsPlacing};
 
 use std::alloc::{AllocError, Global};
 use std::collections::BTreeSet;

@@ -2,7 +2,7 @@
 
 ghost use Rattle.std.specs.Prelude.{◌≡◌, ℕ, ◌<◌, ◌≤◌, length, slice_index, IfOk};
 ghost use Rattle.std.specs.List.{All};
-ghost use Rattle.llb_loader.specs.Rows.{lists};
+ghost use Rattle.llb_loader.specs.ReachedRows.{lists};
 ghost use Rattle.llb_loader.specs.Numbering.{IsNumbering};
 
 use std::alloc::{AllocError, Global};

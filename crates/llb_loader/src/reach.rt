@@ -1,7 +1,7 @@
 //! Finds the rows that are reached from a row by following inputs.
 
 ghost use Rattle.std.specs.Prelude.{◌≡◌, ℕ, ◌<◌, ◌↔◌, length, slice_index_or, true, false, IfOk};
-ghost use Rattle.llb_loader.specs.Rows.{lists, InRange, Reached};
+ghost use Rattle.llb_loader.specs.ReachedRows.{lists, InRange, Reached};
 
 use std::alloc::{AllocError, Global};
 

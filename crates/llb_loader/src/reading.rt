@@ -2,9 +2,9 @@
 
 ghost use Rattle.std.specs.Prelude.{◌≡◌, ◌≤◌, false, length, IfOk, IfErr};
 ghost use Rattle.std.specs.List.{All};
-ghost use Rattle.llb_ops.specs.Within.{IsWithinLimits};
+ghost use Rattle.llb_ops.specs.OpsWithinLimits.{IsWithinLimits};
 ghost use Rattle.llb_loader.specs.Faults.{is_memory, row_fault};
-ghost use Rattle.llb_loader.specs.Bare.{AreRead, RefusesEntry};
+ghost use Rattle.llb_loader.specs.BareRows.{AreRead, RefusesEntry};
 
 use crate::fault::LoadFault;
 use llb_ops::{Bytes, Op, OpFault, read_op};

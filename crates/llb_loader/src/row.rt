@@ -11,7 +11,6 @@ pub struct Row {
     pub bytes: Bytes,
 }
 
-// This `Drop` is written by hand, so it is proved once; a derived `Drop` is proved again in every function that drops such a value.
 impl Drop for Row {
     fn drop(self) {
         let Row {

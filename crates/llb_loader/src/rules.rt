@@ -5,7 +5,7 @@ ghost use Rattle.llb_ops.specs.declared.op.Input.{Input};
 ghost use Rattle.std.specs.List.{All};
 ghost use Rattle.llb_ops.specs.declared.op.Kind.TheVariants as kind;
 ghost use Rattle.llb_loader.specs.Rules.{IsInput, MeetsRules, BreaksFirst, rules_on};
-ghost use Rattle.llb_loader.specs.Checking.{IsFirstBroken, merge_rules, source_rules};
+ghost use Rattle.llb_loader.specs.RulesByKind.{IsFirstBroken, merge_rules, source_rules};
 
 use crate::exec_rules::broken_in_exec;
 use crate::fault::Rule;

@@ -1,1 +1,1 @@
-pub mod Laid
+pub mod LayingProperties

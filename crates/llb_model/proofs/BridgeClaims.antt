@@ -9,18 +9,18 @@ use Rattle.llb_cache.specs.declared.key.Mode.TheVariants.{Shared, Private, Locke
 use Rattle.llb_cache.specs.declared.need.Need as cache_need
 use Rattle.llb_cache.specs.Caches as cache
 use Rattle.llb_cache.specs.Caches.{Row, Leases, Taken, trees_of, is_held, leases, is_locked, made, made_all, AreApart, AreThere}
-use Rattle.llb_cache.proofs.Numbers.{number_free, number_next}
+use Rattle.llb_cache.proofs.PrivateInstanceNumbers.{number_free, number_next}
 use Rattle.llb_cache.proofs.TreesOfKeys.{put_counts, makes}
 use Rattle.llb_tree.specs.Tree.{TreeMap}
 use Rattle.llb_model.specs.Caches.{Instance, place, content, put, put_all, Has, Distinct, is_in}
 use Rattle.llb_model.specs.Program.{Need, key_of, base_in}
 use Rattle.llb_model.specs.State.{WorkerStatus, held, above, number_for, place_for, places_for, is_locked_and_held, held_key, first_trees}
-use Rattle.llb_model.specs.Bridge.{store_of, put_each, HoldsAs, asked}
-use Rattle.llb_model.proofs.Stores.{has_in, has_map}
-use Rattle.llb_model.proofs.Claims.{free_found, places_distinct}
-use Rattle.llb_model.proofs.Dense.{in_has, below_number}
+use Rattle.llb_model.specs.CacheBridge.{store_of, put_each, HoldsAs, asked}
+use Rattle.llb_model.proofs.StoreWrites.{has_in, has_map}
+use Rattle.llb_model.proofs.ClaimedInstances.{free_found, places_distinct}
+use Rattle.llb_model.proofs.GaplessInstances.{in_has, below_number}
 use Rattle.llb_model.proofs.BridgeContents.{put_stands, made_stands}
-use Rattle.llb_model.proofs.Others.{first_same}
+use Rattle.llb_model.proofs.ExclusiveInstanceFrame.{first_same}
 
 same_bool : (a b : Bool) → (a ≡ true → b ≡ true) → (b ≡ true → a ≡ true) → a ≡ b
 same_bool true true f g = refl

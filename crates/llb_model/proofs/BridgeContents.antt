@@ -13,10 +13,10 @@ use Rattle.llb_cache.specs.Caches.{Row, trees_of, tree_at, made}
 use Rattle.llb_cache.proofs.TreesOfKeys.{same_trees, other_trees}
 use Rattle.llb_tree.specs.Tree.{TreeMap}
 use Rattle.llb_model.specs.Caches.{Instance, place, place_cmp, Store, content, put}
-use Rattle.llb_model.specs.Laws.{IsDense}
-use Rattle.llb_model.specs.Bridge.{put_from, store_from, store_of}
+use Rattle.llb_model.specs.WholeRunLaws.{IsDense}
+use Rattle.llb_model.specs.CacheBridge.{put_from, store_from, store_of}
 use Rattle.llb_model.proofs.Lists.{get_set_same, get_set_other, get_within, get_past}
-use Rattle.llb_model.proofs.Stores.{content_same, content_other, same_store, place_or}
+use Rattle.llb_model.proofs.StoreWrites.{content_same, content_other, same_store, place_or}
 
 number_apart : (k l : Key) (m n : ℕ) → m ≢ n → place k m ≢ place l n
 number_apart k l m n apart e = apart (ap (λ (p : Instance). p.number) e)

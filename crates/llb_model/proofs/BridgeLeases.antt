@@ -5,14 +5,14 @@ use Rattle.std.specs.Prelude.{slice_get, slice_set, nat_lt}
 use Rattle.std.proofs.lemmas.Bool.{ltb-false, ltb-true}
 use Rattle.llb_cache.specs.Caches as cache
 use Rattle.llb_cache.specs.Caches.{Leases, with_lease, free_lease, before, trimmed}
-use Rattle.llb_cache.proofs.Leased.{held_by, holder, free_within, lease_cases}
+use Rattle.llb_cache.proofs.InstanceHolders.{held_by, holder, free_within, lease_cases}
 use Rattle.llb_model.specs.Caches.{Instance, Has}
 use Rattle.llb_model.specs.State.{Execution, WorkerStatus, Idle, Runs}
-use Rattle.llb_model.specs.Bridge.{HoldsAs, AreLeased}
+use Rattle.llb_model.specs.CacheBridge.{HoldsAs, AreLeased}
 use Rattle.llb_model.proofs.Lists.{some_of, eq_or, got_set, get_set_same, get_set_other, length_set, get_within, got_within, get_middle}
-use Rattle.llb_model.proofs.Claims.{held_has}
-use Rattle.llb_model.proofs.Dense.{holder_of}
-use Rattle.llb_model.proofs.General.{lease_inside, some_apart}
+use Rattle.llb_model.proofs.ClaimedInstances.{held_has}
+use Rattle.llb_model.proofs.GaplessInstances.{holder_of}
+use Rattle.llb_model.proofs.ConstructorEqualities.{lease_inside, some_apart}
 
 -- ---- leases
 

@@ -13,12 +13,12 @@ use Rattle.llb_model.specs.Table.{cancel_reply}
 use Rattle.llb_model.specs.Table.{Reply, table}
 use Rattle.llb_model.specs.Run.{run}
 use Rattle.llb_model.specs.Landing.{steps_by}
-use Rattle.llb_model.specs.Room.{events_of, is_cancel_of, cancels_in, counts_from, cancel_counts, most_from, owed_by, owed_from, room_taken}
-use Rattle.llb_model.specs.Consistent.{IsConsistent}
-use Rattle.llb_model.proofs.Events.{Answer}
-use Rattle.llb_model.proofs.Runs.{run_none, run_first}
-use Rattle.llb_model.proofs.Rooms.{cancels_same, no_cancel, most_counts, from_zero, run_has_few}
-use Rattle.llb_model.proofs.Owing.{cancels_later, cancels_once_more, owed_counts, owed_few, event_owes, IsRoomy}
+use Rattle.llb_model.specs.EventBounds.{events_of, is_cancel_of, cancels_in, counts_from, cancel_counts, most_from, owed_by, owed_from, room_taken}
+use Rattle.llb_model.specs.ConsistentStates.{IsConsistent}
+use Rattle.llb_model.proofs.GrantedEvents.{Answer}
+use Rattle.llb_model.proofs.RunExtension.{run_none, run_first}
+use Rattle.llb_model.proofs.RemainingEvents.{cancels_same, no_cancel, most_counts, from_zero, run_has_few}
+use Rattle.llb_model.proofs.RecordRoomBalance.{cancels_later, cancels_once_more, owed_counts, owed_few, event_owes, IsRoomy}
 
 -- ---- by number
 

@@ -13,10 +13,10 @@ use Rattle.llb_model.specs.Table.{Reply, step_by, settle_reply, settle_with, tab
 use Rattle.llb_model.specs.Run.{run, after}
 use Rattle.llb_model.specs.Landing.{steps_by, further, is_over, AreThere, left_so_far, with_steps, after_steps, landed, StepsAsBlock, LandsAsBlock}
 use Rattle.llb_model.proofs.Lists.{get_set_same}
-use Rattle.llb_model.proofs.Stores.{same_store, has_or, kept_all, hold_all, hold_trees, hold_length, hold_same}
-use Rattle.llb_model.proofs.Parts.{go_keeps, next_step_is, unfinished_some}
-use Rattle.llb_model.proofs.Events.{step_granted, settle_granted}
-use Rattle.llb_model.proofs.Runs.{run_one, run_on}
+use Rattle.llb_model.proofs.StoreWrites.{same_store, has_or, kept_all, hold_all, hold_trees, hold_length, hold_same}
+use Rattle.llb_model.proofs.ProgramPrefixes.{go_keeps, next_step_is, unfinished_some}
+use Rattle.llb_model.proofs.GrantedEvents.{step_granted, settle_granted}
+use Rattle.llb_model.proofs.RunExtension.{run_one, run_on}
 
 -- ---- writes
 

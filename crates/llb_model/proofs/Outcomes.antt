@@ -19,11 +19,11 @@ use Rattle.llb_events.specs.declared.fault.VertexFault.{VertexFault}
 use Rattle.llb_model.specs.Program.{Build, Program, Workspace, needs_from, needs_of, with_need, has_cache, outputs_of, output_from}
 use Rattle.llb_model.specs.Outcome.{Ending, Done, Failed, ended, output_in, both, all_there, inputs_from, outcome_on, ending_in}
 use Rattle.llb_model.specs.Outcome.{next_outcome, outcomes, outcome, next_plain, is_plain}
-use Rattle.llb_model.specs.Laws.{HasNoCaches}
-use Rattle.llb_model.specs.ByNumber.{by_number}
+use Rattle.llb_model.specs.WholeRunLaws.{HasNoCaches}
+use Rattle.llb_model.specs.ListsFromEarlierItems.{by_number}
 use Rattle.llb_model.specs.State.{is_done}
 use Rattle.llb_model.proofs.Lists.{some_of, get_take, Each_of, Some_of, get_within, got_within}
-use Rattle.llb_model.proofs.ByNumber.{by_number_is}
+use Rattle.llb_model.proofs.ItemsFromEarlierItems.{by_number_is}
 
 -- ---- inputs
 

@@ -5,7 +5,7 @@ use Rattle.llb_loader.specs.declared.graph.Edge.{Edge}
 use Rattle.llb_loader.specs.declared.graph.Vertex.{Vertex}
 use Rattle.llb_tree.specs.Tree.{TreeMap}
 use Rattle.llb_events.specs.declared.fault.VertexFault.{VertexFault}
-use Rattle.llb_model.specs.ByNumber.{by_number}
+use Rattle.llb_model.specs.ListsFromEarlierItems.{by_number}
 use Rattle.llb_model.specs.Program.{Build, Program, Workspace, Left, start_with, program_of, begin, whole, outputs_of, has_cache}
 
 -- how a vertex ends: with its outputs, or with its first fault

@@ -25,14 +25,14 @@ use Rattle.llb_applet.specs.declared.join.Join.TheVariants.{Then, And, Or}
 use Rattle.llb_applet.specs.declared.join.Joined.{Joined}
 use Rattle.llb_applet.specs.Commands.{run, status_of}
 use Rattle.llb_loader.specs.Graph.{Numbered}
-use Rattle.llb_loader.specs.Locals.{Local, local_name, tree_of_local}
+use Rattle.llb_loader.specs.LocalSources.{Local, local_name, tree_of_local}
 use Rattle.llb_loader.specs.declared.graph.Vertex.{Vertex}
 use Rattle.llb_tree.specs.Tree.{TreeMap, empty_tree}
 use Rattle.llb_tree.specs.declared.fault.TreeFault.{TreeFault}
 use Rattle.llb_tree.specs.declared.fault.TreeFault.TheVariants.{NotFound, NotDir, IsDir, Conflict, Root, BadName, Memory}
 use Rattle.llb_fileop.specs.declared.fault.ActFault.{ActFault}
 use Rattle.llb_fileop.specs.declared.fault.ActFault.TheVariants as act_fault
-use Rattle.llb_fileop.specs.Act.{act}
+use Rattle.llb_fileop.specs.FileActions.{act}
 use Rattle.llb_merge.specs.Laying.{lay}
 use Rattle.llb_events.specs.declared.fault.VertexFault.{VertexFault}
 use Rattle.llb_events.specs.declared.fault.VertexFault.TheVariants as fault

@@ -9,7 +9,7 @@ use Rattle.llb_loader.specs.declared.graph.Edge.{Edge}
 use Rattle.llb_loader.specs.declared.graph.Vertex.{Vertex}
 use Rattle.llb_tree.specs.Tree.{TreeMap}
 use Rattle.llb_events.specs.declared.fault.VertexFault.{VertexFault}
-use Rattle.llb_model.specs.ByNumber.{by_number}
+use Rattle.llb_model.specs.ListsFromEarlierItems.{by_number}
 use Rattle.llb_model.specs.Caches.{Instance, place, Store, content, trees_at, is_in, Has}
 use Rattle.llb_model.specs.Program.{Build, MicroStep, Program, Workspace, Work, Need, Start, start_with, program_at, needs_of, base_in, begin}
 use Rattle.llb_model.specs.Outcome.{Ending, Done, Failed, ended, inputs_from}

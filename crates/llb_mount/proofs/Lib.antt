@@ -1,6 +1,6 @@
-pub mod Exchange
+pub mod MountTreeReplacement
 pub mod Routing
-pub mod Differing
-pub mod Prefixes
-pub mod Placed
-pub mod Climbing
+pub mod DistinctDests
+pub mod PathOrderPrefixes
+pub mod DestOrderInsertion
+pub mod LongestPrefixSearch

@@ -6,7 +6,7 @@ ghost use Rattle.std.specs.Prelude.{◌≡◌, ◌<◌, ◌+◌, true, length, I
 ghost use Rattle.llb_tree.specs.Path.{is_within};
 ghost use Rattle.llb_mount.specs.View.{IsView, dests};
 ghost use Rattle.llb_mount.specs.Route.{IsRoute};
-ghost use Rattle.llb_mount.specs.Order.{dest_of, Rises, HasFirst, IsPlace, Climbs, IsNear, IsOrder, AtRoot};
+ghost use Rattle.llb_mount.specs.DestOrder.{dest_of, Rises, HasFirst, IsPlace, Climbs, IsNear, IsOrder, AtRoot};
 
 use crate::fault::Memory;
 use crate::shown::Shown;

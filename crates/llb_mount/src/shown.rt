@@ -16,7 +16,6 @@ pub struct Shown {
     pub tree: Tree,
 }
 
-// This `Drop` is written by hand, so it is proved once; a derived `Drop` is proved again in every function that drops such a value.
 impl Drop for Shown {
     fn drop(self) {
         let Shown {

@@ -5,7 +5,7 @@ ghost use Rattle.std.specs.Prelude.{◌≡◌, ◌≢◌, ◌↔◌, IsTrue, ℕ
 ghost use Rattle.llb_mount.specs.View.{IsView, dests, mount_at, with_tree_of};
 ghost use Rattle.std.specs.Arc.{arc_value};
 ghost use Rattle.llb_mount.specs.Route.{IsRoute, route};
-ghost use Rattle.llb_mount.specs.Order.{IsOrder};
+ghost use Rattle.llb_mount.specs.DestOrder.{IsOrder};
 
 use crate::fault::{Memory, ReadOnly};
 use crate::order::{Row, ordered, route_by};
@@ -26,7 +26,6 @@ pub struct View {
     order: Option<Arc<Vec<Row>>>,
 }
 
-// This `Drop` is written by hand, so it is proved once; a derived `Drop` is proved again in every function that drops such a value.
 impl Drop for View {
     fn drop(self) {
         let View {
@@ -40,10 +39,10 @@ impl Model for View {
     ghost use Rattle.std.specs.Coded.{codes};
     ghost use Rattle.std.specs.Prelude.{List, IfSome};
     ghost use Rattle.std.specs.Arc.{arc_value};
-    ghost use Rattle.llb_tree.specs.Coded.{coded_tree};
+    ghost use Rattle.llb_tree.specs.CodedTrees.{coded_tree};
     ghost use Rattle.llb_mount.specs.declared.shown.Shown.{Shown};
     ghost use Rattle.llb_mount.specs.View.{IsView, dests};
-    ghost use Rattle.llb_mount.specs.Order.{IsOrder};
+    ghost use Rattle.llb_mount.specs.DestOrder.{IsOrder};
 
     ghost Value = { List Shown };
 

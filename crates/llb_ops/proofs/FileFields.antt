@@ -22,14 +22,15 @@ use Rattle.llb_ops.specs.Messages.{chown_opt_in, mk_file_of, mk_file_in, mk_dir_
 use Rattle.llb_ops.specs.Messages.{rm_of, rm_in, action_of, action_in, file_op_of, file_op_in}
 use Rattle.llb_ops.specs.Writing.{bit, set_bytes, set_number, input_bytes, user_opt_bytes, chown_opt_bytes, mk_file_bytes, mk_dir_bytes}
 use Rattle.llb_ops.specs.Writing.{copy_file_bytes, rm_bytes, action_bytes, file_op_bytes}
-use Rattle.llb_ops.proofs.Texts.{empty_utf8}
-use Rattle.llb_ops.proofs.Numbers.{from_signed, int64_recodes, int32_recodes, flag_recodes}
-use Rattle.llb_ops.proofs.Trips.{user_record, UserRead, user_cases, user_choice, action_record, ActionRead, action_from, action_choice}
-use Rattle.llb_ops.proofs.Trips.{user_opt_returns, chown_opt_returns, action_returns, input_made, user_opt_made, chown_opt_made}
-use Rattle.llb_ops.proofs.Trips.{mk_file_made, mk_dir_made, copy_file_made, rm_made, action_made, file_op_made}
-use Rattle.llb_ops.proofs.Tells.{tells_bytes, tells_number, tells_message}
-use Rattle.llb_ops.proofs.Told.{HasFrom, LeadsBy, next_is, is_repeated, Told, told_both, told_end, told_number, told_bytes, told_items, told_message}
-use Rattle.llb_ops.proofs.Told.{told_messages, tells_member, few_members, or_true, has_by, row_at, int64_is, int32_is, flag_is}
+use Rattle.llb_ops.proofs.TextValidity.{empty_utf8}
+use Rattle.llb_ops.proofs.NumberRoundTrip.{from_signed, int64_recodes, int32_recodes, flag_recodes}
+use Rattle.llb_ops.proofs.MessageRoundTrips.{user_record, UserRead, user_cases, user_choice, action_record, ActionRead, action_from, action_choice}
+use Rattle.llb_ops.proofs.MessageRoundTrips.{user_opt_returns, chown_opt_returns, action_returns, input_made, user_opt_made, chown_opt_made}
+use Rattle.llb_ops.proofs.MessageRoundTrips.{mk_file_made, mk_dir_made, copy_file_made, rm_made, action_made, file_op_made}
+use Rattle.llb_ops.proofs.LeadingTableFields.{tells_bytes, tells_number, tells_message}
+use Rattle.llb_ops.proofs.TableFieldsOfKinds.{HasFrom, LeadsBy, next_is, is_repeated, Told, told_both, told_end, told_number, told_bytes, told_items}
+use Rattle.llb_ops.proofs.TableFieldsOfKinds.{told_message}
+use Rattle.llb_ops.proofs.TableFieldsOfKinds.{told_messages, tells_member, few_members, or_true, has_by, row_at, int64_is, int32_is, flag_is}
 
 abbrev input_told : Told name.Input Input (List ℕ × (ℤ × Unit {0})) 0 false 2 false
 input_told =

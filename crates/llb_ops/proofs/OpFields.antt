@@ -12,20 +12,22 @@ use Rattle.llb_ops.specs.Limits.{entry_limit}
 use Rattle.llb_ops.specs.Records.{joined, is_member, one_of, message_of}
 use Rattle.llb_ops.specs.Messages.{input_of, source_op_of, kinds, kind_of, op_shape, op_message_of, op_in, op_of}
 use Rattle.llb_ops.specs.Writing.{set_bytes, one_of_field, messages_field, input_bytes, exec_op_bytes, source_op_bytes, file_op_bytes, merge_op_bytes, op_bytes}
-use Rattle.llb_ops.specs.Fields.{EntryHasFields, bytes_of, without_empty}
-use Rattle.llb_ops.proofs.Again.{bytes_part}
-use Rattle.llb_ops.proofs.FieldOf.{IsShort, IsWritten, FieldOf, Returns, returns_by}
-use Rattle.llb_ops.proofs.Sorts.{bytes_written, message_short}
-use Rattle.llb_ops.proofs.Choices.{choice}
-use Rattle.llb_ops.proofs.Trips.{kind_record, kind_own, kind_written, kind_again, kind_choice, KindRead, kind_from, op_made, entry_cases, input_returns}
-use Rattle.llb_ops.proofs.ExecFields.{exec_op_has, merge_op_has}
+use Rattle.llb_ops.specs.CanonicalFields.{EntryHasFields, bytes_of, without_empty}
+use Rattle.llb_ops.proofs.RecordRoundTrip.{bytes_part}
+use Rattle.llb_ops.proofs.FieldRoundTrip.{IsShort, IsWritten, FieldOf, Returns, returns_by}
+use Rattle.llb_ops.proofs.FieldKindRoundTrips.{bytes_written, message_short}
+use Rattle.llb_ops.proofs.OneofRoundTrip.{choice}
+use Rattle.llb_ops.proofs.MessageRoundTrips.{kind_record, kind_own, kind_written, kind_again, kind_choice, KindRead, kind_from, op_made, entry_cases}
+use Rattle.llb_ops.proofs.MessageRoundTrips.{input_returns}
+use Rattle.llb_ops.proofs.MergeAndExecFields.{exec_op_has, merge_op_has}
 use Rattle.llb_ops.proofs.FileFields.{input_has, file_op_has}
 use Rattle.llb_ops.proofs.SourceFields.{source_op_has, lean_source_bytes, lean_source_returns}
-use Rattle.llb_ops.proofs.Few.{NoneOften, are_few, are_few_without}
-use Rattle.llb_ops.proofs.Tells.{tells_bytes, tells_message}
-use Rattle.llb_ops.proofs.Shorter.{shorter}
-use Rattle.llb_ops.proofs.Told.{HasFrom, LeadsBy, next_is, is_repeated, Told, told_both, told_end, told_messages, tells_member, few_members, or_true}
-use Rattle.llb_ops.proofs.Told.{has_by, row_at}
+use Rattle.llb_ops.proofs.FieldOccurrences.{NoneOften, are_few, are_few_without}
+use Rattle.llb_ops.proofs.LeadingTableFields.{tells_bytes, tells_message}
+use Rattle.llb_ops.proofs.DroppedEmptyFields.{shorter}
+use Rattle.llb_ops.proofs.TableFieldsOfKinds.{HasFrom, LeadsBy, next_is, is_repeated, Told, told_both, told_end, told_messages, tells_member, few_members}
+use Rattle.llb_ops.proofs.TableFieldsOfKinds.{or_true}
+use Rattle.llb_ops.proofs.TableFieldsOfKinds.{has_by, row_at}
 
 -- a member without the empty keys and values of a source's attributes
 abbrev lean_kind_record : Kind → Record

@@ -7,12 +7,12 @@ use Rattle.llb_ops.specs.Attributes.{Held, entry_of}
 use Rattle.llb_ops.specs.Records.{all, message_of}
 use Rattle.llb_ops.specs.Messages.{attribute_entry_of, attribute_entry_in, source_op_of, source_op_in}
 use Rattle.llb_ops.specs.Writing.{bytes_field, messages_field, attribute_entry_bytes, source_op_bytes}
-use Rattle.llb_ops.proofs.Texts.{empty_utf8}
-use Rattle.llb_ops.proofs.FieldOf.{Returns, returns_by}
-use Rattle.llb_ops.proofs.Sorts.{each_read, some_messages, messages_own}
-use Rattle.llb_ops.proofs.SourceTrips.{attribute_entry_made, attribute_entry_returns, attributes_field, source_op_made, was_settled, was_read}
-use Rattle.llb_ops.proofs.Few.{none_repeated}
-use Rattle.llb_ops.proofs.Told.{HasFrom, next_is, is_repeated, Told, told_both, told_end, told_bytes, told_key, tells_messages, has_by, row_at}
+use Rattle.llb_ops.proofs.TextValidity.{empty_utf8}
+use Rattle.llb_ops.proofs.FieldRoundTrip.{Returns, returns_by}
+use Rattle.llb_ops.proofs.FieldKindRoundTrips.{each_read, some_messages, messages_own}
+use Rattle.llb_ops.proofs.SourceRoundTrip.{attribute_entry_made, attribute_entry_returns, attributes_field, source_op_made, was_settled, was_read}
+use Rattle.llb_ops.proofs.FieldOccurrences.{none_repeated}
+use Rattle.llb_ops.proofs.TableFieldsOfKinds.{HasFrom, next_is, is_repeated, Told, told_both, told_end, told_bytes, told_key, tells_messages, has_by, row_at}
 
 -- an entry without its key and its value where they are empty
 unfoldable pub lean_entry_bytes : AttributeEntry → List ℕ

@@ -26,7 +26,6 @@ pub struct MkFile {
     pub extra: Bytes,
 }
 
-// This `Drop` is written by hand, so it is proved once; a derived `Drop` is proved again in every function that drops such a value.
 impl Drop for MkFile {
     fn drop(self) {
         let MkFile {
@@ -94,7 +93,6 @@ pub struct MkDir {
     pub extra: Bytes,
 }
 
-// This `Drop` is written by hand, so it is proved once; a derived `Drop` is proved again in every function that drops such a value.
 impl Drop for MkDir {
     fn drop(self) {
         let MkDir {
@@ -170,7 +168,6 @@ pub struct CopyFile {
     pub extra: Bytes,
 }
 
-// This `Drop` is written by hand, so it is proved once; a derived `Drop` is proved again in every function that drops such a value.
 impl Drop for CopyFile {
     fn drop(self) {
         let CopyFile {
@@ -278,7 +275,6 @@ pub struct Rm {
     pub extra: Bytes,
 }
 
-// This `Drop` is written by hand, so it is proved once; a derived `Drop` is proved again in every function that drops such a value.
 impl Drop for Rm {
     fn drop(self) {
         let Rm {

@@ -5,8 +5,8 @@ ghost use Rattle.llb_wire.specs.Answer.{MemoryLast};
 ghost use Rattle.llb_ops.specs.Faults.{Gives, is_memory};
 ghost use Rattle.llb_ops.specs.Records.{view};
 ghost use Rattle.llb_ops.specs.Definition.{definition_of, admission, entries_in, counted, one_more, definition_bytes};
-ghost use Rattle.llb_ops.specs.Within.{AreWithinLimits};
-ghost use Rattle.llb_ops.specs.Laws.{AreReadAgain};
+ghost use Rattle.llb_ops.specs.OpsWithinLimits.{AreWithinLimits};
+ghost use Rattle.llb_ops.specs.ReadWriteLaws.{AreReadAgain};
 
 use crate::fault::OpFault;
 use crate::records::{Record, next_part};
@@ -22,7 +22,6 @@ pub struct Entries {
     entries: Vec<Bytes>,
 }
 
-// This `Drop` is written by hand, so it is proved once; a derived `Drop` is proved again in every function that drops such a value.
 impl Drop for Entries {
     fn drop(self) {
         let Entries { entries: _ } = self;

@@ -25,7 +25,6 @@ pub struct ExecOp {
     pub extra: Bytes,
 }
 
-// This `Drop` is written by hand, so it is proved once; a derived `Drop` is proved again in every function that drops such a value.
 impl Drop for ExecOp {
     fn drop(self) {
         let ExecOp {
@@ -48,7 +47,6 @@ pub struct Meta {
     pub extra: Bytes,
 }
 
-// This `Drop` is written by hand, so it is proved once; a derived `Drop` is proved again in every function that drops such a value.
 impl Drop for Meta {
     fn drop(self) {
         let Meta {
@@ -76,7 +74,6 @@ pub struct Mount {
     pub extra: Bytes,
 }
 
-// This `Drop` is written by hand, so it is proved once; a derived `Drop` is proved again in every function that drops such a value.
 impl Drop for Mount {
     fn drop(self) {
         let Mount {
@@ -99,7 +96,6 @@ pub struct TmpfsOpt {
     pub extra: Bytes,
 }
 
-// This `Drop` is written by hand, so it is proved once; a derived `Drop` is proved again in every function that drops such a value.
 impl Drop for TmpfsOpt {
     fn drop(self) {
         let TmpfsOpt { size: _, extra: _ } = self;
@@ -114,7 +110,6 @@ pub struct CacheOpt {
     pub extra: Bytes,
 }
 
-// This `Drop` is written by hand, so it is proved once; a derived `Drop` is proved again in every function that drops such a value.
 impl Drop for CacheOpt {
     fn drop(self) {
         let CacheOpt {

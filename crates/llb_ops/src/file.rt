@@ -20,7 +20,6 @@ pub struct FileOp {
     pub extra: Bytes,
 }
 
-// This `Drop` is written by hand, so it is proved once; a derived `Drop` is proved again in every function that drops such a value.
 impl Drop for FileOp {
     fn drop(self) {
         let FileOp {
@@ -35,7 +34,6 @@ pub struct Actions {
     shared: Arc<Vec<Action>>,
 }
 
-// This `Drop` is written by hand, so it is proved once; a derived `Drop` is proved again in every function that drops such a value.
 impl Drop for Actions {
     fn drop(self) {
         let Actions { shared: _ } = self;
@@ -52,7 +50,6 @@ pub struct Action {
     pub extra: Bytes,
 }
 
-// This `Drop` is written by hand, so it is proved once; a derived `Drop` is proved again in every function that drops such a value.
 impl Drop for Action {
     fn drop(self) {
         let Action {

@@ -14,7 +14,6 @@ pub struct MergeOp {
     pub extra: Bytes,
 }
 
-// This `Drop` is written by hand, so it is proved once; a derived `Drop` is proved again in every function that drops such a value.
 impl Drop for MergeOp {
     fn drop(self) {
         let MergeOp {
@@ -30,7 +29,6 @@ pub struct MergeInput {
     pub extra: Bytes,
 }
 
-// This `Drop` is written by hand, so it is proved once; a derived `Drop` is proved again in every function that drops such a value.
 impl Drop for MergeInput {
     fn drop(self) {
         let MergeInput { input: _, extra: _ } = self;

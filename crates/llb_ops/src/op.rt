@@ -2,11 +2,11 @@
 
 ghost use Rattle.std.specs.Prelude.{◌≡◌, Ok, IfOk};
 ghost use Rattle.llb_ops.specs.Faults.{Gives};
-ghost use Rattle.llb_ops.specs.Kinds.{kind_text};
+ghost use Rattle.llb_ops.specs.OpKindNames.{kind_text};
 ghost use Rattle.llb_ops.specs.Messages.{op_of};
 ghost use Rattle.llb_ops.specs.Writing.{op_bytes};
-ghost use Rattle.llb_ops.specs.Within.{IsWithinLimits};
-ghost use Rattle.llb_ops.specs.Laws.{IsReadAgain, IsReadOfRecords};
+ghost use Rattle.llb_ops.specs.OpsWithinLimits.{IsWithinLimits};
+ghost use Rattle.llb_ops.specs.ReadWriteLaws.{IsReadAgain, IsReadOfRecords};
 
 use crate::exec::ExecOp;
 use crate::fault::OpFault;
@@ -32,7 +32,6 @@ pub struct Op {
     pub extra: Bytes,
 }
 
-// This `Drop` is written by hand, so it is proved once; a derived `Drop` is proved again in every function that drops such a value.
 impl Drop for Op {
     fn drop(self) {
         let Op {
@@ -62,7 +61,6 @@ pub struct Input {
     pub extra: Bytes,
 }
 
-// This `Drop` is written by hand, so it is proved once; a derived `Drop` is proved again in every function that drops such a value.
 impl Drop for Input {
     fn drop(self) {
         let Input {

@@ -15,7 +15,6 @@ pub struct ChownOpt {
     pub extra: Bytes,
 }
 
-// This `Drop` is written by hand, so it is proved once; a derived `Drop` is proved again in every function that drops such a value.
 impl Drop for ChownOpt {
     fn drop(self) {
         let ChownOpt {
@@ -65,7 +64,6 @@ pub struct UserOpt {
     pub extra: Bytes,
 }
 
-// This `Drop` is written by hand, so it is proved once; a derived `Drop` is proved again in every function that drops such a value.
 impl Drop for UserOpt {
     fn drop(self) {
         let UserOpt { user: _, extra: _ } = self;

@@ -1,13 +1,13 @@
 //! The records of a message, and how the value of each kind of field is read from them. The same calls serve all messages.
 
-ghost use Rattle.std.specs.Prelude.{◌≡◌, ◌+◌, ◌≤◌, ◌<◌, ◌==◌, Option, Some, Ok, [], length, drop, take, map, IfOk, option_map, is_none, not, true};
+ghost use Rattle.std.specs.Prelude.{◌≡◌, ◌+◌, ◌≤◌, ◌<◌, ◌==◌, Option, Some, Ok, [], length, drop, take, map, IfOk, option_map, is_none, is_some, not, true};
 ghost use Rattle.std.specs.Option.{IfSome};
 ghost use Rattle.std.specs.Str.{IsUtf8, is_utf8};
 ghost use Rattle.llb_wire.specs.Records.{record_of};
 ghost use Rattle.llb_ops.specs.Faults.{Gives};
 ghost use Rattle.llb_ops.specs.declared.shape.Form.TheVariants as form;
 ghost use Rattle.llb_ops.specs.Table.{shape_of};
-ghost use Rattle.llb_ops.specs.Fields.{are_unnamed};
+ghost use Rattle.llb_ops.specs.CanonicalFields.{are_unnamed};
 ghost use Rattle.llb_ops.specs.Records.{view, views, form_of, wire_fits, records_from, Starts, texts_fit, text_fits, parts as parts_of};
 ghost use Rattle.llb_ops.specs.Records.{all as all_of, last_of, number as number_of, payload as payload_of, payloads, uint32, int32, int64};
 ghost use Rattle.llb_ops.specs.Records.{flag, joined as joined_of, unnamed as unnamed_of, chosen as chosen_of, since as since_of};
@@ -111,7 +111,7 @@ pub fn split<'a>(
     Ok(records)
 }
 
-#[tactic(auto, using(crate::proofs::Texts::utf8_true, crate::proofs::Texts::utf8_false))]
+#[tactic(auto, using(crate::proofs::TextValidity::utf8_true, crate::proofs::TextValidity::utf8_false))]
 fn is_text(bytes: &[u8]) -> bool
     ensures { result ≡ is_utf8 bytes.now }
 {
@@ -286,9 +286,10 @@ pub fn each_text(
 }
 
 /// Returns the payload of a field's record, if the field has exactly one record.
-#[tactic(auto, using(crate::proofs::Joined::of_one))]
+#[tactic(auto, using(crate::proofs::JoinedPayloads::of_one))]
 pub fn lone_payload<'a>(records: &[Record<'a>], number: u32) -> Option<&'a [u8]>
-    ensures { IfSome result (λ payload. payload.now ≡ joined_of (all_of number (views records.now))) }
+    ensures there { is_some result ≡ (length (all_of number (views records.now)) == 1) }
+    ensures payload { IfSome result (λ payload. payload.now ≡ joined_of (all_of number (views records.now))) }
 {
     if count(records, number) != 1 {
         return None;

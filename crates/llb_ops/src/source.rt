@@ -21,7 +21,6 @@ pub struct SourceOp {
     pub extra: Bytes,
 }
 
-// This `Drop` is written by hand, so it is proved once; a derived `Drop` is proved again in every function that drops such a value.
 impl Drop for SourceOp {
     fn drop(self) {
         let SourceOp {
@@ -38,7 +37,6 @@ pub struct Attributes {
     held: IndexMap<Text, Attribute>,
 }
 
-// This `Drop` is written by hand, so it is proved once; a derived `Drop` is proved again in every function that drops such a value.
 impl Drop for Attributes {
     fn drop(self) {
         let Attributes { held: _ } = self;
@@ -51,7 +49,6 @@ pub struct Attribute {
     pub extra: Bytes,
 }
 
-// This `Drop` is written by hand, so it is proved once; a derived `Drop` is proved again in every function that drops such a value.
 impl Drop for Attribute {
     fn drop(self) {
         let Attribute { value: _, extra: _ } = self;

@@ -1,3 +1,3 @@
-pub mod Steps
-pub mod Vertices
+pub mod ProgramEnd
+pub mod VertexOutcomes
 pub mod NoCaches

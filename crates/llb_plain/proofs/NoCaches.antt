@@ -3,12 +3,12 @@ use Rattle.std.proofs.Common.{◌≡◌, ℕ, zero, suc, ◌+◌, List, [], ◌�
 use Rattle.std.specs.Prelude.{Bool, Option, Some, None, true, false, slice_get, if◌then◌else◌}
 use Rattle.llb_ops.specs.declared.op.Kind.{Kind}
 use Rattle.llb_ops.specs.declared.op.Kind.TheVariants as kind
-use Rattle.llb_loader.specs.Locals.{Local}
+use Rattle.llb_loader.specs.LocalSources.{Local}
 use Rattle.llb_loader.specs.declared.graph.Vertex.{Vertex}
 use Rattle.llb_tree.specs.Tree.{TreeMap}
 use Rattle.llb_model.specs.Program.{has_cache, mount_of, workspace_on}
 use Rattle.llb_model.proofs.Outcomes.{no_needs}
-use Rattle.llb_execution.specs.Parts.{shown_in}
+use Rattle.llb_execution.specs.ModelValues.{shown_in}
 use Rattle.llb_plain.specs.Evaluation.{cache_from}
 
 -- none of the vertices so far mounts one

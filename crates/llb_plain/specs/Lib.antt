@@ -1,4 +1,4 @@
--- Read first Evaluation (what an evaluation returns), then Endings (what an outcome of this crate represents) and Faults.
-pub mod Faults
-pub mod Endings
+-- Read first Evaluation (what an evaluation returns), then OutcomeModelValues (what an outcome of this crate represents) and CallResults.
+pub mod CallResults
+pub mod OutcomeModelValues
 pub mod Evaluation

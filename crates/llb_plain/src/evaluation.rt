@@ -4,9 +4,9 @@ ghost use Rattle.std.specs.Prelude.{◌≡◌, false, Ok};
 ghost use Rattle.llb_loader.specs.Graph.{IsVertexOf, Numbered};
 ghost use Rattle.llb_model.specs.Outcome.{next_outcome, outcomes};
 ghost use Rattle.llb_model.specs.Program.{has_cache};
-ghost use Rattle.llb_model.specs.Laws.{HasNoCaches};
-ghost use Rattle.llb_plain.specs.Endings.{outcome_of};
-ghost use Rattle.llb_plain.specs.Faults.{Gives, MemoryLast};
+ghost use Rattle.llb_model.specs.WholeRunLaws.{HasNoCaches};
+ghost use Rattle.llb_plain.specs.OutcomeModelValues.{outcome_of};
+ghost use Rattle.llb_plain.specs.CallResults.{Gives, MemoryLast};
 ghost use Rattle.llb_plain.specs.Evaluation.{evaluate_of};
 
 use crate::cache::first_with_cache;

@@ -2,8 +2,8 @@
 
 ghost use Rattle.std.specs.Prelude.{◌≡◌, ◌==◌, ◌++◌, ◌∷◌, [], Some, length, map, option_map, slice_get, true, IfErr, OnOk, OnErr};
 ghost use Rattle.llb_model.specs.Outcome.{ending_in, output_in};
-ghost use Rattle.llb_plain.specs.Endings.{outcome_of};
-ghost use Rattle.llb_plain.specs.Faults.{is_memory};
+ghost use Rattle.llb_plain.specs.OutcomeModelValues.{outcome_of};
+ghost use Rattle.llb_plain.specs.CallResults.{is_memory};
 
 use crate::fault::PlainFault;
 use llb_events::VertexFault;
@@ -42,7 +42,6 @@ pub struct Outcomes {
     items: Vec<Outcome>,
 }
 
-// This `Drop` is written by hand, so it is proved once; a derived `Drop` is proved again in every function that drops such a value.
 impl Drop for Outcomes {
     fn drop(self) {
         let Outcomes { items: _ } = self;
@@ -52,9 +51,9 @@ impl Drop for Outcomes {
 impl Model for Outcomes {
     ghost use Rattle.std.specs.Coded.{codes};
     ghost use Rattle.std.specs.Prelude.{List, map};
-    ghost use Rattle.llb_tree.specs.Coded.{coded_tree};
+    ghost use Rattle.llb_tree.specs.CodedTrees.{coded_tree};
     ghost use Rattle.llb_model.specs.Outcome as model;
-    ghost use Rattle.llb_plain.specs.Endings.{outcome_of};
+    ghost use Rattle.llb_plain.specs.OutcomeModelValues.{outcome_of};
 
     ghost Value = { List model.Outcome };
 
@@ -113,7 +112,7 @@ impl Outcomes {
 }
 
 impl Outputs for Outcomes {
-    ghost use Rattle.llb_plain.specs.Endings.{ending_among};
+    ghost use Rattle.llb_plain.specs.OutcomeModelValues.{ending_among};
 
     ghost ending = { ending_among };
 

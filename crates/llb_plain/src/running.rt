@@ -4,8 +4,8 @@ ghost use Rattle.std.specs.Prelude.{◌≡◌, false, Ok, Some};
 ghost use Rattle.llb_loader.specs.Graph.{IsVertexOf, Numbered};
 ghost use Rattle.llb_model.specs.Outcome.{outcome_on};
 ghost use Rattle.llb_model.specs.Program.{has_cache};
-ghost use Rattle.llb_plain.specs.Endings.{outcome_of};
-ghost use Rattle.llb_plain.specs.Faults.{Gives};
+ghost use Rattle.llb_plain.specs.OutcomeModelValues.{outcome_of};
+ghost use Rattle.llb_plain.specs.CallResults.{Gives};
 
 use crate::fault::PlainFault;
 use crate::outcome::Outcome;

@@ -1,6 +1,6 @@
 pub mod Sums
 pub mod Weights
-pub mod Parts
-pub mod Steps
-pub mod Cuts
-pub mod Lessons
+pub mod PassParts
+pub mod PutAndTake
+pub mod PassSplitAndJoin
+pub mod WholePassFacts

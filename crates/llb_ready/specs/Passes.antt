@@ -4,7 +4,7 @@ use Rattle.crossbeam_queue.specs.Passes.{view, IsPassOf, ruled_capacity}
 use Rattle.llb_ready.specs.declared.hand.Hand.{Hand}
 use Rattle.llb_ready.specs.declared.queue.ReadyQueue.{ReadyQueue}
 use Rattle.llb_ready.specs.declared.queue.ReadyPass.{ReadyPass}
-use Rattle.llb_ready.specs.Hands.{HasAll}
+use Rattle.llb_ready.specs.PassKnowledge.{HasAll}
 
 -- what contracts know of a pass: its fraction, the queue's room, and the numbers that were put and taken with it
 abbrev pub hand_of : ReadyPass → Hand

@@ -3,8 +3,8 @@
 
 ghost use Rattle.std.specs.Prelude.{◌≡◌, ◌≤◌, ◌+◌, ℕ, List, length, IfOk, IfErr, IfSome, IfNone, OnOk, MatchResult, MatchOption};
 ghost use Rattle.crossbeam_queue.specs.Passes.{view};
-ghost use Rattle.llb_ready.specs.Hands.{HasPart, SamePart, first_hand, with_put, with_taken, halved, other_half, together};
-ghost use Rattle.llb_ready.specs.Conserved.{times, IsConserved, HasRoom, HasNoRoom, HasTakenAll, HasLeft};
+ghost use Rattle.llb_ready.specs.PassKnowledge.{HasPart, SamePart, first_hand, with_put, with_taken, halved, other_half, together};
+ghost use Rattle.llb_ready.specs.Conservation.{times, IsConserved, HasRoom, HasNoRoom, HasTakenAll, HasLeft};
 
 use crate::fault::{Full, ReadyFault};
 use crate::hand::Hand;

@@ -8,8 +8,8 @@ use crossbeam_queue::protocol::{Join, Lesson, Outcome, Protocol, Split};
 pub(crate) struct Fair;
 
 impl Protocol<u32, Hand> for Fair {
-    ghost use Rattle.llb_ready.specs.Hands.{first_hand};
-    ghost use Rattle.llb_ready.specs.Balance.{IsBalanced};
+    ghost use Rattle.llb_ready.specs.PassKnowledge.{first_hand};
+    ghost use Rattle.llb_ready.specs.QueueInvariant.{IsBalanced};
 
     ghost holds = { IsBalanced };
 
@@ -20,7 +20,7 @@ impl Protocol<u32, Hand> for Fair {
 pub(crate) struct Widens;
 
 impl Split<Hand> for Widens {
-    ghost use Rattle.llb_ready.specs.Hands.{widened, spent};
+    ghost use Rattle.llb_ready.specs.PassKnowledge.{widened, spent};
 
     ghost left = { widened };
 
@@ -31,7 +31,7 @@ impl Split<Hand> for Widens {
 pub(crate) struct Halves;
 
 impl Split<Hand> for Halves {
-    ghost use Rattle.llb_ready.specs.Hands.{halved, other_half};
+    ghost use Rattle.llb_ready.specs.PassKnowledge.{halved, other_half};
 
     ghost left = { halved };
 
@@ -42,7 +42,7 @@ impl Split<Hand> for Halves {
 pub(crate) struct Joins;
 
 impl Join<Hand> for Joins {
-    ghost use Rattle.llb_ready.specs.Hands.{together, spent};
+    ghost use Rattle.llb_ready.specs.PassKnowledge.{together, spent};
 
     ghost both = { together };
 
@@ -53,7 +53,7 @@ impl Join<Hand> for Joins {
 pub(crate) struct Puts;
 
 impl Outcome<u32, Hand> for Puts {
-    ghost use Rattle.llb_ready.specs.Conserved.{GainsPut};
+    ghost use Rattle.llb_ready.specs.Conservation.{GainsPut};
 
     ghost then = { GainsPut };
 }
@@ -62,19 +62,19 @@ impl Outcome<u32, Hand> for Puts {
 pub(crate) struct Takes;
 
 impl Outcome<u32, Hand> for Takes {
-    ghost use Rattle.llb_ready.specs.Conserved.{GainsTaken};
+    ghost use Rattle.llb_ready.specs.Conservation.{GainsTaken};
 
     ghost then = { GainsTaken };
 }
 
 impl Lesson<u32, Hand> for Puts {
-    ghost use Rattle.llb_ready.specs.Conserved.{Knows};
+    ghost use Rattle.llb_ready.specs.Conservation.{Knows};
 
     ghost fact = { Knows };
 }
 
 impl Lesson<u32, Hand> for Takes {
-    ghost use Rattle.llb_ready.specs.Conserved.{Knows};
+    ghost use Rattle.llb_ready.specs.Conservation.{Knows};
 
     ghost fact = { Knows };
 }
@@ -84,7 +84,7 @@ impl Lesson<u32, Hand> for Takes {
 pub(crate) struct Learns;
 
 impl Lesson<u32, Hand> for Learns {
-    ghost use Rattle.llb_ready.specs.Conserved.{Knows};
+    ghost use Rattle.llb_ready.specs.Conservation.{Knows};
 
     ghost fact = { Knows };
 }

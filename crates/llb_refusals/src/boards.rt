@@ -12,7 +12,7 @@ use llb_board::{
 };
 use llb_cache::Caches;
 use llb_loader::{Graph, Locals};
-use llb_session::{Request, request_in};
+use llb_session::{Looks, Request, request_in};
 use llb_wire::Same;
 use std::alloc::Global;
 use std::mem;
@@ -101,7 +101,7 @@ pub(crate) fn board_on(rt: &impl Abort, alloc: Global, written: &Written) -> Boa
 }
 
 pub(crate) fn event_in(line: &str) -> Option<Event> {
-    match request_in(line.as_bytes()) {
+    match request_in(Looks::Refused, line.as_bytes()) {
         Some(Request::Event(event)) => Some(event),
         _ => None,
     }

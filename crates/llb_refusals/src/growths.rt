@@ -1,6 +1,6 @@
-//! Refuses each growth (each request for memory) of a call in turn. The library `tools/llbm_tools/refuse.c`, which is between the test and the allocator,
-//! makes the growth fail. To say which growth is to fail, a test requests memory: the number of the growth is in the size of the request, which is so large
-//! that no allocator grants it.
+//! Refuses each growth (each request for memory) of a call in turn. The library `tools/llbm_tools/repository/refuse.c`, which is between the test and the
+//! allocator, makes the growth fail. To say which growth is to fail, a test requests memory: the number of the growth is in the size of the request, which is
+//! so large that no allocator grants it.
 
 use super::printed::is_same;
 use llb_samples::tree_text;
@@ -34,12 +34,19 @@ const START: usize = 0x3000_0000_0000_0000;
 
 const TELL: usize = 0x2000_0000_0000_0000;
 
+const ALL: usize = 0x4000_0000_0000_0000;
+
 /// The limit on the number of growths (requests for memory) of one call: a call that has this many ends the test.
 pub(crate) const MOST: usize = 100_000;
 
 /// Makes the `k`-th growth (request for memory) from now on fail, and only that one. Has no effect if the library `refuse.c` is not loaded.
 pub(crate) fn refuse(alloc: Global, k: usize) {
     let _ = Vec::<u8>::with_capacity(alloc, ASK | k);
+}
+
+/// Makes every growth (request for memory) from now on fail, until `was_refused` is called. Has no effect if the library `refuse.c` is not loaded.
+pub(crate) fn refuse_all(alloc: Global) {
+    let _ = Vec::<u8>::with_capacity(alloc, ALL);
 }
 
 /// Makes the `k`-th start of a thread from now on fail, and only that one. Has no effect if the library `refuse.c` is not loaded.

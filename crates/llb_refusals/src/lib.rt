@@ -1,5 +1,6 @@
 //! This crate has only tests. A test makes the same call again and again, and each time another growth (another request for memory) of the call fails. A
-//! library, which `tools/refuse` loads into the tests, makes the growths fail. Without the library each test makes each call once, and no growth fails.
+//! library, which `tools/refuse` loads into the tests, makes the growths fail. Without the library each test makes each call once, and no growth fails. In the
+//! tests of `sessions` every growth of a call fails.
 #![tactic(auto)]
 
 #[cfg(test)]
@@ -12,6 +13,8 @@ mod board_rows;
 mod boards;
 #[cfg(test)]
 mod caches;
+#[cfg(test)]
+mod command_lines;
 #[cfg(test)]
 mod graphs;
 #[cfg(test)]
@@ -26,6 +29,8 @@ mod programs;
 mod runs;
 #[cfg(test)]
 mod scripts;
+#[cfg(test)]
+mod sessions;
 #[cfg(test)]
 mod steppers;
 #[cfg(test)]

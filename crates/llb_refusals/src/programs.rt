@@ -3,10 +3,7 @@
 use super::growths::{MOST, Row, Trial, are_refused, is_lack, print_count, refuse, was_refused};
 use super::printed::{is_same, printed_bytes, printed_text, say};
 use super::written::{definition_of, entries_text, locals_of};
-use llb_commands::{
-    ReadFault, WordsFault, asm_over, command_of, dis_over, read_bounded, run_many_over, run_over,
-    show_over, step_over,
-};
+use llb_commands::{asm_over, dis_over, look_over, run_many_over, run_over, show_over, step_over};
 use llb_loader::Locals;
 use llb_samples::tree_text;
 use std::alloc::Global;
@@ -104,6 +101,21 @@ fn step(alloc: Global, mut file: &[u8], commands: &str, handed: &mut Vec<Locals>
     }
 }
 
+fn look(alloc: Global, mut file: &[u8], commands: &str, handed: &mut Vec<Locals>, ran: &mut Ran) {
+    let mut lines = commands.as_bytes();
+    if let Some(locals) = handed.pop() {
+        ran.status = look_over(
+            alloc,
+            &mut file,
+            &mut lines,
+            &mut ran.out,
+            &mut ran.err,
+            locals,
+            2,
+        );
+    }
+}
+
 // Calls a command that takes no local trees: `asm_over`, `dis_over` or `show_over`.
 fn other(alloc: Global, call: &str, mut input: &[u8], ran: &mut Ran) {
     let Ran { status, out, err } = ran;
@@ -159,6 +171,7 @@ impl Trial for OnInput {
         match *call {
             "run_over" => run(alloc, input.as_slice(), locals, ran),
             "step_over" => step(alloc, input.as_slice(), commands.as_str(), locals, ran),
+            "look_over" => look(alloc, input.as_slice(), commands.as_str(), locals, ran),
             _ => other(alloc, call, input.as_slice(), ran),
         }
     }
@@ -172,7 +185,7 @@ impl Trial for OnInput {
     fn is_as_before(&mut self, _rt: &impl Abort, _alloc: Global) -> bool {
         match (self.call, str::from_utf8(self.ran.out.as_slice())) {
             ("asm_over", _) => self.ran.out.is_empty(),
-            ("step_over", Ok(out)) => is_session(out, self.wanted),
+            ("step_over" | "look_over", Ok(out)) => is_session(out, self.wanted),
             (_, Ok(out)) => self.wanted.starts_with(out),
             (_, Err(_)) => false,
         }
@@ -319,7 +332,7 @@ const GONE_ON: &[(&str, &str, &str)] = &[
 ];
 
 const LOOKS: &str =
-    "step_over: next; next; work 0; work 0 0; work 0 1; caches; cache 0 0; work 1; quit";
+    "look_over: next; next; work 0; work 0 0; work 0 1; caches; cache 0 0; work 1; quit";
 
 const SEEN: &str =
     "1 claim 0 0 -> exec 1\n2 step 0 -> ran 0 0\n0 mount /\n1 mount /c\nd 0755 0 0 /\n\
@@ -367,72 +380,6 @@ const ROWS: &[Row] = &[
 #[test]
 fn commands(rt: HostRuntime) {
     are_refused::<OnInput>(&rt, rt.alloc(), ROWS);
-}
-
-// Which words of a command line, or which bytes, the call reads; and the result of the latest call in words.
-#[derive(Drop)]
-struct OnWords {
-    call: &'static str,
-    came: &'static str,
-}
-
-const NO_WORDS: [&str; 0] = [];
-
-fn printed_words(alloc: Global, words: &[&str]) -> &'static str {
-    match command_of(alloc, words) {
-        Ok(_) => "granted",
-        Err(WordsFault::Memory) => "184",
-        Err(WordsFault::Words(_)) => "183",
-    }
-}
-
-fn printed_read(alloc: Global) -> &'static str {
-    let mut input = b"hello".as_slice();
-    match read_bounded(alloc, &mut input, 5, 10) {
-        Ok(bytes) if bytes.as_slice() == b"hello".as_slice() => "granted",
-        Err(ReadFault::Memory) => "memory",
-        _ => "another answer",
-    }
-}
-
-impl Trial for OnWords {
-    fn ready(_rt: &impl Abort, _alloc: Global, row: &Row) -> OnWords {
-        OnWords {
-            call: row.1,
-            came: "nothing",
-        }
-    }
-
-    fn call(&mut self, alloc: Global) {
-        self.came = match self.call {
-            "hello" => printed_read(alloc),
-            "no words" => printed_words(alloc, &NO_WORDS),
-            "show" => printed_words(alloc, &["show"]),
-            "show x" => printed_words(alloc, &["show", "x"]),
-            _ => printed_words(alloc, &["run", "--workers", "3", "p=a"]),
-        };
-    }
-
-    fn printed(&self, rt: &impl Abort, alloc: Global) -> String {
-        printed_text(rt, alloc, self.came)
-    }
-
-    fn is_as_before(&mut self, _rt: &impl Abort, _alloc: Global) -> bool {
-        true
-    }
-}
-
-const WORDS: &[Row] = &[
-    ("read_bounded", "hello", "memory", "granted"),
-    ("command_of", "no words", "184", "granted"),
-    ("command_of", "show", "184", "granted"),
-    ("command_of", "show x", "184", "183"),
-    ("command_of", "run --workers 3 p=a", "184", "granted"),
-];
-
-#[test]
-fn words(rt: HostRuntime) {
-    are_refused::<OnWords>(&rt, rt.alloc(), WORDS);
 }
 
 fn run_many<R: Threads + Wait + Sync>(

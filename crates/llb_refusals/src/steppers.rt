@@ -5,7 +5,7 @@ use super::boards::{are_same, board_in, board_of};
 use super::growths::{Row, Trial, are_refused};
 use super::printed::{printed_fault, printed_text};
 use llb_board::Event;
-use llb_session::{Request, request_in};
+use llb_session::{Looks, Request, request_in};
 use llb_stepper::{Break, Stepper, StepperFault, Stop};
 use llb_wire::Text;
 use std::alloc::Global;
@@ -50,7 +50,7 @@ fn replayed(stepper: &mut Stepper, events: &[Event]) -> Answer {
 }
 
 fn asked(stepper: &mut Stepper, line: &str) -> Answer {
-    match request_in(line.as_bytes()) {
+    match request_in(Looks::Refused, line.as_bytes()) {
         Some(Request::Break(stop)) => broken(stepper, stop),
         Some(Request::Event(event)) => done(stepper, event),
         Some(Request::Go) => gone(stepper),
@@ -63,7 +63,7 @@ fn ask(stepper: &mut Stepper, line: &str) {
     let _ = asked(stepper, line);
 }
 
-fn stepper_of(rt: &impl Abort, alloc: Global, on: &'static str) -> Stepper {
+pub(crate) fn stepper_of(rt: &impl Abort, alloc: Global, on: &'static str) -> Stepper {
     let (board, lines) = on.split_once(" then ").unwrap_or((on, ""));
     let mut stepper = Stepper::new(alloc, board_of(rt, alloc, &board_in(rt, board)));
     for line in lines.split("; ") {

@@ -2,8 +2,7 @@
 //! assembler's text, in which ` | ` replaces some line ends. `%0`, `%1` and `%2` are the digests of the first three entries of the definition in which the
 //! entry is used: `MERGES_0_1` merges the first two entries, whatever they are. A digest of one letter is the digest of a row in tests of `link`.
 
-pub(crate) const ENTRIES: &str = concat!(
-    r#"
+pub(crate) const ENTRIES: &str = r#"
 == MAKES_A: a file `/a` with the content `hi` on nothing
 op { | file { | actions { | input -1 | mkfile { | path "/a" | mode 420 | data 6869 | } | } | } | }
 == MAKES_B: a file `/b` with the content `ho` on nothing
@@ -24,8 +23,6 @@ op { | file {
 actions { | input -1 | output -1 | mkdir { | path "/p" | mode 493 | } | }
 actions { | mkfile { | path "/p/r" | mode 420 | data 33 | } | }
 } | }
-== MAKES_OUT: a directory `/out` on nothing (the graph of `examples/tour.text`)
-op { | file { | actions { | input -1 | secondaryInput -1 | mkdir { | path "/out" | mode 493 | } | } | } | }
 == D_ON_0: a directory `/d` on what the first entry gives
 op { | inputs { | digest %0 | } | file { | actions { | mkdir { | path "/d" | mode 493 | } | } | } | }
 == D_ON_1_OF_0_1: a directory `/d` on what the second entry gives; the first is an input that is not looked at
@@ -63,8 +60,6 @@ op { | inputs { | digest "C" | } | merge { | inputs { | } | } | }
 op { | source { | identifier "local://p" | } | }
 == SOURCE_Q: the local source `q`
 op { | source { | identifier "local://q" | } | }
-== SOURCE: the local source `source`
-op { | source { | identifier "local://source" | } | }
 == NAMES_A: the terminal on what the row A gives
 op { | inputs { | digest "A" | } | }
 == NAMES_B: the terminal on what the row B gives
@@ -86,12 +81,6 @@ mounts { | dest "/" | }
 mounts { | dest "/t" | output -1 | mountType 4 | }
 mounts { | input 1 | selector "/sub" | dest "/t/in" | output 1 | }
 } | }
-== OUTPUTS_TURNED: a command on the empty tree at `/`, which is output 0, and on the second entry at `/in`, which is output 1 and read-only
-op { | inputs { | digest %0 | } | inputs { | digest %1 | } | exec {
-meta { | args "/bin/sh" | args "-c" | args "write /x k" | cwd "/" | }
-mounts { | input 1 | dest "/in" | output 1 | readonly true | }
-mounts { | input -1 | dest "/" | }
-} | }
 == FAILS_AT_1: a command on the first entry that is done, one that ends with status 1, and one after it; the second entry is not looked at
 op { | inputs { | digest %0 | } | inputs { | digest %1 | } | exec {
 meta { | args "/bin/sh" | args "-c" | args "write /x k && false && write /y k" | cwd "/" | } | mounts { | dest "/" | }
@@ -102,24 +91,8 @@ meta { | args "/bin/sh" | args "-c" | args "write g k && envfile e" | env "A=1" 
 mounts { | dest "/" | output 1 | }
 mounts { | input 1 | dest "/in" | }
 } | }
-== WORKS_IN_OUT: seven commands in `/out` of the second entry, with the texts of the source at `/src` and a tmpfs at `/tmp`
-op { | inputs { | digest %1 | } | inputs { | digest %0 | } | exec { | meta { | args "/bin/sh" | args "-c"
-args "mkdir -p bin && concat bin/all /src/head /src/tail && sha256 bin/all /tmp/digest && cp /tmp/digest bin/digest"#,
-    r#" && chmod 0444 bin/all && envfile env && test -f bin/all"
-env "LANG=C" | cwd "/out" | }
-mounts { | dest "/" | }
-mounts { | input 1 | selector "/text" | dest "/src" | output -1 | readonly true | }
-mounts { | input -1 | dest "/tmp" | output -1 | mountType 4 | }
-} | }
 == IN_TWO_WAYS: one ID in two ways: locked at `/c`, and shared at `/e`
 op { | exec { | meta { | args "/bin/sh" | args "-c" | args "write /c/a x && write /e/b y" | cwd "/" | }
-mounts { | input -1 | dest "/" | }
-mounts { | input -1 | dest "/c" | output -1 | mountType 3 | cacheOpt { | ID "k" | sharing 2 | } | }
-mounts { | input -1 | dest "/e" | output -1 | mountType 3 | cacheOpt { | ID "k" | } | }
-} | }
-== IN_TWO_WAYS_SEEN: the same, with a listing of each
-op { | exec { | meta { | args "/bin/sh" | args "-c"
-args "write /c/a x && write /e/b y && listing /c /locked && listing /e /shared" | cwd "/" | }
 mounts { | input -1 | dest "/" | }
 mounts { | input -1 | dest "/c" | output -1 | mountType 3 | cacheOpt { | ID "k" | sharing 2 | } | }
 mounts { | input -1 | dest "/e" | output -1 | mountType 3 | cacheOpt { | ID "k" | } | }
@@ -150,5 +123,4 @@ mounts { | dest "/c" | output -1 | mountType 3 | cacheOpt { | ID "a" | sharing 2
 op { | exec { | meta { | args "true" | } | mounts { | input -1 | dest "/" | }
 mounts { | input -1 | dest "/c" | output -1 | mountType 3 | }
 } | }
-"#
-);
+"#;

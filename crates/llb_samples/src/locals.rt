@@ -36,14 +36,6 @@ d 0755 0 0 /sub
 f 0644 0 0 ff00000001 /sub/f
 ";
 
-// The tree of `examples/tour.tree`.
-const SOURCE_TREE: &str = "== source
-d 0755 0 0 /
-d 0755 0 0 /text
-f 0644 0 0 68656c6c6f2c0a /text/head
-f 0644 0 0 776f726c640a /text/tail
-";
-
 /// Returns the text of local trees by the name of its constant in this file; an empty text if no constant has the name.
 pub fn locals_named(name: &str) -> &'static str {
     match name {
@@ -51,7 +43,6 @@ pub fn locals_named(name: &str) -> &'static str {
         "OLD_AND_F" => OLD_AND_F,
         "EMPTY_AND_SUB" => EMPTY_AND_SUB,
         "SUB_BY_A_TOKEN" => SUB_BY_A_TOKEN,
-        "SOURCE_TREE" => SOURCE_TREE,
         _ => "",
     }
 }

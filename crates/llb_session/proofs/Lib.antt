@@ -1,8 +1,9 @@
 pub mod Requests
 pub mod Streams
-pub mod Granting
-pub mod Lines
-pub mod Talking
-pub mod Heard
-pub mod Ending
-pub mod Told
+pub mod ChosenEventRefusals
+pub mod LinesOfBytes
+pub mod RepliesByPieces
+pub mod ConversationByPieces
+pub mod ConversationEnds
+pub mod GoLines
+pub mod ConsecutiveTexts

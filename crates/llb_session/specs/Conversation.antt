@@ -2,7 +2,7 @@
 use Rattle.std.specs.Prelude.{◌≡◌, ◌≢◌, ◌≤◌, ◌<◌, ◌+◌, ◌⊎◌, ℕ, List, [], ◌∷◌, ◌++◌, length, All, Result, Ok, Err}
 use Rattle.std.specs.Io.KnownBytes.{Consumes, IsAtEnd}
 use Rattle.std.specs.declared.io.ErrorKind.TheVariants.{Interrupted}
-use Rattle.llb_stepper.specs.Stepping.{Stepping}
+use Rattle.llb_session.specs.declared.session.Session.{Session}
 use Rattle.llb_session.specs.declared.fault.SessionFault.{SessionFault}
 use Rattle.llb_session.specs.declared.fault.SessionFault.TheVariants.{Failed, Unending, Write, Memory, TooLong}
 use Rattle.llb_session.specs.Streams.{Stream, IsWritten}
@@ -32,20 +32,20 @@ last_line (b ∷ rest) = (b ∷ rest) ∷ []
 
 -- ---- the replies to lines
 
--- the text is the replies to these lines, whose numbers begin with n; s is the stepper before the lines, and t the stepper after the lines
-abbrev pub Talks : Stepping → ℕ → List (List ℕ) → List ℕ → Stepping → Type 0
+-- the text is the replies to these lines, whose numbers begin with n; s is the session before the lines, and t the session after the lines
+abbrev pub Talks : Session → ℕ → List (List ℕ) → List ℕ → Session → Type 0
 Talks s n [] text t = (text ≡ []) × (t ≡ s)
 Talks s n (line ∷ lines) text t =
-    (said : List ℕ) × (more : List ℕ) × (u : Stepping) × Answers s n line said u × Talks u (n + 1) lines more t × (text ≡ said ++ more)
+    (said : List ℕ) × (more : List ℕ) × (u : Session) × Answers s n line said u × Talks u (n + 1) lines more t × (text ≡ said ++ more)
 
--- the state of a conversation: the stepper, the number of the line that is being read, and the bytes of this line so far
+-- the state of a conversation: the session, the number of the line that is being read, and the bytes of this line so far
 pub record Standing : Type 0 where
-  pub session : Stepping
+  pub session : Session
   pub number : ℕ
   pub line : List ℕ
 
 -- the state before the first byte: line 1 has no bytes so far
-abbrev pub opening : Stepping → Standing
+abbrev pub opening : Session → Standing
 opening s = record { session = s; number = 1; line = [] }
 
 -- The bytes lead from state p to state q. The text is the replies to the lines that end within these bytes. The bytes after the last line end belong to the
@@ -58,8 +58,8 @@ pub record Talked (p : Standing) (bytes text : List ℕ) (q : Standing) : Type 0
 
 -- ---- what is written when a conversation ends
 
--- what is written to `out` is the replies to the lines that end within these bytes, and nothing else; t is the stepper after these lines
-pub record Answered (p : Standing) (bytes : List ℕ) (t : Stepping) (out : Stream) : Type 0 where
+-- what is written to `out` is the replies to the lines that end within these bytes, and nothing else; t is the session after these lines
+pub record Answered (p : Standing) (bytes : List ℕ) (t : Session) (out : Stream) : Type 0 where
   pub text : List ℕ
   pub at : Standing
   pub talked : Talked p bytes text at
@@ -67,12 +67,12 @@ pub record Answered (p : Standing) (bytes : List ℕ) (t : Stepping) (out : Stre
   pub printed : IsWritten out text
 
 -- what is written to `out` is the replies to the lines that end within these bytes; the line that is being read ends the session, and has no reply
-pub record Quit (p : Standing) (bytes : List ℕ) (t : Stepping) (out : Stream) : Type 0 where
+pub record Quit (p : Standing) (bytes : List ℕ) (t : Session) (out : Stream) : Type 0 where
   pub before : Answered p bytes t out
-  pub quits : Quits before.at.line
+  pub quits : Quits before.at.session before.at.line
 
 -- what is written to `out` is the replies to the lines that end within these bytes, and then a prefix of the reply to the line that is being read
-pub record CutShort (p : Standing) (bytes : List ℕ) (t : Stepping) (out : Stream) : Type 0 where
+pub record CutShort (p : Standing) (bytes : List ℕ) (t : Session) (out : Stream) : Type 0 where
   pub text : List ℕ
   pub at : Standing
   pub talked : Talked p bytes text at
@@ -88,7 +88,7 @@ abbrev pub AtLineEnd : List ℕ → (List ℕ → Type 0) → Type 0
 AtLineEnd heard P = (before : List ℕ) × (heard ≡ before ++ 10 ∷ []) × P before
 
 -- the replies to all lines of an input are written, also the reply to what follows the last line end, if anything does
-pub record Concluded (s : Stepping) (input : List ℕ) (t : Stepping) (out : Stream) : Type 0 where
+pub record Concluded (s : Session) (input : List ℕ) (t : Session) (out : Stream) : Type 0 where
   pub lines : List (List ℕ)
   pub rest : List ℕ
   pub spelled : Spelled lines rest input
@@ -98,12 +98,12 @@ pub record Concluded (s : Stepping) (input : List ℕ) (t : Stepping) (out : Str
 
 -- ---- how a conversation ends
 
--- a conversation: the most bytes of commands that it may use, the most reads that it may make, the stepper before and after it, and its input and its output
+-- a conversation: the most bytes of commands that it may use, the most reads that it may make, the session before and after it, and its input and its output
 pub record Conversation : Type 0 where
   pub limit : ℕ
   pub reads : ℕ
-  pub before : Stepping
-  pub after : Stepping
+  pub before : Session
+  pub after : Session
   pub commands : Stream
   pub replies : Stream
 

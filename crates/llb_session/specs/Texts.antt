@@ -10,9 +10,9 @@ use Rattle.llb_cache.specs.declared.key.Seed.{Seed}
 use Rattle.llb_cache.specs.declared.key.Mode.{Mode}
 use Rattle.llb_cache.specs.declared.key.Mode.TheVariants.{Shared, Private, Locked}
 use Rattle.llb_model.specs.Program.{Workspace}
-use Rattle.llb_execution.specs.Looks.{Role, Local, Input, ResultOf, Laid, MountAt, roles_of}
-use Rattle.llb_events.specs.Failure.{failure_text}
-use Rattle.llb_board.specs.Seen.{BoardValue}
+use Rattle.llb_execution.specs.WorkspaceTrees.{Role, Local, Input, ResultOf, Laid, MountAt, roles_of}
+use Rattle.llb_events.specs.FailureText.{failure_text}
+use Rattle.llb_board.specs.BoardValue.{BoardValue}
 use Rattle.llb_board.specs.Statuses.{look_at}
 use Rattle.llb_board.specs.declared.status.Status.{Status}
 use Rattle.llb_board.specs.declared.status.Status.TheVariants.{Waiting, Ready, Blocked, Running, Done, Failed}

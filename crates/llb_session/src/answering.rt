@@ -1,14 +1,16 @@
 //! Replies to a line of a session: does on the stepper what the line asks for, and returns the reply as a text.
 
-ghost use Rattle.std.specs.Prelude.{◌≡◌, ◌++◌, ◌-◌, length, IfOk, IfErr, OnErr, string_bytes};
+ghost use Rattle.std.specs.Prelude.{◌≡◌, ◌++◌, ◌-◌, length, IfOk, IfErr, string_bytes};
 ghost use Rattle.llb_session.specs.declared.request.Request.TheVariants as ask;
-ghost use Rattle.llb_session.specs.Answers.{IsPerformed, Wants, MayFail, RespondsAs, Responds, IsReplyWritten, Says, stop_line};
-ghost use Rattle.llb_session.specs.Texts.{record_lines};
+ghost use Rattle.llb_session.specs.Answers.{IsPerformed, Responds, IsReplyWritten, Says, look_lines, stop_line};
+ghost use Rattle.llb_session.specs.Texts.{fault_line, record_lines};
 ghost use Rattle.llb_stepper.specs.declared.fault.StepperFault.TheVariants as refusal;
 
-use crate::request::{Request, request_in};
+use crate::refusal::write_refusal;
+use crate::request::{Look, Request, request_in};
+use crate::session::Session;
 use crate::text::{
-    back_line, caches_text, fault_line, line_text, record_text, status_text, tree_text, work_text,
+    back_line, caches_text, line_text, record_text, status_text, tree_text, work_text,
 };
 use llb_board::Event;
 use llb_stepper::{Break, Stepper, StepperFault, chosen_is_done};
@@ -91,11 +93,14 @@ fn go(alloc: Global, stepper: &mut Stepper) -> Result<Vec<u8>, StepperFault>
     }
 }
 
-// Takes the last event back, and returns the line `back N`, where N is how many events the record still has. If memory for this line is refused, the event is
-// not taken back.
+// Takes the last event back, and returns the line `back N`, where N is how many events the record still has. If there is nothing to take back, no memory is
+// asked for; if memory for the line is refused, the event is not taken back.
 fn back(alloc: Global, stepper: &mut Stepper) -> Result<Vec<u8>, StepperFault>
     ensures { IsPerformed ask.Back stepper.old stepper.new result }
 {
+    if stepper.depth() == 0 {
+        return Err(StepperFault::NothingBefore);
+    }
     let left = stepper.board().events().len().saturating_sub(1);
     let text = back_line(alloc, left)?;
     stepper.back()?;
@@ -116,38 +121,23 @@ fn tree(alloc: Global, stepper: &mut Stepper, v: u32, i: u32) -> Result<Vec<u8>,
     tree_text(alloc, stepper.board().output(v, i))
 }
 
-// Returns a line for each tree that a worker works on.
-fn work(alloc: Global, stepper: &mut Stepper, w: u32) -> Result<Vec<u8>, StepperFault>
-    ensures { IsPerformed (ask.Work w) stepper.old stepper.new result }
+// Returns what a look shows: a line for each tree that a worker works on or for each key of the caches, or the text of one tree (`none` if there is no such).
+fn look_text(alloc: Global, stepper: &Stepper, look: Look) -> Result<Vec<u8>, StepperFault>
+    ensures lines { IfOk result (λ v. v.items ≡ look_lines look stepper.now) }
+    ensures memory { IfErr result (λ e. e ≡ refusal.Memory) }
 {
-    Ok(work_text(alloc, stepper.board().workspace(w))?.into_bytes())
-}
-
-// Returns the text of tree `i` that worker `w` works on, or the line `none` if there is no such tree.
-fn work_tree(alloc: Global, stepper: &mut Stepper, w: u32, i: u32) -> Result<Vec<u8>, StepperFault>
-    ensures { IsPerformed (ask.WorkTree w i) stepper.old stepper.new result }
-{
-    tree_text(alloc, stepper.board().worked_on(w, i))
-}
-
-// Returns a line for each key of the caches.
-fn caches(alloc: Global, stepper: &mut Stepper) -> Result<Vec<u8>, StepperFault>
-    ensures { IsPerformed ask.Caches stepper.old stepper.new result }
-{
-    Ok(caches_text(alloc, stepper.board())?.into_bytes())
-}
-
-// Returns the text of the tree of instance `i` of key `k`, or the line `none` if there is no such tree.
-fn cache(alloc: Global, stepper: &mut Stepper, k: u32, i: u32) -> Result<Vec<u8>, StepperFault>
-    ensures { IsPerformed (ask.Cache k i) stepper.old stepper.new result }
-{
-    tree_text(alloc, stepper.board().cached(k, i))
+    let board = stepper.board();
+    match look {
+        Look::Work(w) => Ok(work_text(alloc, board.workspace(w))?.into_bytes()),
+        Look::WorkTree(w, i) => tree_text(alloc, board.worked_on(w, i)),
+        Look::Caches => Ok(caches_text(alloc, board)?.into_bytes()),
+        Look::Cache(k, i) => tree_text(alloc, board.cached(k, i)),
+    }
 }
 
 // Does what a request asks for, and returns the text that the request prints; `clear` and `quit` never fail.
 fn perform(alloc: Global, stepper: &mut Stepper, request: Request) -> Result<Vec<u8>, StepperFault>
-    ensures performed { IsPerformed request stepper.old stepper.new result }
-    ensures fails { IfErr result (λ _. Wants request refusal.Memory) }
+    ensures { IsPerformed request stepper.old stepper.new result }
 {
     match request {
         Request::Break(stop) => break_at(alloc, stepper, stop),
@@ -161,80 +151,65 @@ fn perform(alloc: Global, stepper: &mut Stepper, request: Request) -> Result<Vec
         Request::Back => back(alloc, stepper),
         Request::Status => status(alloc, stepper),
         Request::Tree(v, i) => tree(alloc, stepper, v, i),
-        Request::Work(w) => work(alloc, stepper, w),
-        Request::WorkTree(w, i) => work_tree(alloc, stepper, w, i),
-        Request::Caches => caches(alloc, stepper),
-        Request::Cache(k, i) => cache(alloc, stepper, k, i),
+        Request::Look(look) => look_text(alloc, stepper, look),
         Request::Quit => Ok(Vec::new(alloc)),
     }
 }
 
-// Does what a line asks for, and returns the reply; for a line that is no request, returns `fault 173` and the line's number. Fails, and changes nothing, if
-// there is no memory for the line that reports a refusal; the call never fails for `clear` and `quit`.
-fn respond_to(
-    alloc: Global,
-    stepper: &mut Stepper,
-    number: u64,
-    request: Option<Request>,
-) -> Result<Vec<u8>, AllocError>
-    ensures ok { IfOk result (λ text. RespondsAs request stepper.old number text.items stepper.new) }
-    ensures fails { IfErr result (λ _. MayFail request) }
-    ensures err { OnErr result (stepper.new ≡ stepper.old) }
-{
-    let fault = match request {
-        None => StepperFault::BadCommand(number),
-        Some(request) => match perform(alloc, stepper, request) {
-            Ok(text) => return Ok(text),
-            Err(fault) => fault,
-        },
-    };
-    Ok(fault_line(alloc, &fault)?.into_bytes())
-}
-
-/// Does on the stepper what line `number` of a session (counted from 1) asks for, and returns the whole reply. The reply is empty if the request is granted and
-/// prints nothing; it is `fault 173` and the number if the line is no request; it is `fault` and 171, 172 or 174 if the request is refused, and then nothing is
-/// changed. Returns `None` if the line ends the session. Fails if there is no memory for the line that reports a refusal, and then nothing is changed either;
-/// neither `clear` nor a line that ends the session fails.
+/// Does on the session's stepper what line `number` of the session (counted from 1) asks for, and returns the text that this prints, empty if it prints
+/// nothing. Returns `None` if the line ends the session. Fails with 173 and the number if the line is no request, with 171 or 172 if the request is refused,
+/// and with 174 or 171 141 if memory is refused; then nothing is changed. Want of memory is reported only if the line is granted, or in place of 171 135 if
+/// memory for a copy of the held key is refused; neither `clear` nor a line that ends the session fails.
 pub fn respond(
     alloc: Global,
-    stepper: &mut Stepper,
+    session: &mut Session,
     number: u64,
     line: &[u8],
-) -> Result<Option<Vec<u8>>, AllocError>
-    ensures { Responds stepper.old number line.now stepper.new result }
+) -> Result<Option<Vec<u8>>, StepperFault>
+    ensures { Responds session.old number line.now session.new result }
 {
-    let request = request_in(line);
-    if request == Some(Request::Quit) {
+    let Some(request) = request_in(session.looks, line) else {
+        return Err(StepperFault::BadCommand(number));
+    };
+    if request == Request::Quit {
         return Ok(None);
     }
-    match respond_to(alloc, stepper, number, request) {
+    match perform(alloc, &mut session.stepper, request) {
         Ok(text) => Ok(Some(text)),
         Err(fault) => Err(fault),
     }
 }
 
-// Writes a reply, and returns true, which means that the session goes on.
-fn write_reply<W: Write>(bytes: &[u8], out: &mut W) -> Result<bool, Failed>
-    ensures { IsReplyWritten bytes.now (record { before = W.contents out.old; after = W.contents out.new }) result }
+// Writes a text, and returns true, which means that the session goes on.
+fn reply<W: Write>(text: &[u8], out: &mut W) -> Result<bool, Failed>
+    ensures { IsReplyWritten text.now (record { before = W.contents out.old; after = W.contents out.new }) result }
 {
-    write_all(&mut Over::new(out), bytes)?;
+    write_all(&mut Over::new(out), text)?;
     Ok(true)
 }
 
-/// Replies to a line as `respond` does, and writes the reply to `out`; if there is no memory for the line that reports a refusal, the reply is `fault 174`.
+// Writes the line of a refusal, and returns true, which means that the session goes on. Does not allocate.
+fn refuse<W: Write>(fault: &StepperFault, out: &mut W) -> Result<bool, Failed>
+    ensures { IsReplyWritten (fault_line fault.now) (record { before = W.contents out.old; after = W.contents out.new }) result }
+{
+    write_refusal(fault, &mut Over::new(out))?;
+    Ok(true)
+}
+
+/// Does what a line asks for as `respond` does, and writes the text to `out`; if the line is refused, writes `fault` and the refusal, which does not allocate.
 /// Returns false if the line ends the session; nothing is written then. Fails with `Failed` if the writer failed, and a prefix of the reply is written.
 pub fn answer<W: Write>(
     alloc: Global,
-    stepper: &mut Stepper,
+    session: &mut Session,
     number: u64,
     line: &[u8],
     out: &mut W,
 ) -> Result<bool, Failed>
-    ensures { Says stepper.old number line.now stepper.new (record { before = W.contents out.old; after = W.contents out.new }) result }
+    ensures { Says session.old number line.now session.new (record { before = W.contents out.old; after = W.contents out.new }) result }
 {
-    match respond(alloc, stepper, number, line) {
-        Ok(Some(text)) => write_reply(text.as_slice(), out),
+    match respond(alloc, session, number, line) {
+        Ok(Some(text)) => reply(text.as_slice(), out),
         Ok(None) => Ok(false),
-        Err(_) => write_reply(b"fault 174\n", out),
+        Err(fault) => refuse(&fault, out),
     }
 }

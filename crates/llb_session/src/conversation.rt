@@ -2,11 +2,11 @@
 
 ghost use Rattle.std.specs.Prelude.{◌≡◌, ◌≤◌, ◌<◌, ◌+◌, ◌∷◌, ◌^◌, [], length};
 ghost use Rattle.llb_session.specs.Conversation.{IsLine, Converses};
-ghost use Rattle.llb_session.specs.Hearing.{standing, IsSaid, IsLast, Hears};
+ghost use Rattle.llb_session.specs.ConversationStates.{standing, IsSaid, IsLast, Hears};
 
 use crate::answering::answer;
 use crate::fault::SessionFault;
-use llb_stepper::Stepper;
+use crate::session::Session;
 use std::alloc::Global;
 use std::io::{ErrorKind, Read, Write};
 
@@ -24,7 +24,7 @@ struct Pending {
 // Replies to the line that was read, and flushes the reply. Returns false if the line ends the session.
 fn say<W: Write>(
     alloc: Global,
-    session: &mut Stepper,
+    session: &mut Session,
     pending: &Pending,
     out: &mut W,
 ) -> Result<bool, SessionFault>
@@ -46,7 +46,7 @@ fn say<W: Write>(
 // line ends the session.
 fn hear<W: Write>(
     alloc: Global,
-    session: &mut Stepper,
+    session: &mut Session,
     pending: &mut Pending,
     byte: u8,
     out: &mut W,
@@ -72,7 +72,7 @@ fn hear<W: Write>(
 // returns false; returns true if there is no such line.
 fn hear_all<W: Write>(
     alloc: Global,
-    session: &mut Stepper,
+    session: &mut Session,
     pending: &mut Pending,
     bytes: &[u8],
     out: &mut W,
@@ -93,7 +93,7 @@ fn hear_all<W: Write>(
 // Ends a conversation at the end of the input: if bytes follow the last line end, replies to them as to a line.
 fn conclude<W: Write>(
     alloc: Global,
-    session: &mut Stepper,
+    session: &mut Session,
     pending: &Pending,
     out: &mut W,
 ) -> Result<(), SessionFault>
@@ -112,7 +112,7 @@ fn conclude<W: Write>(
 /// used, and at most `reads` reads are made; an interrupted read is done again, and counts as a read.
 pub fn converse<R: Read, W: Write>(
     alloc: Global,
-    session: &mut Stepper,
+    session: &mut Session,
     commands: &mut R,
     out: &mut W,
     limit: usize,

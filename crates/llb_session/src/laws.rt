@@ -1,6 +1,6 @@
 //! Laws of the replies of a session.
 
-ghost use Rattle.llb_session.specs.Told.{GoPrintsTheRun};
+ghost use Rattle.llb_session.specs.GoOutput.{GoPrintsTheRun};
 
 use llb_stepper::Stepper;
 

@@ -1,12 +1,35 @@
 //! What a line of a session asks for.
 
 ghost use Rattle.std.specs.Prelude.{◌≡◌, option_map};
-ghost use Rattle.llb_session.specs.Request.{parted, number_in, pair_in, request_in, alone, break_in, break_at, work_in, word_with_rest, by_words};
+ghost use Rattle.llb_session.specs.Request.{parted, number_in, pair_in, alone, break_in, break_at, word_with_rest, command_in};
+ghost use Rattle.llb_session.specs.Request.{look_alone, work_in, look_with_rest, look_in, asked_in, request_in};
 
 use llb_board::Event;
 use llb_stepper::Break;
 use llb_wire::magnitude;
 use std::str::from_utf8;
+
+/// Whether the looks are requests of a session.
+#[derive(Clone, Copy, Debug, PartialEq, Eq)]
+pub enum Looks {
+    /// They are not: the session refuses the line of a look with 173.
+    Refused,
+    /// They are.
+    Allowed,
+}
+
+/// What a look shows: the trees that a worker works on, or the caches.
+#[derive(Clone, Copy, Debug, PartialEq, Eq)]
+pub enum Look {
+    /// Prints a line for each tree that worker `w` works on, for `Work(w)`.
+    Work(u32),
+    /// Prints as text tree `i`, counted from 0, of the trees that worker `w` works on, for `WorkTree(w, i)`.
+    WorkTree(u32, u32),
+    /// Prints a line for each key of the caches.
+    Caches,
+    /// Prints as text the tree of instance `i` of the cache key with the number `k`, for `Cache(k, i)`.
+    Cache(u32, u32),
+}
 
 /// What a line of a session asks for.
 #[derive(Clone, Copy, Debug, PartialEq, Eq)]
@@ -27,14 +50,8 @@ pub enum Request {
     Status,
     /// Prints as text output `i` of vertex `v`, for `Tree(v, i)`.
     Tree(u32, u32),
-    /// Prints a line for each tree that worker `w` works on, for `Work(w)`.
-    Work(u32),
-    /// Prints as text tree `i`, counted from 0, of the trees that worker `w` works on, for `WorkTree(w, i)`.
-    WorkTree(u32, u32),
-    /// Prints a line for each key of the caches.
-    Caches,
-    /// Prints as text the tree of instance `i` of the cache key with the number `k`, for `Cache(k, i)`.
-    Cache(u32, u32),
+    /// Prints what a look shows.
+    Look(Look),
     /// Ends the session.
     Quit,
 }
@@ -60,7 +77,7 @@ fn pair(text: &str) -> Option<(u32, u32)>
     Some((first, second))
 }
 
-// Returns what a line of one word asks for.
+// Returns the command that a line of one word spells.
 fn alone(word: &str) -> Option<Request>
     ensures { result ≡ alone word.now }
 {
@@ -74,8 +91,6 @@ fn alone(word: &str) -> Option<Request>
         Some(Request::Back)
     } else if word == "status" {
         Some(Request::Status)
-    } else if word == "caches" {
-        Some(Request::Caches)
     } else if word == "quit" {
         Some(Request::Quit)
     } else {
@@ -83,7 +98,7 @@ fn alone(word: &str) -> Option<Request>
     }
 }
 
-// Returns what a line `break claim V` or `break settle V` asks for, given its second word and the text after that word.
+// Returns the command of a line `break claim V` or `break settle V`, given its second word and the text after that word.
 fn break_at(word: &str, rest: &str) -> Option<Request>
     ensures { result ≡ break_at word.now rest.now }
 {
@@ -98,7 +113,7 @@ fn break_at(word: &str, rest: &str) -> Option<Request>
     }
 }
 
-// Returns what a line `break ..` asks for, given the text after `break`.
+// Returns the command of a line `break ..`, given the text after `break`.
 fn break_in(rest: &str) -> Option<Request>
     ensures { result ≡ break_in rest.now }
 {
@@ -109,18 +124,7 @@ fn break_in(rest: &str) -> Option<Request>
     break_at(word, number)
 }
 
-// Returns what a line `work ..` asks for, given the text after `work`: the number of a worker, or the numbers of a worker and a tree.
-fn work_in(rest: &str) -> Option<Request>
-    ensures { result ≡ work_in rest.now }
-{
-    if let Some(w) = number(rest) {
-        return Some(Request::Work(w));
-    }
-    let (w, i) = pair(rest)?;
-    Some(Request::WorkTree(w, i))
-}
-
-// Returns what a line of two or more words asks for, given its first word and the text after this word.
+// Returns the command that a line of two or more words spells, given its first word and the text after this word.
 fn word_with_rest(word: &str, rest: &str) -> Option<Request>
     ensures { result ≡ word_with_rest word.now rest.now }
 {
@@ -141,19 +145,14 @@ fn word_with_rest(word: &str, rest: &str) -> Option<Request>
     } else if word == "tree" {
         let (v, i) = pair(rest)?;
         Some(Request::Tree(v, i))
-    } else if word == "work" {
-        work_in(rest)
-    } else if word == "cache" {
-        let (k, i) = pair(rest)?;
-        Some(Request::Cache(k, i))
     } else {
         None
     }
 }
 
-// Returns what a line of one word or more asks for.
-fn by_words(line: &str) -> Option<Request>
-    ensures { result ≡ by_words line.now (parted line.now) }
+// Returns the command that a text spells.
+fn command_in(line: &str) -> Option<Request>
+    ensures { result ≡ command_in line.now }
 {
     match line.split_once(' ') {
         None => alone(line),
@@ -161,13 +160,72 @@ fn by_words(line: &str) -> Option<Request>
     }
 }
 
-/// Returns what a line without its end asks for; `None` if the line is no request, for example if it is empty or not UTF-8. Words are separated by exactly one
-/// space, and numbers are decimal digits below 2^32. Does not allocate.
-pub fn request_in(line: &[u8]) -> Option<Request>
-    ensures { result ≡ request_in line.now }
+// Returns the look that a line of one word asks for.
+fn look_alone(word: &str) -> Option<Look>
+    ensures { result ≡ look_alone word.now }
+{
+    if word == "caches" {
+        Some(Look::Caches)
+    } else {
+        None
+    }
+}
+
+// Returns the look of a line `work ..`, given the text after `work`: the number of a worker, or the numbers of a worker and a tree.
+fn work_in(rest: &str) -> Option<Look>
+    ensures { result ≡ work_in rest.now }
+{
+    if let Some(w) = number(rest) {
+        return Some(Look::Work(w));
+    }
+    let (w, i) = pair(rest)?;
+    Some(Look::WorkTree(w, i))
+}
+
+// Returns the look that a line of two or more words asks for, given its first word and the text after this word.
+fn look_with_rest(word: &str, rest: &str) -> Option<Look>
+    ensures { result ≡ look_with_rest word.now rest.now }
+{
+    if word == "work" {
+        work_in(rest)
+    } else if word == "cache" {
+        let (k, i) = pair(rest)?;
+        Some(Look::Cache(k, i))
+    } else {
+        None
+    }
+}
+
+// Returns the look that a text spells.
+fn look_in(line: &str) -> Option<Look>
+    ensures { result ≡ look_in line.now }
+{
+    match line.split_once(' ') {
+        None => look_alone(line),
+        Some((word, rest)) => look_with_rest(word, rest),
+    }
+}
+
+// Returns what a text asks for.
+fn asked(looks: Looks, line: &str) -> Option<Request>
+    ensures { result ≡ asked_in looks line.now }
+{
+    if let Some(request) = command_in(line) {
+        return Some(request);
+    }
+    match looks {
+        Looks::Refused => None,
+        Looks::Allowed => look_in(line).map(Request::Look),
+    }
+}
+
+/// Returns what a line without its end asks for; `None` if the line is no request, for example if it is empty or not UTF-8, or if it is a look and looks are
+/// refused. Words are separated by exactly one space, and numbers are decimal digits below 2^32. Does not allocate.
+pub fn request_in(looks: Looks, line: &[u8]) -> Option<Request>
+    ensures { result ≡ request_in looks line.now }
 {
     match from_utf8(line) {
-        Ok(line) => by_words(line),
+        Ok(line) => asked(looks, line),
         Err(_) => None,
     }
 }

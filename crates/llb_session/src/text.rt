@@ -1,9 +1,9 @@
 //! The texts that a session prints: statuses of vertices, lines of the record, trees, the work of workers, caches, and refusals.
 
 ghost use Rattle.std.specs.Prelude.{◌≡◌, ◌++◌, ◌-◌, ◌+◌, codes, length, option_map, IfOk, IfErr, string_bytes};
-ghost use Rattle.llb_session.specs.Texts.{status_line, status_lines, record_line, record_lines, tree_lines, fault_line, back_line};
+ghost use Rattle.llb_session.specs.Texts.{status_line, status_lines, record_line, record_lines, tree_lines, back_line};
 ghost use Rattle.llb_session.specs.Texts.{role_line, part_lines, work_lines, seed_text, mode_word, key_line, key_lines};
-ghost use Rattle.llb_execution.specs.Looks.{role_in, roles_of};
+ghost use Rattle.llb_execution.specs.WorkspaceTrees.{role_in, roles_of};
 ghost use Rattle.llb_stepper.specs.declared.fault.StepperFault.TheVariants as refusal;
 
 use llb_board::{Board, Status, Workspace};
@@ -222,13 +222,6 @@ pub(crate) fn caches_text(alloc: Global, board: &Board) -> Result<String, Steppe
         }
     }
     Ok(text)
-}
-
-/// Returns the line that reports a refusal.
-pub(crate) fn fault_line(alloc: Global, fault: &StepperFault) -> Result<String, AllocError>
-    ensures { IfOk result (λ s. string_bytes s ≡ fault_line fault.now) }
-{
-    format!(in alloc; "fault {fault}\n")
 }
 
 /// Returns the line that is printed after an event was taken back: `back` and how many events the record still has.

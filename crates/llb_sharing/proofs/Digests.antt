@@ -1,8 +1,8 @@
--- Vertices with one digest have one outcome, by induction on their number in the first graph.
-use Rattle.std.proofs.Common.{◌≡◌, ℕ, zero, suc, ◌<◌, ◌≤◌, Bool, not, ◌&&◌, List, [], length, map}
-use Rattle.std.proofs.Common.{get_or, Some, None, refl, sym, ap, subst, ◌∙◌, arith, pos, nat_abs, inl, inr}
+-- Vertices with one digest have one outcome: equality of digests, at or before a vertex, is a matching.
+use Rattle.std.proofs.Common.{◌≡◌, ℕ, ◌<◌, List, [], length, map}
+use Rattle.std.proofs.Common.{get_or, Some, refl, sym, ap, subst, ◌∙◌, arith, pos, nat_abs, inl, inr}
 use Rattle.std.specs.Prelude.{slice_get}
-use Rattle.std.specs.List.{All, Contains, list_all, list_any}
+use Rattle.std.specs.List.{All, Contains, list_any}
 use Rattle.std.proofs.lemmas.Bool.{cases_lt}
 use Rattle.std.proofs.lemmas.List.{get_or-map, length-map}
 use Rattle.std.proofs.lemmas.Option.{get_or_from_slice_get}
@@ -10,20 +10,21 @@ use Rattle.llb_ops.specs.declared.op.Op.{Op}
 use Rattle.llb_ops.specs.declared.op.Input.{Input}
 use Rattle.llb_loader.specs.declared.graph.Edge.{Edge}
 use Rattle.llb_loader.specs.declared.graph.Vertex.{Vertex}
-use Rattle.llb_loader.specs.Rows.{HasEdge, Reached}
+use Rattle.llb_loader.specs.ReachedRows.{HasEdge, Reached}
 use Rattle.llb_loader.specs.Mounts.{cache, has_type}
 use Rattle.llb_loader.specs.Rules.{kind_mounts}
 use Rattle.llb_loader.specs.Graph.{Numbered, links, LeadsBelow, HasInputs, IsVertex, IsVertexOf, IsGraph}
-use Rattle.llb_loader.specs.Locals.{Local}
-use Rattle.llb_loader.proofs.Searching.{reached_step}
-use Rattle.llb_model.specs.Program.{Build, has_cache}
-use Rattle.llb_model.specs.Outcome.{ending_in, output_in, all_there, inputs_from, outcome_on, outcome, outcomes, next_outcome, is_plain}
+use Rattle.llb_loader.proofs.ReachabilitySearch.{reached_step}
+use Rattle.llb_model.specs.Program.{Build}
+use Rattle.llb_model.specs.Outcome.{inputs_from}
+use Rattle.llb_sharing.specs.Matchings.{DoTheSame, EdgesMatch, DoAlike, IsMatched}
 use Rattle.llb_sharing.specs.Digests.{LoadWithoutCollision, HaveSameSources, HaveOneDigest, HaveOneOutcome, ShareOutcomes, DependOnSources}
-use Rattle.llb_model.proofs.Lists.{some_of, get_within, got_within, get_past}
-use Rattle.llb_model.proofs.ByNumber.{by_number_length}
-use Rattle.llb_model.proofs.Outcomes.{plain, outcome_is}
+use Rattle.llb_model.proofs.Lists.{get_within, got_within}
+use Rattle.llb_model.proofs.Outcomes.{plain, each_below}
 use Rattle.llb_sharing.proofs.Entries.{HaveOneOpEach, one_op_each, one_op_alone}
-use Rattle.llb_sharing.proofs.Vertices.{outcome_same, at_number, maps_same, all_of_map, plain_is}
+use Rattle.llb_sharing.proofs.Vertices.{at_number}
+use Rattle.llb_sharing.proofs.Matches.{MountAlike, none_past, both_by_place, trees_alike, matched_alike, plain_alike}
+use Rattle.llb_sharing.proofs.OpsOfOneKind.{same_by_kind}
 
 module _ (b c : Build) (graph : IsGraph b.graph) (other : IsGraph c.graph) (ops : HaveOneOpEach b.graph c.graph) (top : ℕ)
     (sources : HaveSameSources b.graph top b.locals c.locals) where
@@ -88,59 +89,79 @@ module _ (b c : Build) (graph : IsGraph b.graph) (other : IsGraph c.graph) (ops 
           index = ap nat_abs (sym p.index ∙ ap (λ (o : Op). (get_or o.inputs i no_input).index) e ∙ q.index);
         }
 
-    -- if vertices with one digest have one outcome where the number in the first graph is below v
-    module _ (below : (j k : ℕ) → j < v → HaveOneDigest b.graph j c.graph k → Reached (links b.graph.vertices) top j → HaveOneOutcome b j c k) where
-      each : (i : ℕ) (d : Edge) → i < length x.inputs → HaveOneOutcome b (get_or x.inputs i d).vertex c (get_or y.inputs i d).vertex
-      each i d l = let p = pair i d l in below (get_or x.inputs i d).vertex (get_or y.inputs i d).vertex p.lower p.digests p.before
+    of_kind : IsVertexOf x x.op.kind
+    of_kind = at_number (λ (z : Vertex). IsVertexOf z z.op.kind) b.graph.vertices graph.kind v x first
 
-      -- then the two vertices have the same trees of their inputs
-      trees_same : inputs_from (plain b) x.inputs ≡ inputs_from (plain c) y.inputs
-      unfolding inputs_from
-      trees_same =
-          ap all_there (maps_same (λ (n : Edge). output_in (plain b n.vertex) n.index) (λ (n : Edge). output_in (plain c n.vertex) n.index)
-          x.inputs y.inputs as_many
-          (λ i d l. let s = (each i d l).same in let n = (pair i d l).index in λ j. output_in (ending_in (s j)) (n j)))
-
-      plain_same : list_all (λ (n : Edge). is_plain b n.vertex) x.inputs ≡ list_all (λ (n : Edge). is_plain c n.vertex) y.inputs
-      plain_same =
-          all_of_map (λ (n : Edge). is_plain b n.vertex) x.inputs
-          ∙ ap (list_all (λ (t : Bool). t)) (maps_same (λ (n : Edge). is_plain b n.vertex) (λ (n : Edge). is_plain c n.vertex) x.inputs y.inputs as_many
-          (λ i d l. (each i d l).plain))
-          ∙ sym (all_of_map (λ (n : Edge). is_plain c n.vertex) y.inputs)
-
-      -- and one outcome
-      step : HaveOneOutcome b v c w
-      step =
-          let alone = outcome_same b c x y (at_number IsVertex b.graph.vertices graph.vertex v x first)
-          (at_number IsVertex c.graph.vertices other.vertex w y second)
-          (at_number (λ (z : Vertex). IsVertexOf z z.op.kind) b.graph.vertices graph.kind v x first) e
-          (λ name is. sources name (record { number = v; source = x; before = before; there = first; named = is })) in
-          record {
-            same = outcome_is b graph v x first ∙ ap (λ o. some_of o) (alone (inputs_from (plain b) x.inputs))
-                ∙ ap (λ ts. some_of (outcome_on c y ts)) trees_same
-                ∙ sym (outcome_is c other w y second);
-            plain = plain_is b graph v x first ∙ ap (λ (o : Op). not (list_any (has_type cache) (kind_mounts o.kind))
-                && list_all (λ (n : Edge). is_plain b n.vertex) x.inputs) e
-                ∙ ap (λ t. not (has_cache y) && t) plain_same
-                ∙ sym (plain_is c other w y second);
-          }
+    same : DoTheSame b x c y
+    same =
+        same_by_kind b c x y (at_number IsVertex b.graph.vertices graph.vertex v x first) (at_number IsVertex c.graph.vertices other.vertex w y second) of_kind
+        (ap (λ (o : Op). o.kind) e) (λ name is. sources name (record { number = v; source = x; before = before; there = first; named = is }))
 
   one_op : (v w : ℕ) (d : HaveOneDigest b.graph v c.graph w) → d.first.op ≡ d.second.op
   one_op v w d = ops v w d.first d.second d.first_there d.second_there d.same
 
-  alike_below : (n v w : ℕ) → v < n → HaveOneDigest b.graph v c.graph w → Reached (links b.graph.vertices) top v → HaveOneOutcome b v c w
-  alike_below zero v w lt d before = absurd (omega (arith, lt))
-  alike_below (suc n) v w lt d before =
-      step v w d.first d.second d.first_there d.second_there (one_op v w d) before (λ j k low digests reached.
-      alike_below n j k (omega (arith, lt, low)) digests reached)
+  -- the matching: vertices with one digest, of which the first is at or before the top
+  record IsOneBefore (v w : ℕ) : Type 0 where
+    digests : HaveOneDigest b.graph v c.graph w
+    before : Reached (links b.graph.vertices) top v
+
+  do_alike : (v w : ℕ) → IsOneBefore v w → DoAlike b c IsOneBefore v w
+  do_alike v w m =
+      let d = m.digests in
+      let e = one_op v w d in
+      let paired = pair v w d.first d.second d.first_there d.second_there e m.before in
+      record {
+        first = d.first;
+        second = d.second;
+        first_there = d.first_there;
+        second_there = d.second_there;
+        same = same v w d.first d.second d.first_there d.second_there e m.before;
+        inputs = both_by_place (EdgesMatch b c IsOneBefore) d.first.inputs d.second.inputs
+            (as_many v w d.first d.second d.first_there d.second_there e m.before)
+            (λ i n l. let p = paired i n l in inr (record { digests = p.digests; before = p.before }, p.index));
+      }
+
+  mount_alike : (v w : ℕ) → IsOneBefore v w → MountAlike b c IsOneBefore v w
+  mount_alike v w m =
+      let d = m.digests in
+      let e = one_op v w d in
+      let paired = pair v w d.first d.second d.first_there d.second_there e m.before in
+      record {
+        first = d.first;
+        second = d.second;
+        first_there = d.first_there;
+        second_there = d.second_there;
+        same = ap (λ (o : Op). list_any (has_type cache) (kind_mounts o.kind)) e;
+        inputs = both_by_place (λ n k. IsOneBefore n.vertex k.vertex) d.first.inputs d.second.inputs
+            (as_many v w d.first d.second d.first_there d.second_there e m.before)
+            (λ i n l. let p = paired i n l in record { digests = p.digests; before = p.before });
+      }
+
+  one_before : (w : ℕ) → HaveOneDigest b.graph top c.graph w → IsOneBefore top w
+  one_before w d = record { digests = d; before = (0, refl) }
+
+  matched : IsMatched b c IsOneBefore
+  matched v w m = inr (do_alike v w m)
 
   -- vertices with one digest have one outcome, if the sources at or before the first have the same trees
   pub alike : (w : ℕ) → HaveOneDigest b.graph top c.graph w → HaveOneOutcome b top c w
-  alike w d = alike_below (suc top) top w (omega arith) d (0, refl)
+  alike w d =
+      record {
+        same = matched_alike b c IsOneBefore graph other matched top w (one_before w d);
+        plain = plain_alike b c graph other IsOneBefore mount_alike top w (one_before w d);
+      }
+
+  -- they do the same
+  pub one_does_same : (w : ℕ) (d : HaveOneDigest b.graph top c.graph w) → DoTheSame b d.first c d.second
+  unfolding do_alike one_before
+  one_does_same w d = (do_alike top w (one_before w d)).same
 
   -- and they begin on the same trees of their inputs
   pub inputs_same : (w : ℕ) (d : HaveOneDigest b.graph top c.graph w) → inputs_from (plain b) d.first.inputs ≡ inputs_from (plain c) d.second.inputs
-  inputs_same w d = trees_same top w d.first d.second d.first_there d.second_there (one_op top w d) (0, refl) (alike_below top)
+  unfolding do_alike one_before
+  inputs_same w d =
+      trees_alike b c IsOneBefore top (λ j k low m. matched_alike b c IsOneBefore graph other matched j k m) d.first.inputs d.second.inputs
+      (each_below b.graph graph top d.first d.first_there) (do_alike top w (one_before w d)).inputs
 
 -- ---- the laws
 
@@ -154,10 +175,5 @@ depend_on_sources g graph ls ms v sources = elim (cases_lt v (length g.vertices)
       let x = get_within g.vertices v low in
       (alike (record { graph = g; locals = ls }) (record { graph = g; locals = ms }) graph graph (one_op_alone g graph) v sources v
       (record { first = x.0; second = x.0; first_there = x.1; second_there = x.1; same = refl })).same)
-  | inr past ↦ none ls past ∙ sym (none ms past)
+  | inr past ↦ none_past (record { graph = g; locals = ls }) v past ∙ sym (none_past (record { graph = g; locals = ms }) v past)
 ]
-  where
-    none : (ns : List Local) → length g.vertices ≤ v → outcome (record { graph = g; locals = ns }) v ≡ None
-    none ns past =
-        let n = by_number_length (next_outcome (record { graph = g; locals = ns })) g.vertices in
-        get_past (outcomes (record { graph = g; locals = ns })) v (omega (arith, n, past))

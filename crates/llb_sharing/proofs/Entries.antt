@@ -1,5 +1,5 @@
 -- A vertex of a loaded graph has the digest text and the op of an entry, so vertices with one digest have one op.
-use Rattle.std.proofs.Common.{◌≡◌, ℕ, ◌<◌, not, List, [], length, get_or, Some, Result, Ok, sym, ap, ◌∙◌, arith}
+use Rattle.std.proofs.Common.{◌≡◌, ℕ, ◌<◌, List, [], length, get_or, Some, Result, Ok, sym, ap, ◌∙◌, arith}
 use Rattle.std.specs.Prelude.{slice_get}
 use Rattle.std.specs.List.{Contains}
 use Rattle.std.proofs.lemmas.List.{get_or-map, length-map}
@@ -13,38 +13,51 @@ use Rattle.llb_loader.specs.declared.row.Row.{Row}
 use Rattle.llb_loader.specs.declared.graph.Vertex.{Vertex}
 use Rattle.llb_loader.specs.RowLookup.{row_at}
 use Rattle.llb_loader.specs.Graph.{Numbered, IsGraph}
-use Rattle.llb_loader.specs.Linking.{plan_of, vertex_of}
-use Rattle.llb_loader.specs.Link.{IsGraphOf}
-use Rattle.llb_loader.specs.Load.{rows_from}
-use Rattle.llb_loader.proofs.Refusals.{reached_in}
-use Rattle.llb_model.specs.Program.{whole}
+use Rattle.llb_loader.specs.Linking.{plan_of, vertex_of, GraphOf}
+use Rattle.llb_loader.specs.LinkResult.{IsGraphOf}
+use Rattle.llb_loader.specs.LoadResult.{rows_from}
+use Rattle.llb_loader.proofs.PlanRefusals.{reached_in}
 use Rattle.llb_sharing.specs.Digests.{LoadWithoutCollision}
 use Rattle.llb_model.proofs.Lists.{some_of, got_within}
 
 -- a vertex has the digest text of one of the entries, and the op that the entry spells
-record IsEntryOf (entries : List (List ℕ)) (v : Vertex) : Type 0 where
-  bytes : List ℕ
-  among : Contains entries bytes
-  digest : v.digest ≡ digest_text bytes
-  op : op_of bytes ≡ Ok v.op
+pub record IsEntryOf (entries : List (List ℕ)) (v : Vertex) : Type 0 where
+  pub bytes : List ℕ
+  pub among : Contains entries bytes
+  pub digest : v.digest ≡ digest_text bytes
+  pub op : op_of bytes ≡ Ok v.op
 
 -- the row of an entry
 unfoldable pub row_from : List ℕ → Row
 row_from bytes = record { digest = digest_text bytes; bytes = bytes }
 
-entry_of : (entries : List (List ℕ)) (g : Numbered) → IsGraphOf (rows_from entries) g → (k : ℕ) (v : Vertex) → slice_get g.vertices k ≡ Some v
+-- a vertex has a place in the order
+low_of : (rows : List Row) (ops : List Op) (g : Numbered) (made : GraphOf rows ops g) (k : ℕ) (v : Vertex) → slice_get g.vertices k ≡ Some v
+    → k < length made.order
+low_of rows ops g made k v there =
+    let count = ap (λ (n : Numbered). length n.vertices) made.graph in
+    let mapped = length-map made.order (vertex_of (plan_of rows ops) made.order) in
+    let inside = got_within g.vertices k v there in
+    omega (arith, inside, count, mapped)
+
+-- a vertex is made from the row at its place in the order
+pub vertex_is : (rows : List Row) (ops : List Op) (g : Numbered) (made : GraphOf rows ops g) (k : ℕ) (v : Vertex) → slice_get g.vertices k ≡ Some v
+    → v ≡ vertex_of (plan_of rows ops) made.order (get_or made.order k 0)
+vertex_is rows ops g made k v there =
+    let p = plan_of rows ops in
+    let vertices = ap (λ (n : Numbered). n.vertices) made.graph in
+    let low = low_of rows ops g made k v there in
+    sym (get_or_from_slice_get g.vertices k v v there) ∙ ap (λ (vs : List Vertex). get_or vs k v) vertices
+    ∙ get_or-map (vertex_of p made.order) made.order k 0 v low
+
+pub entry_of : (entries : List (List ℕ)) (g : Numbered) → IsGraphOf (rows_from entries) g → (k : ℕ) (v : Vertex) → slice_get g.vertices k ≡ Some v
     → IsEntryOf entries v
 unfolding row_from
 entry_of entries g (ops, are, made) k v there =
     let p = plan_of (rows_from entries) ops in
     let r = get_or made.order k 0 in
-    let vertices = ap (λ (n : Numbered). n.vertices) made.graph in
-    let count = ap (λ (vs : List Vertex). length vs) vertices in
-    let mapped = length-map made.order (vertex_of p made.order) in
-    let inside = got_within g.vertices k v there in
-    let low : k < length made.order = omega (arith, inside, count, mapped) in
-    let is : v ≡ vertex_of p made.order r = sym (get_or_from_slice_get g.vertices k v v there) ∙ ap (λ (vs : List Vertex). get_or vs k v) vertices
-    ∙ get_or-map (vertex_of p made.order) made.order k 0 v low in
+    let low = low_of (rows_from entries) ops g made k v there in
+    let is : v ≡ vertex_of p made.order r = vertex_is (rows_from entries) ops g made k v there in
     let reached = (made.whole.valid.supported.ordered.numbering.each k low).ready.reached in
     let row = reached_in p made.whole.valid.supported.ordered.named.started r reached in
     let rows = length-map entries row_from in
@@ -61,7 +74,7 @@ entry_of entries g (ops, are, made) k v there =
 abbrev pub HaveOneOpEach : Numbered → Numbered → Type 0
 HaveOneOpEach g h = (v w : ℕ) (x y : Vertex) → slice_get g.vertices v ≡ Some x → slice_get h.vertices w ≡ Some y → x.digest ≡ y.digest → x.op ≡ y.op
 
-ok_inside : (x y : Op) → ◌≡◌ {A = Result Op OpFault} (Ok x) (Ok y) → x ≡ y
+pub ok_inside : (x y : Op) → ◌≡◌ {A = Result Op OpFault} (Ok x) (Ok y) → x ≡ y
 ok_inside x y e = cc
 
 -- where definitions do not collide, this holds of their graphs

@@ -1,10 +1,9 @@
 -- The jobs of vertices with one digest, and the outcomes of these jobs.
 use Rattle.std.proofs.Common.{◌≡◌, ℕ, zero, suc, ◌+◌, true, false, List, [], Option, Some, None, refl, sym, ap, subst, ◌∙◌, arith}
-use Rattle.std.specs.Prelude.{option_map, slice_get}
+use Rattle.std.specs.Prelude.{option_map}
 use Rattle.llb_tree.specs.Tree.{TreeMap}
-use Rattle.llb_ops.specs.declared.op.Op.{Op}
 use Rattle.llb_loader.specs.declared.graph.Vertex.{Vertex}
-use Rattle.llb_loader.specs.Graph.{Numbered, IsVertex, IsVertexOf, IsGraph}
+use Rattle.llb_loader.specs.Graph.{Numbered, IsGraph}
 use Rattle.llb_model.specs.Program.{Build, MicroStep, Left, start_with, go_on}
 use Rattle.llb_model.specs.Outcome.{inputs_from}
 use Rattle.llb_model.specs.Table.{Job}
@@ -12,13 +11,12 @@ use Rattle.llb_model.specs.Landing.{AreLeft, further, is_over}
 use Rattle.llb_model.proofs.Lists.{some_of}
 use Rattle.llb_model.proofs.Outcomes.{plain}
 use Rattle.llb_execution.specs.Jobs.{OutcomeValue, IsOutcome, begun_on}
-use Rattle.llb_board.specs.Seen.{BoardValue}
-use Rattle.llb_board.specs.Begun.{plain_start, plain_job, job_from, KnownLand, IsKnown}
+use Rattle.llb_board.specs.BoardValue.{BoardValue}
+use Rattle.llb_board.specs.PlainVertexJobs.{plain_start, plain_job, job_from, KnownLand, IsKnown}
 use Rattle.llb_sharing.specs.Digests.{LoadWithoutCollision, HaveOneDigest, HaveSameSources}
-use Rattle.llb_sharing.specs.Jobs.{given_to, credited_to, ShareJobs, IsWorkedElsewhere, LandsHere, WorkedElsewhereLands}
+use Rattle.llb_sharing.specs.Jobs.{given_to, credited_to, ShareJobs, WorkedElsewhereLands}
 use Rattle.llb_sharing.proofs.Entries.{HaveOneOpEach, one_op_each}
-use Rattle.llb_sharing.proofs.Vertices.{program_same, begins_same, at_number}
-use Rattle.llb_sharing.proofs.Digests.{inputs_same}
+use Rattle.llb_sharing.proofs.Digests.{one_does_same, inputs_same}
 
 -- ---- jobs
 
@@ -34,13 +32,10 @@ module _ (b c : Build) (graph : IsGraph b.graph) (other : IsGraph c.graph) (ops 
       ≡ option_map (job_from c w u) (option_map (start_with far) trees)
   by_trees None = refl
   by_trees (Some trees) =
-      let e : near.op ≡ far.op = ops v u near far digests.first_there digests.second_there digests.same in
-      let p = program_same near far (at_number IsVertex b.graph.vertices graph.vertex v near digests.first_there)
-      (at_number IsVertex c.graph.vertices other.vertex u far digests.second_there) e in
-      let s = begins_same b.locals c.locals near far e
-      (λ name is. sources name (record { number = v; source = near; before = (0, refl); there = digests.first_there; named = is }))
-      (at_number (λ (z : Vertex). IsVertexOf z z.op.kind) b.graph.vertices graph.kind v near digests.first_there) trees in
-      λ i. Some (record { worker = w; vertex = u; program = p i; done = 0; work = record { own = s i; trees = [] }; instances = [] })
+      let same = one_does_same b c graph other ops v sources u digests in
+      let p = same.program in
+      let s = same.work trees in
+      λ i. Some (record { worker = w; vertex = u; program = p i; done = 0; work = s i; instances = [] })
 
   -- the plain jobs are one but for the numbers
   pub job_same : plain_job c w u ≡ option_map (given_to w u) (plain_job b a v)

@@ -4,10 +4,10 @@ use Rattle.std.specs.List.{Contains}
 use Rattle.llb_wire.specs.Digest.{digest_text}
 use Rattle.llb_ops.specs.Definition.{definition_of}
 use Rattle.llb_loader.specs.declared.graph.Vertex.{Vertex}
-use Rattle.llb_loader.specs.Rows.{Reached}
+use Rattle.llb_loader.specs.ReachedRows.{Reached}
 use Rattle.llb_loader.specs.Graph.{Numbered, links}
-use Rattle.llb_loader.specs.Load.{IsGraphIn}
-use Rattle.llb_loader.specs.Locals.{Local, local_name, tree_of_local}
+use Rattle.llb_loader.specs.LoadResult.{IsGraphIn}
+use Rattle.llb_loader.specs.LocalSources.{Local, local_name, tree_of_local}
 use Rattle.llb_model.specs.Program.{Build}
 use Rattle.llb_model.specs.Outcome.{outcome, is_plain}
 

@@ -1,13 +1,13 @@
 -- The jobs of vertices with the same digest: they differ only in the numbers of worker and vertex, and so do the outcomes of these jobs.
 use Rattle.std.specs.Prelude.{◌≡◌, ℕ, true, List, Some, option_map, slice_get}
 use Rattle.llb_loader.specs.Graph.{Numbered}
-use Rattle.llb_loader.specs.Locals.{Local}
+use Rattle.llb_loader.specs.LocalSources.{Local}
 use Rattle.llb_model.specs.Outcome.{is_plain}
 use Rattle.llb_model.specs.State.{Execution, Runs}
 use Rattle.llb_model.specs.Table.{Job}
 use Rattle.llb_execution.specs.Jobs.{OutcomeValue, IsOutcome}
-use Rattle.llb_board.specs.Seen.{BoardValue}
-use Rattle.llb_board.specs.Begun.{plain_job, IsKnown}
+use Rattle.llb_board.specs.BoardValue.{BoardValue}
+use Rattle.llb_board.specs.PlainVertexJobs.{plain_job, IsKnown}
 use Rattle.llb_board.specs.Landing.{CanLand}
 use Rattle.llb_sharing.specs.Digests.{HaveOneDigest, HaveSameSources}
 

@@ -10,7 +10,7 @@ use Rattle.llb_stepper.specs.declared.breakpoints.Kinds.{Kinds}
 use Rattle.llb_stepper.specs.declared.stop.Break.{Break}
 use Rattle.llb_stepper.specs.declared.stop.Break.TheVariants as stop
 use Rattle.llb_stepper.specs.Stepping.{claims}
-use Rattle.llb_stepper.specs.Told.{settles_told, failed_told, meets_told}
+use Rattle.llb_stepper.specs.WalkReplies.{settles_told, failed_told, meets_told}
 use Rattle.llb_stepper.specs.BreakpointSets.{AreKinds, is_at_claims, is_at_settles, is_at_failures, is_met_by_event, is_met_by_reply}
 
 -- whether a breakpoint is met by an event, whatever its reply

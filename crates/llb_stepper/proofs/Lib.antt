@@ -1,9 +1,9 @@
 pub mod BreakpointSets
-pub mod Grown
-pub mod Recorded
-pub mod Lines
-pub mod Replayed
-pub mod Again
-pub mod Replied
-pub mod Stops
-pub mod Walked
+pub mod BoardAfterEvent
+pub mod DoneEvents
+pub mod RecordReplies
+pub mod BoardReplay
+pub mod StepperReplay
+pub mod RepliesAfterEvents
+pub mod EventSequences
+pub mod WalkByTable

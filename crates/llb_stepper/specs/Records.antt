@@ -1,7 +1,7 @@
 -- The lines of a record: a line has the number of an event, counted from 1, the event, and the reply to it.
 use Rattle.std.specs.Prelude.{◌≡◌, ◌≤◌, ◌<◌, ◌+◌, ℕ, ◌-◌, ◌&&◌, nat_le, List, [], ◌++◌, length, codes, Option, Some, None, option_map, slice_get, if◌then◌else◌}
 use Rattle.std.specs.Fmt.{decimal}
-use Rattle.llb_ops.specs.Kinds.{kind_text}
+use Rattle.llb_ops.specs.OpKindNames.{kind_text}
 use Rattle.llb_loader.specs.declared.graph.Vertex.{Vertex}
 use Rattle.llb_events.specs.declared.event.Settled.TheVariants as ended
 use Rattle.llb_events.specs.declared.event.Settled.{Settled}
@@ -14,7 +14,7 @@ use Rattle.llb_model.specs.Run.{run}
 use Rattle.llb_events.specs.declared.event.Event.{Event}
 use Rattle.llb_events.specs.declared.event.Event.TheVariants.{Claim, Step, Settle, Cancel}
 use Rattle.llb_model.specs.Table.{Reply, Claimed, HasStepped, HasSettled, HasCancelled}
-use Rattle.llb_board.specs.Seen.{BoardValue, replies_in}
+use Rattle.llb_board.specs.BoardValue.{BoardValue, replies_in}
 use Rattle.llb_stepper.specs.declared.stop.Stop.{Stop}
 use Rattle.llb_stepper.specs.Stepping.{Stepping, IsStop, answered, at_first}
 

@@ -5,9 +5,9 @@ use Rattle.llb_wire.specs.Answer as answer
 use Rattle.llb_events.specs.declared.event.Event.{Event}
 use Rattle.llb_model.specs.Table.{Reply}
 use Rattle.llb_model.specs.Run.{chosen}
-use Rattle.llb_board.specs.Seen.{BoardValue}
-use Rattle.llb_board.specs.Undo.{walk_of}
-use Rattle.llb_board.specs.Displaced.{walk_memory}
+use Rattle.llb_board.specs.BoardValue.{BoardValue}
+use Rattle.llb_board.specs.WalkAndUndo.{walk_of}
+use Rattle.llb_board.specs.DisplacedWorkers.{walk_memory, walk_may_want}
 use Rattle.llb_board.specs.declared.board.walk.Reply as short
 use Rattle.llb_board.specs.declared.fault.WalkFault.{WalkFault}
 use Rattle.llb_stepper.specs.declared.fault.StepperFault.{StepperFault}
@@ -33,6 +33,10 @@ done_by s (Err e) = Err (fault.Board e)
 -- the stepper after one event, or why the event is refused
 abbrev pub done_of : Stepping → Event → Result Stepping StepperFault
 done_of s e = done_by s (walk_of s.board e)
+
+-- whether an event may need memory: true if the board grants it, or refuses it with 135 `Held` for a key that has a text to copy
+abbrev pub may_want : Stepping → Event → Bool
+may_want s e = walk_may_want (walk_of s.board e)
 
 -- the chosen event (the event that `chosen` of llb_model returns) is refused only for want of memory
 abbrev pub ChosenIsDone : Stepping → Type 0

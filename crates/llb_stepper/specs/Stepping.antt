@@ -8,7 +8,7 @@ use Rattle.llb_events.specs.declared.event.Event.TheVariants.{Claim, Step, Settl
 use Rattle.llb_model.specs.Table.{Reply, Claimed, HasStepped, HasSettled, HasCancelled, table}
 use Rattle.llb_model.specs.State.{State, opening}
 use Rattle.llb_model.specs.Run.{chosen}
-use Rattle.llb_board.specs.Seen.{BoardValue, after_event}
+use Rattle.llb_board.specs.BoardValue.{BoardValue, after_event}
 use Rattle.llb_stepper.specs.declared.stop.Break.{Break}
 use Rattle.llb_stepper.specs.declared.stop.Break.TheVariants as stop
 use Rattle.llb_stepper.specs.declared.stop.Stop.{Stop}

@@ -3,11 +3,11 @@
 ghost use Rattle.std.specs.Prelude.{◌≡◌, ◌≤◌, ◌+◌, ◌++◌, ◌∷◌, [], length, drop, Bool, true, map, option_map, false, IfOk, IfErr};
 ghost use Rattle.std.specs.Prelude.{OnOk, OnErr, Some, string_bytes};
 ghost use Rattle.llb_model.specs.Run.{chosen};
-ghost use Rattle.llb_stepper.specs.Rules.{GivesEvent, done_of, stepper_memory, IsRefusedAt, MeetsOn, ChosenIsDone, ThereAndBack};
+ghost use Rattle.llb_stepper.specs.Rules.{GivesEvent, done_of, may_want, stepper_memory, IsRefusedAt, MeetsOn, ChosenIsDone, ThereAndBack};
 ghost use Rattle.llb_stepper.specs.Stepping.{GoesBack, IsStop, IsGo, IsReplayed, PastIsTheRecords, timeline, lesser};
 ghost use Rattle.llb_stepper.specs.Records.{record_at, record_text, RecordIsTheRun, ReplaysOnAStepper};
 ghost use Rattle.llb_stepper.specs.Replies.{RepliesAreRecorded};
-ghost use Rattle.llb_stepper.specs.Told.{told_pair};
+ghost use Rattle.llb_stepper.specs.WalkReplies.{told_pair};
 ghost use Rattle.llb_stepper.specs.declared.fault.StepperFault.TheVariants as fault;
 
 use crate::breakpoints::Breakpoints;
@@ -29,7 +29,6 @@ pub struct Stepper {
     breaks: Breakpoints,
 }
 
-// This `Drop` is written by hand, so it is proved once; a derived `Drop` is proved again in every function that drops a stepper.
 impl Drop for Stepper {
     fn drop(self) {
         let Stepper {
@@ -44,10 +43,10 @@ impl Drop for Stepper {
 impl Model for Stepper {
     ghost use Rattle.std.specs.Coded.{codes};
     ghost use Rattle.std.specs.Prelude.{reverse};
-    ghost use Rattle.llb_tree.specs.Coded.{coded_tree};
-    ghost use Rattle.llb_model.specs.Coded.{coded_store};
+    ghost use Rattle.llb_tree.specs.CodedTrees.{coded_tree};
+    ghost use Rattle.llb_model.specs.CodedStores.{coded_store};
     ghost use Rattle.llb_stepper.specs.Stepping.{Stepping};
-    ghost use Rattle.llb_stepper.specs.Kept.{stepping, AreWalked};
+    ghost use Rattle.llb_stepper.specs.StepperInvariant.{stepping, AreWalked};
 
     ghost Value = { Stepping };
 
@@ -96,9 +95,11 @@ impl Stepper {
     }
 
     /// Does one event. Fails with 171 and the board's refusal, or with 174. If memory is refused, the fault is 171 141 if the board needed the memory, and 174
-    /// if the stepper itself needed it.
+    /// if the stepper itself needed it; both are reported only if the board does not refuse the event, or in place of 171 135 if memory for a copy of the held
+    /// key is refused.
     pub fn do_event(&mut self, event: Event) -> Result<(), StepperFault>
         ensures gives { GivesEvent (λ _. self.new) result (done_of self.old event) }
+        ensures last { IfErr result (λ e. stepper_memory e ≡ true → may_want self.old event ≡ true) }
         ensures err { OnErr result (self.new ≡ self.old) }
     {
         self.walk(event)?;
@@ -160,9 +161,9 @@ impl Stepper {
         Some((events[number - 1], walked.reply))
     }
 
-    // How many events were done here, and not taken back.
-    #[tactic(auto, using(crate::proofs::Walked::depth_of))]
-    fn depth(&self) -> usize
+    /// Returns how many events the stepper did that are not taken back. Does not allocate.
+    #[tactic(auto, using(crate::proofs::WalkByTable::depth_of))]
+    pub fn depth(&self) -> usize
         ensures { result ≡ length self.now.past }
     {
         self.walked.len()
@@ -171,16 +172,23 @@ impl Stepper {
     // Does one event, and returns whether it meets a breakpoint.
     fn walk(&mut self, event: Event) -> Result<bool, StepperFault>
         ensures gives { GivesEvent (λ _. self.new) result (done_of self.old event) }
+        ensures last { IfErr result (λ e. stepper_memory e ≡ true → may_want self.old event ≡ true) }
         ensures met { IfOk result (MeetsOn self.old event self.new) }
         ensures err { OnErr result (self.new ≡ self.old) }
     {
-        self.walked.reserve(1)?;
         match self.board.walk(event) {
-            Ok(walked) => {
-                let met = self.breaks.is_met_by(event, walked.reply);
-                self.walked.push_reserved(walked);
-                Ok(met)
-            }
+            Ok(walked) => match self.walked.reserve(1) {
+                Ok(()) => {
+                    let met = self.breaks.is_met_by(event, walked.reply);
+                    self.walked.push_reserved(walked);
+                    Ok(met)
+                }
+                Err(_) => {
+                    let undo = walked.undo;
+                    self.board.undo(undo);
+                    Err(StepperFault::Memory)
+                }
+            },
             Err(fault) => Err(StepperFault::Board(fault)),
         }
     }

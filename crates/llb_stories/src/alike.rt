@@ -2,7 +2,7 @@
 
 use super::calls::{are_done, are_same, copy_of};
 use super::checks::row_holds;
-use super::runs::{IN_A_ROW, TWO_FILES};
+use super::graphs::{IN_A_ROW, TWO_FILES};
 use super::written::board_of;
 use llb_board::Board;
 use std::alloc::Global;

@@ -3,7 +3,7 @@
 use llb_board::{Board, Event, Gate, Job, LandFault, OpenFault, Outcome, WorkFault, work};
 use llb_cache::Caches;
 use llb_loader::{Graph, Locals};
-use llb_session::{Request, request_in};
+use llb_session::{Looks, Request, request_in};
 use llb_stepper::{Break, Stepper, Stop};
 use llb_wire::Same;
 use std::alloc::Global;
@@ -24,7 +24,7 @@ pub(crate) fn opened(
 
 // Returns the event that a line of a session asks for; `None` if the line asks for no event.
 pub(crate) fn event_in(line: &str) -> Option<Event> {
-    match request_in(line.as_bytes()) {
+    match request_in(Looks::Refused, line.as_bytes()) {
         Some(Request::Event(event)) => Some(event),
         _ => None,
     }

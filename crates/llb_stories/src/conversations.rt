@@ -1,11 +1,11 @@
-//! Tests whole sessions: which lines are commands, how a session ends, the bounds on the session's input, and that each line gets its reply before the next
-//! line is read.
+//! Tests sessions: the bounds on a session's input, and that each line gets its reply before the next line is read. The stepper's board has one worker, and one
+//! vertex, which makes a file.
 
 use super::checks::{is_so, row_holds};
-use super::runs::ONE_FILE;
+use super::graphs::ONE_FILE;
 use super::sessions::{LIMIT, READS};
 use super::written::board_of;
-use llb_session::{SessionFault, converse};
+use llb_session::{Looks, Session, SessionFault, converse};
 use llb_stepper::Stepper;
 use std::alloc::Global;
 use std::cell::Cell;
@@ -13,33 +13,12 @@ use std::io;
 use std::io::{ErrorKind, Read, Write};
 use std::process::Abort;
 
-// The lines of a session, and all that the session prints. The stepper's board has one worker, and one vertex, which makes a file.
-const CONVERSATIONS: &[(&str, &str)] = &[
-    // A session ends after its last line, or at a line `quit`.
-    ("", ""),
-    ("next\n", "1 claim 0 0 -> file 1\n"),
-    (
-        "go\nnext\ngo\n",
-        "1 claim 0 0 -> file 1\n2 step 0 -> acted 0\n3 settle 0 -> 0 done\nend\nend\nend\n",
-    ),
-    ("quit\nnext\n", ""),
-    ("next\nquit", "1 claim 0 0 -> file 1\n"),
-    (
-        "break settle 0\ngo\nquit\nnext\n",
-        "1 claim 0 0 -> file 1\n2 step 0 -> acted 0\n3 settle 0 -> 0 done\nstop\n",
-    ),
-    ("next", "1 claim 0 0 -> file 1\n"),
-    ("tree 0 0\ntree 0 1\ntree 7 0\n", "none\nnone\nnone\n"),
-    // A line that is no command is refused with 173 and the number of the line.
-    (
-        "\nnext \n next\nbreak\nbreak fail 1\nclaim 0\nclaim 0  0\nstep +0\nstep 4294967296\ngo\r\nclaim 00 00\nQUIT\n",
-        "fault 173 1\nfault 173 2\nfault 173 3\nfault 173 4\nfault 173 5\nfault 173 6\nfault 173 7\nfault 173 8\nfault 173 9\n\
-        fault 173 10\n1 claim 0 0 -> file 1\nfault 173 12\n",
-    ),
-];
-
-fn on_one_file(rt: &impl Abort, alloc: Global) -> Stepper {
-    Stepper::new(alloc, board_of(rt, alloc, ONE_FILE, "", 1))
+// Returns a session without looks.
+fn on_one_file(rt: &impl Abort, alloc: Global) -> Session {
+    Session {
+        stepper: Stepper::new(alloc, board_of(rt, alloc, ONE_FILE, "", 1)),
+        looks: Looks::Refused,
+    }
 }
 
 // Runs a session with bounds on the bytes and on the reads of its input. Returns how the session ends, or `None` if the session does not print the text
@@ -51,12 +30,12 @@ fn ended(
     bounds: (usize, u64),
     wanted: &str,
 ) -> Option<Result<(), SessionFault>> {
-    let mut stepper = on_one_file(rt, alloc);
+    let mut session = on_one_file(rt, alloc);
     let mut lines = commands.as_bytes();
     let mut out: Vec<u8> = Vec::new(alloc);
     let end = converse(
         alloc,
-        &mut stepper,
+        &mut session,
         &mut lines,
         &mut out,
         bounds.0,
@@ -66,14 +45,6 @@ fn ended(
         Some(end)
     } else {
         None
-    }
-}
-
-#[test]
-fn lines_are_answered_up_to_the_end(rt: HostRuntime) {
-    for (at, (commands, wanted)) in CONVERSATIONS.iter().enumerate() {
-        let end = ended(&rt, rt.alloc(), commands, (LIMIT, READS), wanted);
-        row_holds(&rt, at, number_of(end) == Some(0));
     }
 }
 
@@ -152,7 +123,7 @@ impl Write for Counts<'_> {
 }
 
 // Returns whether a session prints the text `wanted`, and writes the reply to each line before it reads the next line.
-fn is_conversation(alloc: Global, stepper: &mut Stepper, commands: &str, wanted: &str) -> bool {
+fn is_conversation(alloc: Global, session: &mut Session, commands: &str, wanted: &str) -> bool {
     let answered = Cell::new(0);
     let mut lines = Waits {
         bytes: commands.as_bytes(),
@@ -163,17 +134,17 @@ fn is_conversation(alloc: Global, stepper: &mut Stepper, commands: &str, wanted:
         text: Vec::new(alloc),
         answered: &answered,
     };
-    let end = converse(alloc, stepper, &mut lines, &mut out, LIMIT, READS);
+    let end = converse(alloc, session, &mut lines, &mut out, LIMIT, READS);
     end.is_ok() && out.text.as_slice() == wanted.as_bytes()
 }
 
 #[test]
 fn each_line_is_answered_before_the_next_is_waited_for(rt: HostRuntime) {
     let wanted = "1 claim 0 0 -> file 1\n2 step 0 -> acted 0\nback 1\n";
-    let mut stepper = on_one_file(&rt, rt.alloc());
+    let mut session = on_one_file(&rt, rt.alloc());
     let commands = "next\nbreak fail\nnext\nback\n";
     is_so(
         &rt,
-        is_conversation(rt.alloc(), &mut stepper, commands, wanted),
+        is_conversation(rt.alloc(), &mut session, commands, wanted),
     );
 }

@@ -2,7 +2,7 @@
 
 use super::calls::{breaks_at, goes_back, replayed};
 use super::checks::{is_so, row_holds};
-use super::runs::TWO_FILES;
+use super::graphs::TWO_FILES;
 use super::written::board_of;
 use llb_board::{Board, Event, Gate, Status, Stopped, WorkerStatus};
 use llb_stepper::{Break, Stepper, Stop};

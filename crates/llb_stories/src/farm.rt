@@ -3,7 +3,7 @@
 use super::calls::{are_same, replayed};
 use super::checks::{is_answered, is_so, row_holds};
 use super::gates::{Counting, Open};
-use super::runs::TWO_FILES;
+use super::graphs::TWO_FILES;
 use super::written::{board_from, board_of, push_entries};
 use llb_board::{Board, Gate, Stopped};
 use llb_stepper::Stepper;

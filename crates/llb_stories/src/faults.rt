@@ -1,8 +1,8 @@
 //! Tests what the faults of calls on a board print if memory was refused. The other refusals of claims, steps, settles and cancels are tested by sessions
-//! (`runs`, `caches`), and the refusals of an opening by the program (`run` in `llbm`).
+//! of the program (`tests/stepping`, `tests/caches`), and the refusals of an opening by its commands (`tests/sources`, `tests/workers`).
 
 use super::checks::prints;
-use super::runs::IN_A_ROW;
+use super::graphs::IN_A_ROW;
 use super::written::graph_from;
 use llb_board::{ClaimFault, OpenFault, StepFault};
 use llb_cache::Caches;

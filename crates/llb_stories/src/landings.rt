@@ -2,7 +2,7 @@
 
 use super::calls::{are_done, claimed, copy_of, landed, opened, say_events, worked, worked_out};
 use super::checks::{is_answered, is_same, is_so, row_holds};
-use super::runs::TWO_FILES;
+use super::graphs::TWO_FILES;
 use super::written::{board_of, graph_from};
 use llb_board::{Board, Event, Gate, OpenFault, Outcome, Status, Stopped};
 use llb_cache::Caches;

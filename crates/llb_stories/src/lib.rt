@@ -5,8 +5,6 @@
 #[cfg(test)]
 mod alike;
 #[cfg(test)]
-mod caches;
-#[cfg(test)]
 mod calling;
 #[cfg(test)]
 mod calls;
@@ -21,19 +19,19 @@ mod crew;
 #[cfg(test)]
 mod crowds;
 #[cfg(test)]
-mod executions;
-#[cfg(test)]
 mod farm;
 #[cfg(test)]
 mod faults;
 #[cfg(test)]
 mod gates;
 #[cfg(test)]
+mod graphs;
+#[cfg(test)]
 mod instances;
 #[cfg(test)]
-mod landings;
+mod keeping;
 #[cfg(test)]
-mod looks;
+mod landings;
 #[cfg(test)]
 mod midway;
 #[cfg(test)]
@@ -45,11 +43,11 @@ mod queue;
 #[cfg(test)]
 mod records;
 #[cfg(test)]
-mod runs;
-#[cfg(test)]
 mod sessions;
 #[cfg(test)]
 mod sharing;
+#[cfg(test)]
+mod tokens;
 #[cfg(test)]
 mod walks;
 #[cfg(test)]

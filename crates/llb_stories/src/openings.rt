@@ -1,13 +1,14 @@
 //! Tests what a board takes when it is opened, what a refused opening returns, and which caches a board leaves for the next
-//! board. That a local tree is missing is tested in `llbm` (`run`), where the program prints the tree's name.
+//! board. That a local tree is missing is tested where the program prints the tree's name (`tests/sources`).
 
 use super::calls::{are_done, opened};
 use super::checks::{is_answered, is_so, row_holds};
+use super::graphs::D_ON_SECOND;
 use super::instances::{K_LOCKED, K_SHARED};
-use super::runs::D_ON_SECOND;
 use super::written::{CacheRow, board_of, graph_from, needs_of};
 use llb_board::{Board, OpenFault};
 use llb_cache::{Caches, Many};
+use llb_contents::names::caches_have_names;
 use llb_loader::Locals;
 use llb_samples::OLD_AND_F;
 use std::alloc::Global;
@@ -79,6 +80,7 @@ fn left(rt: &impl Abort, alloc: Global, definition: &str, events: &str) -> Cache
     let mut board = board_of(rt, alloc, definition, "", 2);
     assert!(rt; are_done(&mut board, events));
     let (_, _, caches) = board.into_parts();
+    caches_have_names(&caches);
     caches
 }
 

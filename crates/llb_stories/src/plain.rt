@@ -6,7 +6,8 @@ use super::checks::{is_so, prints, say_tree};
 use super::sessions::{StoryKind, are_stories, wanted};
 use super::written::{graph_from, locals_of};
 use llb_contents::laws::contents_are_handed_on;
-use llb_loader::Graph;
+use llb_contents::names::locals_have_names;
+use llb_loader::{Graph, Locals};
 use llb_plain::{Outcome, Outcomes, PlainFault, evaluate};
 use llb_samples::locals_named;
 use llb_tree::Tree;
@@ -156,15 +157,16 @@ fn say_outcome(rt: &impl Abort, text: &mut String, v: usize, outcome: &Outcome) 
     }
 }
 
-fn law(graph: &Graph) {
+fn law(graph: &Graph, locals: &Locals) {
     contents_are_handed_on(graph);
+    locals_have_names(graph, locals);
 }
 
 fn evaluated(rt: &impl Abort, alloc: Global, head: &str) -> Result<Outcomes, PlainFault> {
     let (locals, definition) = head.split_once(": ").expect(rt, "a definition");
     let graph = graph_from(rt, alloc, definition);
     let locals = locals_of(rt, alloc, locals_named(locals));
-    law(&graph);
+    law(&graph, &locals);
     evaluate(alloc, &graph, &locals)
 }
 

@@ -1,13 +1,14 @@
-//! Stories as transcripts, most of them of sessions on boards. A line that begins with `@ ` has the board on which the story begins (see the module
-//! `written`). A line that begins with `> ` is a command, and the lines below it are what the command prints. A line that begins with `# ` describes the
-//! story. Spaces before and after a line are ignored. Stories of calls (`checks`), of plain outcomes (`plain`) and of shared vertices (`sharing`) have the
-//! same form.
+//! Stories as transcripts: of calls on boards (`checks`), of plain outcomes (`plain`), of shared vertices (`sharing`) and of kept outputs (`keeping`). A line
+//! that begins with `@ ` has what the story begins with, such as a board (see the module `written`). A line that begins with `> ` is a call, and the lines
+//! below it are its result. A line that begins with `# ` describes the story. Spaces before and after a line are ignored. A session on a board has the same
+//! form, with commands for calls; what sessions of the program show is tested by the transcripts of the repository's folder `tests`.
 
 use super::checks::is_answered;
+use super::keeping::is_kept;
 use super::plain::are_outcomes;
-use super::sharing::are_shared;
+use super::sharing::{are_matchings, are_parts, are_renamings, are_shared};
 use super::written::board_in;
-use llb_session::converse;
+use llb_session::{Looks, Session, converse};
 use llb_stepper::Stepper;
 use std::alloc::Global;
 use std::process::Abort;
@@ -30,12 +31,20 @@ pub(crate) fn wanted(rt: &impl Abort, alloc: Global, story: &str) -> String {
 }
 
 // Appends the line of a command and what the command prints; appends nothing if the line is no command.
-fn say(rt: &impl Abort, alloc: Global, stepper: &mut Stepper, line: &str, out: &mut Vec<u8>) {
+fn say(rt: &impl Abort, alloc: Global, session: &mut Session, line: &str, out: &mut Vec<u8>) {
     if let Some(command) = line.strip_prefix("> ") {
         out.extend_from_slice(line.as_bytes()).expect(rt, "memory");
         out.push(b'\n').expect(rt, "memory");
         let mut command = command.as_bytes();
-        converse(alloc, stepper, &mut command, out, LIMIT, READS).expect(rt, "an answer");
+        converse(alloc, session, &mut command, out, LIMIT, READS).expect(rt, "an answer");
+    }
+}
+
+// Returns a session on a stepper, with looks.
+pub(crate) fn looking(stepper: Stepper) -> Session {
+    Session {
+        stepper,
+        looks: Looks::Allowed,
     }
 }
 
@@ -43,28 +52,26 @@ fn say(rt: &impl Abort, alloc: Global, stepper: &mut Stepper, line: &str, out: &
 pub(crate) fn is_transcript(
     rt: &impl Abort,
     alloc: Global,
-    stepper: &mut Stepper,
+    session: &mut Session,
     story: &str,
 ) -> bool {
     let mut out = Vec::new(alloc);
     for line in story.lines() {
-        say(rt, alloc, stepper, line.trim(), &mut out);
+        say(rt, alloc, session, line.trim(), &mut out);
     }
     out.as_slice() == wanted(rt, alloc, story).as_bytes()
 }
 
-// What a story is made of: the commands of a session, calls on a board, plain outcomes, or the vertices that two definitions share.
+// What a story is made of: calls on a board, plain outcomes, the vertices that two definitions share, or kept outputs.
 #[derive(Clone, Copy)]
 pub(crate) enum StoryKind {
-    Session,
     Calls,
     Outcomes,
     Sharing,
-}
-
-fn is_session(rt: &impl Abort, alloc: Global, head: &str, lines: &str) -> bool {
-    let mut stepper = Stepper::new(alloc, board_in(rt, alloc, head));
-    is_transcript(rt, alloc, &mut stepper, lines)
+    Parts,
+    Renamings,
+    Matchings,
+    Kept,
 }
 
 fn are_calls(rt: &impl Abort, alloc: Global, head: &str, lines: &str) -> bool {
@@ -74,10 +81,13 @@ fn are_calls(rt: &impl Abort, alloc: Global, head: &str, lines: &str) -> bool {
 
 fn is_story(rt: &impl Abort, alloc: Global, kind: StoryKind, head: &str, lines: &str) -> bool {
     match kind {
-        StoryKind::Session => is_session(rt, alloc, head, lines),
         StoryKind::Calls => are_calls(rt, alloc, head, lines),
         StoryKind::Outcomes => are_outcomes(rt, alloc, head, lines),
         StoryKind::Sharing => are_shared(rt, alloc, head, lines),
+        StoryKind::Parts => are_parts(rt, alloc, head, lines),
+        StoryKind::Renamings => are_renamings(rt, alloc, head, lines),
+        StoryKind::Matchings => are_matchings(rt, alloc, head, lines),
+        StoryKind::Kept => is_kept(rt, alloc, head, lines),
     }
 }
 

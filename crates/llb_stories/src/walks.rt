@@ -2,10 +2,9 @@
 
 ghost use Rattle.std.specs.Prelude.{◌≡◌};
 
-use super::caches::WRITES_AND_FAILS;
 use super::calls::{are_done, are_same, breaks_at, copy_of, goes_back, is_event_done, replayed};
 use super::checks::{is_answered, is_so, row_holds};
-use super::runs::{FAILS_FIRST, IN_A_ROW, TWO_FILES};
+use super::graphs::{FAILS_FIRST, IN_A_ROW, TWO_FILES, WRITES_AND_FAILS};
 use super::written::board_of;
 use llb_board::{Board, Event, Status, WorkerStatus};
 use llb_stepper::{Break, Stepper, Stop};
@@ -33,7 +32,7 @@ fn there_and_back(board: &mut Board, most: u32) -> bool
     }
 }
 
-fn finish(board: &mut Board) -> bool {
+pub(crate) fn finish(board: &mut Board) -> bool {
     for _i in 0..50 {
         if let Some(event) = board.chosen() {
             let _ = is_event_done(board, event);

@@ -1,10 +1,11 @@
 //! Tries all orders in which two workers can do their events.
 
 use super::checks::is_so;
-use super::runs::TWO_FILES;
-use super::sessions::is_transcript;
+use super::graphs::TWO_FILES;
+use super::sessions::{is_transcript, looking};
 use super::written::board_of;
 use llb_board::Event;
+use llb_session::Session;
 use llb_stepper::Stepper;
 use std::alloc::Global;
 use std::process::Abort;
@@ -88,9 +89,9 @@ fn a_run_has_four_events_for_a_claim_of_two_commands(rt: HostRuntime) {
     }
 }
 
-// Tries all runs that go on from the stepper's board, for at most `most` events. Returns how many of them end, and at how many of these ends the commands of
-// `END` print the lines of `END`.
-fn ends(rt: &impl Abort, alloc: Global, stepper: &mut Stepper, most: u32) -> [u32; 2] {
+// Tries all runs that go on from the board of the session's stepper, for at most `most` events. Returns how many of them end, and at how many of these ends the
+// commands of `END` print the lines of `END`.
+fn ends(rt: &impl Abort, alloc: Global, session: &mut Session, most: u32) -> [u32; 2] {
     let mut all = 0u32;
     let mut right = 0u32;
     let mut goes_on = false;
@@ -98,9 +99,9 @@ fn ends(rt: &impl Abort, alloc: Global, stepper: &mut Stepper, most: u32) -> [u3
         return [all, right];
     }
     for event in EVENTS {
-        if stepper.do_event(event).is_ok() {
-            let behind = ends(rt, alloc, stepper, most - 1);
-            let _ = stepper.back();
+        if session.stepper.do_event(event).is_ok() {
+            let behind = ends(rt, alloc, session, most - 1);
+            let _ = session.stepper.back();
             all = all.saturating_add(behind[0]);
             right = right.saturating_add(behind[1]);
             goes_on = true;
@@ -109,7 +110,7 @@ fn ends(rt: &impl Abort, alloc: Global, stepper: &mut Stepper, most: u32) -> [u3
     if goes_on {
         return [all, right];
     }
-    [1, u32::from(is_transcript(rt, alloc, stepper, END))]
+    [1, u32::from(is_transcript(rt, alloc, session, END))]
 }
 
 // Two files and their merge. Either one worker makes both files (2 workers, 2 orders), or each makes one (2 ways, 20 interleavings of their events). Then
@@ -117,6 +118,6 @@ fn ends(rt: &impl Abort, alloc: Global, stepper: &mut Stepper, most: u32) -> [u3
 #[test]
 fn all_88_interleavings_of_two_workers_end_in_the_same_trees(rt: HostRuntime) {
     let board = board_of(&rt, rt.alloc(), TWO_FILES, "", 2);
-    let mut stepper = Stepper::new(rt.alloc(), board);
-    is_so(&rt, ends(&rt, rt.alloc(), &mut stepper, 20) == [88, 88]);
+    let mut session = looking(Stepper::new(rt.alloc(), board));
+    is_so(&rt, ends(&rt, rt.alloc(), &mut session, 20) == [88, 88]);
 }

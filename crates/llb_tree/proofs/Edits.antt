@@ -8,12 +8,12 @@ use Rattle.llb_tree.specs.Meta.{MetaValue, IsMeta, new_dir_meta}
 use Rattle.llb_tree.specs.Tree.{TreeMap, Entry, Dir, walk, file_fits, dir_fits, found, dir_there, places_fit, put_file, put_dir, remove}
 use Rattle.llb_tree.specs.Tree.{graft, subtree, with_tree, empty_tree, IsTree}
 use Rattle.llb_tree.specs.Nodes.{look_in, set_look, dir_look, file_look, IsWhole}
-use Rattle.llb_tree.proofs.Walks.{put_dir-Ok, put_file-Ok}
-use Rattle.llb_tree.proofs.Closed.{IsTree-insert_dir, IsTree-insert_file, IsTree-empty, get-insert_cases}
-use Rattle.llb_tree.proofs.Outside.{remove-Ok, IsTree-removed}
-use Rattle.llb_tree.proofs.Inside.{IsTree-tree_at, subtree-Ok}
-use Rattle.llb_tree.proofs.Grafted.{IsTree-with_tree, graft-Ok, get_inside}
-use Rattle.llb_tree.proofs.Changed.{dir_put, file_put, taken_away, tree_put, tree_taken, whole_set, deep_from, height_from}
+use Rattle.llb_tree.proofs.WalkByName.{put_dir-Ok, put_file-Ok}
+use Rattle.llb_tree.proofs.ParentClosure.{IsTree-insert_dir, IsTree-insert_file, IsTree-empty, get-insert_cases}
+use Rattle.llb_tree.proofs.SubtreeRemoval.{remove-Ok, IsTree-removed}
+use Rattle.llb_tree.proofs.SubtreeEntries.{IsTree-tree_at, subtree-Ok}
+use Rattle.llb_tree.proofs.GraftedTrees.{IsTree-with_tree, graft-Ok, get_inside}
+use Rattle.llb_tree.proofs.EditedMaps.{dir_put, file_put, taken_away, tree_put, tree_taken, whole_set, deep_from, height_from}
 
 module _ (t new one : TreeMap) (d n : ℕ) (p : List (List ℕ)) (m : MetaValue) (whole : IsWhole t d) (path : IsPath p) (is : IsMeta m)
     (walks : walk (finite.get t) p ≡ Ok tt) (le : d ≤ n) (long : length p ≤ n) (short : n ≤ 128)

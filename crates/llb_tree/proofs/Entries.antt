@@ -10,11 +10,11 @@ use Rattle.std.specs.FinMap.Entries.{by_order, below_all, put}
 use Rattle.llb_tree.specs.Path.{name_cmp, path_cmp}
 use Rattle.llb_tree.specs.PathOrder.{path_cmp-IsTotalOrder}
 use Rattle.llb_tree.specs.Tree.{TreeMap, Entry}
-use Rattle.llb_tree.specs.Looks.{get-root}
+use Rattle.llb_tree.specs.EntryLookup.{get-root}
 use Rattle.llb_tree.specs.Nodes.{name_of, below, flat, kids_of, own_entry, entries_of, map_of, pair_of, AreSorted}
 use Rattle.llb_tree.specs.declared.node.Kind.{Kind}
 use Rattle.llb_tree.specs.declared.node.Child.{Child}
-use Rattle.llb_tree.proofs.Orders.{is_less, and_first, and_second, and_both, below_first, find_below}
+use Rattle.llb_tree.proofs.EntryOrder.{is_less, and_first, and_second, and_both, below_first, find_below}
 
 abbrev Pair : Type 0
 Pair = List (List ℕ) × Entry

@@ -3,15 +3,15 @@ use Rattle.std.proofs.Common.{◌≡◌, ℕ, zero, suc, ◌+◌, ◌<◌, ◌�
 use Rattle.std.proofs.Common.{refl, sym, ap, subst, ◌∙◌, arith, add-one}
 use Rattle.std.proofs.lemmas.List.{length-map}
 use Rattle.llb_tree.specs.Nodes.{Pairs, pair_of, rows_in, kids_in}
-use Rattle.llb_tree.specs.Pieces.{row_pairs, pairs_of, AllFull, ArePieced}
+use Rattle.llb_tree.specs.ChildPieces.{row_pairs, pairs_of, AllFull, ArePieced}
 use Rattle.llb_tree.specs.Overlay.{SettingsValue}
 use Rattle.llb_tree.specs.Laying.{Lays, AreLaid, PiecesLaid, Covers, puts}
 use Rattle.llb_tree.specs.declared.node.Child.{Child}
 use Rattle.llb_tree.specs.declared.node.Piece.{Piece}
-use Rattle.llb_tree.proofs.Covered.{HasLaid, all_laid, lays_all}
-use Rattle.llb_tree.proofs.InPlace.{lays_puts}
-use Rattle.llb_tree.proofs.Keyed.{InOrder}
-use Rattle.llb_tree.proofs.Pieced.{pairs_kids, sorted_kids}
+use Rattle.llb_tree.proofs.CoveringChildren.{HasLaid, all_laid, lays_all}
+use Rattle.llb_tree.proofs.LaidChildInsertion.{lays_puts}
+use Rattle.llb_tree.proofs.ChildrenAroundName.{InOrder}
+use Rattle.llb_tree.proofs.PiecesAroundName.{pairs_kids, sorted_kids}
 
 module _ (w : SettingsValue) (old : List Child) where
   laid_append : (us ks vs ls : List Child) → AreLaid w old us ks → AreLaid w old vs ls → AreLaid w old (us ++ vs) (ks ++ ls)

@@ -9,12 +9,12 @@ use Rattle.std.specs.FinMap.Entries.{put, by_order}
 use Rattle.llb_tree.specs.Path.{name_cmp}
 use Rattle.llb_tree.specs.Tree.{TreeMap}
 use Rattle.llb_tree.specs.Nodes.{Pairs, pair_of, rows_in, kids_in}
-use Rattle.llb_tree.specs.Pieces.{row_pairs, joined, pairs_of, AllFull, ArePieced, IsPieceOf, tidied, tidied_by, Changes}
+use Rattle.llb_tree.specs.ChildPieces.{row_pairs, joined, pairs_of, AllFull, ArePieced, IsPieceOf, tidied, tidied_by, Changes}
 use Rattle.llb_tree.specs.declared.node.Child.{Child}
 use Rattle.llb_tree.specs.declared.node.Piece.{Piece}
-use Rattle.llb_tree.proofs.Keyed.{InOrder, sorted_change}
-use Rattle.llb_tree.proofs.Pieced.{about, change_piece, changes_piece, full_or_first, joined_tidied, full_tidied, pairs_length, pairs_at, pairs_set}
-use Rattle.llb_tree.proofs.Pieced.{pairs_remove, pairs_kids}
+use Rattle.llb_tree.proofs.ChildrenAroundName.{InOrder, sorted_change}
+use Rattle.llb_tree.proofs.PiecesAroundName.{about, change_piece, changes_piece, full_or_first, joined_tidied, full_tidied, pairs_length, pairs_at, pairs_set}
+use Rattle.llb_tree.proofs.PiecesAroundName.{pairs_remove, pairs_kids}
 
 -- a piece that keeps its pairs keeps those of all
 pub same_pairs : (ps : List Piece) (j : ℕ) (old new : Piece) → old ≡ get_or ps j old → row_pairs new ≡ row_pairs old

@@ -11,7 +11,7 @@ use Rattle.llb_wire.specs.Answer.{◌>>=◌}
 use Rattle.llb_wire.specs.Spelling.{AreBytes}
 use Rattle.llb_tree.specs.Path.{path_cmp, IsPath, is_within}
 pub use Rattle.llb_tree.specs.Meta.{MetaValue, IsMeta, new_dir_meta}
-pub use Rattle.llb_tree.specs.Faults.{is_memory, Gives, MemoryLast}
+pub use Rattle.llb_tree.specs.CallResults.{is_memory, Gives, MemoryLast}
 use Rattle.llb_tree.specs.declared.fault.TreeFault.{TreeFault}
 use Rattle.llb_tree.specs.declared.fault.TreeFault.TheVariants.{NotFound, NotDir, IsDir, Conflict, Root, BadName}
 

@@ -23,7 +23,6 @@ pub struct Content {
     bytes: Arc<Bytes>,
 }
 
-// This `Drop` is written by hand, so it is proved once; a derived `Drop` is proved again in every function that drops such a value.
 impl Drop for Content {
     fn drop(self) {
         let Content { bytes: _ } = self;

@@ -6,7 +6,7 @@ ghost use Rattle.std.specs.Prelude.{[], Ok, Err, ◌≡◌, ◌<◌, ◌≤◌, 
 ghost use Rattle.std.specs.Arc.{arc_value};
 ghost use Rattle.std.specs.FinMap as finite;
 ghost use Rattle.llb_tree.specs.Nodes.{AreSorted, pair_of, place, set_look};
-ghost use Rattle.llb_tree.specs.Pieces.{ArePieced, Changes, pairs_of};
+ghost use Rattle.llb_tree.specs.ChildPieces.{ArePieced, Changes, pairs_of};
 
 use crate::name::Name;
 use crate::node::{Child, Kind, Node, Piece, place_of};

@@ -3,7 +3,7 @@
 ghost use Rattle.std.specs.Prelude.{◌≡◌, Ok, IsTrue};
 ghost use Rattle.std.specs.List.{list_all};
 ghost use Rattle.std.specs.Str.{IsUtf8};
-ghost use Rattle.llb_tree.specs.Faults.{Gives, MemoryLast};
+ghost use Rattle.llb_tree.specs.CallResults.{Gives, MemoryLast};
 ghost use Rattle.llb_tree.specs.Path.{is_name, is_name_byte, name_of};
 
 use crate::fault::TreeFault;
@@ -17,7 +17,6 @@ pub struct Name {
     text: String,
 }
 
-// This `Drop` is written by hand, so it is proved once; a derived `Drop` is proved again in every function that drops such a value.
 impl Drop for Name {
     fn drop(self) {
         let Name { text: _ } = self;

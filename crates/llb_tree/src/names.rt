@@ -10,7 +10,6 @@ pub struct Names {
     names: Vec<Name>,
 }
 
-// This `Drop` is written by hand, so it is proved once; a derived `Drop` is proved again in every function that drops such a value.
 impl Drop for Names {
     fn drop(self) {
         let Names { names: _ } = self;

@@ -58,14 +58,14 @@ pub struct Child {
 
 impl Model for Node {
     ghost use Rattle.llb_tree.specs.Tree.{TreeMap, height};
-    ghost use Rattle.llb_tree.specs.Coded.{coded_tree};
+    ghost use Rattle.llb_tree.specs.CodedTrees.{coded_tree};
 
     ghost Value = { TreeMap };
 
     ghost coded = { coded_tree };
 
     ghost use Rattle.llb_tree.specs.Nodes.{map_of, pieces_of};
-    ghost use Rattle.llb_tree.specs.Pieces.{ArePieced};
+    ghost use Rattle.llb_tree.specs.ChildPieces.{ArePieced};
 
     ghost view = { λ n. map_of n.kind };
 
@@ -73,7 +73,7 @@ impl Model for Node {
 
     ghost size = { height };
 
-    ghost use Rattle.llb_tree.specs.Falls.{falls};
+    ghost use Rattle.llb_tree.specs.TreeHeights.{falls};
 
     ghost size_decreases = { λ a h. falls a.kind };
 }

@@ -8,7 +8,7 @@ ghost use Rattle.std.specs.Arc.{arc_value};
 ghost use Rattle.std.specs.FinMap as finite;
 ghost use Rattle.llb_tree.specs.Tree.{is_memory};
 ghost use Rattle.llb_tree.specs.Nodes.{child, kids_in, left_in, name_of, pair_of};
-ghost use Rattle.llb_tree.specs.Pieces.{ArePieced, pairs_of};
+ghost use Rattle.llb_tree.specs.ChildPieces.{ArePieced, pairs_of};
 ghost use Rattle.llb_tree.specs.Overlay.{over_at};
 ghost use Rattle.llb_tree.specs.Laying.{Lays, IsLaid, AreLaid, PiecesLaid, IsOver};
 ghost use Rattle.llb_tree.specs.Laying.{TakesWhole, StandWhole, Covers, those, those_pieces, dress, dress_pair};

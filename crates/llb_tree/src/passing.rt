@@ -6,7 +6,7 @@ ghost use Rattle.std.specs.List.{filter};
 ghost use Rattle.std.specs.FinMap as finite;
 ghost use Rattle.llb_tree.specs.Tree.{Gives, height};
 ghost use Rattle.llb_tree.specs.Nodes.{below};
-ghost use Rattle.llb_tree.specs.Tested.{passes_all};
+ghost use Rattle.llb_tree.specs.PathTests.{passes_all};
 ghost use Rattle.llb_tree.specs.declared.fault.TreeFault.TheVariants.{Memory};
 
 use crate::children::Children;

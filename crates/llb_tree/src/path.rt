@@ -3,7 +3,7 @@
 
 ghost use Rattle.std.specs.Prelude.{◌≡◌, ◌↔◌, ℕ, ◌+◌, ◌-◌, List, [], ◌++◌, length, take, ◌≤◌, IsTrue, IfErr, OnErr, Ok, false};
 ghost use Rattle.std.specs.List.{All};
-ghost use Rattle.llb_tree.specs.Faults.{is_memory, Gives, MemoryLast};
+ghost use Rattle.llb_tree.specs.CallResults.{is_memory, Gives, MemoryLast};
 ghost use Rattle.llb_tree.specs.Path.{is_name, below, enter, follow, parts_of, depth, path_of, path_from, IsPath, ReadsBack};
 
 use crate::fault::TreeFault;
@@ -18,7 +18,6 @@ pub struct Path {
     names: Vec<Name>,
 }
 
-// This `Drop` is written by hand, so it is proved once; a derived `Drop` is proved again in every function that drops such a value.
 impl Drop for Path {
     fn drop(self) {
         let Path { names: _ } = self;

@@ -5,7 +5,7 @@
 ghost use Rattle.std.specs.Prelude.{◌≡◌, ◌<◌, ◌++◌, length, map, option_map, Contains, IfOk, IfSome, OnOk};
 ghost use Rattle.std.specs.Arc.{arc_value};
 ghost use Rattle.llb_tree.specs.Nodes.{child, kids_in, rows_in};
-ghost use Rattle.llb_tree.specs.Pieces.{AllFull, ArePieced, IsPieceOf, begins_after, pairs_of, row_pairs, tidied};
+ghost use Rattle.llb_tree.specs.ChildPieces.{AllFull, ArePieced, IsPieceOf, begins_after, pairs_of, row_pairs, tidied};
 
 use crate::edit::copies;
 use crate::name::Name;

@@ -5,7 +5,7 @@ ghost use Rattle.std.specs.Arc.{arc_value};
 ghost use Rattle.std.specs.FinMap as finite;
 ghost use Rattle.llb_tree.specs.Path.{name_cmp};
 ghost use Rattle.llb_tree.specs.Nodes.{AreSorted, name_of, pair_of};
-ghost use Rattle.llb_tree.specs.Pieces.{ArePieced, pairs_of};
+ghost use Rattle.llb_tree.specs.ChildPieces.{ArePieced, pairs_of};
 ghost use Rattle.llb_tree.specs.Laying.{puts};
 
 use crate::edit::own;

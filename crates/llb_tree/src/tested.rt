@@ -4,7 +4,7 @@
 ghost use Rattle.std.specs.Prelude.{◌≡◌, ◌∷◌, Bool, List, ℕ, IfOk, option_map};
 ghost use Rattle.llb_tree.specs.Tree.{Gives, MemoryLast};
 ghost use Rattle.llb_tree.specs.Nodes.{left_in};
-ghost use Rattle.llb_tree.specs.Tested.{Keeps, KeepsAll, Thins, rid_of};
+ghost use Rattle.llb_tree.specs.PathTests.{Keeps, KeepsAll, Thins, rid_of};
 
 use crate::children::Children;
 use crate::fault::TreeFault;

@@ -25,7 +25,6 @@ pub struct Tree {
     pub(crate) alloc: Global,
 }
 
-// This `Drop` is written by hand, so it is proved once; a derived `Drop` is proved again in every function that drops a tree.
 impl Drop for Tree {
     fn drop(self) {
         let Tree {
@@ -38,7 +37,7 @@ impl Drop for Tree {
 
 impl Model for Tree {
     ghost use Rattle.llb_tree.specs.Tree.{TreeMap};
-    ghost use Rattle.llb_tree.specs.Coded.{coded_tree};
+    ghost use Rattle.llb_tree.specs.CodedTrees.{coded_tree};
     ghost use Rattle.llb_tree.specs.Nodes.{IsWhole};
 
     ghost Value = { TreeMap };

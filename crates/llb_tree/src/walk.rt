@@ -24,7 +24,6 @@ pub struct Walk<'a> {
     levels: Vec<Children<'a>>,
 }
 
-// This `Drop` is written by hand, so it is proved once; a derived `Drop` is proved again in every function that drops such a value.
 impl<'a> Drop for Walk<'a> {
     fn drop(self) {
         let Walk {

@@ -3,7 +3,7 @@
 
 ghost use Rattle.std.specs.Prelude.{◌≡◌, ◌<◌, length, IfOk, map, set};
 ghost use Rattle.llb_tree.specs.Nodes.{pair_of};
-ghost use Rattle.llb_tree.specs.Pieces.{row_pairs};
+ghost use Rattle.llb_tree.specs.ChildPieces.{row_pairs};
 ghost use Rattle.llb_tree.specs.Laying.{those, those_pieces, written};
 
 use crate::edit::copies;

@@ -7,7 +7,7 @@ use Rattle.std.proofs.lemmas.Bool.{cases_lt, eqb-true, lt-ltb, le-ltb}
 use Rattle.std.proofs.lemmas.Fmt.{decimal_by_steps, decimal_digit, decimal_step, decimal_nonempty}
 use Rattle.std.specs.Fmt.{decimal}
 use Rattle.std.specs.Cmp.Lexicographic.{pointwise, bytes_decides}
-use Rattle.llb_treetext.specs.Fields.{on, number_from, decimal_in}
+use Rattle.llb_treetext.specs.LineFields.{on, number_from, decimal_in}
 
 -- one more digit, where the number stays small
 pub number_more : (n b : ℕ) (text : List ℕ) → n * 10 + (b - 48) < 2 ^ 32 → number_from n (b ∷ text) ≡ number_from (n * 10 + (b - 48)) text

@@ -4,7 +4,7 @@ ghost use Rattle.std.specs.Prelude.{◌≡◌, IfOk, Ok};
 ghost use Rattle.sha2.specs.Sha256.{sha256};
 ghost use Rattle.llb_wire.specs.Digest.{digest_text};
 ghost use Rattle.llb_treetext.specs.TreeText.{tree_text};
-ghost use Rattle.llb_treetext.specs.Faults.{Gives};
+ghost use Rattle.llb_treetext.specs.CallResults.{Gives};
 
 use crate::fault::TextFault;
 use crate::line::set_line;

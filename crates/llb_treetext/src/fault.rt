@@ -2,10 +2,9 @@
 //! the word `fault`, is the fault's number and, if a line is faulty, the number of that line.
 
 ghost use Rattle.std.specs.Prelude.{Some};
-ghost use Rattle.llb_treetext.specs.Faults.{reading_text, printing_text};
+ghost use Rattle.llb_treetext.specs.CallResults.{reading_text, printing_text};
 
 use llb_wire::Memory;
-use std::alloc::AllocError;
 use std::{error, fmt};
 
 /// Why a text is not read as a tree, or why `tree_digest` returns no digest (34 alone). Lines are counted from 1.
@@ -35,17 +34,6 @@ impl fmt::Display for TextFault {
 }
 
 impl error::Error for TextFault {}
-
-impl From<AllocError> for TextFault {
-    ghost use Rattle.std.specs.Prelude.{◌≡◌};
-    ghost use Rattle.llb_treetext.specs.declared.fault.TextFault.TheVariants.{Memory};
-
-    ghost from_gives = { λ _ e. e ≡ Memory };
-
-    fn from(_: AllocError) -> TextFault {
-        TextFault::Memory
-    }
-}
 
 impl From<Memory> for TextFault {
     ghost use Rattle.std.specs.Prelude.{◌≡◌};

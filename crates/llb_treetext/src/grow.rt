@@ -7,9 +7,9 @@ ghost use Rattle.std.specs.FinMap as finite;
 ghost use Rattle.llb_tree.specs.Path.{is_name};
 ghost use Rattle.llb_tree.specs.Tree.{Dir, TreeMap, IsTree, empty_tree, Entry as TreeEntry};
 ghost use Rattle.llb_treetext.specs.TreeText.{names_text};
-ghost use Rattle.llb_treetext.specs.Fields.{pair_of};
-ghost use Rattle.llb_treetext.specs.Placing.{put_row};
-ghost use Rattle.llb_treetext.specs.Growing.{IsIfAny, IsGrown, IsGrownIfAny, Follows};
+ghost use Rattle.llb_treetext.specs.LineFields.{pair_of};
+ghost use Rattle.llb_treetext.specs.RowPlacement.{put_row};
+ghost use Rattle.llb_treetext.specs.GrowingTree.{IsIfAny, IsGrown, IsGrownIfAny, Follows};
 
 use crate::parts::Parts;
 use crate::row::{Row, row_from};

@@ -7,8 +7,8 @@ ghost use Rattle.std.specs.List.{All};
 ghost use Rattle.std.specs.Ordering.{is_lt};
 ghost use Rattle.std.specs.Option.{is_none};
 ghost use Rattle.llb_tree.specs.Tree.{TreeMap, IsTree};
-ghost use Rattle.llb_treetext.specs.Fields.{trail};
-ghost use Rattle.llb_treetext.specs.Placing.{rank, trail_cmp, opens, IsLast, Starts, GoesTo};
+ghost use Rattle.llb_treetext.specs.LineFields.{trail};
+ghost use Rattle.llb_treetext.specs.RowPlacement.{rank, trail_cmp, opens, IsLast, Starts, GoesTo};
 
 use crate::fault::TextFault;
 use crate::parts::{Parts, next_parts};

@@ -1,6 +1,6 @@
 //! Laws that hold for all texts and all trees.
 
-ghost use Rattle.llb_treetext.specs.Reading.{HasOneAnswer, ReadsBack};
+ghost use Rattle.llb_treetext.specs.TextGrammar.{HasOneAnswer, ReadsBack};
 
 use llb_tree::Tree;
 

@@ -3,7 +3,7 @@
 
 ghost use Rattle.std.specs.Prelude.{◌≡◌, ◌++◌, ◌<◌, OnOk, string_bytes};
 ghost use Rattle.std.specs.Fmt.{decimal};
-ghost use Rattle.llb_tree.specs.Rows.{seen};
+ghost use Rattle.llb_tree.specs.PathEntries.{seen};
 ghost use Rattle.llb_treetext.specs.TreeText.{mode_text, meta_text, names_text, path_text, row_text, line_of};
 
 use llb_tree::{Entry, Meta, Name, Path};

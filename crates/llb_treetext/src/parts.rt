@@ -4,9 +4,9 @@
 ghost use Rattle.std.specs.Prelude.{◌≡◌, ◌↔◌, nat_eq, IsTrue, position};
 ghost use Rattle.std.specs.Fmt.{decimal};
 ghost use Rattle.std.specs.Option.{option_map};
-ghost use Rattle.llb_treetext.specs.Fields.{cut_at, mode_in, number_from, decimal_in, meta_in, are_names, is_path};
-ghost use Rattle.llb_treetext.specs.Fields.{parts_seen, dir_parts, file_parts, parts_in, trail};
-ghost use Rattle.llb_treetext.specs.Lines.{Spells, BeginsWith};
+ghost use Rattle.llb_treetext.specs.LineFields.{cut_at, mode_in, number_from, decimal_in, meta_in, are_names, is_path};
+ghost use Rattle.llb_treetext.specs.LineFields.{parts_seen, dir_parts, file_parts, parts_in, trail};
+ghost use Rattle.llb_treetext.specs.LineScanning.{Spells, BeginsWith};
 
 use llb_tree::{Meta, Mode, Name};
 use llb_wire::is_hex;

@@ -1,9 +1,9 @@
 //! Writes the text of a tree to a sink, a line at a time.
 
 ghost use Rattle.std.specs.Prelude.{◌≡◌};
-ghost use Rattle.llb_tree.specs.Rows.{seen};
+ghost use Rattle.llb_tree.specs.PathEntries.{seen};
 ghost use Rattle.llb_treetext.specs.TreeText.{line_of, tree_text};
-ghost use Rattle.llb_treetext.specs.Faults.{Prints};
+ghost use Rattle.llb_treetext.specs.CallResults.{Prints};
 
 use crate::fault::PrintFault;
 use crate::line::set_line;

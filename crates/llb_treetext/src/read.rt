@@ -1,7 +1,7 @@
 //! Reads the text of a tree in one pass: each line is checked without allocating, and then the line's entry is put into the
 //! tree. Once memory is refused, the lines that follow are only checked.
 
-ghost use Rattle.llb_treetext.specs.Reading.{Answers, MemoryIsLast};
+ghost use Rattle.llb_treetext.specs.TextGrammar.{Answers, MemoryIsLast};
 
 use crate::fault::TextFault;
 use crate::grow::{started, whole_if_any, with_line};

@@ -4,7 +4,7 @@ ghost use Rattle.std.specs.Prelude.{◌≡◌, IfOk};
 ghost use Rattle.std.specs.Option.{option_map};
 ghost use Rattle.std.specs.Result.{result_ok};
 ghost use Rattle.llb_tree.specs.Path.{path_of};
-ghost use Rattle.llb_treetext.specs.Fields.{dir_in, file_in, row_from, parts_seen, pair_of};
+ghost use Rattle.llb_treetext.specs.LineFields.{dir_in, file_in, row_from, parts_seen, pair_of};
 
 use crate::parts::Parts;
 use llb_tree::{Meta, Path, TreeFault};

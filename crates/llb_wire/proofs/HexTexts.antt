@@ -1,13 +1,15 @@
--- The hexadecimal text of bytes is hexadecimal, and the bytes are read from it.
+-- The hexadecimal text of bytes is hexadecimal, and the bytes are read from it; which texts spell bytes.
 use Rattle.std.proofs.Common.{◌≡◌, ℕ, zero, suc, ◌/◌, ◌<◌, ◌%◌, ◌&&◌, ◌||◌, not, nat_eq, Bool, true, false, cond, inl, inr, List, []}
-use Rattle.std.proofs.Common.{◌∷◌, length, get_or, Some, None, refl, ap, ◌∙◌, arith}
+use Rattle.std.proofs.Common.{◌∷◌, length, get_or, is_some, Some, None, Result, Ok, Err, refl, sym, ap, ◌∙◌, arith}
 use Rattle.std.specs.Prelude.{codes}
 use Rattle.std.specs.List.{list_all}
+use Rattle.std.proofs.lemmas.List.Sums.{AllPass-from_list_all, list_all-from_AllPass}
 use Rattle.std.specs.Cmp.Lexicographic.{pointwise}
 use Rattle.std.proofs.lemmas.Bool.{and_parts, cases_lt, ne_eqb, eq-eqb}
 use Rattle.std.specs.Result.{result_ok}
-use Rattle.hex.specs.Hex.{encode_with, encode_lower, lower_digits, decode_of, IsBytes}
-use Rattle.hex.proofs.HexLemmas.{length-encode_with, decode_of-encode_lower}
+use Rattle.hex.specs.Hex.{encode_with, encode_lower, lower_digits, is_hex_digit, decode_of, IsBytes}
+use Rattle.hex.specs.declared.error.FromHexError.{FromHexError}
+use Rattle.hex.proofs.HexLemmas.{length-encode_with, decode_of-encode_lower, decode_of-digits, decode_of-ok}
 use Rattle.llb_wire.specs.Spelling.{AreBytes}
 use Rattle.llb_wire.specs.Hexadecimal.{is_lower, is_hex, bytes_in, hex_text}
 
@@ -62,3 +64,26 @@ is_content_text (b ∷ content) bytes =
     let some = ne_eqb (length (encode_lower (b ∷ content))) 0 (λ e. omega (arith, e, long)) in
     let even = eq-eqb (length (encode_lower (b ∷ content)) % 2) 0 (omega (arith, long)) in
     λ i. no_dash b content i || (not (some i) && even i && encode_lower_all (b ∷ content) bytes i)
+
+-- an even number of digits spells bytes
+pub digits_spell : (text : List ℕ) → length text % 2 ≡ 0 → list_all is_hex_digit text ≡ true → is_some (bytes_in text) ≡ true
+digits_spell text even all =
+    let read = decode_of-digits text even (AllPass-from_list_all is_hex_digit text all) in
+    either (pointwise nat_eq text (codes "-")) (decode_of text) (ap (λ d. is_some (result_ok d)) read.1)
+  where
+    either : (dash : Bool) (d : Result (List ℕ) FromHexError) → is_some (result_ok d) ≡ true → is_some (cond dash (Some []) (result_ok d)) ≡ true
+    either true d some = refl
+    either false d some = some
+
+-- what `decode` refuses spells no bytes, if it is no dash
+pub refused_spells_nothing : (text : List ℕ) (e : FromHexError) → pointwise nat_eq text (codes "-") ≡ false → decode_of text ≡ Err e → bytes_in text ≡ None
+refused_spells_nothing text e other refused =
+    ap (λ t. cond t (Some []) (result_ok (decode_of text))) other ∙ ap result_ok refused
+
+-- what has another byte than digits spells no bytes, if it is no dash
+pub others_spell_nothing : (text : List ℕ) → pointwise nat_eq text (codes "-") ≡ false → list_all is_hex_digit text ≡ false → bytes_in text ≡ None
+others_spell_nothing text other bad = by_cases (decode_of text) refl
+  where
+    by_cases : (d : Result (List ℕ) FromHexError) → decode_of text ≡ d → bytes_in text ≡ None
+    by_cases (Ok bytes) e = cc (sym bad ∙ list_all-from_AllPass is_hex_digit text (decode_of-ok text bytes e).1)
+    by_cases (Err fault) e = refused_spells_nothing text fault other e

@@ -15,12 +15,12 @@ use Rattle.llb_wire.specs.declared.field.Wire.{Wire}
 use Rattle.llb_wire.specs.declared.field.Wire.TheVariants as wire
 use Rattle.llb_wire.specs.declared.field.Field.{Field}
 use Rattle.llb_wire.specs.Answer.{◌>>=◌}
-use Rattle.llb_wire.proofs.RuleSteps.{bind_ok, guard_ok}
+use Rattle.llb_wire.proofs.RuleComposition.{bind_ok, guard_ok}
 use Rattle.llb_wire.specs.Reading.{varint_at, number_of, wire_of, fixed_at, as_field, payload_at, field_at, next_field}
 use Rattle.llb_wire.specs.Spelling.{code_of, between, Spells, IsVarint, IsFieldNumber, AreBytes, varint_text, tag_text, payload_text, value_text}
 use Rattle.llb_wire.specs.Records.{Record, record_of, record_at, placed, IsFixed, IsPayload, IsRecord, SpellRecords, Walks, own_text}
 use Rattle.llb_wire.specs.Records.{written_record, IsShortestRecord}
-use Rattle.llb_wire.proofs.Payloads.{written_bytes, least_payload}
+use Rattle.llb_wire.proofs.WrittenPayloads.{written_bytes, least_payload}
 use Rattle.llb_wire.proofs.Varints.{varint_found, varint_read, is_shortest, least_spelling, are_bytes-append, are_bytes-front, are_bytes-back}
 
 -- ---- a spelled record is read, whatever follows it

@@ -2,7 +2,7 @@
 use Rattle.std.specs.Prelude.{ℕ, ◌-◌, ◌^◌, ◌==◌, ◌&&◌, not, nat_lt, nat_le, if◌then◌else◌, Bool, List, length, Option}
 use Rattle.std.specs.List.{list_all}
 use Rattle.std.specs.Str.Parse.{digits_value}
-use Rattle.llb_wire.specs.Texts.{where_so}
+use Rattle.llb_wire.specs.TextComparison.{where_so}
 
 -- whether a byte is a decimal digit
 abbrev pub is_digit : ℕ → Bool

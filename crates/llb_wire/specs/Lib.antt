@@ -1,5 +1,5 @@
 -- Read first Answer (how a result is specified, in every crate), Spelling (the grammar of the wire), Reading (a record from left to right, with its first
--- fault) and Records, then Sink (what takes bytes), Hexadecimal, Texts, Decimal, Digest, Hashing and Faults.
+-- fault) and Records, then Sink (what takes bytes), Hexadecimal, TextComparison, Decimal, Digest, Hashing and Faults.
 pub mod Answer
 pub mod Spelling
 pub mod Reading
@@ -9,6 +9,6 @@ pub use Rattle.std.specs.Io.KnownBytes.{Appends, Keeps}
 pub mod Hashing
 pub mod Digest
 pub mod Hexadecimal
-pub mod Texts
+pub mod TextComparison
 pub mod Decimal
 pub mod Faults

@@ -12,7 +12,6 @@ pub struct Boxed<T> {
     place: Box<T>,
 }
 
-// This `Drop` is written by hand, so it is proved once; a derived `Drop` is proved again in every function that drops such a value.
 impl<T: Drop> Drop for Boxed<T> {
     fn drop(self) {
         let Boxed { place: _ } = self;

@@ -14,7 +14,6 @@ pub struct Bytes {
     content: Vec<u8>,
 }
 
-// This `Drop` is written by hand, so it is proved once; a derived `Drop` is proved again in every function that drops such a value.
 impl Drop for Bytes {
     fn drop(self) {
         let Bytes { content: _ } = self;

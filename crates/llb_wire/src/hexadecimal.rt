@@ -1,9 +1,9 @@
 //! Bytes as they are written in texts, in lower-case hexadecimal, with a dash for no bytes; and the text of a digest.
 
-ghost use Rattle.std.specs.Prelude.{◌≡◌, ◌++◌, IfOk, OnOk, OnErr, codes, string_bytes};
+ghost use Rattle.std.specs.Prelude.{◌≡◌, ◌++◌, IfOk, IfErr, OnOk, OnErr, codes, is_some, string_bytes, true};
 ghost use Rattle.std.specs.List.{list_all};
 ghost use Rattle.std.specs.Option.{option_map};
-ghost use Rattle.hex.specs.Hex.{encode_lower};
+ghost use Rattle.hex.specs.Hex.{encode_lower, is_hex_digit};
 ghost use Rattle.llb_wire.specs.Hexadecimal.{hex_text, is_lower, is_hex, bytes_in};
 
 use crate::bytes::Bytes;
@@ -50,17 +50,37 @@ pub fn is_hex(text: &str) -> bool
     !digits.is_empty() && digits.len() % 2 == 0 && are_lower(digits)
 }
 
+// Returns whether all bytes are hexadecimal digits, of either case.
+fn are_digits(digits: &[u8]) -> bool
+    ensures { result ≡ list_all is_hex_digit digits.now }
+{
+    digits.iter().all(|b| *b >= b'A' && *b <= b'F'
+        || *b >= b'a' && *b <= b'f'
+        || *b >= b'0' && *b <= b'9')
+}
+
 /// Reads pairs of hexadecimal digits as bytes, and `-` as no bytes; returns `None` if the text is neither. Accepts
-/// upper-case digits too, unlike `is_hex`, which accepts exactly what `push_hex` writes. Fails with 5 `Memory` alone.
+/// upper-case digits too, unlike `is_hex`, which accepts exactly what `push_hex` writes. Fails with 5 `Memory` alone,
+/// and only for a text that spells bytes.
+#[tactic(auto, using(crate::proofs::HexTexts::digits_spell, crate::proofs::HexTexts::others_spell_nothing))]
 pub fn read_hex(alloc: Global, text: &str) -> Result<Option<Bytes>, Memory>
-    ensures { IfOk result (λ o. option_map (λ b. b) o ≡ bytes_in text.now) }
+    ensures ok { IfOk result (λ o. option_map (λ b. b) o ≡ bytes_in text.now) }
+    ensures memory { IfErr result (λ _. is_some (bytes_in text.now) ≡ true) }
 {
     if text == "-" {
         return Ok(Some(Bytes::new(Vec::new(alloc))));
     }
-    match hex::decode(alloc, text.as_bytes()) {
+    let digits = text.as_bytes();
+    match hex::decode(alloc, digits) {
         Ok(bytes) => Ok(Some(Bytes::new(bytes))),
-        Err(FromHexError::OutOfMemory) => Err(Memory),
+        // Memory was asked for before the digits were looked at.
+        Err(FromHexError::OutOfMemory) => {
+            if are_digits(digits) {
+                Err(Memory)
+            } else {
+                Ok(None)
+            }
+        }
         Err(_) => Ok(None),
     }
 }

@@ -12,7 +12,6 @@ pub struct Many<T> {
     items: Vec<T>,
 }
 
-// This `Drop` is written by hand, so it is proved once; a derived `Drop` is proved again in every function that drops such a value.
 impl<T: Drop> Drop for Many<T> {
     fn drop(self) {
         let Many { items: _ } = self;

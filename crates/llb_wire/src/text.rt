@@ -17,7 +17,6 @@ pub struct Text {
     content: String,
 }
 
-// This `Drop` is written by hand, so it is proved once; a derived `Drop` is proved again in every function that drops such a value.
 impl Drop for Text {
     fn drop(self) {
         let Text { content: _ } = self;

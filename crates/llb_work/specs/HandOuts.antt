@@ -4,7 +4,7 @@ use Rattle.llb_ready.specs.declared.queue.ReadyQueue.{ReadyQueue}
 use Rattle.llb_ready.specs.Passes.{IsReadyPassOf, IsWhole}
 use Rattle.llb_work.specs.declared.hand_out.HandOut.{HandOut}
 use Rattle.llb_work.specs.declared.hand_out.GivenBack.{GivenBack}
-use Rattle.llb_work.specs.Passes.{IsUncut}
+use Rattle.llb_work.specs.WorkerPasses.{IsUncut}
 
 module _ {L : Type 0} where
   -- what is handed out: the whole pass of the queue; for each of at most 64 workers a share of the ledger (which counts events), a list and room for a thread

@@ -1,10 +1,10 @@
--- Read Alone first (what a run on one thread does to a board, and how it leaves a board that it runs to the end), then Crew (what workers that share one lock
--- may do to a board) and RunEnds (what a run returns, with Faults). Tasks says what a worker is to do next. Passes, Threads, Supplies and HandOuts say what
--- each worker is given and gives back.
-pub mod Alone
-pub mod Crew
+-- Read SingleThreadDriver first (what a run on one thread does to a board, and how it leaves a board that it runs to the end), then LockSharingWorkers (what
+-- workers that share one lock may do to a board) and RunEnds (what a run returns, with Faults). Tasks says what a worker is to do next. WorkerPasses, Threads,
+-- Supplies and HandOuts say what each worker is given and gives back.
+pub mod SingleThreadDriver
+pub mod LockSharingWorkers
 pub mod RunEnds
-pub mod Passes
+pub mod WorkerPasses
 pub mod Threads
 pub mod Supplies
 pub mod HandOuts

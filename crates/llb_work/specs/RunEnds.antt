@@ -1,7 +1,7 @@
 -- What a run returns.
 use Rattle.std.specs.Prelude.{◌≡◌, ℕ, ◌<◌, ◌&&◌, ◌⊎◌, nat_lt, List, length, Bool, true, false, Option, Some, None, IsTrue}
-use Rattle.llb_board.specs.Seen.{BoardValue}
-use Rattle.llb_work.specs.Crew.{GoesOn, CancelsNothing, Counts, IsAfter, AreIdle}
+use Rattle.llb_board.specs.BoardValue.{BoardValue}
+use Rattle.llb_work.specs.LockSharingWorkers.{GoesOn, CancelsNothing, Counts, IsAfter, AreIdle}
 use Rattle.llb_work.specs.declared.crew.CrewEnd.{CrewEnd}
 use Rattle.llb_work.specs.declared.end.RunFault.{RunFault}
 use Rattle.llb_work.specs.declared.end.RunFault.TheVariants.{Memory, Stopped, Thread, Foreign}

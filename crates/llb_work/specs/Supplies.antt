@@ -3,7 +3,7 @@ use Rattle.std.specs.Prelude.{◌≡◌, ℕ, ◌≤◌, List, Bool, false, vec_
 use Rattle.llb_model.specs.Program.{Build}
 use Rattle.llb_model.specs.Outcome.{is_plain}
 use Rattle.llb_work.specs.declared.supply.Supply.{Supply}
-use Rattle.llb_work.specs.Passes.{IsUncut}
+use Rattle.llb_work.specs.WorkerPasses.{IsUncut}
 
 -- `marks` is true for exactly the vertices with no cache mount at or before them
 abbrev pub ArePlain : Build → List Bool → Type 0

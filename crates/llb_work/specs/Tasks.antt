@@ -2,8 +2,8 @@
 use Rattle.std.specs.Prelude.{◌≡◌, ℕ, Bool, true, Some}
 use Rattle.llb_model.specs.Table.{Job}
 use Rattle.llb_model.specs.Outcome.{is_plain}
-use Rattle.llb_board.specs.Seen.{BoardValue}
-use Rattle.llb_board.specs.Begun.{plain_job}
+use Rattle.llb_board.specs.BoardValue.{BoardValue}
+use Rattle.llb_board.specs.PlainVertexJobs.{plain_job}
 use Rattle.llb_work.specs.RunEnds.{is_of, may_be}
 use Rattle.llb_work.specs.declared.shared_board.Task.{Task}
 use Rattle.llb_work.specs.declared.shared_board.Task.TheVariants.{Work, Pass, Again, Next, End}

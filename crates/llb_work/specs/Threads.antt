@@ -3,7 +3,7 @@ use Rattle.std.specs.Prelude.{◌≡◌, ℕ, ◌+◌, ◌<◌, List, length, ge
 use Rattle.llb_ready.specs.declared.queue.ReadyQueue.{ReadyQueue}
 use Rattle.llb_work.specs.declared.worker_thread.WorkerThread.{WorkerThread}
 use Rattle.llb_work.specs.declared.worker_thread.WorkerThread.TheVariants.{Thread, Here}
-use Rattle.llb_work.specs.Passes.{IsPassFor}
+use Rattle.llb_work.specs.WorkerPasses.{IsPassFor}
 
 module _ {L : Type 0} where
   -- a running thread has promised to return this worker's pass; if no thread could be started, what the worker gave back (`kit`) has the pass

@@ -3,8 +3,8 @@
 ghost use Rattle.std.specs.Prelude.{◌≡◌, ◌<◌, ◌↔◌, ◌⊎◌, ℕ, Some, None, [], length, slice_get, IfSome, true};
 ghost use Rattle.llb_model.specs.Outcome.{outcome};
 ghost use Rattle.llb_model.specs.Run.{chosen, is_complete, claims_of, AreAscending, StandsPlainly};
-ghost use Rattle.llb_model.specs.Laws.{HasNoCaches};
-ghost use Rattle.llb_work.specs.Alone.{Goes, MadeBy, EndsInClaimOrder, TakesMemory};
+ghost use Rattle.llb_model.specs.WholeRunLaws.{HasNoCaches};
+ghost use Rattle.llb_work.specs.SingleThreadDriver.{Goes, MadeBy, EndsInClaimOrder, TakesMemory};
 
 use crate::driver::go_to_end;
 use crate::end::{RunEnd, RunFault};

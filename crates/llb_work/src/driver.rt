@@ -3,8 +3,8 @@
 ghost use Rattle.std.specs.Prelude.{◌≡◌, None, []};
 ghost use Rattle.std.specs.Bool.{OnTrue, OnFalse};
 ghost use Rattle.llb_model.specs.Run.{chosen, claims_of, AreAscending};
-ghost use Rattle.llb_work.specs.Alone.{Takes, Goes, IsLeft, TakesMemory};
-ghost use Rattle.llb_work.specs.Crew.{GoesOn, CancelsNothing, AreIdle};
+ghost use Rattle.llb_work.specs.SingleThreadDriver.{Takes, Goes, IsLeft, TakesMemory};
+ghost use Rattle.llb_work.specs.LockSharingWorkers.{GoesOn, CancelsNothing, AreIdle};
 
 use llb_board::laws::{chosen_is_granted, is_consistent};
 use llb_board::{Board, Event};

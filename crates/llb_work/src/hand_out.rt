@@ -4,7 +4,7 @@
 ghost use Rattle.std.specs.Prelude.{◌≡◌, ◌≤◌, ◌^◌, vec_len};
 ghost use Rattle.llb_ready.specs.Passes.{hand_of, IsReadyPassOf};
 ghost use Rattle.llb_work.specs.HandOuts.{IsHandedOut, IsGivenBack};
-ghost use Rattle.llb_work.specs.Passes.{IsPassFor};
+ghost use Rattle.llb_work.specs.WorkerPasses.{IsPassFor};
 ghost use Rattle.llb_work.specs.RunEnds.{AllowsStops};
 ghost use Rattle.llb_work.specs.Threads.{ThreadKeeps, AllKeep};
 

@@ -2,8 +2,8 @@
 //! workers do.
 
 ghost use Rattle.std.specs.Prelude.{ℕ, Bool, true};
-ghost use Rattle.llb_board.specs.Seen.{BoardValue};
-ghost use Rattle.llb_work.specs.Crew.{nothing};
+ghost use Rattle.llb_board.specs.BoardValue.{BoardValue};
+ghost use Rattle.llb_work.specs.LockSharingWorkers.{nothing};
 
 use std::marker::Brand;
 use std::sync::ledger::Ledger;

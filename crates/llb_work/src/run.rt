@@ -2,7 +2,7 @@
 
 ghost use Rattle.std.specs.Prelude.{◌≡◌, ◌≤◌, ◌+◌, sum, length, true, false, Some, None};
 ghost use Rattle.llb_model.specs.Run.{is_complete};
-ghost use Rattle.llb_work.specs.Crew.{GoesOn, CancelsNothing, AreIdle};
+ghost use Rattle.llb_work.specs.LockSharingWorkers.{GoesOn, CancelsNothing, AreIdle};
 ghost use Rattle.llb_work.specs.RunEnds.{is_foreign, StopsSomewhere, StopsAsNoted, Leads, EndsIdle};
 
 use crate::crew::{CrewEnd, CrewStart, run_crew};

@@ -5,10 +5,10 @@
 ghost use Rattle.std.specs.Prelude.{◌≡◌, ◌≤◌, ◌+◌, ℕ, length, true, Some, None, IfOk, IsSome};
 ghost use Rattle.std.specs.Bool.{OnTrue};
 ghost use Rattle.std.specs.Coded.{codes};
-ghost use Rattle.llb_tree.specs.Coded.{coded_tree};
-ghost use Rattle.llb_board.specs.Begun.{IsKnown};
-ghost use Rattle.llb_model.specs.Coded.{coded_store};
-ghost use Rattle.llb_work.specs.Crew.{CancelsNothing, IsAfter};
+ghost use Rattle.llb_tree.specs.CodedTrees.{coded_tree};
+ghost use Rattle.llb_board.specs.PlainVertexJobs.{IsKnown};
+ghost use Rattle.llb_model.specs.CodedStores.{coded_store};
+ghost use Rattle.llb_work.specs.LockSharingWorkers.{CancelsNothing, IsAfter};
 ghost use Rattle.llb_work.specs.RunEnds.{may_be};
 ghost use Rattle.llb_work.specs.Supplies.{ArePlain};
 ghost use Rattle.llb_work.specs.Tasks.{IsReport, IsClaimed, IsHere};

@@ -3,7 +3,7 @@
 //! at or before them.
 
 ghost use Rattle.std.specs.Prelude.{◌≡◌, ◌≤◌, vec_len, IfOk, IfSome};
-ghost use Rattle.llb_work.specs.Passes.{IsUncut};
+ghost use Rattle.llb_work.specs.WorkerPasses.{IsUncut};
 ghost use Rattle.llb_work.specs.Supplies.{IsSupplyFor};
 
 use crate::key_waiters::KeyWaiters;

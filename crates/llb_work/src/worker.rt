@@ -2,7 +2,7 @@
 //! has noted into the queue, takes a number from the queue, passes the gate, or works on a job.
 
 ghost use Rattle.std.specs.Prelude.{◌≡◌, true, IfSome};
-ghost use Rattle.llb_work.specs.Passes.{IsPassFor};
+ghost use Rattle.llb_work.specs.WorkerPasses.{IsPassFor};
 ghost use Rattle.llb_work.specs.RunEnds.{is_of, AllowsStops};
 ghost use Rattle.llb_work.specs.Tasks.{IsReport, IsClaimed, IsHere};
 

@@ -14,7 +14,7 @@ pub(crate) struct Owed {
 }
 
 impl<S: Ledger> Promise<WorkerKit<S>> for Owed {
-    ghost use Rattle.llb_work.specs.Passes.{IsPassFor};
+    ghost use Rattle.llb_work.specs.WorkerPasses.{IsPassFor};
 
     ghost kept_by = { λ p r. IsPassFor p.queue.value p.worker r.pass };
 }
@@ -27,7 +27,7 @@ pub(crate) enum WorkerThread<S: Ledger> {
 }
 
 impl<S: Ledger> WorkerThread<S> {
-    ghost use Rattle.llb_work.specs.Passes.{IsPassFor};
+    ghost use Rattle.llb_work.specs.WorkerPasses.{IsPassFor};
     ghost use Rattle.llb_work.specs.Threads.{ThreadKeeps};
 
     /// Waits until the worker has ended, and returns what the worker held in its thread.

@@ -1,28 +1,11 @@
-//! Tests the program over readers and writers that are in memory: the worked examples, refusals, and devices that fail.
+//! Tests what the program does on devices that fail or read a byte at a time, and calls of the commands that no command line shows. What the program prints is
+//! tested by the transcripts of the repository's folder `tests`.
 
-mod assembler_texts;
-mod assembling;
+mod calls;
 mod definitions;
 mod devices;
-mod execution_definitions;
 mod failing;
-mod file_actions;
-mod layers;
-mod limits;
-mod local_trees;
-mod messages;
-mod pages;
-mod pieces;
 mod reading;
-mod run;
-mod scripts;
-mod show;
+mod runs;
 mod sources;
-mod spelled;
-mod stepping;
-mod taken_caches;
-mod taken_executions;
-mod taken_ops;
-mod transcripts;
 mod words;
-mod written;

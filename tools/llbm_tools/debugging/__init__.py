@@ -1,1 +1,5 @@
-"""The parts of `debug-adapter`: messages, a session of the program, what is launched, and what is shown of it."""
+"""The debug adapter, by which an editor steps through a run: its messages, what is launched, and what is shown of a
+session; and why a vertex failed.
+
+It may import `buildkit`, `definitions`, `llb`, `sessions` and `trees`.
+"""

@@ -14,9 +14,9 @@ from llbm_tools.debugging.capabilities import CAPABILITIES, FAILED
 from llbm_tools.debugging.holding import Held
 from llbm_tools.debugging.inspecting import Inspecting
 from llbm_tools.debugging.moving import Ended, Motion, Mover, Stop
-from llbm_tools.debugging.session import Event, Refusal, SessionFailed
 from llbm_tools.debugging.views import Views
 from llbm_tools.debugging.wire import Writer
+from llbm_tools.sessions.session import Event, Refusal, SessionFailed
 from llbm_tools.streams import Refused
 
 NEW, OPEN, LAUNCHED, STOPPED, RUNNING, OVER = "new", "open", "launched", "stopped", "running", "over"

@@ -9,8 +9,8 @@ from llbm_tools.debugging.breakpoints import (
 )
 from llbm_tools.debugging.capabilities import FAILED
 from llbm_tools.debugging.holding import Holding
-from llbm_tools.debugging.session import Event, Refusal
 from llbm_tools.debugging.wire import Writer
+from llbm_tools.sessions.session import Event, Refusal
 from llbm_tools.streams import Refused
 
 FUNCTIONS, ENTRIES = "functions", "entries"

@@ -8,9 +8,9 @@ import re
 from collections.abc import Callable
 from typing import NamedTuple
 
-from llbm_tools import definition
 from llbm_tools.debugging.arguments import argument, of_kind
 from llbm_tools.debugging.places import Graph
+from llbm_tools.llb import definition
 
 CLAIM, SETTLE = "claim", "settle"
 CONDITIONS = ("", CLAIM, SETTLE)

@@ -2,7 +2,7 @@
 
 import re
 
-from llbm_tools.debugging.session import Session
+from llbm_tools.sessions.session import Session
 
 MOST_LINES = 1_000
 

@@ -10,7 +10,7 @@ from llbm_tools.debugging.arguments import Object
 from llbm_tools.debugging.changes import Change, Compared
 from llbm_tools.debugging.happened import Happened, Tree, Watch
 from llbm_tools.debugging.places import Graph
-from llbm_tools.debugging.session import Session
+from llbm_tools.sessions.session import Session
 
 MOST_OF_A_VALUE = 2_000
 
@@ -104,6 +104,7 @@ class Eyes:
         for one in self.seen.compared:
             found += self.compared(one)
         found += map(self.brought, self.seen.trees)
+        found += [plain("BuildKit", line) for line in self.seen.otherwise]
         return found if len(found) > 2 else [*found, plain("trees", "nothing changed")]
 
     def brought(self, tree: Tree) -> Variable:

@@ -7,12 +7,13 @@ an action is compared with the tree that the action was done on, and the worker 
 import re
 from typing import NamedTuple
 
-from llbm_tools import definition
 from llbm_tools.debugging import changes, looks, reasons
 from llbm_tools.debugging.changes import Compared
+from llbm_tools.debugging.likeness import Likeness
 from llbm_tools.debugging.places import Graph, Vertex
-from llbm_tools.debugging.session import Event, Session, TooLarge
-from llbm_tools.ops import Mount
+from llbm_tools.llb import definition
+from llbm_tools.llb.ops import Mount
+from llbm_tools.sessions.session import Event, Session, TooLarge
 
 MOST_CHANGES = 1_000
 CACHE = 3
@@ -33,11 +34,13 @@ class Tree(NamedTuple):
 
 
 class Happened(NamedTuple):
-    """What an event did, in words; how trees changed by it; and trees that it brought as a whole."""
+    """What an event did, in words; how trees changed by it; trees that it brought as a whole; and what ends otherwise
+    in BuildKit."""
 
     text: str
     compared: list[Compared]
     trees: list[Tree]
+    otherwise: list[str]
 
 
 def step_text(vertex: Vertex, reply: str) -> str:
@@ -85,6 +88,7 @@ class Watch:
     def __init__(self, session: Session, graph: Graph) -> None:
         self.session = session
         self.graph = graph
+        self.likeness = Likeness(session, graph)
 
     def last(self, most: int = MOST_CHANGES) -> Happened | None:
         """Returns what the last event did, or None at the beginning of the run."""
@@ -97,33 +101,35 @@ class Watch:
         if event.kind == "settle":
             return self.settled(event, vertex)
         if event.kind == "cancel":
-            return Happened(f"worker {event.worker} gives vertex {event.vertex} up", [], [])
+            return Happened(f"worker {event.worker} gives vertex {event.vertex} up", [], [], [])
         return self.stepped(event, vertex, most)
 
     def claimed(self, event: Event) -> Happened:
         """Returns what a claim did: the trees that the vertex begins with."""
         parts = looks.parts_of(self.session, event.worker)
         held = [Tree(part.name, f"work {event.worker} {part.number}") for part in parts]
-        return Happened(f"worker {event.worker} takes vertex {event.vertex}", [], held)
+        return Happened(f"worker {event.worker} takes vertex {event.vertex}", [], held, [])
 
     def settled(self, event: Event, vertex: Vertex) -> Happened:
         """Returns what a settle did: the outputs of the vertex, or why it failed."""
         if event.fails():
             why = reasons.why_failed(self.session, vertex, len(self.session.record) - 1)
-            return Happened(f"vertex {event.vertex} failed" + (f": {why}" if why else ""), [], [])
+            return Happened(f"vertex {event.vertex} failed" + (f": {why}" if why else ""), [], [], [])
         outputs = [Tree(f"output {i}", f"tree {event.vertex} {i}") for i in range(vertex.outputs)]
-        return Happened(f"vertex {event.vertex} is done", [], outputs)
+        return Happened(f"vertex {event.vertex} is done", [], outputs, self.likeness.of_event(event))
 
     def stepped(self, event: Event, vertex: Vertex, most: int) -> Happened:
         """Returns what a micro-step did."""
         why = reasons.why_step(self.session, vertex, event)
         acted = ACTED.fullmatch(event.reply)
+        otherwise = self.likeness.of_event(event)
         if why:
-            return Happened(why, [], [])
+            return Happened(why, [], [], otherwise)
         if acted:
-            return Happened(step_text(vertex, event.reply), [self.acted(event, vertex, int(acted[1]), most)], [])
+            found = [self.acted(event, vertex, int(acted[1]), most)]
+            return Happened(step_text(vertex, event.reply), found, [], otherwise)
         numbers = self.numbers_changed(event, vertex)
-        return Happened(step_text(vertex, event.reply), self.before_and_after(event, numbers, most), [])
+        return Happened(step_text(vertex, event.reply), self.before_and_after(event, numbers, most), [], otherwise)
 
     def flat(self, worker: int, number: int) -> Flat:
         """Returns the entries of a tree of a worker by path, or why they are not read."""

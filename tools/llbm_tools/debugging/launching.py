@@ -4,28 +4,32 @@ The program reads all its files before it answers the first command, so the temp
 launch.
 """
 
+import contextlib
 import difflib
 import functools
 import os
 import pathlib
-import re
 import shutil
 import subprocess
-import sys
 import tempfile
 from collections.abc import Callable
 from typing import NamedTuple
 
-from llbm_tools import definition, faults, names, source_names
-from llbm_tools.common import MOST_BYTES, os_error_text, program_named
+from llbm_tools.common import program_named
 from llbm_tools.debugging import places
 from llbm_tools.debugging.arguments import Object, argument, of_kind
 from llbm_tools.debugging.origins import Origins, origins_of
 from llbm_tools.debugging.readable import readable
-from llbm_tools.debugging.session import Refusal, Session, SessionFailed
-from llbm_tools.paths import TOOLS
-from llbm_tools.streams import Refused, why_not
-from llbm_tools.wire import Unreadable
+from llbm_tools.definitions import faults
+from llbm_tools.inputs import data_at, is_standard_input, opened_file
+from llbm_tools.llb import definition, names, source_names
+from llbm_tools.llb.wire import Unreadable
+from llbm_tools.os_errors import os_error_text
+from llbm_tools.sessions.session import Refusal, Session, SessionFailed
+from llbm_tools.streams import Failed, Refused, why_not
+from llbm_tools.trees.directory_texts import Values
+from llbm_tools.trees.references import Table
+from llbm_tools.trees.source_texts import TEXT, Reading, Source, kind_of
 
 ARGUMENTS = ("definition", "text", "sources", "files", "workers", "stopOnEntry", "stopAtEnd", "noDebug", "llbm")
 EDITOR_ARGUMENTS = (
@@ -36,12 +40,6 @@ EDITOR_ARGUMENTS = (
 UNNAMED = "fault 121 "
 MOST_WORKERS = 64
 USUAL_WORKERS = 2
-
-TREE_TEXT = re.compile(rb"d [0-7]{4} [0-9]+ [0-9]+ /\n")
-PACKED = (b"\x1f\x8b", b"BZh", b"\xfd7zXZ\x00", b"\x28\xb5\x2f\xfd")
-TAR_MAGIC, TAR_PLACE = b"ustar", 257
-TAR_NAMES = (".tar", ".tar.gz", ".tgz", ".tar.bz2", ".tar.xz", ".tar.zst")
-OWNER = ("--owner", "0:0")
 
 Say = Callable[[str], None]
 
@@ -83,20 +81,14 @@ def cause_of(words: list[str], otherwise: str, entries: faults.Entries | None = 
     return f"{words[0]}: {' '.join(meaning)}" if meaning else words[0]
 
 
-def program_of(arguments: Object) -> str:
+def program_of(arguments: Object, argument_name: str) -> str:
     """Returns the program: the one that is named, else the one on PATH, else that of this folder."""
     named = argument(arguments, "llbm", str, "")
     word = named or shutil.which("llbm") or program_named(None)
     cause = why_not(word)
     if cause:
-        raise Refused(f"{word}: {cause}" + ("" if named else "; the argument llbm names one"))
+        raise Refused(f"{cause}: {word}" + ("" if named else f"; {argument_name} names one"))
     return shutil.which(word) or word
-
-
-def file_content(place: str) -> bytes:
-    """Returns the bytes of a file, at most one byte more than the limit."""
-    with open(place, "rb") as file:
-        return file.read(MOST_BYTES + 1)
 
 
 def output_of(program: str, command: str, given: bytes, entries: faults.Entries | None = None) -> bytes:
@@ -104,7 +96,7 @@ def output_of(program: str, command: str, given: bytes, entries: faults.Entries 
     done = subprocess.run([program, command], input=given, capture_output=True)
     if done.returncode:
         words = done.stderr.decode("utf-8", "backslashreplace").splitlines()
-        raise Refused(cause_of(words, f"{program} {command} has ended with status {done.returncode}", entries))
+        raise Refused(cause_of(words, f"the program ended with status {done.returncode}: {program} {command}", entries))
     return done.stdout
 
 
@@ -113,7 +105,12 @@ def entries_of(data: bytes, name: str) -> list[bytes]:
     try:
         return definition.entries_of(data)
     except Unreadable as fault:
-        raise Refused(f"{name}: {fault}") from fault
+        raise Refused(f"{fault}: {name}") from fault
+
+
+def data_in(file: str) -> bytes:
+    """Returns the bytes of a file; none is standard input, where the editor's requests come from."""
+    return data_at(os.path.abspath(file) if is_standard_input(file) else file)
 
 
 def definition_of(program: str, arguments: Object) -> tuple[bytes, bytes | None]:
@@ -121,13 +118,13 @@ def definition_of(program: str, arguments: Object) -> tuple[bytes, bytes | None]
     file, text_file = argument(arguments, "definition", str, ""), argument(arguments, "text", str, "")
     if not file and not text_file:
         raise Refused("definition is missing")
-    text = file_content(text_file) if text_file else None
+    text = data_in(text_file) if text_file else None
     assembled = b"" if text is None else output_of(program, "asm", text)
     if not file:
         return assembled, text
-    data = file_content(file)
+    data = data_in(file)
     if text is not None and entries_of(assembled, text_file) != entries_of(data, file):
-        raise Refused(f"{text_file}: is not the text of {file}")
+        raise Refused(f"not the text of {file}: {text_file}")
     return data, text
 
 
@@ -139,40 +136,23 @@ def text_of(program: str, data: bytes, text: bytes | None, entries: list[bytes])
     return places.Text(given, places.lines_of(given))
 
 
-def is_tar(path: str, begin: bytes) -> bool:
-    """Returns whether a file with this name and beginning is a tar, packed or not, and not a tree text."""
-    if TREE_TEXT.match(begin):
-        return False
-    return path.endswith(TAR_NAMES) or begin.startswith(PACKED) or begin[TAR_PLACE:].startswith(TAR_MAGIC)
-
-
-def text_by(tool: str, path: str, name: str, place: str, say: Say) -> None:
-    """Runs a tool that writes the tree text of a path to a file, with owner 0:0; its messages go to `say`."""
-    if not (TOOLS / tool).is_file():
-        raise Refused(f"sources: {name}: tools/{tool}, which reads it, is missing")
-    with open(place, "wb") as text:
-        done = subprocess.run(
-            [sys.executable, TOOLS / tool, *OWNER, "--", path],
-            stdin=subprocess.DEVNULL, stdout=text, stderr=subprocess.PIPE,
-        )
-    lines = done.stderr.decode("utf-8", "backslashreplace").splitlines()
-    if done.returncode:
-        raise Refused(f"sources: {name}: {lines[0] if lines else tool + ' failed'}")
-    for line in lines:
-        if line != "left out: nothing":
-            say(f"{name}: {line}")
-
-
 def source_file(name: str, path: str, place: str, say: Say) -> str:
-    """Returns the file with the tree text of a local source; for a directory or a tar it is written to `place`."""
-    if os.path.isdir(path):
-        text_by("tree-of-directory", path, name, place, say)
-        return place
-    with open(path, "rb") as file:
-        begin = file.read(TAR_PLACE + len(TAR_MAGIC))
-    if not is_tar(path, begin):
-        return path
-    text_by("tree-of-tar", path, name, place, say)
+    """Returns the file with the tree text of a local source, which is written to `place` if it is no text."""
+    def say_of(line: str) -> None:
+        said.append(line)
+        say(f"{line} (the local source {name})")
+
+    said: list[str] = []
+    try:
+        if kind_of(path) == TEXT:
+            with opened_file(path):
+                return path
+        with open(place, "wb") as text, contextlib.ExitStack() as kept:
+            is_whole = Source(Values(text, None), Table(), kept, Reading(say=say_of, quiet=True)).read(path, [])
+    except (Refused, Failed) as fault:
+        raise Refused(f"{fault} (the local source {name})") from fault
+    if not is_whole:
+        raise Refused(f"{said[0]} (the local source {name})")
     return place
 
 
@@ -182,7 +162,7 @@ def source_words(arguments: Object, folder: str, say: Say) -> list[str]:
     for number, (name, path) in enumerate(argument(arguments, "sources", dict, {}).items()):
         of_kind(path, f"sources: {name}", str)
         if not name or "=" in name or name.startswith("-"):
-            raise Refused(f"sources: {name!r} can't be the name of a local source on a command line")
+            raise Refused(f"this can't be the name of a local source on a command line: {name!r}")
         words.append(f"{name}={source_file(name, path, os.path.join(folder, f'{number}.tree'), say)}")
     return words
 
@@ -228,9 +208,9 @@ def missing_sources(cause: str, data: bytes, given: list[str]) -> list[str]:
     return source_names.missing_notes(data, given) if cause.startswith(UNNAMED) else []
 
 
-def start(arguments: Object, folder: str, say: Say) -> Launched:
+def start(arguments: Object, folder: str, say: Say, program_argument: str) -> Launched:
     """Starts what a launch request asks for, with temporary files in a folder."""
-    program, workers, given = program_of(arguments), workers_of(arguments), files_of(arguments)
+    program, workers, given = program_of(arguments, program_argument), workers_of(arguments), files_of(arguments)
     data, text = definition_of(program, arguments)
     entries = entries_of(data, "the definition")
     named_entries = faults.Entries(data)
@@ -243,7 +223,7 @@ def start(arguments: Object, folder: str, say: Say) -> Launched:
         say(note)
     file = os.path.join(folder, "definition")
     pathlib.Path(file).write_bytes(data)
-    command = [program, "step", file, "--workers", str(workers), *words]
+    command = [program, "step", "--looks", file, "--workers", str(workers), *words]
     try:
         session = start_session(command, workers, len(graph.vertices), named_entries)
     except Refused as fault:
@@ -254,11 +234,14 @@ def start(arguments: Object, folder: str, say: Say) -> Launched:
     return Launched(session, graph, named_entries, name, text_file, origins)
 
 
-def launch(arguments: Object, say: Say) -> Launched:
-    """Starts what a launch request asks for. If that fails it is refused, and no temporary file remains."""
+def launch(arguments: Object, say: Say, program_argument: str = "the argument llbm") -> Launched:
+    """Starts what a launch request asks for. If that fails it is refused, and no temporary file remains.
+
+    `program_argument` is how the caller names the program.
+    """
     try:
         with tempfile.TemporaryDirectory(prefix="llbm-debug-") as folder:
-            return start(arguments, folder, say)
+            return start(arguments, folder, say, program_argument)
     except OSError as fault:
         raise Refused(os_error_text(fault)) from fault
     except ValueError as fault:

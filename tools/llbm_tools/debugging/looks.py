@@ -7,7 +7,7 @@ import re
 from typing import NamedTuple
 
 from llbm_tools.debugging import trees
-from llbm_tools.debugging.session import Session
+from llbm_tools.sessions.session import Session
 
 MOST_COMPARED = 67_108_864
 

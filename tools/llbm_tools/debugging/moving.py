@@ -8,7 +8,7 @@ from collections.abc import Callable
 from typing import NamedTuple
 
 from llbm_tools.debugging.breakpoints import SETTLE, Breakpoint
-from llbm_tools.debugging.session import Event, Refusal, Session
+from llbm_tools.sessions.session import Event, Refusal, Session
 
 HELD, FINISHED = "fault 171 135", "fault 171 137"
 

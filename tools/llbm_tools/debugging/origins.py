@@ -10,8 +10,8 @@ import os
 import pathlib
 from typing import NamedTuple
 
-from llbm_tools import definition, names
 from llbm_tools.common import MOST_BYTES
+from llbm_tools.llb import definition, names
 
 
 class Range(NamedTuple):

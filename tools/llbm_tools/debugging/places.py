@@ -3,10 +3,10 @@
 import re
 from typing import NamedTuple
 
-from llbm_tools import definition
-from llbm_tools.ops import Op
+from llbm_tools.llb import definition
+from llbm_tools.llb.ops import Op
+from llbm_tools.llb.wire import Unreadable
 from llbm_tools.streams import Refused
-from llbm_tools.wire import Unreadable
 
 Lines = list[tuple[int, int]]
 

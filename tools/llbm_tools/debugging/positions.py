@@ -2,11 +2,11 @@
 
 from typing import NamedTuple
 
-from llbm_tools import definition
 from llbm_tools.debugging import reasons
 from llbm_tools.debugging.places import Graph, Vertex
 from llbm_tools.debugging.readable import MARK
-from llbm_tools.debugging.session import Session
+from llbm_tools.llb import definition
+from llbm_tools.sessions.session import Session
 
 SEPARATORS = (";", "&&", "||")
 

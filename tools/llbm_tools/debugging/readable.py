@@ -6,12 +6,12 @@ comments, in the order of the bytes, so that `llbm asm` reads the text as the sa
 
 from collections.abc import Iterator
 
-from llbm_tools import messages
 from llbm_tools.common import printable
 from llbm_tools.debugging.places import Lines, Text, lines_of
-from llbm_tools.op_reading import checked_records, number_in, text_in
-from llbm_tools.ops import NUMBERS, Field, Message, Op, fields_of
-from llbm_tools.wire import Faulty, Record
+from llbm_tools.llb import messages
+from llbm_tools.llb.op_reading import checked_records, number_in, text_in
+from llbm_tools.llb.ops import NUMBERS, Field, Message, Op, fields_of
+from llbm_tools.llb.wire import Faulty, Record
 
 MARK = "# "
 MOST_OF_A_VALUE = 1_000

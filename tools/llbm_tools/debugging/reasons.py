@@ -5,15 +5,15 @@ command is named.
 """
 
 import re
+from typing import Protocol
 
-from llbm_tools import definition
 from llbm_tools.common import printable
 from llbm_tools.debugging import applets, looks
 from llbm_tools.debugging.applets import Names, View, node_in, path_text
-from llbm_tools.debugging.places import Vertex
-from llbm_tools.debugging.session import Event, Session, TooLarge
 from llbm_tools.debugging.trees import Node
-from llbm_tools.ops import ExecOp, FileAction, FileActionCopy, FileActionRm, Meta
+from llbm_tools.llb import definition
+from llbm_tools.llb.ops import ExecOp, FileAction, FileActionCopy, FileActionRm, Meta, Op
+from llbm_tools.sessions.session import Event, Session, TooLarge
 
 MOST_READ = 16_777_216
 
@@ -31,6 +31,14 @@ SENTENCES = {
     BAD_NAME: "a path is not valid or has more than 128 names",
     BAD_PATTERN: "a pattern is not valid",
 }
+
+
+class Vertex(Protocol):
+    """A vertex, which has an op."""
+
+    @property
+    def op(self) -> Op:
+        """The op."""
 
 
 def words_of(vertex: Vertex, command: int) -> list[str]:

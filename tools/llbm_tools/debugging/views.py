@@ -4,12 +4,12 @@ import functools
 import re
 from collections.abc import Callable
 
-from llbm_tools import definition
 from llbm_tools.common import printable, shortened
 from llbm_tools.debugging import looks, reasons, trees
 from llbm_tools.debugging.arguments import Object
 from llbm_tools.debugging.eyes import Eyes
 from llbm_tools.debugging.launching import Launched
+from llbm_tools.llb import definition
 from llbm_tools.streams import Refused
 
 MOST_OF_A_NAME = 60

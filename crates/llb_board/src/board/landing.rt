@@ -8,7 +8,7 @@ ghost use Rattle.llb_model.specs.Table.{HasSettled};
 ghost use Rattle.llb_model.specs.Caches as model;
 ghost use Rattle.llb_model.specs.State.{Execution, runs, places_at};
 ghost use Rattle.llb_board.specs.Jobs.{is_shared};
-ghost use Rattle.llb_board.specs.Begun.{IsKnown};
+ghost use Rattle.llb_board.specs.PlainVertexJobs.{IsKnown};
 ghost use Rattle.llb_board.specs.Landing.{CanLand, StandsInWay, IsRefused, land_fault, runs_shared, IsThrough, Lands};
 
 use crate::board::Board;

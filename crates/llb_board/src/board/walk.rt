@@ -1,7 +1,8 @@
 //! Does an event and returns what is needed to undo it, for callers that step through a run forwards and back.
 
-ghost use Rattle.std.specs.Prelude.{◌≡◌, OnErr, IfOk};
-ghost use Rattle.llb_board.specs.Undo.{GivesWalk, walk_of, undone, CanUndo};
+ghost use Rattle.std.specs.Prelude.{◌≡◌, true, OnErr, IfOk, IfErr};
+ghost use Rattle.llb_board.specs.DisplacedWorkers.{walk_memory, walk_may_want};
+ghost use Rattle.llb_board.specs.WalkAndUndo.{GivesWalk, walk_of, undone, CanUndo};
 
 use crate::board::Board;
 use crate::fault::WalkFault;
@@ -26,9 +27,11 @@ pub struct Walked {
 
 impl Board {
     /// Does an event, and returns its reply together with an `Undo` that takes the event back. The memory for the `Undo` grows with what the event changes.
-    /// Fails with the fault of the claim, the step, the settle or the cancel, or with 141 `Memory`, which may be reported even if another fault applies.
+    /// Fails with the fault of the claim, the step, the settle or the cancel, or with 141 `Memory`, which is reported only if no other fault applies, or in
+    /// place of 135 `Held` if memory for a copy of the held key is refused.
     pub fn walk(&mut self, event: Event) -> Result<Walked, WalkFault>
         ensures gives { GivesWalk (λ r. (self.new, r.reply)) result (walk_of self.old event) }
+        ensures last { IfErr result (λ e. walk_memory e ≡ true → walk_may_want (walk_of self.old event) ≡ true) }
         ensures undo { IfOk result (λ r. undone r.undo self.new ≡ self.old) }
         ensures can { IfOk result (λ r. CanUndo r.undo self.new) }
         ensures err { OnErr result (self.new ≡ self.old) }
@@ -42,6 +45,7 @@ impl Board {
     // Does an event and returns its reply.
     fn happen(&mut self, event: Event) -> Result<Reply, WalkFault>
         ensures gives { GivesWalk (λ r. (self.new, r)) result (walk_of self.old event) }
+        ensures last { IfErr result (λ e. walk_memory e ≡ true → walk_may_want (walk_of self.old event) ≡ true) }
         ensures err { OnErr result (self.new ≡ self.old) }
     {
         match event {

@@ -15,7 +15,6 @@ pub struct Events {
     room: usize,
 }
 
-// This `Drop` is written by hand, so it is proved once; a derived `Drop` is proved again in every function that drops such a value.
 impl Drop for Events {
     fn drop(self) {
         let Events { items: _, room: _ } = self;
@@ -121,7 +120,8 @@ impl Events {
 
     /// Returns a copy of the events, with no room for further events. Fails with 141 `Memory` alone.
     pub fn copy(&self) -> Result<Events, Memory>
-        ensures { IfOk result (λ e. e.list ≡ self.now.list) }
+        ensures list { IfOk result (λ e. e.list ≡ self.now.list) }
+        ensures room { IfOk result (λ e. e.room ≡ 0) }
     {
         Ok(Events {
             items: self.items.clone()?,

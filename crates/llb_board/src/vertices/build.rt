@@ -17,7 +17,7 @@ pub(crate) struct Build {
 
 impl Model for Build {
     ghost use Rattle.std.specs.Coded.{codes};
-    ghost use Rattle.llb_tree.specs.Coded.{coded_tree};
+    ghost use Rattle.llb_tree.specs.CodedTrees.{coded_tree};
     ghost use Rattle.llb_model.specs.Program as model;
 
     ghost Value = { model.Build };

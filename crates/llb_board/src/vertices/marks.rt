@@ -4,7 +4,7 @@ ghost use Rattle.std.specs.Prelude.{◌≡◌, ◌<◌, [], map, length, slice_g
 ghost use Rattle.std.specs.List.{list_any};
 ghost use Rattle.llb_loader.specs.Graph.{IsGraph};
 ghost use Rattle.llb_loader.specs.declared.graph.Edge as edge;
-ghost use Rattle.llb_model.specs.ByNumber.{by_number};
+ghost use Rattle.llb_model.specs.ListsFromEarlierItems.{by_number};
 ghost use Rattle.llb_model.specs.State.{ending_at, is_failed, next_stopped, stopped};
 ghost use Rattle.llb_board.specs.Links.{IsLinked};
 ghost use Rattle.llb_board.specs.Vertices.{status_of, done_in};

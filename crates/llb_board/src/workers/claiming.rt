@@ -13,11 +13,11 @@ ghost use Rattle.llb_model.specs.State.{ending_at, Running};
 ghost use Rattle.llb_model.specs.Table.{claim_grant};
 ghost use Rattle.llb_cache.specs.Caches.{CachesValue};
 ghost use Rattle.llb_board.specs.Needs.{IsFound, need_of};
-ghost use Rattle.llb_model.specs.Bridge.{rows_after};
+ghost use Rattle.llb_model.specs.CacheBridge.{rows_after};
 ghost use Rattle.llb_board.specs.Supplies.{supplies_for, supplies_of};
 ghost use Rattle.llb_board.specs.WorkerRules as rules;
 ghost use Rattle.llb_board.specs.Vertices.{with_status};
-ghost use Rattle.llb_board.specs.Views.{execution_of};
+ghost use Rattle.llb_board.specs.WorkerModelValues.{execution_of};
 ghost use Rattle.llb_board.specs.Workers.{IsBegunOn, Fits, claim_in, reply_of, state_in, rule_of};
 
 use crate::vertices::Vertices;
@@ -43,7 +43,6 @@ pub(crate) struct Begun {
     rows: Vec<Option<usize>>,
 }
 
-// This `Drop` is written by hand, so it is proved once; a derived `Drop` is proved again in every function that drops such a value.
 impl Drop for Begun {
     fn drop(self) {
         let Begun {
@@ -57,9 +56,9 @@ impl Drop for Begun {
 
 impl Model for Begun {
     ghost use Rattle.std.specs.Coded.{codes};
-    ghost use Rattle.llb_tree.specs.Coded.{coded_tree};
+    ghost use Rattle.llb_tree.specs.CodedTrees.{coded_tree};
     ghost use Rattle.llb_board.specs.Supplies.{supplies_of};
-    ghost use Rattle.llb_board.specs.Views.{execution_of};
+    ghost use Rattle.llb_board.specs.WorkerModelValues.{execution_of};
     ghost use Rattle.llb_board.specs.Workers.{BegunValue};
 
     ghost Value = { BegunValue };

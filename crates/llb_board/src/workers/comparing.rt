@@ -3,11 +3,11 @@
 ghost use Rattle.std.specs.Prelude.{◌≡◌, ◌↔◌, ◌<◌, length, map, IsTrue};
 ghost use Rattle.llb_model.specs.Caches as model;
 ghost use Rattle.llb_model.specs.Caches.{trees_at, Has, tree_of};
-ghost use Rattle.llb_model.specs.Bridge.{store_of};
+ghost use Rattle.llb_model.specs.CacheBridge.{store_of};
 ghost use Rattle.llb_cache.specs.Caches.{trees_of};
 ghost use Rattle.llb_board.specs.Needs.{number_of};
 ghost use Rattle.llb_board.specs.Jobs.{IsBegun};
-ghost use Rattle.llb_board.specs.Views.{execution_of};
+ghost use Rattle.llb_board.specs.WorkerModelValues.{execution_of};
 
 use crate::workers::seat::Execution;
 use llb_cache::{Caches, Instance};

@@ -2,8 +2,8 @@
 
 ghost use Rattle.std.specs.Prelude.{◌≡◌, map, IfOk};
 ghost use Rattle.llb_board.specs.Supplies.{ready_made};
-ghost use Rattle.llb_board.specs.Undoing.{left_in};
-ghost use Rattle.llb_board.specs.Views.{at_of, leased_by};
+ghost use Rattle.llb_board.specs.WorkerUndo.{left_in};
+ghost use Rattle.llb_board.specs.WorkerModelValues.{at_of, leased_by};
 
 use crate::fault::Memory;
 use crate::trees::copied_trees;

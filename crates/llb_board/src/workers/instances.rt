@@ -4,12 +4,12 @@
 ghost use Rattle.std.specs.Prelude.{◌≡◌, ◌≢◌, ◌<◌, ◌^◌, map, length, AllPairs, IfOk, IfErr, OnErr, Ok, true};
 ghost use Rattle.std.specs.Option.{ForSome};
 ghost use Rattle.llb_cache.specs.Caches.{places_of, leases, AreThere};
-ghost use Rattle.llb_cache.specs.Growth.{CanLend};
-ghost use Rattle.llb_cache.specs.Faults.{Gives};
+ghost use Rattle.llb_cache.specs.LeaseGrowth.{CanLend};
+ghost use Rattle.llb_cache.specs.CallResults.{Gives};
 ghost use Rattle.llb_model.specs.Caches.{trees_at, tree_of};
-ghost use Rattle.llb_model.specs.Bridge.{store_of, AreLeased, put_each};
+ghost use Rattle.llb_model.specs.CacheBridge.{store_of, AreLeased, put_each};
 ghost use Rattle.llb_board.specs.OptionalLeases.{leased_places, IsOutIf, given_back, taken_back, lease_if, lent_of, lent_if};
-ghost use Rattle.llb_board.specs.Views.{at_of, leased_by};
+ghost use Rattle.llb_board.specs.WorkerModelValues.{at_of, leased_by};
 ghost use Rattle.llb_events.specs.Faults.{step_memory};
 
 use crate::fault::Memory;

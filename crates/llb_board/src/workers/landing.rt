@@ -6,13 +6,13 @@ ghost use Rattle.std.specs.Bool.{OnTrue, OnFalse};
 ghost use Rattle.llb_cache.specs.Caches.{trees_of};
 ghost use Rattle.llb_model.specs.Caches as model;
 ghost use Rattle.llb_model.specs.Caches.{Has};
-ghost use Rattle.llb_model.specs.Bridge.{store_of, put_each};
+ghost use Rattle.llb_model.specs.CacheBridge.{store_of, put_each};
 ghost use Rattle.llb_model.specs.Program.{program_at};
 ghost use Rattle.llb_model.specs.State as machine;
 ghost use Rattle.llb_model.specs.State.{Runs, places_at};
 ghost use Rattle.llb_board.specs.Jobs.{IsRunOf};
 ghost use Rattle.llb_board.specs.Supplies.{supplies_of, supplies_for};
-ghost use Rattle.llb_board.specs.Views.{execution_of};
+ghost use Rattle.llb_board.specs.WorkerModelValues.{execution_of};
 ghost use Rattle.llb_board.specs.Workers.{Fits, RunsJob, steps_left};
 
 use crate::vertices::Vertices;

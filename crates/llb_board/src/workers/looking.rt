@@ -4,10 +4,10 @@ ghost use Rattle.std.specs.Prelude.{◌≡◌, ◌<◌, length, option_map, slic
 ghost use Rattle.llb_cache.specs.Caches.{trees_of};
 ghost use Rattle.llb_model.specs.Caches as model;
 ghost use Rattle.llb_model.specs.Caches.{Has, trees_at};
-ghost use Rattle.llb_model.specs.Bridge.{store_of};
+ghost use Rattle.llb_model.specs.CacheBridge.{store_of};
 ghost use Rattle.llb_model.specs.State.{runs};
-ghost use Rattle.llb_board.specs.Looks.{worked_by};
-ghost use Rattle.llb_board.specs.Views.{execution_of};
+ghost use Rattle.llb_board.specs.WorkedOnAndCachedTrees.{worked_by};
+ghost use Rattle.llb_board.specs.WorkerModelValues.{execution_of};
 
 use crate::workers::Workers;
 use crate::workers::seat::{Execution, Seat, seat_at};

@@ -5,7 +5,7 @@ ghost use Rattle.std.specs.Prelude.{◌≡◌, ◌<◌, ◌^◌, Ok, IfErr, IfOk
 ghost use Rattle.std.specs.List.{All};
 ghost use Rattle.llb_loader.specs.Mounts.{key_of, seed_of};
 ghost use Rattle.llb_loader.specs.Rules.{kind_mounts};
-ghost use Rattle.llb_model.specs.Bridge.{asked, growth_for};
+ghost use Rattle.llb_model.specs.CacheBridge.{asked, growth_for};
 ghost use Rattle.llb_model.specs.Program.{needs_of, mount_of, base_in, mode_of, key_as, seed_as};
 ghost use Rattle.llb_board.specs.Needs.{need_of, first_held_key, unless_held, if_locked, number_of, HasEdges};
 ghost use Rattle.llb_board.specs.Needs.{IsFound, place_found, row_found, first_tree, taken_by};

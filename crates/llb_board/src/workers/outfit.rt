@@ -1,7 +1,7 @@
 //! What a claim prepares from the vertex alone.
 
 ghost use Rattle.std.specs.Prelude.{Ok};
-ghost use Rattle.llb_board.specs.Outfits.{outfit_as, outfit_of};
+ghost use Rattle.llb_board.specs.VertexOutfits.{outfit_as, outfit_of};
 ghost use Rattle.llb_events.specs.Faults.{GivesClaim};
 
 use llb_events::ClaimFault;

@@ -5,8 +5,8 @@ ghost use Rattle.std.specs.Prelude.{replicate, slice_get, slice_set};
 ghost use Rattle.llb_board.specs.declared.workers.seat.Execution as own;
 ghost use Rattle.llb_board.specs.declared.workers.seat.Seat.TheVariants as seat;
 ghost use Rattle.llb_board.specs.Jobs.{seat_left};
-ghost use Rattle.llb_board.specs.Undoing.{seat_before};
-ghost use Rattle.llb_board.specs.Views.{IsRunning, execution_of, at_of, leased_by};
+ghost use Rattle.llb_board.specs.WorkerUndo.{seat_before};
+ghost use Rattle.llb_board.specs.WorkerModelValues.{IsRunning, execution_of, at_of, leased_by};
 
 use llb_cache::{Instance, Lease};
 use llb_events::VertexFault;

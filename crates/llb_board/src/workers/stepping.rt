@@ -1,17 +1,17 @@
 //! Does a micro-step of what a worker runs.
 
 ghost use Rattle.std.specs.Prelude.{◌≡◌, length, false, Some, OnErr, OnOk, slice_get};
-ghost use Rattle.llb_execution.specs.Parts as parts;
-ghost use Rattle.llb_execution.specs.Parts.{is_skipped};
+ghost use Rattle.llb_execution.specs.ModelValues as parts;
+ghost use Rattle.llb_execution.specs.ModelValues.{is_skipped};
 ghost use Rattle.llb_model.specs.Table.{HasStepped, unless_failed};
-ghost use Rattle.llb_model.specs.Bridge.{HasLease, rows_after};
+ghost use Rattle.llb_model.specs.CacheBridge.{HasLease, rows_after};
 ghost use Rattle.llb_model.specs.Program as model;
 ghost use Rattle.llb_model.specs.Program.{Left, last_of};
 ghost use Rattle.llb_model.specs.Table as table;
 ghost use Rattle.llb_board.specs.Supplies.{supplies_of, supplies_for};
 ghost use Rattle.llb_events.specs.Faults.{step_memory, GivesStep};
 ghost use Rattle.llb_board.specs.WorkerRules.{worked_in};
-ghost use Rattle.llb_board.specs.Views.{execution_of};
+ghost use Rattle.llb_board.specs.WorkerModelValues.{execution_of};
 ghost use Rattle.llb_board.specs.Workers.{Fits, state_in, step_in};
 ghost use Rattle.llb_wire.specs.Answer.{MemoryLast};
 

@@ -1,14 +1,14 @@
 //! Before an event, keeps what the event will change in the workers and the caches; puts this back when the event is taken back. One item is
 //! kept for each cache that the vertex of the event mounts, and none for any other cache.
 
-ghost use Rattle.std.specs.Prelude.{◌≡◌, ◌<◌, false, length, map, option_map, slice_get, IfOk, IfErr, Err};
-ghost use Rattle.llb_events.specs.declared.event.Event.TheVariants.{Step};
-ghost use Rattle.llb_model.specs.Bridge.{growth_for};
+ghost use Rattle.std.specs.Prelude.{◌≡◌, ◌<◌, ◌||◌, false, true, is_some, nat_le, length, map, option_map, slice_get, IfOk, IfErr, Err};
+ghost use Rattle.llb_events.specs.declared.event.Event.TheVariants.{Claim, Step};
+ghost use Rattle.llb_model.specs.CacheBridge.{growth_for};
 ghost use Rattle.llb_board.specs.Supplies.{needs_at, ready_made};
-ghost use Rattle.llb_board.specs.Displaced.{MarksIn, MarksClaim, MarksStep, MarksEnd, CanPutBack};
-ghost use Rattle.llb_board.specs.Displaced.{walk_in, walk_memory, end_of, no_worker, not_running};
-ghost use Rattle.llb_board.specs.Displaced.{back_in, workers_before, rows_before, supplies_before, change_in, change_of};
-ghost use Rattle.llb_board.specs.Views.{at_of, leased_by};
+ghost use Rattle.llb_board.specs.DisplacedWorkers.{MarksIn, MarksClaim, MarksStep, MarksEnd, CanPutBack};
+ghost use Rattle.llb_board.specs.DisplacedWorkers.{walk_in, walk_memory, walk_may_want, end_of, may_end, no_worker, not_running};
+ghost use Rattle.llb_board.specs.DisplacedWorkers.{back_in, workers_before, rows_before, supplies_before, change_in, change_of};
+ghost use Rattle.llb_board.specs.WorkerModelValues.{at_of, leased_by};
 ghost use Rattle.llb_board.specs.Workers.{Fits, IsCrew};
 
 use crate::fault::{Memory, WalkFault};
@@ -17,7 +17,7 @@ use crate::workers::Workers;
 use crate::workers::copying::copied;
 use crate::workers::instances::{contents, lend_again, lent_for, take_back, write_back};
 use crate::workers::needs::growths_of;
-use crate::workers::seat::{Execution, Seat, make_idle, seat_at, step_back};
+use crate::workers::seat::{Execution, Seat, is_finished, make_idle, seat_at, step_back};
 use llb_cache::{Caches, Growth, Lent};
 use llb_events::{CancelFault, Event, SettleFault, StepFault};
 use llb_execution::Saved;
@@ -30,7 +30,6 @@ pub struct Undo {
     back: Back,
 }
 
-// This `Drop` is written by hand, so it is proved once; a derived `Drop` is proved again in every function that drops such a value.
 impl Drop for Undo {
     fn drop(self) {
         let Undo { back: _ } = self;
@@ -66,8 +65,8 @@ pub(crate) struct Change {
 
 impl Model for Undo {
     ghost use Rattle.std.specs.Coded.{codes};
-    ghost use Rattle.llb_tree.specs.Coded.{coded_tree};
-    ghost use Rattle.llb_board.specs.Displaced.{Displaced, back_in};
+    ghost use Rattle.llb_tree.specs.CodedTrees.{coded_tree};
+    ghost use Rattle.llb_board.specs.DisplacedWorkers.{Displaced, back_in};
 
     ghost Value = { Displaced };
 
@@ -87,8 +86,8 @@ impl Undo {
 }
 
 impl Workers {
-    /// Returns what is needed to take back an event, before the event is done. Fails with 141 `Memory`; for an event that is not a claim, fails also with 131
-    /// `NoWorker` or 136 `NotRunning`, if the event itself would fail with this number.
+    /// Returns what is needed to take back an event, before the event is done. Fails only with a fault with which the event itself would fail, or with 141
+    /// `Memory`, which is reported only if the event would be granted, or refused with 135 `Held` for a key that has to be copied.
     pub(crate) fn before(
         &self,
         alloc: Global,
@@ -98,12 +97,27 @@ impl Workers {
         requires { Fits vertices.now.build self.now }
         ensures marks { IfOk result (λ u. MarksIn vertices.now self.now event u) }
         ensures refused { IfErr result (λ e. walk_memory e ≡ false → walk_in vertices.now self.now event ≡ Err e) }
+        ensures last { IfErr result (λ e. walk_memory e ≡ true → walk_may_want (walk_in vertices.now self.now event) ≡ true) }
     {
         match event {
-            Event::Claim(w, v) => Ok(self.before_claim(alloc, vertices, w, v)?),
+            Event::Claim(w, v) => match self.before_claim(alloc, vertices, w, v) {
+                Ok(undo) => Ok(undo),
+                Err(_) => Err(self.claim_refusal(alloc, vertices, w, v)),
+            },
             Event::Step(w) => self.before_step(alloc, vertices, w),
             Event::Settle(w) => self.before_end(alloc, vertices, End::Settle, w),
             Event::Cancel(w) => self.before_end(alloc, vertices, End::Cancel, w),
+        }
+    }
+
+    // Returns the fault with which a claim would fail; 141 `Memory` if the claim would be granted, or if memory for a copy of the held key is refused.
+    fn claim_refusal(&self, alloc: Global, vertices: &Vertices, w: u32, v: u32) -> WalkFault
+        ensures refused { walk_memory result ≡ false → walk_in vertices.now self.now (Claim w v) ≡ Err result }
+        ensures last { walk_memory result ≡ true → walk_may_want (walk_in vertices.now self.now (Claim w v)) ≡ true }
+    {
+        match self.begin(alloc, vertices, w, v) {
+            Ok(_) => WalkFault::Memory,
+            Err(fault) => WalkFault::from(fault),
         }
     }
 
@@ -127,11 +141,15 @@ impl Workers {
         requires { Fits vertices.now.build self.now }
         ensures marks { IfOk result (λ u. MarksStep vertices.now self.now w u) }
         ensures refused { IfErr result (λ e. walk_memory e ≡ false → walk_in vertices.now self.now (Step w) ≡ Err e) }
+        ensures last { IfErr result (λ e. walk_memory e ≡ true → walk_may_want (walk_in vertices.now self.now (Step w)) ≡ true) }
     {
         match seat_at(&self.seats, w) {
             None => Err(WalkFault::Step(StepFault::NoWorker)),
             Some(Seat::Idle) => Err(WalkFault::Step(StepFault::NotRunning)),
             Some(Seat::Runs(_, execution)) => {
+                if is_finished(execution, vertices.steps(execution.vertex)) {
+                    return Err(WalkFault::Step(StepFault::NothingLeft));
+                }
                 let saved = execution.view.save()?;
                 let trees = contents(alloc, &self.caches, &execution.places)?;
                 Ok(Undo {
@@ -151,11 +169,15 @@ impl Workers {
         requires { Fits vertices.now.build self.now }
         ensures marks { IfOk result (λ u. MarksEnd vertices.now self.now end w u) }
         ensures refused { IfErr result (λ e. walk_memory e ≡ false → walk_in vertices.now self.now (end_of end w) ≡ Err e) }
+        ensures last { IfErr result (λ e. walk_memory e ≡ true → walk_may_want (walk_in vertices.now self.now (end_of end w)) ≡ true) }
     {
         match seat_at(&self.seats, w) {
             None => Err(no_worker(end)),
             Some(Seat::Idle) => Err(not_running(end)),
             Some(Seat::Runs(_, execution)) => {
+                if !may_end(end, execution, vertices.steps(execution.vertex)) {
+                    return Err(WalkFault::Settle(SettleFault::NotFinished));
+                }
                 let left = copied(alloc, execution)?;
                 let lent = lent_for(alloc, &execution.places, self.seats.len() + 1)?;
                 Ok(Undo {
@@ -209,6 +231,16 @@ fn displace(seats: &mut Vec<Seat>, caches: &mut Caches, back: Back) -> Option<Ch
             let stage = Stage::Running(w);
             Some(Change { vertex, stage })
         }
+    }
+}
+
+// Returns whether an execution may end so: a settle needs a finished execution, whose vertex has this number of micro-steps; a cancel may come at any time.
+fn may_end(end: End, execution: &Execution, steps: u32) -> bool
+    ensures { result ≡ may_end end (is_some execution.now.fault || nat_le steps execution.now.done) }
+{
+    match end {
+        End::Settle => is_finished(execution, steps),
+        End::Cancel => true,
     }
 }
 

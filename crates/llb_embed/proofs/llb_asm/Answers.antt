@@ -1,6 +1,6 @@
 use Rattle.llb_embed.specs.Handle.{held_in}
-use Rattle.llb_embed.specs.Working.{Assembled}
-use Rattle.llb_embed.proofs.Calling.{calls}
+use Rattle.llb_embed.specs.HandleCalls.{Assembled}
+use Rattle.llb_embed.proofs.HandleAfterCalls.{calls}
 use Rattle.llb_embed.proofs.llb_asm.Goals as goal
 
 pub returns-clause-assembled : goal.returns-clause-assembled

@@ -1,6 +1,6 @@
 use Rattle.llb_embed.specs.Handle.{held_in}
-use Rattle.llb_embed.specs.Working.{Disassembled}
-use Rattle.llb_embed.proofs.Calling.{calls}
+use Rattle.llb_embed.specs.HandleCalls.{Disassembled}
+use Rattle.llb_embed.proofs.HandleAfterCalls.{calls}
 use Rattle.llb_embed.proofs.llb_dis.Goals as goal
 
 pub returns-clause-disassembled : goal.returns-clause-disassembled

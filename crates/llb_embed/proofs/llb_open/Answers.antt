@@ -1,6 +1,6 @@
 use Rattle.llb_embed.specs.Handle.{held_in}
-use Rattle.llb_embed.specs.Working.{Opened}
-use Rattle.llb_embed.proofs.Calling.{calls}
+use Rattle.llb_embed.specs.HandleCalls.{Opened}
+use Rattle.llb_embed.proofs.HandleAfterCalls.{calls}
 use Rattle.llb_embed.proofs.llb_open.Goals as goal
 
 pub returns-clause-opened : goal.returns-clause-opened

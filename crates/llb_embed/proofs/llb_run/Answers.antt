@@ -1,6 +1,6 @@
 use Rattle.llb_embed.specs.Handle.{held_in}
-use Rattle.llb_embed.specs.Working.{Ran}
-use Rattle.llb_embed.proofs.Calling.{calls}
+use Rattle.llb_embed.specs.HandleCalls.{Ran}
+use Rattle.llb_embed.proofs.HandleAfterCalls.{calls}
 use Rattle.llb_embed.proofs.llb_run.Goals as goal
 
 pub returns-clause-ran : goal.returns-clause-ran

@@ -1,6 +1,6 @@
 use Rattle.llb_embed.specs.Handle.{held_in}
-use Rattle.llb_embed.specs.Working.{Shown}
-use Rattle.llb_embed.proofs.Calling.{calls}
+use Rattle.llb_embed.specs.HandleCalls.{Shown}
+use Rattle.llb_embed.proofs.HandleAfterCalls.{calls}
 use Rattle.llb_embed.proofs.llb_show.Goals as goal
 
 pub returns-clause-shown : goal.returns-clause-shown

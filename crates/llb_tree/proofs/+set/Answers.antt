@@ -2,13 +2,13 @@ use Rattle.std.proofs.Common.{◌≡◌, Ok, sym, ap, subst, ◌∙◌, refl, T,
 use Rattle.std.specs.FinMap as finite
 use Rattle.llb_tree.specs.Path.{name_cmp}
 use Rattle.llb_tree.specs.Nodes.{map_of, pieces_of, rows_in, place, AreSorted}
-use Rattle.llb_tree.specs.Pieces.{ArePieced, IsPieced, Changes, joined, pairs_of}
+use Rattle.llb_tree.specs.ChildPieces.{ArePieced, IsPieced, Changes, joined, pairs_of}
 use Rattle.llb_tree.specs.declared.node.Piece.{Piece}
-use Rattle.llb_tree.proofs.InPlace.{err_holds}
-use Rattle.llb_tree.proofs.Pieced.{found_rows}
+use Rattle.llb_tree.proofs.LaidChildInsertion.{err_holds}
+use Rattle.llb_tree.proofs.PiecesAroundName.{found_rows}
 use Rattle.llb_tree.proofs.PieceEdits.{changes_at, same_pairs}
 use Rattle.llb_tree.specs.declared.node.Kind.TheVariants as kind
-use Rattle.llb_tree.proofs.Setting.{changes_found, node_set, same_pieces, on_ok, on_err}
+use Rattle.llb_tree.proofs.NodeReplacement.{changes_found, node_set, same_pieces, on_ok, on_err}
 use Rattle.llb_tree.proofs.+set.Goals.{node::Node::set-in-File+in-Some+in-File-1, node::Node::set-in-File+in-Some+in-Dir-1}
 use Rattle.llb_tree.proofs.+set.Goals.{node::Node::set-in-File+in-None-1, node::Node::set-in-Dir}
 use Rattle.llb_tree.proofs.+set.Goals as goal

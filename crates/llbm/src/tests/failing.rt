@@ -1,8 +1,8 @@
 //! Tests of devices that fail. Each call is made many times: first its first read (or write, or flush) fails, then its second, and so on up to the last one
 //! that the call needs.
 
+use super::calls::tried;
 use super::devices::{AMPLE, Ran, Rooms};
-use super::transcripts::tried;
 use std::alloc::Global;
 use std::process::Abort;
 use std::sync::Wait;
@@ -11,7 +11,7 @@ use std::thread::Threads;
 // The device that fails. `Input`, `File` and `Local` have the number of reads of one byte that the call needs, including the read at the end of the input.
 // `Out` and `Flush` have the line that the call writes to standard error after the failure.
 #[derive(Clone, Copy)]
-pub(crate) enum Device {
+enum Device {
     Input(usize),
     File(usize),
     Local(usize),
@@ -35,7 +35,7 @@ fn needed(case: &Case) -> usize {
 }
 
 // Returns devices of which only `device` fails, after `room` reads, writes or flushes.
-pub(crate) fn rooms_of(device: Device, room: usize) -> Rooms {
+fn rooms_of(device: Device, room: usize) -> Rooms {
     let mut rooms = AMPLE;
     match device {
         Device::Input(_) => rooms.input = room,
@@ -86,7 +86,7 @@ const LOCAL: &str = "d 0755 0 0 /\nf 0644 0 0 6869 /f\n";
 const CLAIM: &str = "1 claim 0 0 -> file 1\n";
 
 // A reader that fails; the call; and what the call prints if the reader does not fail. The definition of `MAKES_A; RESULT_0` has 129 bytes, so the call needs
-// 130 reads. The text `ABC` has 11 bytes, and the local tree `Q` has 32.
+// 130 reads. The text of `asm` has 11 bytes, and the local tree `Q` has 32.
 const READ: &[(Device, &str, &str)] = &[
     (Device::Input(130), "run < MAKES_A; RESULT_0", TREE),
     (
@@ -95,7 +95,7 @@ const READ: &[(Device, &str, &str)] = &[
         TREE,
     ),
     (Device::Input(130), "show < MAKES_A; RESULT_0", GRAPH),
-    (Device::Input(12), "asm < @ABC", "\x0a\x03abc"),
+    (Device::Input(12), "asm < $raw 616263|", "\x0a\x03abc"),
     (Device::Input(6), "dis < =0a03616263", "raw 616263\n"),
     (
         Device::File(130),
@@ -126,7 +126,7 @@ const WRITTEN: &[(&str, &str, &str)] = &[
     ("run < MAKES_A; RESULT_0", TREE, "fault 35\n"),
     ("run --workers 2 < MAKES_A; RESULT_0", TREE, "fault 35\n"),
     ("show < MAKES_A; RESULT_0", GRAPH, "fault 182\n"),
-    ("asm < @ABC", "\x0a\x03abc", "fault 182\n"),
+    ("asm < $raw 616263|", "\x0a\x03abc", "fault 182\n"),
     ("dis < =0a03616263", "raw 616263\n", "fault 164\n"),
 ];
 
@@ -140,7 +140,7 @@ fn a_writer_that_fails_at_any_write_has_a_prefix_of_the_text(rt: HostRuntime) {
 
 // Calls that are refused, and calls whose vertex fails. After each call come its status and its line on standard error.
 const REFUSED: &[(&str, u8, &str)] = &[
-    ("run < FIELD_ZERO; RESULT_A", 2, "fault 82 0 3\n"),
+    ("run < FIELD_ZERO; RESULT_0", 2, "fault 82 0 3\n"),
     (
         "run < MAKES_XA; RESULT_0",
         1,
@@ -152,11 +152,11 @@ const REFUSED: &[(&str, u8, &str)] = &[
         "failed 0 action 0 fault 21\n",
     ),
     ("run p=LATE < SOURCE_P; RESULT_0", 2, "fault 32 2\n"),
-    ("show < FIELD_ZERO; RESULT_A", 2, "fault 82 0 3\n"),
-    ("asm < @ODD_DIGITS", 2, "fault 161 1 BadValue\n"),
+    ("show < FIELD_ZERO; RESULT_0", 2, "fault 82 0 3\n"),
+    ("asm < $raw 0|", 2, "fault 161 1 BadValue\n"),
     ("dis < =0800", 2, "fault 11\n"),
     (
-        "step FILE < FIELD_ZERO; RESULT_A | next",
+        "step FILE < FIELD_ZERO; RESULT_0 | next",
         2,
         "fault 82 0 3\n",
     ),
@@ -260,5 +260,20 @@ fn a_writer_that_fails_has_a_prefix_of_the_answers(rt: HostRuntime) {
             ran.is_cut(text.as_str(), room, "fault 182\n"),
             "{room} writes"
         );
+    }
+}
+
+// Words that ask for a page, and the first bytes of what is printed for them. Standard error takes only these bytes, and then fails.
+const NARROW: &[(&str, &str)] = &[
+    ("--help", "fau"),
+    ("run -h", "fault 183\nRu"),
+    ("--version", "fault 183\nllbm 1.0, "),
+];
+
+#[test]
+fn a_page_that_cannot_be_written_ends_with_three(rt: HostRuntime) {
+    for (words, printed) in NARROW {
+        let ran = tried(&rt, rt.alloc(), words, rooms_of(Device::Err, printed.len()));
+        assert!(rt; ran.is(3, "", printed), "{words}");
     }
 }

@@ -9,9 +9,9 @@ use Rattle.std.specs.Str.Pattern.{FindsChar}
 use Rattle.std.specs.Str.Iter.{split_steps, split_text, split_has_more, split_pattern}
 use Rattle.llb_applet.specs.Words.{parts_of}
 use Rattle.llb_applet.specs.Scripts.{commands_of}
-use Rattle.llb_applet.specs.Reading.{some_word, judged, verdict, Refuses}
-use Rattle.llb_applet.proofs.Looking.{at_drop}
-use Rattle.llb_applet.proofs.Gathering.{calls_in, refuses_last, gives_last, memory_last}
+use Rattle.llb_applet.specs.CallReading.{some_word, judged, verdict, Refuses}
+use Rattle.llb_applet.proofs.FirstBadPosition.{at_drop}
+use Rattle.llb_applet.proofs.CallWordGathering.{calls_in, refuses_last, gives_last, memory_last}
 use Rattle.llb_applet.proofs.call.judge_text.Goals as goal
 use Rattle.llb_applet.proofs.call.judge_text.Goals.{After-into_iter-part-iterator}
 

@@ -1,13 +1,13 @@
 use Rattle.std.proofs.Common.{◌≡◌, cond, None, Some, Ok, sym, ap, subst, ◌∙◌, OnErr, drop}
 use Rattle.llb_tree.specs.Tree.{Gives, empty_tree}
 use Rattle.llb_mount.specs.View.{mount_at}
-use Rattle.llb_applet.specs.Spots.{tree_at, with_change, dirs_below, is_dest}
-use Rattle.llb_applet.specs.Changes.{Does, PutsAside}
-use Rattle.llb_applet.proofs.Exchanged.{does_change}
+use Rattle.llb_applet.specs.ViewSpots.{tree_at, with_change, dirs_below, is_dest}
+use Rattle.llb_applet.specs.ViewChanges.{Does, PutsAside}
+use Rattle.llb_applet.proofs.MountTreeExchange.{does_change}
 use Rattle.llb_applet.proofs.change.make_dirs.Goals as goal
 
-pub returns : goal.returns
-returns c =
+pub returns-clause-does : goal.returns-clause-does
+returns-clause-does c =
     let view = c.args.view.now in
     let spot = c.args.spot.now in
     let new = c.dirs_below-change.new.tree in

@@ -1,6 +1,6 @@
 -- The chain that is grafted is what the directories are one by one.
-use Rattle.llb_tree.specs.Rows.{seen}
-use Rattle.llb_applet.proofs.Chains.{put_at_once, not_there}
+use Rattle.llb_tree.specs.PathEntries.{seen}
+use Rattle.llb_applet.proofs.DirectoryChains.{put_at_once, not_there}
 use Rattle.llb_applet.proofs.change.put_dirs.Goals as goal
 
 pub returns-clause-gives : goal.returns-clause-gives

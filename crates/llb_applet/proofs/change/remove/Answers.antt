@@ -1,13 +1,13 @@
 use Rattle.std.proofs.Common.{cond, None, ◌≡◌, Ok, sym, subst, ◌∙◌, OnErr}
 use Rattle.llb_tree.specs.Tree as tree
 use Rattle.llb_tree.specs.Tree.{Gives, empty_tree}
-use Rattle.llb_applet.specs.Spots.{tree_at, with_change}
-use Rattle.llb_applet.specs.Changes.{PutsAside, Does}
-use Rattle.llb_applet.proofs.Exchanged.{does_change}
+use Rattle.llb_applet.specs.ViewSpots.{tree_at, with_change}
+use Rattle.llb_applet.specs.ViewChanges.{PutsAside, Does}
+use Rattle.llb_applet.proofs.MountTreeExchange.{does_change}
 use Rattle.llb_applet.proofs.change.remove.Goals as goal
 
-pub returns-in-Some : goal.returns-in-Some
-returns-in-Some c =
+pub returns-in-Some-clause-does : goal.returns-in-Some-clause-does
+returns-in-Some-clause-does c =
     let view = c.args.view.now in
     let spot = c.args.spot.now in
     let new = c.remove-change.new.self in

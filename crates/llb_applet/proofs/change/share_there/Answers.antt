@@ -1,13 +1,13 @@
 use Rattle.std.proofs.Common.{◌≡◌, Ok, subst, OnErr}
 use Rattle.llb_tree.specs.Tree as tree
 use Rattle.llb_tree.specs.Tree.{Gives, empty_tree}
-use Rattle.llb_applet.specs.Spots.{tree_at}
-use Rattle.llb_applet.specs.Changes.{PutsAside}
-use Rattle.llb_applet.proofs.Exchanged.{does_change}
+use Rattle.llb_applet.specs.ViewSpots.{tree_at}
+use Rattle.llb_applet.specs.ViewChanges.{PutsAside}
+use Rattle.llb_applet.proofs.MountTreeExchange.{does_change}
 use Rattle.llb_applet.proofs.change.share_there.Goals as goal
 
-pub returns-in-Some : goal.returns-in-Some
-returns-in-Some c =
+pub returns-in-Some-clause-does : goal.returns-in-Some-clause-does
+returns-in-Some-clause-does c =
     let view = c.args.view.now in
     let spot = c.args.spot.now in
     let new = c.put_content-change.new.self in

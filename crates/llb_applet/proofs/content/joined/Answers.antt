@@ -1,7 +1,7 @@
 use Rattle.std.proofs.Common.{◌≡◌, ℕ, ◌+◌, ◌++◌, List, drop, Option, Some, None, option_map, refl, sym, ap, ◌∙◌, append_assoc}
 use Rattle.llb_tree.specs.Meta.{MetaValue}
 use Rattle.llb_applet.specs.Commands.{◌>>=◌, file_by, joined}
-use Rattle.llb_applet.proofs.Looking.{at_drop}
+use Rattle.llb_applet.proofs.FirstBadPosition.{at_drop}
 use Rattle.llb_applet.proofs.content.joined.Goals as goal
 
 -- the contents with one more file
@@ -22,7 +22,7 @@ loop-word-preserved c =
     let i = c.loop-word.word-index in
     let here = at_drop words i c.word-item.result c.loop-word-test.true c.word-item.is in
     let rest = joined setting view (drop (i + 1) words) in
-    let given : option_map (λ f. f.1) (file_by setting view c.word-item.result) ≡ Some c.in-Some.part.now = sym c.in_ok-content_by.ensures
+    let given : option_map (λ f. f.1) (file_by setting view c.word-item.result) ≡ Some c.in-Some.part.now = sym c.in_ok-content_by.ensures.content
     ∙ ap (option_map (λ b. b.now)) c.in-Some.is in
     let longer : c.extend_from_slice.new.self.items ≡ c.loop-word.content.items ++ c.in-Some.part.now =
     c.in_ok-extend_from_slice-in-Some.ensures.items ∙ ap (λ p. c.loop-word.content.items ++ p) c.as_slice.ensures in

@@ -1,4 +1,4 @@
-use Rattle.llb_applet.proofs.Again as again
+use Rattle.llb_applet.proofs.ScriptTextRoundTrip as again
 use Rattle.llb_applet.proofs.laws.reads_again.Goals as goal
 
 pub returns : goal.returns

@@ -1,4 +1,4 @@
-use Rattle.llb_applet.proofs.Ands as ands
+use Rattle.llb_applet.proofs.AndOnlyScripts as ands
 use Rattle.llb_applet.proofs.laws.splits_at_ands.Goals as goal
 
 pub returns : goal.returns

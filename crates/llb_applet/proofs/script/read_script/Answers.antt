@@ -1,6 +1,6 @@
 use Rattle.std.proofs.Common.{sym, subst}
 use Rattle.llb_applet.specs.Scripts.{BeginsWithThen}
-use Rattle.llb_applet.proofs.Begins.{BothBegin, begins_script}
+use Rattle.llb_applet.proofs.FirstCommandOfScript.{BothBegin, begins_script}
 use Rattle.llb_applet.proofs.script.read_script.Goals as goal
 
 pub invariant_of-result : goal.invariant_of-result

@@ -10,9 +10,9 @@ use Rattle.std.specs.Str.Iter.{split_steps, split_text, split_has_more, split_pa
 use Rattle.llb_applet.specs.declared.join.Join.TheVariants.{Then}
 use Rattle.llb_applet.specs.Words.{parts_of, calls_from, calls_of}
 use Rattle.llb_applet.specs.Scripts.{commands_of}
-use Rattle.llb_applet.specs.Reading.{some_word, ahead, behind, with_call}
-use Rattle.llb_applet.proofs.Looking.{at_drop}
-use Rattle.llb_applet.proofs.Gathering.{calls_in, behind_none, ahead_last}
+use Rattle.llb_applet.specs.CallReading.{some_word, ahead, behind, with_call}
+use Rattle.llb_applet.proofs.FirstBadPosition.{at_drop}
+use Rattle.llb_applet.proofs.CallWordGathering.{calls_in, behind_none, ahead_last}
 use Rattle.llb_applet.proofs.script.read_text.Goals as goal
 use Rattle.llb_applet.proofs.script.read_text.Goals.{After-into_iter-part-iterator, In-None}
 

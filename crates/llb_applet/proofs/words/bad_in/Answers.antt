@@ -3,7 +3,7 @@ use Rattle.std.specs.List.{position}
 use Rattle.std.proofs.lemmas.Iterator.{YieldsList-from_slice}
 use Rattle.std.proofs.lemmas.Iterator.Search.{position_from_yields_List}
 use Rattle.llb_applet.specs.Words.{is_word_byte}
-use Rattle.llb_applet.proofs.Looking.{bad_in-word}
+use Rattle.llb_applet.proofs.FirstBadPosition.{bad_in-word}
 use Rattle.llb_applet.proofs.words.bad_in.Goals as goal
 
 pub returns-clause-value : goal.returns-clause-value

@@ -6,7 +6,7 @@ use Rattle.std.proofs.lemmas.Iterator.{YieldsList}
 use Rattle.std.specs.Str.Pattern.{FindsChar}
 use Rattle.std.specs.Str.Iter.{split_steps, split_text, split_has_more, split_pattern}
 use Rattle.llb_applet.specs.Words.{parts_of, placed, is_word, bad_place, bad_place_of}
-use Rattle.llb_applet.proofs.Looking.{at_drop, spread, spread-split, bad_here, bad_later}
+use Rattle.llb_applet.proofs.FirstBadPosition.{at_drop, spread, spread-split, bad_here, bad_later}
 use Rattle.llb_applet.proofs.words.bad_place.Goals as goal
 use Rattle.llb_applet.proofs.words.bad_place.Goals.{After-into_iter-part-iterator}
 

@@ -1,6 +1,6 @@
 use Rattle.std.proofs.Common.{◌≡◌, ◌+◌, length, drop, filter}
 use Rattle.llb_applet.specs.Words.{parts_of, placed, is_word, bad_place, bad_place_of}
-use Rattle.llb_applet.proofs.Looking.{spread}
+use Rattle.llb_applet.proofs.FirstBadPosition.{spread}
 use Rattle.llb_applet.proofs.words.bad_place.Given as goal
 
 abbrev pub invariant-loop-part : goal.invariant-loop-part

@@ -1,4 +1,4 @@
-use Rattle.llb_asm.proofs.Walk.{answers}
+use Rattle.llb_asm.proofs.EntriesOrFirstRefusal.{answers}
 use Rattle.llb_asm.proofs.assembling.assemble.Goals as goal
 
 pub returns : goal.returns

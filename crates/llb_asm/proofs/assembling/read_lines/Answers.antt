@@ -4,10 +4,11 @@ use Rattle.std.proofs.lemmas.Iterator.Consumers.{YieldsList-turn, YieldsList-end
 use Rattle.std.proofs.lemmas.List.{length_push}
 use Rattle.std.specs.Slice.Iter.{split_rest, split_done, split_callee}
 use Rattle.llb_asm.specs.declared.fault.AsmFault.{AsmFault}
-use Rattle.llb_asm.specs.Lines.{is_dropped, stripped, kept}
-use Rattle.llb_asm.specs.Running.{run_from, between, progress_of, step_of, progresses, GivesEntries}
-use Rattle.llb_asm.proofs.KeptLines.{IsNext, pieces, kept_behind, all_kept, is_left_out, is_taken, none_left, goes_on, stops, ends, finish_open, finish_whole}
-use Rattle.llb_asm.proofs.KeptLines.{gives_fault}
+use Rattle.llb_asm.specs.ItemLines.{is_dropped, stripped, kept}
+use Rattle.llb_asm.specs.LineReader.{run_from, between, progress_of, step_of, progresses, GivesEntries}
+use Rattle.llb_asm.proofs.RemainingLines.{IsNext, pieces, kept_behind, all_kept, is_left_out, is_taken, none_left, goes_on, stops, ends, finish_open}
+use Rattle.llb_asm.proofs.RemainingLines.{finish_whole}
+use Rattle.llb_asm.proofs.RemainingLines.{gives_fault}
 use Rattle.llb_asm.proofs.assembling.read_lines.Goals as goal
 use Rattle.llb_asm.proofs.assembling.read_lines.Goals.{In-Some, In-None}
 

@@ -1,6 +1,6 @@
 use Rattle.std.proofs.Common.{◌≡◌, length}
-use Rattle.llb_asm.specs.Running.{run_from, between, progress_of}
-use Rattle.llb_asm.proofs.KeptLines.{kept_behind}
+use Rattle.llb_asm.specs.LineReader.{run_from, between, progress_of}
+use Rattle.llb_asm.proofs.RemainingLines.{kept_behind}
 use Rattle.llb_asm.proofs.assembling.read_lines.Given as goal
 
 abbrev pub invariant-loop-line : goal.invariant-loop-line

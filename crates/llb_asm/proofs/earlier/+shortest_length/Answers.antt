@@ -1,5 +1,5 @@
 use Rattle.std.proofs.Common.{arith}
-use Rattle.llb_asm.proofs.Lengths.{length_further}
+use Rattle.llb_asm.proofs.PrintedLengths.{length_further}
 use Rattle.llb_asm.proofs.earlier.+shortest_length.Goals as goal
 
 pub returns-clause-same : goal.returns-clause-same

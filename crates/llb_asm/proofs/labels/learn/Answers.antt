@@ -5,7 +5,7 @@ use Rattle.std.specs.Map.{update}
 use Rattle.std.specs.Str.{bytes_eq}
 use Rattle.std.proofs.lemmas.Map.Text.{btree_map_updates_text}
 use Rattle.std.specs.BTreeMap.{get_by_text}
-use Rattle.llb_asm.proofs.Labelled.{index_new, index_old, copied_some}
+use Rattle.llb_asm.proofs.DigestIndexInsertion.{index_new, index_old, copied_some}
 use Rattle.llb_asm.proofs.labels.learn.Goals as goal
 
 pub returns-in_ok-insert-clause-learnt : goal.returns-in_ok-insert-clause-learnt

@@ -1,4 +1,4 @@
-use Rattle.llb_asm.proofs.Unique as law
+use Rattle.llb_asm.proofs.UniqueReading as law
 use Rattle.llb_asm.proofs.laws.one_answer.Goals as goal
 
 pub returns : goal.returns

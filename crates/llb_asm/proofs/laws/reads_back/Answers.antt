@@ -3,8 +3,8 @@ use Rattle.std.specs.List.{All}
 use Rattle.std.proofs.lemmas.List.{take_all}
 use Rattle.std.proofs.lemmas.List.Elements.{All-more, recursion_from_All}
 use Rattle.llb_wire.specs.Spelling.{AreBytes}
-use Rattle.llb_asm.specs.Plain.{ReadsBack}
-use Rattle.llb_asm.proofs.Standing as law
+use Rattle.llb_asm.specs.DisassembledText.{ReadsBack}
+use Rattle.llb_asm.proofs.EntryTextRoundTrip as law
 use Rattle.llb_asm.proofs.laws.reads_back.Goals as goal
 
 pub loop-entry-preserved : goal.loop-entry-preserved

@@ -1,6 +1,6 @@
 use Rattle.std.proofs.Common.{ℕ, ◌+◌, ◌*◌, ◌++◌, ap, ◌∙◌}
 use Rattle.llb_wire.specs.Spelling.{varint_text}
-use Rattle.llb_asm.proofs.Records.{with_record}
+use Rattle.llb_asm.proofs.WireRecords.{with_record}
 use Rattle.llb_asm.proofs.line.put_bytes.Goals as goal
 
 pub returns : goal.returns

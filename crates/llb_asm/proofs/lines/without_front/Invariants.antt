@@ -1,5 +1,5 @@
 use Rattle.std.proofs.Common.{◌≡◌, length}
-use Rattle.llb_asm.specs.Lines.{without_front}
+use Rattle.llb_asm.specs.ItemLines.{without_front}
 use Rattle.llb_asm.proofs.lines.without_front.Given as goal
 
 abbrev pub invariant-loop-byte : goal.invariant-loop-byte

@@ -2,7 +2,7 @@
 use Rattle.std.proofs.Common.{◌≡◌, ◌<◌, ◌^◌, sym, ◌∙◌, ap, subst, Some, None, length, arith}
 use Rattle.std.specs.Prelude.{OnOk, option_map}
 use Rattle.llb_ops.specs.Table.{row_seen, row_numbered}
-use Rattle.llb_asm.proofs.Printed.{left_extra, left_none, goes_on, number_arm, held_arm, message_arm, numeric_kind, held_kind}
+use Rattle.llb_asm.proofs.PrintingInvariant.{left_extra, left_none, goes_on, number_arm, held_arm, message_arm, numeric_kind, held_kind}
 use Rattle.llb_asm.proofs.print.+push_fields.Goals as goal
 use Rattle.llb_asm.proofs.print.+push_fields.Goals.{in-Message+in_ok-push_opening-in-Message+in_ok-push_fields-in-Message+in_ok-push_closing-in-Message}
 use Rattle.llb_asm.proofs.print.+push_fields.Goals.{in-String+in_ok-push_held_line-in-String, in-Int64+in_ok-push_number_line-in-Int64}

@@ -1,5 +1,5 @@
 use Rattle.std.proofs.Common.{length}
-use Rattle.llb_asm.proofs.Printed.{Keeps}
+use Rattle.llb_asm.proofs.PrintingInvariant.{Keeps}
 use Rattle.llb_asm.proofs.print.+push_fields.Given as goal
 
 abbrev pub decreases-push_fields : goal.decreases-push_fields

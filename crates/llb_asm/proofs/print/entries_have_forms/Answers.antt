@@ -1,9 +1,9 @@
 -- An entry more has a form.
 use Rattle.std.proofs.Common.{◌≡◌, ◌++◌, ◌∷◌, [], ◌+◌, ℕ, List, take, sym, ap, subst, ◌∙◌}
 use Rattle.std.proofs.lemmas.List.{take_more}
-use Rattle.llb_ops.specs.Fields.{EntryHasFields}
-use Rattle.llb_asm.specs.Plain.{Formed, AreFormed}
-use Rattle.llb_asm.proofs.Formed.{formed_more}
+use Rattle.llb_ops.specs.CanonicalFields.{EntryHasFields}
+use Rattle.llb_asm.specs.DisassembledText.{Formed, AreFormed}
+use Rattle.llb_asm.proofs.EntryForms.{formed_more}
 use Rattle.llb_asm.proofs.print.entries_have_forms.Goals as goal
 
 pub loop-entry-preserved : goal.loop-entry-preserved

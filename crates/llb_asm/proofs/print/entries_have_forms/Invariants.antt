@@ -1,5 +1,5 @@
 use Rattle.std.proofs.Common.{List, take}
-use Rattle.llb_asm.specs.Plain.{Formed, AreFormed}
+use Rattle.llb_asm.specs.DisassembledText.{Formed, AreFormed}
 use Rattle.llb_asm.proofs.print.entries_have_forms.Given as goal
 
 abbrev pub invariant-loop-entry : goal.invariant-loop-entry

@@ -1,7 +1,7 @@
 -- An entry that is read as an op is short.
 use Rattle.std.proofs.Common.{◌≤◌, length, arith}
 use Rattle.llb_ops.specs.Limits.{entry_limit}
-use Rattle.llb_asm.proofs.Formed.{read_short}
+use Rattle.llb_asm.proofs.EntryForms.{read_short}
 use Rattle.llb_asm.proofs.print.entry_text.Goals as goal
 
 pub push_op-requires : goal.push_op-requires

@@ -1,6 +1,6 @@
 use Rattle.std.proofs.Common.{sym, ◌∙◌, ap, true≢false}
 use Rattle.std.specs.Str.{bytes_eq}
-use Rattle.llb_asm.proofs.Formed.{structured_by, unread_raw}
+use Rattle.llb_asm.proofs.EntryForms.{structured_by, unread_raw}
 use Rattle.llb_asm.proofs.print.is_structured.Goals as goal
 
 pub returns-in-Some : goal.returns-in-Some

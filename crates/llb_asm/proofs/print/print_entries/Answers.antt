@@ -2,8 +2,8 @@
 use Rattle.std.proofs.Common.{◌++◌, ◌∷◌, [], ◌+◌, ℕ, List, drop, sym, ap, ◌∙◌, append_assoc}
 use Rattle.std.proofs.KnownBytes.{Appends-trans}
 use Rattle.llb_wire.specs.Digest.{digest_text}
-use Rattle.llb_asm.specs.Plain.{entry_lines, plain_lines, text_of_lines}
-use Rattle.llb_asm.proofs.Formed.{Next, next_form, entry_done, stops_inside}
+use Rattle.llb_asm.specs.DisassembledText.{entry_lines, plain_lines, text_of_lines}
+use Rattle.llb_asm.proofs.EntryForms.{Next, next_form, entry_done, stops_inside}
 use Rattle.llb_asm.proofs.print.print_entries.Goals as goal
 
 pub returns-in_err-print_entry-clause-prints : goal.returns-in_err-print_entry-clause-prints

@@ -1,7 +1,7 @@
 -- The entries so far are written, and their labels are those at hand.
 use Rattle.std.proofs.Common.{◌≡◌, ◌++◌, ℕ, List, drop}
 use Rattle.std.specs.Io.KnownBytes.{Appends}
-use Rattle.llb_asm.specs.Plain.{Formed, AreFormed, plain_lines, text_of_lines}
+use Rattle.llb_asm.specs.DisassembledText.{Formed, AreFormed, plain_lines, text_of_lines}
 use Rattle.llb_asm.proofs.print.print_entries.Given as goal
 
 abbrev pub invariant-loop-entry : goal.invariant-loop-entry

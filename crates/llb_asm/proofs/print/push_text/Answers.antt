@@ -2,8 +2,8 @@
 use Rattle.std.proofs.Common.{◌≡◌, ◌++◌, sym, ap, subst, ◌∙◌, None}
 use Rattle.std.specs.Prelude.{OnOk}
 use Rattle.std.proofs.lemmas.Str.{IsUtf8-from_is_utf8}
-use Rattle.llb_asm.specs.Plain.{label_for}
-use Rattle.llb_asm.proofs.Labelled.{no_label, other_name}
+use Rattle.llb_asm.specs.DisassembledText.{label_for}
+use Rattle.llb_asm.proofs.DigestIndexInsertion.{no_label, other_name}
 use Rattle.llb_asm.proofs.print.push_text.Goals as goal
 use Rattle.llb_asm.proofs.print.push_text.Goals.{then-eq+in-Ok+in_default-label_for, then-eq+in_default, else-eq}
 

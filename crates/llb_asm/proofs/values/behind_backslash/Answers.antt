@@ -1,7 +1,7 @@
 use Rattle.std.proofs.Common.{inl, inr, sym, ◌∙◌, arith}
 use Rattle.std.proofs.lemmas.Bool.{eqb-true, eqb-false}
 use Rattle.std.proofs.lemmas.Bool.Decides.{nat_tests}
-use Rattle.llb_asm.proofs.Strings.{x_leads, itself_leads, no_escape}
+use Rattle.llb_asm.proofs.StringSpelling.{x_leads, itself_leads, no_escape}
 use Rattle.llb_asm.proofs.values.behind_backslash.Goals as goal
 use Rattle.llb_asm.proofs.values.behind_backslash.Goals.{then-byte-eq34, else-byte-eq34, in_default-via-then-text-lt1, in_default-via-in-len1-up+else-byte-eq92}
 

@@ -1,4 +1,4 @@
-use Rattle.llb_asm.proofs.Hexadecimal.{no_text_spells}
+use Rattle.llb_asm.proofs.HexadecimalDigits.{no_text_spells}
 use Rattle.llb_asm.proofs.values.bytes_spelled.Goals as goal
 
 pub returns-in-Err : goal.returns-in-Err

@@ -1,6 +1,6 @@
 use Rattle.std.proofs.Common.{arith}
 use Rattle.std.proofs.lemmas.Bool.Decides.{nat_tests}
-use Rattle.llb_asm.proofs.Strings.{backslash_leads, plain_leads, no_byte}
+use Rattle.llb_asm.proofs.StringSpelling.{backslash_leads, plain_leads, no_byte}
 use Rattle.llb_asm.proofs.values.next_byte.Goals as goal
 use Rattle.llb_asm.proofs.values.next_byte.Goals.{in_default-via-then-text-lt1, in_default-via-in-len1-up+else-byte-ne34}
 

@@ -1,4 +1,4 @@
-use Rattle.llb_asm.proofs.Strings.{string_more, string_done}
+use Rattle.llb_asm.proofs.StringSpelling.{string_more, string_done}
 use Rattle.llb_asm.proofs.values.push_string.Goals as goal
 
 pub loop-byte-preserved : goal.loop-byte-preserved

@@ -1,6 +1,6 @@
 use Rattle.std.proofs.Common.{◌≡◌, ◌++◌, ◌∷◌, take}
 use Rattle.std.specs.List.{flat_map}
-use Rattle.llb_asm.specs.Values.{escaped}
+use Rattle.llb_asm.specs.FieldValueTexts.{escaped}
 use Rattle.llb_asm.proofs.values.push_string.Given as goal
 
 abbrev pub invariant-loop-byte : goal.invariant-loop-byte

@@ -1,6 +1,6 @@
 use Rattle.std.proofs.Common.{ap, sym, ◌∙◌, Some, nat_eq}
 use Rattle.std.specs.Cmp.Lexicographic.{pointwise}
-use Rattle.llb_asm.proofs.Strings.{ends}
+use Rattle.llb_asm.proofs.StringSpelling.{ends}
 use Rattle.llb_asm.proofs.values.string_behind.Goals as goal
 
 pub returns-then-eq : goal.returns-then-eq

@@ -1,6 +1,6 @@
 use Rattle.std.proofs.Common.{◌≡◌, ◌++◌, length}
 use Rattle.std.specs.Option.{option_map}
-use Rattle.llb_asm.specs.Values.{string_from, closed}
+use Rattle.llb_asm.specs.FieldValueTexts.{string_from, closed}
 use Rattle.llb_asm.proofs.values.string_behind.Given as goal
 
 abbrev pub invariant-loop-byte : goal.invariant-loop-byte

@@ -1,7 +1,7 @@
 use Rattle.std.proofs.Common.{sym, ◌∙◌, arith}
 use Rattle.std.proofs.lemmas.Bool.Decides.{nat_tests}
 use Rattle.std.proofs.lemmas.Result.{IfOk-weaker}
-use Rattle.llb_asm.proofs.Strings.{opened, no_quote}
+use Rattle.llb_asm.proofs.StringSpelling.{opened, no_quote}
 use Rattle.llb_asm.proofs.values.string_in.Goals as goal
 use Rattle.llb_asm.proofs.values.string_in.Goals.{in_default-via-then-text-lt1, in_default-via-else-text-lt1+in_default-1}
 

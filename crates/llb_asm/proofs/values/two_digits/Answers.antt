@@ -1,6 +1,6 @@
 use Rattle.std.proofs.Common.{subst, sym}
-use Rattle.llb_asm.specs.Values.{Continues, first}
-use Rattle.llb_asm.proofs.Strings.{no_two_digits, digits_refused, digits_lead}
+use Rattle.llb_asm.specs.FieldValueTexts.{Continues, first}
+use Rattle.llb_asm.proofs.StringSpelling.{no_two_digits, digits_refused, digits_lead}
 use Rattle.llb_asm.proofs.values.two_digits.Goals as goal
 
 pub returns-in_err-escape_of-in-len2-up : goal.returns-in_err-escape_of-in-len2-up

@@ -1,5 +1,5 @@
 use Rattle.std.proofs.Common.{◌<◌, ◌^◌, length, arith}
-use Rattle.llb_board.proofs.Counted.{counted_at}
+use Rattle.llb_board.proofs.RemainingEventCounts.{counted_at}
 use Rattle.llb_board.proofs.board.room.Goals as goal
 
 pub loop-v-preserved : goal.loop-v-preserved

@@ -1,4 +1,4 @@
-use Rattle.llb_board.proofs.Counted.{CountedSoFar}
+use Rattle.llb_board.proofs.RemainingEventCounts.{CountedSoFar}
 use Rattle.llb_board.proofs.board.room.Given as goal
 
 abbrev pub invariant-loop-v : goal.invariant-loop-v

@@ -1,5 +1,5 @@
-use Rattle.llb_model.proofs.Needs.{graph_distinct}
-use Rattle.llb_model.proofs.Whole.{alone_in_claim_order}
+use Rattle.llb_model.proofs.DistinctCacheKeys.{graph_distinct}
+use Rattle.llb_model.proofs.WholeRunEnds.{alone_in_claim_order}
 use Rattle.llb_board.proofs.laws.alone_in_claim_order.Goals as goal
 
 pub returns : goal.returns

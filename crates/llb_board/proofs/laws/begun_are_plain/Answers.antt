@@ -1,5 +1,5 @@
-use Rattle.llb_board.proofs.Sound.{plain}
-use Rattle.llb_board.proofs.Begun.{begun_are_plain, claims_are_plain, known_land}
+use Rattle.llb_board.proofs.RecordedRunStates.{plain}
+use Rattle.llb_board.proofs.PlainJobsAtStart.{begun_are_plain, claims_are_plain, known_land}
 use Rattle.llb_board.proofs.laws.begun_are_plain.Goals as goal
 
 pub returns-clause-begun : goal.returns-clause-begun

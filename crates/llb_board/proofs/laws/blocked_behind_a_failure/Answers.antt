@@ -1,5 +1,5 @@
-use Rattle.llb_model.proofs.Stopped.{blocked_is}
-use Rattle.llb_board.proofs.Sound.{consistent}
+use Rattle.llb_model.proofs.StoppedVertices.{blocked_is}
+use Rattle.llb_board.proofs.RecordedRunStates.{consistent}
 use Rattle.llb_board.proofs.laws.blocked_behind_a_failure.Goals as goal
 
 pub returns : goal.returns

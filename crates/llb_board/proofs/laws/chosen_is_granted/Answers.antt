@@ -1,6 +1,6 @@
 use Rattle.std.proofs.Common.{ap}
 use Rattle.std.specs.Prelude.{is_some}
-use Rattle.llb_model.proofs.Alone.{chosen_granted}
+use Rattle.llb_model.proofs.ChosenEventRuns.{chosen_granted}
 use Rattle.llb_model.proofs.Lists.{get_within}
 use Rattle.llb_board.proofs.laws.chosen_is_granted.Goals as goal
 

@@ -1,5 +1,5 @@
-use Rattle.llb_model.proofs.Complete.{none_is_complete, complete_is_none}
-use Rattle.llb_board.proofs.Sound.{consistent}
+use Rattle.llb_model.proofs.RunCompletion.{none_is_complete, complete_is_none}
+use Rattle.llb_board.proofs.RecordedRunStates.{consistent}
 use Rattle.llb_board.proofs.laws.chosen_until_complete.Goals as goal
 
 pub returns : goal.returns

@@ -1,4 +1,4 @@
-use Rattle.llb_model.proofs.Dense.{claims_least}
+use Rattle.llb_model.proofs.GaplessInstances.{claims_least}
 use Rattle.llb_board.proofs.laws.claims_least.Goals as goal
 
 pub returns : goal.returns

@@ -1,6 +1,6 @@
-use Rattle.llb_model.proofs.Complete.{complete_plain}
+use Rattle.llb_model.proofs.RunCompletion.{complete_plain}
 use Rattle.llb_model.proofs.Outcomes.{all_plain}
-use Rattle.llb_board.proofs.Sound.{consistent, plain}
+use Rattle.llb_board.proofs.RecordedRunStates.{consistent, plain}
 use Rattle.llb_board.proofs.laws.complete_is_plain.Goals as goal
 
 pub returns : goal.returns

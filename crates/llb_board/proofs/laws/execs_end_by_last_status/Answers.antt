@@ -1,5 +1,5 @@
-use Rattle.llb_model.proofs.Endings.{execs_end_by_last_status}
-use Rattle.llb_model.proofs.Scripts.{fails_by_last_status}
+use Rattle.llb_model.proofs.ExecWorkerStates.{execs_end_by_last_status}
+use Rattle.llb_model.proofs.ScriptEndings.{fails_by_last_status}
 use Rattle.llb_board.proofs.laws.execs_end_by_last_status.Goals as goal
 
 pub returns-clause-alone : goal.returns-clause-alone

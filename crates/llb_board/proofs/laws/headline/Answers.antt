@@ -1,6 +1,6 @@
-use Rattle.llb_model.proofs.Others.{locked_once, others_keep, others_ignore}
-use Rattle.llb_model.proofs.Separate.{held_once}
-use Rattle.llb_board.proofs.Sound.{plain}
+use Rattle.llb_model.proofs.ExclusiveInstanceFrame.{locked_once, others_keep, others_ignore}
+use Rattle.llb_model.proofs.ExclusiveHolders.{held_once}
+use Rattle.llb_board.proofs.RecordedRunStates.{plain}
 use Rattle.llb_board.proofs.laws.headline.Goals as goal
 
 pub returns : goal.returns

@@ -1,5 +1,5 @@
-use Rattle.llb_model.proofs.Needs.{graph_distinct}
-use Rattle.llb_model.proofs.There.{held_are_there}
+use Rattle.llb_model.proofs.DistinctCacheKeys.{graph_distinct}
+use Rattle.llb_model.proofs.HeldInstances.{held_are_there}
 use Rattle.llb_board.proofs.laws.held_are_there.Goals as goal
 
 pub returns : goal.returns

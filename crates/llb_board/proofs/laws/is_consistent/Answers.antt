@@ -1,4 +1,4 @@
-use Rattle.llb_board.proofs.Sound.{consistent}
+use Rattle.llb_board.proofs.RecordedRunStates.{consistent}
 use Rattle.llb_board.proofs.laws.is_consistent.Goals as goal
 
 pub returns : goal.returns

@@ -1,5 +1,5 @@
-use Rattle.llb_model.proofs.Ready.{ready_law}
-use Rattle.llb_board.proofs.Sound.{consistent}
+use Rattle.llb_model.proofs.ReadyVertices.{ready_law}
+use Rattle.llb_board.proofs.RecordedRunStates.{consistent}
 use Rattle.llb_board.proofs.laws.ready_behind_done.Goals as goal
 
 pub returns : goal.returns

@@ -1,9 +1,9 @@
 use Rattle.std.proofs.Common.{ap, subst, sym, option_map, unwrap_or, List, []}
-use Rattle.llb_model.specs.Order.{at_first, order, claims_in, StandsIn}
+use Rattle.llb_model.specs.ClaimOrder.{at_first, order, claims_in, StandsIn}
 use Rattle.llb_model.specs.State.{State}
 use Rattle.llb_model.specs.Table.{Reply}
-use Rattle.llb_model.proofs.Needs.{graph_distinct}
-use Rattle.llb_model.proofs.Whole.{runs_in_claim_order}
+use Rattle.llb_model.proofs.DistinctCacheKeys.{graph_distinct}
+use Rattle.llb_model.proofs.WholeRunEnds.{runs_in_claim_order}
 use Rattle.llb_board.proofs.laws.runs_in_claim_order.Goals as goal
 
 pub returns-clause-after : goal.returns-clause-after

@@ -1,4 +1,4 @@
-use Rattle.llb_board.proofs.Sound.{plain}
+use Rattle.llb_board.proofs.RecordedRunStates.{plain}
 use Rattle.llb_board.proofs.laws.settled_are_plain.Goals as goal
 
 pub returns : goal.returns

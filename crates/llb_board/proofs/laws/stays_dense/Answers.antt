@@ -1,7 +1,7 @@
 use Rattle.std.proofs.Common.{subst}
 use Rattle.llb_model.specs.Caches.{Store}
-use Rattle.llb_model.specs.Laws.{IsDense}
-use Rattle.llb_model.proofs.Dense.{stays_dense}
+use Rattle.llb_model.specs.WholeRunLaws.{IsDense}
+use Rattle.llb_model.proofs.GaplessInstances.{stays_dense}
 use Rattle.llb_model.proofs.BridgeContents.{kept_dense}
 use Rattle.llb_board.proofs.laws.stays_dense.Goals as goal
 

@@ -2,8 +2,8 @@ use Rattle.std.proofs.Common.{◌≡◌, ◌∙◌, ◌<◌, ◌+◌, ◌^◌, [
 use Rattle.std.proofs.lemmas.List.{take_more, length-map, map-set, get_or_default}
 use Rattle.std.specs.Prelude.{All, if◌then◌else◌, false}
 use Rattle.llb_board.specs.Links.{IsEntered, leads}
-use Rattle.llb_board.proofs.Spread.{got_mapped}
-use Rattle.llb_board.proofs.Linking.{entered_none, entered_more}
+use Rattle.llb_board.proofs.DownstreamMarks.{got_mapped}
+use Rattle.llb_board.proofs.LinkConstruction.{entered_none, entered_more}
 use Rattle.llb_board.proofs.OpenInputs.{count_few}
 use Rattle.llb_loader.specs.declared.graph.Edge.{Edge}
 use Rattle.llb_board.proofs.links.enter.Goals as goal

@@ -1,7 +1,7 @@
 use Rattle.std.proofs.Common.{◌≡◌, ◌<◌, ◌-◌, [], ◌∷◌, ◌++◌, length, get_or, set, take, sym, subst, List, ℕ, rules, arith}
 use Rattle.std.proofs.lemmas.List.{take_more}
 use Rattle.llb_board.specs.Links.{AreLowered}
-use Rattle.llb_board.proofs.Linking.{lowered_more}
+use Rattle.llb_board.proofs.LinkConstruction.{lowered_more}
 use Rattle.llb_board.proofs.links.lower.Goals as goal
 
 pub loop-user-preserved : goal.loop-user-preserved

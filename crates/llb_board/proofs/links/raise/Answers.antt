@@ -1,7 +1,7 @@
 use Rattle.std.proofs.Common.{◌<◌, ◌+◌, length, get_or, set, take, sym, subst, List, ℕ, arith}
 use Rattle.std.proofs.lemmas.List.{take_more, length-take-le}
 use Rattle.llb_board.specs.Links.{AreRaised}
-use Rattle.llb_board.proofs.Linking.{raised_more, raised_fits}
+use Rattle.llb_board.proofs.LinkConstruction.{raised_more, raised_fits}
 use Rattle.llb_board.proofs.links.raise.Goals as goal
 
 pub overflow_add-counts : goal.overflow_add-counts

@@ -1,5 +1,5 @@
 use Rattle.std.proofs.Common.{refl, arith}
-use Rattle.llb_cache.proofs.Copies.{all_same}
+use Rattle.llb_cache.proofs.ItemwiseRowEquality.{all_same}
 use Rattle.llb_cache.proofs.copying.same_rows.Goals as goal
 
 pub returns : goal.returns

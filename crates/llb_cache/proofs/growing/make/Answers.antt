@@ -11,10 +11,10 @@ use Rattle.llb_cache.specs.declared.need.Instance.{Instance}
 use Rattle.llb_cache.specs.Caches.{Row, same_place, with_trees}
 use Rattle.llb_cache.specs.FirstRows.{set_trees}
 use Rattle.llb_cache.proofs.FirstRows.{absent_found, written_absent}
-use Rattle.llb_cache.specs.Marks.{marked}
-use Rattle.llb_cache.proofs.Marked.{remarked, marked_new, keys_stay, Sets}
-use Rattle.llb_cache.proofs.Placed.{ordered_again}
-use Rattle.llb_cache.proofs.Written.{trees_read, row_written}
+use Rattle.llb_cache.specs.InstanceMarks.{marked}
+use Rattle.llb_cache.proofs.MarksByRow.{remarked, marked_new, keys_stay, Sets}
+use Rattle.llb_cache.proofs.RowInsertion.{ordered_again}
+use Rattle.llb_cache.proofs.RowTreeWrites.{trees_read, row_written}
 use Rattle.llb_cache.proofs.growing.make.Goals as goal
 use Rattle.llb_cache.proofs.growing.make.Goals.{After-len}
 

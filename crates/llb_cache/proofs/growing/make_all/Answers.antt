@@ -3,9 +3,9 @@ use Rattle.std.specs.List.{All}
 use Rattle.std.specs.Map.{keys_of}
 use Rattle.llb_cache.specs.declared.growing.Ready.{Ready}
 use Rattle.llb_cache.specs.Caches.{Row, made_all, same_place}
-use Rattle.llb_cache.specs.Growing.{shown, FitsIn}
+use Rattle.llb_cache.specs.LeasePreparation.{shown, FitsIn}
 use Rattle.llb_cache.specs.RowOrder.{HasRoom}
-use Rattle.llb_cache.specs.Marks.{marked, is_one_of}
+use Rattle.llb_cache.specs.InstanceMarks.{marked, is_one_of}
 use Rattle.llb_cache.proofs.growing.make_all.Goals as goal
 
 either : (a b x : Bool) → cond b true (cond a true x) ≡ cond (a || b) true x

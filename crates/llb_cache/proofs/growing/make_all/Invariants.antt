@@ -4,9 +4,9 @@ use Rattle.std.specs.Map.{keys_of}
 use Rattle.std.specs.Prelude.{if◌then◌else◌}
 use Rattle.llb_cache.specs.declared.need.Instance.{Instance}
 use Rattle.llb_cache.specs.Caches.{made_all}
-use Rattle.llb_cache.specs.Growing.{shown, FitsIn}
+use Rattle.llb_cache.specs.LeasePreparation.{shown, FitsIn}
 use Rattle.llb_cache.specs.RowOrder.{AreOrdered, HasRoom}
-use Rattle.llb_cache.specs.Marks.{marked, is_one_of}
+use Rattle.llb_cache.specs.InstanceMarks.{marked, is_one_of}
 use Rattle.llb_cache.proofs.growing.make_all.Given as goal
 
 abbrev pub invariant-loop-ready : goal.invariant-loop-ready

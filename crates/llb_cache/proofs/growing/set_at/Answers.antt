@@ -6,9 +6,9 @@ use Rattle.llb_cache.specs.Key.{same_key}
 use Rattle.llb_cache.specs.Caches.{Row}
 use Rattle.llb_cache.specs.FirstRows.{set_trees}
 use Rattle.llb_cache.proofs.TreesOfKeys.{trees_there, tree_put}
-use Rattle.llb_cache.proofs.Marked.{keys_stay}
-use Rattle.llb_cache.proofs.Placed.{ordered_again}
-use Rattle.llb_cache.proofs.Written.{trees_read, row_written}
+use Rattle.llb_cache.proofs.MarksByRow.{keys_stay}
+use Rattle.llb_cache.proofs.RowInsertion.{ordered_again}
+use Rattle.llb_cache.proofs.RowTreeWrites.{trees_read, row_written}
 use Rattle.llb_cache.proofs.growing.set_at.Goals as goal
 use Rattle.llb_cache.proofs.growing.set_at.Goals.{After-index_mut}
 

@@ -1,7 +1,7 @@
 use Rattle.std.proofs.Common.{ap, ◌∙◌, arith}
 use Rattle.std.proofs.Math.Facts.{Fits-of_lt}
 use Rattle.llb_cache.specs.Caches.{Leases, free_lease}
-use Rattle.llb_cache.proofs.Leased.{free_within}
+use Rattle.llb_cache.proofs.InstanceHolders.{free_within}
 use Rattle.llb_cache.proofs.growing.take_lease.Goals as goal
 
 pub overflow_cast-result : goal.overflow_cast-result

@@ -1,6 +1,6 @@
 use Rattle.std.proofs.Common.{take, sym, ap, ◌∙◌, arith}
 use Rattle.llb_cache.specs.Caches.{Leases}
-use Rattle.llb_cache.proofs.Leased.{trimmed_nothing, trimmed_at_some, trimmed_at_none}
+use Rattle.llb_cache.proofs.InstanceHolders.{trimmed_nothing, trimmed_at_some, trimmed_at_none}
 use Rattle.llb_cache.proofs.growing.trim.Goals as goal
 use Rattle.llb_cache.proofs.growing.trim.Goals.{then-is_some, else-is_some}
 

@@ -1,6 +1,6 @@
 use Rattle.std.proofs.Common.{◌≡◌, false, take, length}
 use Rattle.std.specs.Map.{keys_of}
-use Rattle.llb_cache.specs.Marks.{Remarks, is_one_of}
+use Rattle.llb_cache.specs.InstanceMarks.{Remarks, is_one_of}
 use Rattle.llb_cache.proofs.growing.unmark_all.Given as goal
 
 abbrev pub invariant-loop-place : goal.invariant-loop-place

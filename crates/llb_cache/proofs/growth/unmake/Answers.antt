@@ -1,7 +1,7 @@
 use Rattle.std.proofs.Common.{◌≡◌, ◌-◌, List, Bool, length, take, vec_len, rules, sym, ap, ◌∙◌, subst}
 use Rattle.llb_cache.specs.Caches.{Row}
-use Rattle.llb_cache.specs.Marks.{Unmarks}
-use Rattle.llb_cache.proofs.Unmade.{marks_front}
+use Rattle.llb_cache.specs.InstanceMarks.{Unmarks}
+use Rattle.llb_cache.proofs.RemovedGrowth.{marks_front}
 use Rattle.llb_cache.proofs.growth.unmake.Goals as goal
 
 pub returns-in-NewRow-clause-marks : goal.returns-in-NewRow-clause-marks

@@ -7,8 +7,8 @@ use Rattle.llb_cache.specs.declared.growth.Growth.{Growth}
 use Rattle.llb_cache.specs.declared.key.Key.{Key}
 use Rattle.llb_cache.specs.declared.need.Instance.{Instance}
 use Rattle.llb_cache.specs.Caches.{Row, trees_of}
-use Rattle.llb_cache.specs.Growth.{unmade, unmade_one}
-use Rattle.llb_cache.proofs.Unmade.{unmarks_next, fewer_after}
+use Rattle.llb_cache.specs.LeaseGrowth.{unmade, unmade_one}
+use Rattle.llb_cache.proofs.RemovedGrowth.{unmarks_next, fewer_after}
 use Rattle.llb_cache.proofs.growth.unmake_all.Goals as goal
 
 -- past the end of one of the lists nothing is removed

@@ -1,6 +1,6 @@
 use Rattle.std.proofs.Common.{◌≡◌, ◌≤◌, length, drop}
-use Rattle.llb_cache.specs.Growth.{unmade}
-use Rattle.llb_cache.specs.Marks.{Unmarks}
+use Rattle.llb_cache.specs.LeaseGrowth.{unmade}
+use Rattle.llb_cache.specs.InstanceMarks.{Unmarks}
 use Rattle.llb_cache.specs.RowOrder.{AreOrdered}
 use Rattle.llb_cache.proofs.growth.unmake_all.Given as goal
 

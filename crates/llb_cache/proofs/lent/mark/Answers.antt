@@ -4,7 +4,7 @@ use Rattle.std.specs.Map.{keys_of}
 use Rattle.std.proofs.lemmas.List.{get_or_default}
 use Rattle.llb_cache.specs.declared.key.Key.{Key}
 use Rattle.llb_cache.specs.Key.{same_key}
-use Rattle.llb_cache.proofs.Marked.{remarked}
+use Rattle.llb_cache.proofs.MarksByRow.{remarked}
 use Rattle.llb_cache.proofs.lent.mark.Goals as goal
 
 pub returns-in-Some-clause-marks : goal.returns-in-Some-clause-marks

@@ -2,8 +2,8 @@ use Rattle.std.proofs.Common.{◌≡◌, true, cond, List, [], ◌∷◌, length
 use Rattle.std.specs.Map.{keys_of}
 use Rattle.std.proofs.lemmas.List.{nil_from_length}
 use Rattle.llb_cache.specs.declared.need.Instance.{Instance}
-use Rattle.llb_cache.specs.Growing.{FitEach}
-use Rattle.llb_cache.specs.Marks.{marked, is_one_of}
+use Rattle.llb_cache.specs.LeasePreparation.{FitEach}
+use Rattle.llb_cache.specs.InstanceMarks.{marked, is_one_of}
 use Rattle.llb_cache.proofs.lent.mark_all.Goals as goal
 
 none_left : (ps : List Instance) → FitEach ps [] → ps ≡ []

@@ -2,8 +2,8 @@ use Rattle.std.proofs.Common.{◌≡◌, true, length, drop}
 use Rattle.std.specs.Map.{keys_of}
 use Rattle.std.specs.Prelude.{if◌then◌else◌}
 use Rattle.llb_cache.specs.declared.need.Instance.{Instance}
-use Rattle.llb_cache.specs.Growing.{FitEach}
-use Rattle.llb_cache.specs.Marks.{marked, is_one_of}
+use Rattle.llb_cache.specs.LeasePreparation.{FitEach}
+use Rattle.llb_cache.specs.InstanceMarks.{marked, is_one_of}
 use Rattle.llb_cache.proofs.lent.mark_all.Given as goal
 
 abbrev pub invariant-loop-room : goal.invariant-loop-room

@@ -2,7 +2,7 @@ use Rattle.std.proofs.Common.{◌≡◌, ℕ, ◌<◌, length, vec_len, vec_capa
 use Rattle.std.specs.Prelude.{if◌then◌else◌}
 use Rattle.std.proofs.Math.Facts.{Fits-of_lt}
 use Rattle.llb_cache.specs.Caches.{Leases, free_lease}
-use Rattle.llb_cache.proofs.Leased.{free_within, all_out}
+use Rattle.llb_cache.proofs.InstanceHolders.{free_within, all_out}
 use Rattle.llb_cache.proofs.lent.put_lease.Goals as goal
 use Rattle.llb_cache.proofs.lent.put_lease.Goals.{After-append}
 

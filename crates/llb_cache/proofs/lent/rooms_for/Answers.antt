@@ -1,7 +1,7 @@
 use Rattle.std.proofs.Common.{◌≡◌, ◌+◌, List, [], ◌∷◌, ◌++◌, Bool, take, sym, ap, subst, ◌∙◌}
 use Rattle.std.proofs.lemmas.List.{take_more}
 use Rattle.llb_cache.specs.declared.need.Instance.{Instance}
-use Rattle.llb_cache.specs.Growing.{HasRoomFor, FitEach}
+use Rattle.llb_cache.specs.LeasePreparation.{HasRoomFor, FitEach}
 use Rattle.llb_cache.proofs.lent.rooms_for.Goals as goal
 
 fit_more : (ps : List Instance) (rooms : List (List Bool)) (p : Instance) (m : List Bool) → FitEach ps rooms → HasRoomFor p m

@@ -1,5 +1,5 @@
 use Rattle.std.proofs.Common.{take}
-use Rattle.llb_cache.specs.Growing.{FitEach}
+use Rattle.llb_cache.specs.LeasePreparation.{FitEach}
 use Rattle.llb_cache.proofs.lent.rooms_for.Given as goal
 
 abbrev pub invariant-loop-place : goal.invariant-loop-place

@@ -4,7 +4,7 @@ use Rattle.llb_cache.specs.declared.key.Key.{Key}
 use Rattle.llb_cache.specs.Caches.{Row}
 use Rattle.llb_cache.proofs.FirstRows.{absent_found, written_absent}
 use Rattle.llb_cache.specs.RowOrder.{IsOrdered, IsPlace}
-use Rattle.llb_cache.proofs.Placed.{ordered_pushed}
+use Rattle.llb_cache.proofs.RowInsertion.{ordered_pushed}
 use Rattle.llb_cache.proofs.rows.add_row.Goals as goal
 
 pub returns-clause-rows : goal.returns-clause-rows

@@ -2,7 +2,7 @@ use Rattle.std.proofs.Common.{◌≡◌, ◌<◌, ◌&&◌, true, false, List, l
 use Rattle.llb_cache.specs.Caches.{Row}
 use Rattle.llb_cache.specs.Key.{same_key}
 use Rattle.llb_cache.specs.RowOrder.{key_at}
-use Rattle.llb_cache.proofs.Placed.{key_read}
+use Rattle.llb_cache.proofs.RowInsertion.{key_read}
 use Rattle.llb_cache.proofs.rows.has_key.Goals as goal
 
 pub returns-in-Some : goal.returns-in-Some

@@ -1,7 +1,7 @@
 use Rattle.std.proofs.Common.{List, ℕ, subst, sym}
 use Rattle.llb_cache.specs.Caches.{Row}
 use Rattle.llb_cache.specs.RowOrder.{IsOrdered}
-use Rattle.llb_cache.proofs.Placed.{none_ordered}
+use Rattle.llb_cache.proofs.RowInsertion.{none_ordered}
 use Rattle.llb_cache.proofs.rows.no_rows.Goals as goal
 
 pub returns-clause-order : goal.returns-clause-order

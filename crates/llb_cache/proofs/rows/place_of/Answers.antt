@@ -1,7 +1,7 @@
 use Rattle.std.proofs.Common.{◌≡◌, ◌<◌, ◌+◌, ◌-◌, ◌/◌, ℕ, length, sym, ap, ◌∙◌, arith}
 use Rattle.std.proofs.lemmas.List.{get_or_default}
 use Rattle.llb_cache.specs.RowOrder.{is_before, row_at}
-use Rattle.llb_cache.proofs.Searched.{all_before, none_behind}
+use Rattle.llb_cache.proofs.RowSearchStep.{all_before, none_behind}
 use Rattle.llb_cache.proofs.rows.place_of.Goals as goal
 use Rattle.llb_cache.proofs.rows.place_of.Goals.{After-comes_before}
 

@@ -5,11 +5,11 @@ use Rattle.llb_cache.specs.declared.key.Key.{Key}
 use Rattle.llb_cache.specs.Key.{same_key}
 use Rattle.llb_cache.specs.Caches.{Row, with_trees}
 use Rattle.llb_cache.specs.FirstRows.{set_trees}
-use Rattle.llb_cache.specs.Growth.{shorter}
+use Rattle.llb_cache.specs.LeaseGrowth.{shorter}
 use Rattle.llb_cache.proofs.TreesOfKeys.{trees_written}
-use Rattle.llb_cache.proofs.Marked.{keys_stay}
-use Rattle.llb_cache.proofs.Placed.{ordered_again}
-use Rattle.llb_cache.proofs.Written.{trees_read, row_written}
+use Rattle.llb_cache.proofs.MarksByRow.{keys_stay}
+use Rattle.llb_cache.proofs.RowInsertion.{ordered_again}
+use Rattle.llb_cache.proofs.RowTreeWrites.{trees_read, row_written}
 use Rattle.llb_cache.proofs.rows.pop_instance.Goals as goal
 use Rattle.llb_cache.proofs.rows.pop_instance.Goals.{After-pop}
 

@@ -2,8 +2,8 @@ use Rattle.std.proofs.Common.{◌≡◌, ℕ, ◌+◌, ◌-◌, List, length, ve
 use Rattle.llb_cache.specs.declared.key.Key.{Key}
 use Rattle.llb_cache.specs.Caches.{Row}
 use Rattle.llb_cache.specs.RowOrder.{key_at, IsOrdered, IsPlace}
-use Rattle.llb_cache.proofs.Placed.{key_read}
-use Rattle.llb_cache.proofs.Popped.{found_at, ordered_popped}
+use Rattle.llb_cache.proofs.RowInsertion.{key_read}
+use Rattle.llb_cache.proofs.RowOrderWithoutLast.{found_at, ordered_popped}
 use Rattle.llb_cache.proofs.rows.pop_row.Goals as goal
 use Rattle.llb_cache.proofs.rows.pop_row.Goals.{After-place_of-place}
 

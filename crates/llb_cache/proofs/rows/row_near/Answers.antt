@@ -2,7 +2,7 @@ use Rattle.std.proofs.Common.{◌≡◌, Bool, true, false, ◌&&◌, length, na
 use Rattle.std.proofs.lemmas.Bool.{ltb-true}
 use Rattle.llb_cache.specs.Key.{same_key}
 use Rattle.llb_cache.specs.RowOrder.{key_at}
-use Rattle.llb_cache.proofs.Placed.{IsRow, row_here}
+use Rattle.llb_cache.proofs.RowInsertion.{IsRow, row_here}
 use Rattle.llb_cache.proofs.rows.row_near.Goals as goal
 use Rattle.llb_cache.proofs.rows.row_near.Goals.{Then-has_key}
 

@@ -1,6 +1,6 @@
 use Rattle.std.proofs.Common.{◌≡◌, List, Option, slice_get, unwrap_or, sym, ap, ◌∙◌}
 use Rattle.llb_tree.specs.Tree.{TreeMap}
-use Rattle.llb_cache.proofs.Written.{trees_read}
+use Rattle.llb_cache.proofs.RowTreeWrites.{trees_read}
 use Rattle.llb_cache.proofs.search.found_in.Goals as goal
 
 pub returns-clause-tree : goal.returns-clause-tree

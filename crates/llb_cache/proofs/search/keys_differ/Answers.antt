@@ -3,7 +3,7 @@ use Rattle.std.proofs.lemmas.List.{take_all}
 use Rattle.std.specs.List.{list_any}
 use Rattle.llb_cache.specs.declared.need.Need.{Need}
 use Rattle.llb_cache.specs.Key.{same_key}
-use Rattle.llb_cache.proofs.Differing.{Differ, twice, one_more}
+use Rattle.llb_cache.proofs.DistinctNeedKeys.{Differ, twice, one_more}
 use Rattle.llb_cache.proofs.search.keys_differ.Goals as goal
 use Rattle.llb_cache.proofs.search.keys_differ.Goals.{After-has_key_of}
 

@@ -1,10 +1,10 @@
 use Rattle.std.proofs.Common.{List, ap, map, option_map, subst, sym, ◌∙◌}
 use Rattle.clap.specs.Simple.{is_simple, subcommand_of}
 use Rattle.clap.specs.Words.{HasKind, Row, Text, fault_of, found_of, is_simple_and_free, kind_of, rows_of}
-use Rattle.llb_commands.proofs.Entering.{met_named}
-use Rattle.llb_commands.proofs.Matching.{by_clap, by_word, own_words}
+use Rattle.llb_commands.proofs.SubcommandEntry.{met_named}
+use Rattle.llb_commands.proofs.ArgumentMatches.{by_clap, by_word, own_words}
 use Rattle.llb_commands.specs.CommandLine.{llbm_app, named_local_words, RefusesWord}
-use Rattle.llb_commands.specs.Pages.{page_for}
+use Rattle.llb_commands.specs.HelpPages.{page_for}
 use Rattle.llb_commands.proofs.command_line.line_or_page.Goals as goal
 
 pub command_named-requires : goal.command_named-requires

@@ -2,7 +2,7 @@ use Rattle.std.proofs.Common.{[], codes, map, ap, sym, subst, ◌∙◌}
 use Rattle.std.specs.Prelude.{IfOk, IfErr, unwrap_or}
 use Rattle.clap.specs.Words.{found_of}
 use Rattle.llb_commands.specs.CommandLine.{AreSplit, RefusesWord, named_file}
-use Rattle.llb_commands.proofs.Matching.{words_in_rows}
+use Rattle.llb_commands.proofs.ArgumentMatches.{words_in_rows}
 use Rattle.llb_commands.proofs.command_line.locals_in.Goals as goal
 
 pub returns-in-Some-clause-split : goal.returns-in-Some-clause-split

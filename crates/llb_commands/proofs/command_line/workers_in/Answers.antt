@@ -3,7 +3,7 @@ use Rattle.std.specs.Prelude.{option_and_then, unwrap_or}
 use Rattle.clap.specs.Words.{found_of, one_text, rows_of}
 use Rattle.clap.proofs.WalkLemmas.{one_text-rows}
 use Rattle.llb_commands.specs.CommandLine.{IsWorkers, number_of}
-use Rattle.llb_commands.proofs.Numbers.{number_read}
+use Rattle.llb_commands.proofs.NumberParsing.{number_read}
 use Rattle.llb_commands.proofs.command_line.workers_in.Goals as goal
 
 pub returns-in-Step : goal.returns-in-Step

@@ -1,8 +1,8 @@
 use Rattle.std.proofs.Common.{inl, inr}
 use Rattle.std.proofs.KnownBytes.{Keeps-refl}
 use Rattle.std.proofs.lemmas.Result.{err_from_is_err_and}
-use Rattle.llb_commands.proofs.Answering.{stream}
-use Rattle.llb_commands.proofs.Texts.{part, whole, unflushed}
+use Rattle.llb_commands.proofs.RunOutput.{stream}
+use Rattle.llb_commands.proofs.EntryTextOutput.{part, whole, unflushed}
 use Rattle.llb_commands.proofs.disassembling.disassembled.Goals as goal
 
 pub returns-in-Err : goal.returns-in-Err

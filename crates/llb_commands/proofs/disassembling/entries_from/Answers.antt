@@ -1,4 +1,4 @@
-use Rattle.llb_commands.proofs.Answering.{tells_no_definition}
+use Rattle.llb_commands.proofs.RunOutput.{tells_no_definition}
 use Rattle.llb_commands.proofs.disassembling.entries_from.Goals as goal
 
 pub returns-in-Err : goal.returns-in-Err

@@ -3,7 +3,7 @@ use Rattle.std.specs.Prelude.{Result, Ok, Err}
 use Rattle.std.specs.Io.KnownBytes.{Appends}
 use Rattle.llb_commands.specs.GraphText.{is_memory, Writes, vertex_lines, result_line}
 use Rattle.llb_commands.specs.declared.fault.OutputFault.{OutputFault}
-use Rattle.llb_commands.proofs.Printing.{writes_after, writes_part}
+use Rattle.llb_commands.proofs.TextsOfLines.{writes_after, writes_part}
 use Rattle.llb_commands.proofs.graph_text.print_graph.Goals as goal
 
 abbrev ok_of : List ℕ → Result (List ℕ) OutputFault

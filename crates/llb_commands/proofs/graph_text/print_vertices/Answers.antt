@@ -3,7 +3,7 @@ use Rattle.std.specs.List.{enumerate_from}
 use Rattle.std.proofs.lemmas.Option.{slice_get_read}
 use Rattle.std.proofs.lemmas.List.FromFn.{length-enumerate_from}
 use Rattle.llb_commands.specs.GraphText.{is_memory, numbered_line}
-use Rattle.llb_commands.proofs.Printing.{numbered_at, prints_err, prints_more, prints_all}
+use Rattle.llb_commands.proofs.TextsOfLines.{numbered_at, prints_err, prints_more, prints_all}
 use Rattle.llb_commands.proofs.graph_text.print_vertices.Goals as goal
 
 pub returns-in-Err-clause-writes : goal.returns-in-Err-clause-writes

@@ -1,7 +1,7 @@
 use Rattle.std.proofs.Common.{subst, sym}
-use Rattle.llb_commands.specs.Answer.{IsRefused}
+use Rattle.llb_commands.specs.ProgramOutput.{IsRefused}
 use Rattle.llb_commands.specs.Running.{TellsRefusal}
-use Rattle.llb_commands.proofs.Answering.{reads_graph, tells, tells_unread, all_read}
+use Rattle.llb_commands.proofs.RunOutput.{reads_graph, tells, tells_unread, all_read}
 use Rattle.llb_commands.proofs.input.loaded.Goals as goal
 
 pub returns-in-Err : goal.returns-in-Err

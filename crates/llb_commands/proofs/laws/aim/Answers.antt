@@ -1,8 +1,8 @@
 use Rattle.std.proofs.Common.{subst}
-use Rattle.llb_loader.specs.Laws.{HasOneAnswerIn}
-use Rattle.llb_board.specs.Seen.{Replays}
-use Rattle.llb_commands.proofs.Alike.{loads_as_one}
-use Rattle.llb_commands.proofs.Always as always
+use Rattle.llb_loader.specs.UniqueResult.{HasOneAnswerIn}
+use Rattle.llb_board.specs.BoardValue.{Replays}
+use Rattle.llb_commands.proofs.SameEntriesSameOutput.{loads_as_one}
+use Rattle.llb_commands.proofs.ReachedStates as always
 use Rattle.llb_commands.proofs.laws.aim.Goals as goal
 
 pub returns : goal.returns

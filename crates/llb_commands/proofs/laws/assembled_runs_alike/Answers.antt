@@ -1,6 +1,6 @@
 use Rattle.std.proofs.Common.{subst}
-use Rattle.llb_loader.specs.Laws.{HasOneAnswerIn}
-use Rattle.llb_commands.proofs.Alike.{runs_alike}
+use Rattle.llb_loader.specs.UniqueResult.{HasOneAnswerIn}
+use Rattle.llb_commands.proofs.SameEntriesSameOutput.{runs_alike}
 use Rattle.llb_commands.proofs.laws.assembled_runs_alike.Goals as goal
 
 pub returns : goal.returns

@@ -1,5 +1,5 @@
 use Rattle.std.proofs.lemmas.Result.{err_from_is_err_and}
-use Rattle.llb_commands.proofs.Answering.{opens, tells_no_run}
+use Rattle.llb_commands.proofs.RunOutput.{opens, tells_no_run}
 use Rattle.llb_commands.proofs.opening.open_over.Goals as goal
 
 pub returns : goal.returns

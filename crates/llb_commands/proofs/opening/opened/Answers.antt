@@ -1,6 +1,6 @@
 use Rattle.std.proofs.Common.{ap, ◌∙◌, Err}
 use Rattle.llb_board.specs.Opening.{open_memory}
-use Rattle.llb_commands.proofs.Stepped.{lacks, unmanned}
+use Rattle.llb_commands.proofs.SteppingOutput.{lacks, unmanned}
 use Rattle.llb_commands.proofs.opening.opened.Goals as goal
 
 pub returns-in-Err-MissingLocal-clause-fault : goal.returns-in-Err-MissingLocal-clause-fault

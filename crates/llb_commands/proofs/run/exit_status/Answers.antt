@@ -1,4 +1,4 @@
-use Rattle.llb_commands.proofs.Answering.{stream, tells_fault}
+use Rattle.llb_commands.proofs.RunOutput.{stream, tells_fault}
 use Rattle.llb_commands.proofs.run.exit_status.Goals as goal
 
 pub returns-in-Err : goal.returns-in-Err

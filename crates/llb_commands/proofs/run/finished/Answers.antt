@@ -1,8 +1,8 @@
 use Rattle.std.proofs.Common.{subst}
 use Rattle.std.proofs.lemmas.Result.{err_from_is_err_and}
 use Rattle.llb_commands.specs.Running.{Opens}
-use Rattle.llb_commands.proofs.Answering.{finishes_whole}
-use Rattle.llb_commands.proofs.Ending.{finishes}
+use Rattle.llb_commands.proofs.RunOutput.{finishes_whole}
+use Rattle.llb_commands.proofs.DriverRunEnds.{finishes}
 use Rattle.llb_commands.proofs.run.finished.Goals as goal
 
 pub returns : goal.returns

@@ -1,8 +1,8 @@
 use Rattle.std.proofs.Common.{rules, subst, sym}
 use Rattle.std.proofs.lemmas.Result.{err_from_is_err_and}
 use Rattle.llb_commands.specs.Running.{Finishes, Opens}
-use Rattle.llb_commands.proofs.Answering.{finishes_whole}
-use Rattle.llb_commands.proofs.Ending.{finishes_by}
+use Rattle.llb_commands.proofs.RunOutput.{finishes_whole}
+use Rattle.llb_commands.proofs.DriverRunEnds.{finishes_by}
 use Rattle.llb_commands.proofs.run.finished_by.Goals as goal
 
 pub returns-then-workers-eq1 : goal.returns-then-workers-eq1

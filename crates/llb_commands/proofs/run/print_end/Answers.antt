@@ -1,4 +1,4 @@
-use Rattle.llb_commands.proofs.Answering.{run_told, stream}
+use Rattle.llb_commands.proofs.RunOutput.{run_told, stream}
 use Rattle.llb_commands.proofs.run.print_end.Goals as goal
 
 pub returns : goal.returns

@@ -1,4 +1,4 @@
-use Rattle.llb_commands.proofs.Lines.{none_failed, one_more}
+use Rattle.llb_commands.proofs.FailureLines.{none_failed, one_more}
 use Rattle.llb_commands.proofs.run.print_failures.Goals as goal
 
 pub loop-v-init : goal.loop-v-init

@@ -6,7 +6,7 @@ use Rattle.llb_loader.specs.Graph.{Numbered}
 use Rattle.llb_model.specs.Outcome.{output_in}
 use Rattle.llb_model.specs.State.{ending_at}
 use Rattle.llb_commands.specs.Running.{Finishes, Shows}
-use Rattle.llb_commands.proofs.Answering.{answers, stream}
+use Rattle.llb_commands.proofs.RunOutput.{answers, stream}
 use Rattle.llb_commands.proofs.run.print_result.Goals as goal
 
 pub returns : goal.returns

@@ -1,4 +1,4 @@
-use Rattle.llb_commands.proofs.Answering.{stream}
+use Rattle.llb_commands.proofs.RunOutput.{stream}
 use Rattle.llb_commands.proofs.run.run_over.Goals as goal
 
 pub returns : goal.returns

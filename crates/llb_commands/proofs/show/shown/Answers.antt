@@ -1,7 +1,7 @@
 use Rattle.std.proofs.Common.{inl, inr}
 use Rattle.std.proofs.KnownBytes.{Keeps-refl}
 use Rattle.std.proofs.lemmas.Result.{err_from_is_err_and}
-use Rattle.llb_commands.proofs.Answering.{drawn_unflushed}
+use Rattle.llb_commands.proofs.RunOutput.{drawn_unflushed}
 use Rattle.llb_commands.proofs.show.shown.Goals as goal
 
 pub returns : goal.returns

@@ -1,6 +1,6 @@
 use Rattle.std.proofs.Common.{◌≡◌, ℕ, List, Option, Some, None, subst}
 use Rattle.std.specs.Prelude.{Result, Ok, Err, IfSome}
-use Rattle.llb_loader.specs.Locals.{Local}
+use Rattle.llb_loader.specs.LocalSources.{Local}
 use Rattle.llb_commands.specs.Sources.{Adds}
 use Rattle.llb_commands.specs.declared.sources.SourceFault.{SourceFault}
 use Rattle.llb_commands.proofs.sources.add_file.Goals as goal

@@ -1,6 +1,6 @@
 use Rattle.std.proofs.Common.{◌∙◌, ap, refl}
-use Rattle.llb_loader.specs.Locals.{with_local}
-use Rattle.llb_commands.proofs.Gathering.{reads_adding}
+use Rattle.llb_loader.specs.LocalSources.{with_local}
+use Rattle.llb_commands.proofs.SourceFileReading.{reads_adding}
 use Rattle.llb_commands.proofs.sources.add_local.Goals as goal
 
 pub returns-in-Ok-add : goal.returns-in-Ok-add

@@ -1,9 +1,9 @@
 use Rattle.std.proofs.Common.{sym, subst}
-use Rattle.llb_treetext.specs.Reading.{Answers, MemoryIsLast}
-use Rattle.llb_commands.specs.Bounded.{ReadsAll}
+use Rattle.llb_treetext.specs.TextGrammar.{Answers, MemoryIsLast}
+use Rattle.llb_commands.specs.BoundedReading.{ReadsAll}
 use Rattle.llb_commands.specs.Sources.{Reads}
-use Rattle.llb_commands.proofs.Answering.{all_read}
-use Rattle.llb_commands.proofs.Gathering.{reads_told}
+use Rattle.llb_commands.proofs.RunOutput.{all_read}
+use Rattle.llb_commands.proofs.SourceFileReading.{reads_told}
 use Rattle.llb_commands.proofs.sources.local_from.Goals as goal
 
 pub returns-in-Ok : goal.returns-in-Ok

@@ -1,6 +1,6 @@
 use Rattle.std.proofs.Common.{rules, ◌+◌, subst, drop}
 use Rattle.llb_commands.specs.Sources.{Gathers}
-use Rattle.llb_commands.proofs.Gathering.{gathers_more, gathers_none}
+use Rattle.llb_commands.proofs.SourceFileReading.{gathers_more, gathers_none}
 use Rattle.llb_commands.proofs.sources.locals_of.Goals as goal
 
 pub returns-in_err-add_file : goal.returns-in_err-add_file

@@ -1,6 +1,6 @@
-use Rattle.llb_contents.specs.Laws.{By}
-use Rattle.llb_contents.proofs.Actions.{alike_act}
+use Rattle.llb_contents.specs.ContentLaws.{By}
+use Rattle.llb_contents.proofs.AnyNames.{act_any}
 use Rattle.llb_contents.proofs.laws.acts_alike.Goals as goal
 
 pub returns : goal.returns
-returns c = λ test u w body first second. alike_act (By test) c.args.action.now.kind body c.args.base.now u c.args.second.now w first second
+returns c = λ test u w body first second. act_any (By test) c.args.action.now.kind body c.args.base.now u c.args.second.now w first second

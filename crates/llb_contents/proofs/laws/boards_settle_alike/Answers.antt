@@ -1,5 +1,5 @@
-use Rattle.llb_board.proofs.Sound.{plain}
-use Rattle.llb_contents.proofs.Boards.{settle_alike, settle_exchanged}
+use Rattle.llb_board.proofs.RecordedRunStates.{plain}
+use Rattle.llb_contents.proofs.AlikeSettledVertices.{settle_alike, settle_exchanged}
 use Rattle.llb_contents.proofs.laws.boards_settle_alike.Goals as goal
 
 pub returns : goal.returns

@@ -1,6 +1,6 @@
-use Rattle.llb_contents.specs.Laws.{By, ExpandsTo}
-use Rattle.llb_contents.proofs.Exchanges.{hands_on_undigested, hands_contents_on}
-use Rattle.llb_contents.proofs.Outcomes.{hands_on}
+use Rattle.llb_contents.specs.ContentLaws.{By, ExpandsTo}
+use Rattle.llb_contents.proofs.AnyNames.{hands_on}
+use Rattle.llb_contents.proofs.ContentExchanges.{hands_on_undigested, hands_contents_on}
 use Rattle.llb_contents.proofs.Tokens.{hands_tokens_on}
 use Rattle.llb_contents.proofs.laws.contents_are_handed_on.Goals as goal
 

@@ -1,5 +1,5 @@
 use Rattle.std.proofs.Common.{◌∙◌, ap, refl, inl}
-use Rattle.llb_loader.specs.Locals.{with_local}
+use Rattle.llb_loader.specs.LocalSources.{with_local}
 use Rattle.llb_embed.proofs.working.local.Goals as goal
 
 pub returns-in-Ok-add_local : goal.returns-in-Ok-add_local

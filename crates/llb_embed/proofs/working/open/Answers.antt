@@ -1,8 +1,8 @@
 use Rattle.std.proofs.Common.{◌∙◌, ap, subst, inr, Some}
-use Rattle.llb_commands.specs.Answer.{IsNotRun}
+use Rattle.llb_commands.specs.ProgramOutput.{IsNotRun}
 use Rattle.llb_commands.specs.Faults.{Tells}
 use Rattle.llb_commands.specs.Running.{TellsRefusal}
-use Rattle.llb_embed.proofs.Telling.{tells_opening}
+use Rattle.llb_embed.proofs.MessageLineCalls.{tells_opening}
 use Rattle.llb_embed.proofs.working.open.Goals as goal
 
 pub returns-in-Err : goal.returns-in-Err

@@ -1,6 +1,6 @@
 use Rattle.std.proofs.Common.{◌∙◌, ℕ, List, [], Some, subst, ap}
-use Rattle.llb_loader.specs.Locals.{Local}
-use Rattle.llb_commands.specs.Answer.{Runs}
+use Rattle.llb_loader.specs.LocalSources.{Local}
+use Rattle.llb_commands.specs.ProgramOutput.{Runs}
 use Rattle.llb_embed.proofs.working.run.Goals as goal
 
 pub returns : goal.returns

@@ -2,10 +2,10 @@ use Rattle.std.proofs.Common.{◌≡◌, List, length, Option, refl, sym, ap, �
 use Rattle.llb_applet.specs.Commands.{run, left, status_of}
 use Rattle.llb_mount.specs.declared.shown.Shown.{Shown}
 use Rattle.llb_model.specs.Program.{filled}
-use Rattle.llb_model.proofs.Views.{parts_count}
-use Rattle.llb_execution.proofs.Commands.{ran_as_many, on_err}
-use Rattle.llb_execution.proofs.Exchanges.{there_and_back, as_many_filled, within_as_many, undone, parted_so}
-use Rattle.llb_execution.proofs.Stepping.{command_left}
+use Rattle.llb_model.proofs.ViewSplitting.{parts_count}
+use Rattle.llb_execution.proofs.CommandMountCounts.{ran_as_many, on_err}
+use Rattle.llb_execution.proofs.TreeExchanges.{there_and_back, as_many_filled, within_as_many, undone, parted_so}
+use Rattle.llb_execution.proofs.MicroStepResults.{command_left}
 use Rattle.llb_execution.proofs.filling.run_filled.Goals as goal
 
 -- ---- the way back

@@ -1,6 +1,6 @@
 use Rattle.std.proofs.Common.{◌≡◌, refl, sym, subst, ◌∙◌, get_or}
 use Rattle.llb_tree.specs.Tree.{TreeMap}
-use Rattle.llb_execution.proofs.Exchanges.{exchanged_by}
+use Rattle.llb_execution.proofs.TreeExchanges.{exchanged_by}
 use Rattle.llb_execution.proofs.filling.swap_all.Goals as goal
 
 pub loop-i-preserved : goal.loop-i-preserved

@@ -1,4 +1,4 @@
-use Rattle.llb_execution.proofs.Exchanges.{Exchanging}
+use Rattle.llb_execution.proofs.TreeExchanges.{Exchanging}
 use Rattle.llb_execution.proofs.filling.swap_all.Given as goal
 
 abbrev pub invariant-loop-i : goal.invariant-loop-i

@@ -1,7 +1,7 @@
 use Rattle.std.proofs.Common.{◌≡◌, ◌∙◌, Some, sym, rules}
 use Rattle.std.specs.Prelude.{slice_get}
-use Rattle.llb_execution.specs.Parts.{step_in}
-use Rattle.llb_execution.proofs.Doing.{stops, leaves, goes_on, none_of}
+use Rattle.llb_execution.specs.ModelValues.{step_in}
+use Rattle.llb_execution.proofs.RemainingMicroSteps.{stops, leaves, goes_on, none_of}
 use Rattle.llb_execution.proofs.further.do_further.Goals as goal
 
 pub returns-then-is_some-clause-all : goal.returns-then-is_some-clause-all

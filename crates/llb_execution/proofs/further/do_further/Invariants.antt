@@ -1,4 +1,4 @@
-use Rattle.llb_execution.proofs.Doing.{AreDone}
+use Rattle.llb_execution.proofs.RemainingMicroSteps.{AreDone}
 use Rattle.llb_execution.proofs.further.do_further.Given as goal
 
 abbrev pub invariant-loop-k : goal.invariant-loop-k

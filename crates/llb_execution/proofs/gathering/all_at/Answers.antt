@@ -1,6 +1,6 @@
 use Rattle.std.proofs.Common.{◌≡◌, length, rules, arith, refl, sym, vec_len}
 use Rattle.std.proofs.lemmas.List.{length-append}
-use Rattle.llb_execution.proofs.Inputs.{gathered_start, gathered_next, gathered_missing, gathered_end}
+use Rattle.llb_execution.proofs.InputTrees.{gathered_start, gathered_next, gathered_missing, gathered_end}
 use Rattle.llb_execution.proofs.gathering.all_at.Goals as goal
 
 pub loop-edge-init : goal.loop-edge-init

@@ -1,5 +1,5 @@
 use Rattle.std.specs.Prelude.{vec_capacity}
-use Rattle.llb_execution.proofs.Inputs.{GatheredSoFar}
+use Rattle.llb_execution.proofs.InputTrees.{GatheredSoFar}
 use Rattle.llb_execution.proofs.gathering.all_at.Given as goal
 
 abbrev pub invariant-loop-edge : goal.invariant-loop-edge

@@ -1,6 +1,6 @@
 use Rattle.std.proofs.Common.{◌-◌, length, sym, arith}
-use Rattle.llb_execution.specs.Looks.{results_from}
-use Rattle.llb_execution.proofs.Looking.{file_input, file_result, file_past}
+use Rattle.llb_execution.specs.WorkspaceTrees.{results_from}
+use Rattle.llb_execution.proofs.WorkspaceTreeNumbers.{file_input, file_result, file_past}
 use Rattle.llb_execution.proofs.look.file_part.Goals as goal
 
 pub returns-then-i-inputs : goal.returns-then-i-inputs

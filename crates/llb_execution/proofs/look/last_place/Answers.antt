@@ -2,8 +2,8 @@ use Rattle.std.proofs.Common.{◌≡◌, ℕ, ◌+◌, ◌<◌, ◌≤◌, ◌�
 use Rattle.std.proofs.Math.Nat.{min_comm, min-eq_left, min-le_left, min-le_right}
 use Rattle.std.proofs.lemmas.Bool.{cases_lt}
 use Rattle.std.proofs.lemmas.List.{get_or_default}
-use Rattle.llb_execution.specs.Looks.{tree_or, last_tree}
-use Rattle.llb_execution.proofs.Looking.{looked_more, looked_all, looked_held}
+use Rattle.llb_execution.specs.WorkspaceTrees.{tree_or, last_tree}
+use Rattle.llb_execution.proofs.WorkspaceTreeNumbers.{looked_more, looked_all, looked_held}
 use Rattle.llb_execution.proofs.look.last_place.Goals as goal
 
 -- past the end of one of the lists

@@ -1,6 +1,6 @@
 use Rattle.std.proofs.Common.{◌≡◌, List, Option, drop, length}
 use Rattle.llb_tree.specs.Tree.{TreeMap}
-use Rattle.llb_execution.specs.Looks.{tree_or, last_tree}
+use Rattle.llb_execution.specs.WorkspaceTrees.{tree_or, last_tree}
 use Rattle.llb_execution.proofs.look.last_place.Given as goal
 
 -- the numbers so far are looked at

@@ -1,5 +1,5 @@
 use Rattle.std.proofs.Common.{Some, None, sym}
-use Rattle.llb_execution.proofs.Looking.{seen_there, seen_past}
+use Rattle.llb_execution.proofs.WorkspaceTreeNumbers.{seen_there, seen_past}
 use Rattle.llb_execution.proofs.look.look_in.Goals as goal
 
 pub returns-in_default : goal.returns-in_default

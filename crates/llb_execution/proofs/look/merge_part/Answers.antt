@@ -1,7 +1,7 @@
 use Rattle.std.proofs.Common.{◌-◌, [], ◌∷◌, length, sym, ◌∙◌, arith}
 use Rattle.std.proofs.lemmas.Option.{slice_get_past}
-use Rattle.llb_execution.specs.Looks.{Laid}
-use Rattle.llb_execution.proofs.Looking.{file_input, behind_inputs}
+use Rattle.llb_execution.specs.WorkspaceTrees.{Laid}
+use Rattle.llb_execution.proofs.WorkspaceTreeNumbers.{file_input, behind_inputs}
 use Rattle.llb_execution.proofs.look.merge_part.Goals as goal
 
 pub returns-then-i-inputs : goal.returns-then-i-inputs

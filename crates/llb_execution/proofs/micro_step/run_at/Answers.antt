@@ -1,6 +1,6 @@
 use Rattle.std.proofs.Common.{◌≡◌, List, [], ◌∷◌, length, refl, sym, ap, ◌∙◌, arith}
 use Rattle.std.proofs.lemmas.List.{drop_all}
-use Rattle.llb_execution.proofs.Matching.{first_run, run_there}
+use Rattle.llb_execution.proofs.MicroStepEquality.{first_run, run_there}
 use Rattle.llb_execution.proofs.micro_step.run_at.Goals as goal
 
 empty_of : {A : Type 0} (xs : List A) → length xs ≡ 0 → xs ≡ []

@@ -4,9 +4,9 @@ use Rattle.llb_ops.specs.declared.file.Action.{Action}
 use Rattle.llb_model.specs.Program.{outputs_of, tree_for}
 use Rattle.llb_mount.specs.declared.shown.Shown.{Shown}
 use Rattle.llb_loader.specs.Rules.{mount_outputs}
-use Rattle.llb_execution.specs.Parts.{own_of}
+use Rattle.llb_execution.specs.ModelValues.{own_of}
 use Rattle.llb_execution.specs.Outputs.{numbers_of, tree_by}
-use Rattle.llb_execution.proofs.Places.{program_with, outputs_of_local, outputs_of_layers, outputs_of_files, outputs_of_mounts}
+use Rattle.llb_execution.proofs.OutputPlaces.{program_with, outputs_of_local, outputs_of_layers, outputs_of_files, outputs_of_mounts}
 use Rattle.llb_execution.proofs.outputs.outputs_of.Goals as goal
 
 pub returns-in-Local : goal.returns-in-Local

@@ -1,7 +1,7 @@
 use Rattle.std.proofs.Common.{◌≡◌, length, ap, sym, ◌∙◌, rules, [], vec_len}
 use Rattle.std.specs.Prelude.{slice_get}
 use Rattle.llb_execution.specs.Outputs.{numbers_of, placed_by}
-use Rattle.llb_execution.proofs.Places.{placed_start, placed_next, placed_end, no_items}
+use Rattle.llb_execution.proofs.OutputPlaces.{placed_start, placed_next, placed_end, no_items}
 use Rattle.llb_execution.proofs.outputs.place_all.Goals as goal
 
 pub loop-tree-init : goal.loop-tree-init

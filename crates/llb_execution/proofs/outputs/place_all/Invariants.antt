@@ -1,6 +1,6 @@
 use Rattle.std.proofs.Common.{vec_len, length}
 use Rattle.llb_execution.specs.Outputs.{numbers_of}
-use Rattle.llb_execution.proofs.Places.{PlacedSoFar}
+use Rattle.llb_execution.proofs.OutputPlaces.{PlacedSoFar}
 use Rattle.llb_execution.proofs.outputs.place_all.Given as goal
 
 abbrev pub decreases-loop-tree : goal.decreases-loop-tree

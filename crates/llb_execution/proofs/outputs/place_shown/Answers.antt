@@ -5,7 +5,7 @@ use Rattle.llb_mount.specs.declared.shown.Shown.{Shown}
 use Rattle.llb_loader.specs.Rules.{mount_outputs}
 use Rattle.llb_execution.specs.Outputs.{placed_by}
 use Rattle.std.proofs.lemmas.List.{length-map}
-use Rattle.llb_execution.proofs.Places.{trees_of, placed_start, placed_next, placed_end, no_items, shown_end}
+use Rattle.llb_execution.proofs.OutputPlaces.{trees_of, placed_start, placed_next, placed_end, no_items, shown_end}
 use Rattle.llb_execution.proofs.outputs.place_shown.Goals as goal
 
 pub loop-shown-init : goal.loop-shown-init

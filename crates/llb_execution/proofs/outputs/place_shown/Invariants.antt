@@ -1,6 +1,6 @@
 use Rattle.std.proofs.Common.{vec_len, length}
 use Rattle.llb_loader.specs.Rules.{mount_outputs}
-use Rattle.llb_execution.proofs.Places.{PlacedSoFar, trees_of}
+use Rattle.llb_execution.proofs.OutputPlaces.{PlacedSoFar, trees_of}
 use Rattle.llb_execution.proofs.outputs.place_shown.Given as goal
 
 abbrev pub decreases-loop-shown : goal.decreases-loop-shown

@@ -2,8 +2,8 @@ use Rattle.std.proofs.Common.{◌≡◌, ◌↔◌, IsTrue, ℕ, ◌==◌, false
 use Rattle.llb_model.specs.Program.{ReadLocal, Act, LayInput}
 use Rattle.llb_execution.specs.declared.steps.ByKind.{ByKind}
 use Rattle.llb_execution.specs.declared.steps.ByKind.TheVariants as steps
-use Rattle.llb_execution.specs.Parts.{steps_in}
-use Rattle.llb_execution.proofs.Matching.{apart, runs_apart, laid_same}
+use Rattle.llb_execution.specs.ModelValues.{steps_in}
+use Rattle.llb_execution.proofs.MicroStepEquality.{apart, runs_apart, laid_same}
 use Rattle.llb_execution.proofs.same.are_layings.Goals as goal
 
 pub returns-in-Read : goal.returns-in-Read

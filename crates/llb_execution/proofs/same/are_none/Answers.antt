@@ -1,8 +1,8 @@
 use Rattle.std.proofs.Common.{◌≡◌, ◌↔◌, IsTrue, ◌==◌, [], length, sym, ◌∙◌, ap, subst, rules}
 use Rattle.llb_execution.specs.declared.steps.ByKind.{ByKind}
 use Rattle.llb_execution.specs.declared.steps.ByKind.TheVariants as steps
-use Rattle.llb_execution.specs.Parts.{steps_in}
-use Rattle.llb_execution.proofs.Matching.{no_runs}
+use Rattle.llb_execution.specs.ModelValues.{steps_in}
+use Rattle.llb_execution.proofs.MicroStepEquality.{no_runs}
 use Rattle.llb_execution.proofs.same.are_none.Goals as goal
 
 pub returns-in-Commands : goal.returns-in-Commands

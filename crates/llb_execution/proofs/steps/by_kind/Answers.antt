@@ -3,7 +3,7 @@ use Rattle.std.specs.Prelude.{Some}
 use Rattle.llb_ops.specs.declared.merge.MergeInput.{MergeInput}
 use Rattle.llb_ops.specs.declared.op.Kind.TheVariants as kind
 use Rattle.llb_model.specs.Program.{LayInput, steps_of}
-use Rattle.llb_execution.proofs.Matching.{laid_by}
+use Rattle.llb_execution.proofs.MicroStepEquality.{laid_by}
 use Rattle.llb_execution.proofs.steps.by_kind.Goals as goal
 
 pub returns-in_ok-numbers-in-Some-Merge : goal.returns-in_ok-numbers-in-Some-Merge

@@ -3,7 +3,7 @@ use Rattle.std.specs.Prelude.{Some, Option}
 use Rattle.llb_ops.specs.declared.op.Kind.{Kind}
 use Rattle.llb_ops.specs.declared.op.Kind.TheVariants as kind
 use Rattle.llb_model.specs.Program.{Mounted, shown_of, workspace_on}
-use Rattle.llb_execution.proofs.Shown.{exec_is_view}
+use Rattle.llb_execution.proofs.ExecViews.{exec_is_view}
 use Rattle.llb_execution.proofs.workspace.own_on.Goals as goal
 
 pub view_of-requires : goal.view_of-requires

@@ -7,8 +7,8 @@ use Rattle.llb_tree.specs.Tree as tree
 use Rattle.llb_tree.specs.Tree.{is_memory}
 use Rattle.llb_fileop.specs.Removing.{matching}
 use Rattle.llb_fileop.specs.Copying.{copy_each, copy_chosen, EachMatch}
-use Rattle.llb_fileop.proofs.Answering.{same_Ok}
-use Rattle.llb_fileop.proofs.Below.{AreThere, sources_are, there_all, there_at, copy_none, copy_some, copy_next, no_path}
+use Rattle.llb_fileop.proofs.ResultEqualities.{same_Ok}
+use Rattle.llb_fileop.proofs.MatchedSubtrees.{AreThere, sources_are, there_all, there_at, copy_none, copy_some, copy_next, no_path}
 use Rattle.llb_fileop.proofs.copying.copy_matches.Goals as goal
 
 pub returns-then-is_empty : goal.returns-then-is_empty

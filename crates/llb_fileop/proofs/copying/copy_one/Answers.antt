@@ -3,7 +3,7 @@ use Rattle.llb_tree.specs.Tree.{Gives, parents, new_dir_meta}
 use Rattle.llb_fileop.specs.Making.{make_all}
 use Rattle.llb_fileop.specs.Owners.{copied}
 use Rattle.llb_fileop.specs.Copying.{at_target, target, copy_to}
-use Rattle.llb_fileop.specs.Parts.{land_at}
+use Rattle.llb_fileop.specs.CopyPlacement.{land_at}
 use Rattle.llb_fileop.proofs.Grafting.{copy_made, copy_kept}
 use Rattle.llb_fileop.proofs.copying.copy_one.Goals as goal
 use Rattle.llb_fileop.proofs.copying.copy_one.Goals.{then-action+in_ok-make_parents, else-action}

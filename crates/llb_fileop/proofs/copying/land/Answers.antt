@@ -2,8 +2,8 @@ use Rattle.std.proofs.Common.{◌≡◌, map, subst, ap, ◌∙◌}
 use Rattle.std.specs.FinMap as finite
 use Rattle.llb_tree.specs.Tree.{Gives, moved, tree_at}
 use Rattle.llb_fileop.specs.Owners.{copied}
-use Rattle.llb_fileop.specs.Parts.{land_at}
-use Rattle.llb_fileop.proofs.Moved.{target_dir}
+use Rattle.llb_fileop.specs.CopyPlacement.{land_at}
+use Rattle.llb_fileop.proofs.EntryRelocation.{target_dir}
 use Rattle.llb_fileop.proofs.Grafting.{subtree_is}
 use Rattle.llb_fileop.proofs.copying.land.Goals as goal
 

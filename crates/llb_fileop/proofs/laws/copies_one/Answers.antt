@@ -1,6 +1,6 @@
 use Rattle.std.proofs.Common.{List, ℕ, Bool}
 use Rattle.llb_fileop.specs.Copying.{target}
-use Rattle.llb_fileop.proofs.Copied.{is_copied}
+use Rattle.llb_fileop.proofs.CopyByPath.{is_copied}
 use Rattle.llb_fileop.proofs.laws.copies_one.Goals as goal
 
 pub returns : goal.returns

@@ -1,11 +1,11 @@
 use Rattle.std.proofs.Common.{rules, ◌≡◌, ◌<◌, ◌≤◌, ◌+◌, length, ap, sym, ◌∙◌, arith, drop, Err, false}
 use Rattle.std.specs.FinMap as finite
 use Rattle.llb_wire.specs.Answer.{◌>>=◌}
-use Rattle.llb_tree.specs.Rows.{seen}
+use Rattle.llb_tree.specs.PathEntries.{seen}
 use Rattle.llb_tree.specs.Tree.{is_memory}
-use Rattle.llb_fileop.specs.Parts.{all_below}
-use Rattle.llb_fileop.proofs.Passing.{walk_end}
-use Rattle.llb_fileop.proofs.Landing.{below_deep, below_next}
+use Rattle.llb_fileop.specs.CopyPlacement.{all_below}
+use Rattle.llb_fileop.proofs.PathOrderTraversal.{walk_end}
+use Rattle.llb_fileop.proofs.EntryPlacement.{below_deep, below_next}
 use Rattle.llb_fileop.proofs.merging.first_fault.Goals as goal
 
 pub returns-then-names-gt128 : goal.returns-then-names-gt128

@@ -1,6 +1,6 @@
 use Rattle.std.proofs.Common.{◌≡◌, length}
 use Rattle.std.specs.FinMap as finite
-use Rattle.llb_fileop.specs.Parts.{all_below}
+use Rattle.llb_fileop.specs.CopyPlacement.{all_below}
 use Rattle.llb_fileop.proofs.merging.first_fault.Given as goal
 
 abbrev pub invariant-loop-path : goal.invariant-loop-path

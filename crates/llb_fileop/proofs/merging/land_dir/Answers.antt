@@ -3,8 +3,8 @@ use Rattle.std.specs.FinMap as finite
 use Rattle.llb_tree.specs.Tree.{Gives, moved, is_dir}
 use Rattle.llb_fileop.specs.Owners.{copied}
 use Rattle.llb_fileop.specs.Copying.{land}
-use Rattle.llb_fileop.specs.Parts.{land_at, put_some, laid}
-use Rattle.llb_fileop.proofs.Answering.{none_there}
+use Rattle.llb_fileop.specs.CopyPlacement.{land_at, put_some, laid}
+use Rattle.llb_fileop.proofs.ResultEqualities.{none_there}
 use Rattle.llb_fileop.proofs.Grafting.{dir_refused, walks_there, dir_made, dir_is_made}
 use Rattle.llb_fileop.proofs.merging.land_dir.Goals as goal
 use Rattle.llb_fileop.proofs.merging.land_dir.Goals.{then-not-is_there+in_ok-copy_from, else-not-is_there}

@@ -2,8 +2,8 @@ use Rattle.std.proofs.Common.{subst, sym, ap, ◌∙◌, None}
 use Rattle.std.specs.FinMap as finite
 use Rattle.llb_tree.specs.Tree.{Gives}
 use Rattle.llb_fileop.specs.Owners.{copied}
-use Rattle.llb_fileop.specs.Parts.{land_at, put_some, laid}
-use Rattle.llb_fileop.proofs.Moved.{target_file}
+use Rattle.llb_fileop.specs.CopyPlacement.{land_at, put_some, laid}
+use Rattle.llb_fileop.proofs.EntryRelocation.{target_file}
 use Rattle.llb_fileop.proofs.Grafting.{has_file, file_refused, file_lands}
 use Rattle.llb_fileop.proofs.merging.land_file.Goals as goal
 

@@ -2,8 +2,8 @@ use Rattle.std.proofs.Common.{ap, sym, ◌∙◌, subst}
 use Rattle.std.specs.Prelude.{is_ok}
 use Rattle.std.specs.FinMap as finite
 use Rattle.llb_tree.specs.Tree.{Gives, places_fit}
-use Rattle.llb_fileop.proofs.Answering.{granted}
-use Rattle.llb_fileop.proofs.Landing.{meet_where_fit}
+use Rattle.llb_fileop.proofs.ResultEqualities.{granted}
+use Rattle.llb_fileop.proofs.EntryPlacement.{meet_where_fit}
 use Rattle.llb_fileop.proofs.merging.may_land.Goals as goal
 
 pub returns-then-is_ok : goal.returns-then-is_ok

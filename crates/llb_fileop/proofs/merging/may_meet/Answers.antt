@@ -1,12 +1,12 @@
 use Rattle.std.proofs.Common.{rules, ◌≡◌, ap, sym, ◌∙◌, drop, Err, false}
 use Rattle.std.specs.FinMap as finite
 use Rattle.llb_wire.specs.Answer.{◌>>=◌}
-use Rattle.llb_tree.specs.Rows.{seen}
+use Rattle.llb_tree.specs.PathEntries.{seen}
 use Rattle.llb_tree.specs.Tree.{is_memory}
-use Rattle.llb_fileop.specs.Parts.{all_meet}
-use Rattle.llb_fileop.proofs.Answering.{same_Ok, none_there}
-use Rattle.llb_fileop.proofs.Passing.{walk_end, past_is, skip_short}
-use Rattle.llb_fileop.proofs.Landing.{meet_next, meet_skip}
+use Rattle.llb_fileop.specs.CopyPlacement.{all_meet}
+use Rattle.llb_fileop.proofs.ResultEqualities.{same_Ok, none_there}
+use Rattle.llb_fileop.proofs.PathOrderTraversal.{walk_end, past_is, skip_short}
+use Rattle.llb_fileop.proofs.EntryPlacement.{meet_next, meet_skip}
 use Rattle.llb_fileop.proofs.merging.may_meet.Goals as goal
 
 pub returns-in_err-meet : goal.returns-in_err-meet

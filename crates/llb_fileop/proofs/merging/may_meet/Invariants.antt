@@ -1,6 +1,6 @@
 use Rattle.std.proofs.Common.{◌≡◌, length}
 use Rattle.std.specs.FinMap as finite
-use Rattle.llb_fileop.specs.Parts.{all_meet}
+use Rattle.llb_fileop.specs.CopyPlacement.{all_meet}
 use Rattle.llb_fileop.proofs.merging.may_meet.Given as goal
 
 abbrev pub invariant-loop-path : goal.invariant-loop-path

@@ -4,8 +4,8 @@ use Rattle.llb_wire.specs.Answer.{◌>>=◌}
 use Rattle.llb_tree.specs.Tree.{Gives, graft, is_memory, moved}
 use Rattle.llb_fileop.specs.Owners.{copied}
 use Rattle.llb_fileop.specs.Copying.{land, laid_on}
-use Rattle.llb_fileop.proofs.Landing.{lands_below}
-use Rattle.llb_fileop.proofs.Laid.{overlaid_is}
+use Rattle.llb_fileop.proofs.EntryPlacement.{lands_below}
+use Rattle.llb_fileop.proofs.TreeOverlays.{overlaid_is}
 use Rattle.llb_fileop.proofs.Grafting.{agrees, graft_lands, IsTree-subtree}
 use Rattle.llb_fileop.proofs.merging.merge_at.Goals as goal
 

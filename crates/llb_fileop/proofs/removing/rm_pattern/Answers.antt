@@ -2,9 +2,9 @@ use Rattle.std.proofs.Common.{rules, ◌≡◌, subst, sym, ap, ◌∙◌, Ok, E
 use Rattle.llb_wire.specs.Answer.{◌>>=◌}
 use Rattle.llb_tree.specs.Tree as tree
 use Rattle.llb_tree.specs.Tree.{is_memory}
-use Rattle.llb_tree.specs.Tested.{rid_of}
+use Rattle.llb_tree.specs.PathTests.{rid_of}
 use Rattle.llb_fileop.specs.Removing.{rm_pattern, absent}
-use Rattle.llb_fileop.proofs.Below.{fits_part, or_absent, rm_is}
+use Rattle.llb_fileop.proofs.MatchedSubtrees.{fits_part, or_absent, rm_is}
 use Rattle.llb_fileop.proofs.removing.rm_pattern.Goals as goal
 
 pub returns-in-Some : goal.returns-in-Some

@@ -1,7 +1,7 @@
 use Rattle.std.proofs.Common.{ap, sym, ◌∙◌, is_ok}
 use Rattle.llb_glob.specs.Class.{none_yet}
-use Rattle.llb_glob.specs.Items.{items_from, items_of, is_whole}
-use Rattle.llb_glob.proofs.Cutting.{is_more, is_stopped, cut_ends, is_ok-ended}
+use Rattle.llb_glob.specs.ItemReading.{items_from, items_of, is_whole}
+use Rattle.llb_glob.proofs.ItemsAndPartsSplitting.{is_more, is_stopped, cut_ends, is_ok-ended}
 use Rattle.llb_glob.proofs.part.is_part.Goals as goal
 
 pub loop-letter-init : goal.loop-letter-init

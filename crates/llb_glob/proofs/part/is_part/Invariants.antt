@@ -1,6 +1,6 @@
 use Rattle.std.proofs.Common.{◌≡◌, drop, is_ok}
 use Rattle.llb_glob.specs.Class.{none_yet}
-use Rattle.llb_glob.specs.Items.{items_from, items_of}
+use Rattle.llb_glob.specs.ItemReading.{items_from, items_of}
 use Rattle.llb_glob.proofs.part.is_part.Given as goal
 
 abbrev pub invariant-loop-letter : goal.invariant-loop-letter

@@ -7,7 +7,7 @@ use Rattle.std.specs.Slice.Iter.{iter_rest}
 use Rattle.std.specs.Str.{chars}
 use Rattle.llb_glob.specs.Matching.{MatchesName, Matches}
 use Rattle.llb_glob.proofs.Names.{short_name}
-use Rattle.llb_glob.proofs.Parts.{same_length, matches_more, matches_not}
+use Rattle.llb_glob.proofs.PartwiseMatching.{same_length, matches_more, matches_not}
 use Rattle.llb_glob.proofs.pattern.all_match.Goals as goal
 use Rattle.llb_glob.proofs.pattern.all_match.Goals.{After-into_iter-part-iterator, In-Some}
 

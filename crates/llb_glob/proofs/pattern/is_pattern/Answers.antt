@@ -6,8 +6,8 @@ use Rattle.std.proofs.lemmas.Iterator.{YieldsList}
 use Rattle.std.specs.Str.Pattern.{FindsChar}
 use Rattle.std.specs.Str.Iter.{split_steps, split_text, split_has_more, split_pattern}
 use Rattle.llb_tree.specs.Path.{enter, parts_of, path_of}
-use Rattle.llb_glob.specs.Walk.{Enters}
-use Rattle.llb_glob.proofs.Following.{Leads, leads_more, leads_nowhere, leads_to, refused}
+use Rattle.llb_glob.specs.TextCheckCounts.{Enters}
+use Rattle.llb_glob.proofs.PartwiseTextCheck.{Leads, leads_more, leads_nowhere, leads_to, refused}
 use Rattle.llb_glob.proofs.pattern.is_pattern.Goals as goal
 use Rattle.llb_glob.proofs.pattern.is_pattern.Goals.{After-into_iter-part-iterator}
 

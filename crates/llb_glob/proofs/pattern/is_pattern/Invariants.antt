@@ -1,6 +1,6 @@
 use Rattle.std.proofs.Common.{drop, length}
 use Rattle.llb_tree.specs.Path.{parts_of, path_of}
-use Rattle.llb_glob.proofs.Following.{Leads}
+use Rattle.llb_glob.proofs.PartwiseTextCheck.{Leads}
 use Rattle.llb_glob.proofs.pattern.is_pattern.Given as goal
 
 abbrev pub invariant-loop-part : goal.invariant-loop-part

@@ -1,7 +1,7 @@
 use Rattle.std.proofs.Common.{◌≤◌, subst, sym, set, replicate, length, drop, ◌∷◌, ◌≡◌, false, true, arith, ◌<◌}
 use Rattle.std.proofs.Math.Seq.{drop-length}
-use Rattle.llb_glob.specs.Places.{AreStarts}
-use Rattle.llb_glob.proofs.Moves.{first_starts, starts_back}
+use Rattle.llb_glob.specs.PositionSets.{AreStarts}
+use Rattle.llb_glob.proofs.PositionSetMoves.{first_starts, starts_back}
 use Rattle.llb_glob.proofs.places.matches_letters.Goals as goal
 
 pub loop-k-init : goal.loop-k-init

@@ -1,5 +1,5 @@
 use Rattle.std.proofs.Common.{drop}
-use Rattle.llb_glob.specs.Places.{AreStarts}
+use Rattle.llb_glob.specs.PositionSets.{AreStarts}
 use Rattle.llb_glob.proofs.places.matches_letters.Given as goal
 
 abbrev pub invariant-loop-k : goal.invariant-loop-k

@@ -1,4 +1,4 @@
-use Rattle.llb_glob.proofs.Moves.{IsNarrowed}
+use Rattle.llb_glob.proofs.PositionSetMoves.{IsNarrowed}
 use Rattle.llb_glob.proofs.places.narrow.Given as goal
 
 abbrev pub invariant-loop-i : goal.invariant-loop-i

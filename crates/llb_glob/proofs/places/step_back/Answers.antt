@@ -1,6 +1,6 @@
 use Rattle.std.proofs.Common.{◌∷◌, subst, sym}
-use Rattle.llb_glob.specs.Places.{AreStarts}
-use Rattle.llb_glob.proofs.Moves.{run_starts, one_starts}
+use Rattle.llb_glob.specs.PositionSets.{AreStarts}
+use Rattle.llb_glob.proofs.PositionSetMoves.{run_starts, one_starts}
 use Rattle.llb_glob.proofs.places.step_back.Goals as goal
 
 pub returns-in-Run : goal.returns-in-Run

@@ -1,4 +1,4 @@
-use Rattle.llb_glob.proofs.Moves.{IsWidened}
+use Rattle.llb_glob.proofs.PositionSetMoves.{IsWidened}
 use Rattle.llb_glob.proofs.places.widen.Given as goal
 
 abbrev pub invariant-loop-i : goal.invariant-loop-i

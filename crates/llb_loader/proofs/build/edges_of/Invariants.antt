@@ -1,6 +1,6 @@
 use Rattle.std.proofs.Common.{◌≡◌, ℕ, ◌<◌, length, slice_index}
 use Rattle.llb_loader.specs.Linking.{input_at}
-use Rattle.llb_loader.specs.Building.{edge_at, edge_to}
+use Rattle.llb_loader.specs.VertexBuilding.{edge_at, edge_to}
 use Rattle.llb_loader.proofs.build.edges_of.Given as goal
 
 abbrev pub invariant-loop-i : goal.invariant-loop-i

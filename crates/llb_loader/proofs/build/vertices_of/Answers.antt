@@ -5,14 +5,14 @@ use Rattle.std.specs.Global.{Vec}
 use Rattle.llb_ops.specs.declared.op.Op.{Op}
 use Rattle.llb_loader.specs.declared.row.Row.{Row}
 use Rattle.llb_loader.specs.declared.graph.Vertex.{Vertex}
-use Rattle.llb_loader.specs.Rows.{lists, inputs}
+use Rattle.llb_loader.specs.ReachedRows.{lists, inputs}
 use Rattle.llb_loader.specs.RowLookup.{row_at}
 use Rattle.llb_loader.specs.Linking.{op_at}
-use Rattle.llb_loader.specs.Building.{IsBuildable, IsBuilt, AreBuilt}
-use Rattle.llb_loader.proofs.Rows.{list_at}
-use Rattle.llb_loader.proofs.Firsts.{row_read}
-use Rattle.llb_loader.proofs.Parts.{op_read}
-use Rattle.llb_loader.proofs.Builds.{built_push, kept_step, rows_kept_step}
+use Rattle.llb_loader.specs.VertexBuilding.{IsBuildable, IsBuilt, AreBuilt}
+use Rattle.llb_loader.proofs.RowReadsAndMarks.{list_at}
+use Rattle.llb_loader.proofs.FirstRowOfDigest.{row_read}
+use Rattle.llb_loader.proofs.OpAndInputReads.{op_read}
+use Rattle.llb_loader.proofs.VertexBuildingLoop.{built_push, kept_step, rows_kept_step}
 use Rattle.llb_loader.proofs.build.vertices_of.Goals as goal
 
 pub vertex_of-requires-clause-buildable : goal.vertex_of-requires-clause-buildable

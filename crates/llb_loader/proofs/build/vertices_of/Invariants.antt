@@ -1,8 +1,8 @@
 use Rattle.std.proofs.Common.{◌≡◌, ℕ, ◌<◌, ◌≤◌, length, slice_index}
-use Rattle.llb_loader.specs.Rows.{lists}
+use Rattle.llb_loader.specs.ReachedRows.{lists}
 use Rattle.llb_loader.specs.RowLookup.{row_at}
 use Rattle.llb_loader.specs.Linking.{op_at}
-use Rattle.llb_loader.specs.Building.{AreBuilt}
+use Rattle.llb_loader.specs.VertexBuilding.{AreBuilt}
 use Rattle.llb_loader.proofs.build.vertices_of.Given as goal
 
 abbrev pub invariant-loop-row : goal.invariant-loop-row

@@ -4,8 +4,9 @@ use Rattle.std.specs.BTreeSet.{contains}
 use Rattle.llb_loader.specs.Mounts.{key_of, keys_of, value_at}
 use Rattle.llb_loader.specs.KeyOrder.{key_cmp, key_cmp-IsTotalOrder}
 use Rattle.llb_loader.proofs.KeyOrder.{key_cmp-IsAntisymmetric}
-use Rattle.llb_loader.proofs.Outputs.{true_when, false_when}
-use Rattle.llb_loader.proofs.Apart.{when_not_false, when_not_true, key_read, seen_skip, seen_more, not_seen, already_seen, apart_skip, apart_more, apart_end}
+use Rattle.llb_loader.proofs.OutputNumbers.{true_when, false_when}
+use Rattle.llb_loader.proofs.DistinctValues.{when_not_false, when_not_true, key_read, seen_skip, seen_more, not_seen, already_seen, apart_skip, apart_more}
+use Rattle.llb_loader.proofs.DistinctValues.{apart_end}
 use Rattle.llb_loader.proofs.cache_mounts.caches_apart.Goals as goal
 
 pub loop-mount-preserved-in_default : goal.loop-mount-preserved-in_default

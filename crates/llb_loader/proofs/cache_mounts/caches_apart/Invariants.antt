@@ -1,7 +1,7 @@
 use Rattle.std.specs.BTreeSet.{contains}
 use Rattle.llb_loader.specs.Mounts.{keys_of}
 use Rattle.llb_loader.specs.KeyOrder.{key_cmp}
-use Rattle.llb_loader.proofs.Apart.{ApartBelow, IsSeen}
+use Rattle.llb_loader.proofs.DistinctValues.{ApartBelow, IsSeen}
 use Rattle.llb_loader.proofs.cache_mounts.caches_apart.Given as goal
 
 abbrev pub invariant-loop-mount : goal.invariant-loop-mount

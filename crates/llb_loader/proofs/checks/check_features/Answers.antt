@@ -1,9 +1,9 @@
 use Rattle.std.proofs.Common.{rules, ◌≡◌, None, sym, ◌∙◌, ap}
-use Rattle.llb_loader.specs.Placing.{IsMarked}
+use Rattle.llb_loader.specs.WaitingRows.{IsMarked}
 use Rattle.llb_loader.specs.Linking.{op_at}
 use Rattle.llb_loader.specs.Features.{feature_of}
-use Rattle.llb_loader.proofs.Firsts.{below_step}
-use Rattle.llb_loader.proofs.Parts.{op_read}
+use Rattle.llb_loader.proofs.FirstRowOfDigest.{below_step}
+use Rattle.llb_loader.proofs.OpAndInputReads.{op_read}
 use Rattle.llb_loader.proofs.checks.check_features.Goals as goal
 use Rattle.llb_loader.proofs.checks.check_features.Goals.{then-seen-k+in_default, else-seen-k}
 

@@ -1,5 +1,5 @@
 use Rattle.std.proofs.Common.{◌≡◌, ℕ, ◌<◌, None}
-use Rattle.llb_loader.specs.Placing.{IsMarked}
+use Rattle.llb_loader.specs.WaitingRows.{IsMarked}
 use Rattle.llb_loader.specs.Linking.{op_at}
 use Rattle.llb_loader.specs.Features.{feature_of}
 use Rattle.llb_loader.proofs.checks.check_features.Given as goal

@@ -1,11 +1,11 @@
 use Rattle.std.proofs.Common.{◌≡◌, ℕ, ◌<◌, cond, eqb, false, length, List, get_or, sym, ◌∙◌, ap, subst, arith}
 use Rattle.llb_ops.specs.declared.op.Op.{Op}
-use Rattle.llb_loader.specs.Rows.{lists, inputs}
+use Rattle.llb_loader.specs.ReachedRows.{lists, inputs}
 use Rattle.llb_loader.specs.Linking.{op_at}
-use Rattle.llb_loader.specs.Checks.{FitsAll, asked_of}
-use Rattle.llb_loader.proofs.Firsts.{below_step}
-use Rattle.llb_loader.proofs.Parts.{op_read}
-use Rattle.llb_loader.proofs.Rows.{inputs_at}
+use Rattle.llb_loader.specs.ReachedRowChecks.{FitsAll, asked_of}
+use Rattle.llb_loader.proofs.FirstRowOfDigest.{below_step}
+use Rattle.llb_loader.proofs.OpAndInputReads.{op_read}
+use Rattle.llb_loader.proofs.RowReadsAndMarks.{inputs_at}
 use Rattle.llb_loader.proofs.checks.check_indexes.Goals as goal
 
 pub loop-k-preserved : goal.loop-k-preserved

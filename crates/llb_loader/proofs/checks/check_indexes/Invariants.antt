@@ -1,7 +1,7 @@
 use Rattle.std.proofs.Common.{ℕ, ◌<◌}
-use Rattle.llb_loader.specs.Rows.{lists, inputs}
+use Rattle.llb_loader.specs.ReachedRows.{lists, inputs}
 use Rattle.llb_loader.specs.Linking.{op_at}
-use Rattle.llb_loader.specs.Checks.{FitsAll, asked_of}
+use Rattle.llb_loader.specs.ReachedRowChecks.{FitsAll, asked_of}
 use Rattle.llb_loader.proofs.checks.check_indexes.Given as goal
 
 abbrev pub invariant-loop-k : goal.invariant-loop-k

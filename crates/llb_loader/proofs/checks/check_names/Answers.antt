@@ -1,11 +1,11 @@
 use Rattle.std.proofs.Common.{◌<◌, ℕ, List, length, sym, ◌∙◌, ap, arith}
 use Rattle.std.proofs.lemmas.List.{length-map}
 use Rattle.std.specs.Global.{Vec}
-use Rattle.llb_loader.specs.Rows.{inputs}
+use Rattle.llb_loader.specs.ReachedRows.{inputs}
 use Rattle.llb_loader.specs.RowLookup.{rows_named}
-use Rattle.llb_loader.proofs.Parts.{op_read}
-use Rattle.llb_loader.proofs.Plans.{graph_at}
-use Rattle.llb_loader.proofs.Rows.{inputs_at}
+use Rattle.llb_loader.proofs.OpAndInputReads.{op_read}
+use Rattle.llb_loader.proofs.InputRowPlaces.{graph_at}
+use Rattle.llb_loader.proofs.RowReadsAndMarks.{inputs_at}
 use Rattle.llb_loader.proofs.checks.check_names.Goals as goal
 
 pub unnamed_in-requires-clause-named : goal.unnamed_in-requires-clause-named

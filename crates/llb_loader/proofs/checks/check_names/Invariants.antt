@@ -1,7 +1,7 @@
 use Rattle.std.proofs.Common.{ℕ, ◌<◌, length}
-use Rattle.llb_loader.specs.Placing.{IsMarked}
+use Rattle.llb_loader.specs.WaitingRows.{IsMarked}
 use Rattle.llb_loader.specs.Linking.{op_at}
-use Rattle.llb_loader.specs.Checks.{NamesAll}
+use Rattle.llb_loader.specs.ReachedRowChecks.{NamesAll}
 use Rattle.llb_loader.proofs.checks.check_names.Given as goal
 
 abbrev pub invariant-loop-k : goal.invariant-loop-k

@@ -1,11 +1,11 @@
 use Rattle.std.proofs.Common.{Option, sym, subst, MatchOption}
 use Rattle.llb_ops.specs.declared.op.Op.{Op}
 use Rattle.llb_loader.specs.declared.fault.Rule.{Rule}
-use Rattle.llb_loader.specs.Placing.{IsMarked}
+use Rattle.llb_loader.specs.WaitingRows.{IsMarked}
 use Rattle.llb_loader.specs.Linking.{op_at}
 use Rattle.llb_loader.specs.Rules.{MeetsRules, BreaksFirst}
-use Rattle.llb_loader.proofs.Firsts.{below_step}
-use Rattle.llb_loader.proofs.Parts.{op_read}
+use Rattle.llb_loader.proofs.FirstRowOfDigest.{below_step}
+use Rattle.llb_loader.proofs.OpAndInputReads.{op_read}
 use Rattle.llb_loader.proofs.checks.check_rules.Goals as goal
 
 pub loop-k-preserved : goal.loop-k-preserved

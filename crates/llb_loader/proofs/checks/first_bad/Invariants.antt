@@ -1,4 +1,4 @@
-use Rattle.llb_loader.specs.Checks.{FitsAll}
+use Rattle.llb_loader.specs.ReachedRowChecks.{FitsAll}
 use Rattle.llb_loader.proofs.checks.first_bad.Given as goal
 
 abbrev pub invariant-loop-i : goal.invariant-loop-i

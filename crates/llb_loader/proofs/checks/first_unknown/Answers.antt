@@ -3,8 +3,8 @@ use Rattle.std.specs.Option.{is_some}
 use Rattle.llb_ops.specs.declared.op.Input.{Input}
 use Rattle.llb_loader.specs.RowLookup.{row_named}
 use Rattle.llb_loader.specs.Linking.{input_at}
-use Rattle.llb_loader.proofs.Firsts.{below_step}
-use Rattle.llb_loader.proofs.Parts.{input_read}
+use Rattle.llb_loader.proofs.FirstRowOfDigest.{below_step}
+use Rattle.llb_loader.proofs.OpAndInputReads.{input_read}
 use Rattle.llb_loader.proofs.checks.first_unknown.Goals as goal
 
 pub loop-i-preserved : goal.loop-i-preserved

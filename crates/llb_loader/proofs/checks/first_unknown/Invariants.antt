@@ -1,4 +1,4 @@
-use Rattle.llb_loader.specs.Checks.{NamesAll}
+use Rattle.llb_loader.specs.ReachedRowChecks.{NamesAll}
 use Rattle.llb_loader.proofs.checks.first_unknown.Given as goal
 
 abbrev pub invariant-loop-i : goal.invariant-loop-i

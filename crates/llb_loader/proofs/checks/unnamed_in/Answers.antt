@@ -1,7 +1,7 @@
 use Rattle.std.proofs.Common.{ℕ, List, [], pos, length, ap, arith}
 use Rattle.llb_ops.specs.declared.op.Input.{Input}
 use Rattle.llb_loader.specs.RowLookup.{row_named}
-use Rattle.llb_loader.proofs.Named.{each_there}
+use Rattle.llb_loader.proofs.InputRowCollection.{each_there}
 use Rattle.llb_loader.proofs.checks.unnamed_in.Goals as goal
 
 pub returns-then-named-len : goal.returns-then-named-len

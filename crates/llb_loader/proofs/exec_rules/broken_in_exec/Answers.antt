@@ -1,8 +1,8 @@
 use Rattle.std.proofs.Common.{◌++◌, Option, Some, subst}
 use Rattle.llb_ops.specs.declared.op.Kind.TheVariants.{Exec}
 use Rattle.llb_loader.specs.declared.fault.Rule.{Rule}
-use Rattle.llb_loader.specs.Checking.{IsFirstBroken, word_rules, path_rules, mount_rules, cache_rules, script_rules}
-use Rattle.llb_loader.proofs.Rulings.{broken_before, broken_behind, met_both, told_behind, told_here}
+use Rattle.llb_loader.specs.RulesByKind.{IsFirstBroken, word_rules, path_rules, mount_rules, cache_rules, script_rules}
+use Rattle.llb_loader.proofs.FirstBrokenRule.{broken_before, broken_behind, met_both, told_behind, told_here}
 use Rattle.llb_loader.proofs.exec_rules.broken_in_exec.Goals as goal
 
 pub returns-in-Some : goal.returns-in-Some

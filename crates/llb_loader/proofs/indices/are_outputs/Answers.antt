@@ -1,9 +1,9 @@
 use Rattle.std.proofs.Common.{◌<◌, pos, ap, arith, sym, ◌∙◌, length}
 use Rattle.std.proofs.lemmas.List.{get_or_default}
 use Rattle.llb_loader.specs.Rules.{none, is_output, count_outputs, output_at}
-use Rattle.llb_loader.proofs.Rows.{mark_read}
-use Rattle.llb_loader.proofs.Outputs.{taking_start, taking_skip, taking_mark, taking_end, outside, twice, more_yes, more_no, is_none_from}
-use Rattle.llb_loader.proofs.Outputs.{not_none_from, true_when, false_when, below_at}
+use Rattle.llb_loader.proofs.RowReadsAndMarks.{mark_read}
+use Rattle.llb_loader.proofs.OutputNumbers.{taking_start, taking_skip, taking_mark, taking_end, outside, twice, more_yes, more_no, is_none_from}
+use Rattle.llb_loader.proofs.OutputNumbers.{not_none_from, true_when, false_when, below_at}
 use Rattle.llb_loader.proofs.indices.are_outputs.Goals as goal
 use Rattle.llb_loader.proofs.indices.are_outputs.Goals.{then-is_output+in-Some+else-index, else-is_output}
 

@@ -1,4 +1,4 @@
-use Rattle.llb_loader.proofs.Outputs.{IsTaking}
+use Rattle.llb_loader.proofs.OutputNumbers.{IsTaking}
 use Rattle.llb_loader.proofs.indices.are_outputs.Given as goal
 
 abbrev pub invariant-loop-output : goal.invariant-loop-output

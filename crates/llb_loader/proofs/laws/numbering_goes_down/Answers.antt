@@ -1,4 +1,4 @@
-use Rattle.llb_loader.proofs.Unique.{numbering_down}
+use Rattle.llb_loader.proofs.UniqueNumbering.{numbering_down}
 use Rattle.llb_loader.proofs.laws.numbering_goes_down.Goals as goal
 
 pub returns : goal.returns

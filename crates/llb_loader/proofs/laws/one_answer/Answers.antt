@@ -1,4 +1,4 @@
-use Rattle.llb_loader.proofs.Single as single
+use Rattle.llb_loader.proofs.ResultUniqueness as single
 use Rattle.llb_loader.proofs.laws.one_answer.Goals as goal
 
 pub returns : goal.returns

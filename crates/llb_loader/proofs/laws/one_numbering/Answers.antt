@@ -1,4 +1,4 @@
-use Rattle.llb_loader.proofs.Unique as unique
+use Rattle.llb_loader.proofs.UniqueNumbering as unique
 use Rattle.llb_loader.proofs.laws.one_numbering.Goals as goal
 
 pub returns : goal.returns

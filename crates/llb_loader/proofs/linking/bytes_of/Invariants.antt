@@ -1,5 +1,5 @@
 use Rattle.std.proofs.Common.{◌≡◌, take}
-use Rattle.llb_loader.specs.Bare.{bytes_of}
+use Rattle.llb_loader.specs.BareRows.{bytes_of}
 use Rattle.llb_loader.proofs.linking.bytes_of.Given as goal
 
 abbrev pub invariant-loop-row : goal.invariant-loop-row

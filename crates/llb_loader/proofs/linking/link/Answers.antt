@@ -1,9 +1,9 @@
 use Rattle.std.proofs.Common.{◌≡◌, ℕ, List, length, sym, ◌∙◌, ap, subst, arith}
 use Rattle.std.proofs.lemmas.Result.{MatchResult-weaker}
 use Rattle.llb_loader.specs.declared.row.Row.{Row}
-use Rattle.llb_loader.specs.Bare.{with_bytes, AreBare, bared}
-use Rattle.llb_loader.specs.Link.{IsGraphOf, IsRefusalOf}
-use Rattle.llb_loader.proofs.Bare.{bared_with, bared_bare, bared_len, bytes_len}
+use Rattle.llb_loader.specs.BareRows.{with_bytes, AreBare, bared}
+use Rattle.llb_loader.specs.LinkResult.{IsGraphOf, IsRefusalOf}
+use Rattle.llb_loader.proofs.BareRowBytes.{bared_with, bared_bare, bared_len, bytes_len}
 use Rattle.llb_loader.proofs.linking.link.Goals as goal
 
 pub link_entries-requires-clause-few : goal.link_entries-requires-clause-few

@@ -1,6 +1,6 @@
 use Rattle.std.proofs.lemmas.Result.{err_from_is_err_and, MatchResult-weaker}
-use Rattle.llb_loader.specs.Bare.{with_bytes}
-use Rattle.llb_loader.proofs.Transfers.{refused_from, graph_from}
+use Rattle.llb_loader.specs.BareRows.{with_bytes}
+use Rattle.llb_loader.proofs.BareRowTransfers.{refused_from, graph_from}
 use Rattle.llb_loader.proofs.linking.link_entries.Goals as goal
 
 pub returns-in_err-linked-clause-refused : goal.returns-in_err-linked-clause-refused

@@ -1,6 +1,6 @@
 use Rattle.std.proofs.Common.{inr}
 use Rattle.std.proofs.lemmas.Result.{err_from_is_err_and, MatchResult-weaker}
-use Rattle.llb_loader.proofs.Unread.{unreadable}
+use Rattle.llb_loader.proofs.DefinitionRefusals.{unreadable}
 use Rattle.llb_loader.proofs.loading.load.Goals as goal
 
 pub returns-in_err-entries-clause-refused : goal.returns-in_err-entries-clause-refused

@@ -2,8 +2,8 @@ use Rattle.std.proofs.Common.{◌≡◌, ℕ, List, Ok, inr, subst}
 use Rattle.std.proofs.lemmas.Result.{err_from_is_err_and, MatchResult-weaker}
 use Rattle.llb_ops.specs.Definition.{definition_of}
 use Rattle.llb_loader.specs.Faults.{definition_fault}
-use Rattle.llb_loader.specs.Load.{IsRefusalIn}
-use Rattle.llb_loader.proofs.Unread.{unreadable}
+use Rattle.llb_loader.specs.LoadResult.{IsRefusalIn}
+use Rattle.llb_loader.proofs.DefinitionRefusals.{unreadable}
 use Rattle.llb_loader.proofs.loading.load_owned.Goals as goal
 
 pub returns-in_err-entries-clause-refused : goal.returns-in_err-entries-clause-refused

@@ -1,7 +1,7 @@
 use Rattle.std.proofs.Common.{◌≡◌, ◌∙◌, List, IfSome, slice_get, string_bytes, subst, arith}
 use Rattle.std.proofs.lemmas.List.{take_all}
-use Rattle.llb_loader.specs.Locals.{Local, locals_of, with_local}
-use Rattle.llb_loader.proofs.Copies.{all_named, local_copied}
+use Rattle.llb_loader.specs.LocalSources.{Local, locals_of, with_local}
+use Rattle.llb_loader.proofs.LocalTreeCopies.{all_named, local_copied}
 use Rattle.llb_loader.proofs.locals.copied.Goals as goal
 
 pub loop-i-preserved : goal.loop-i-preserved

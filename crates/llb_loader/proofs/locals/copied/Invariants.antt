@@ -1,5 +1,5 @@
 use Rattle.std.proofs.Common.{◌≡◌, take}
-use Rattle.llb_loader.specs.Locals.{locals_of}
+use Rattle.llb_loader.specs.LocalSources.{locals_of}
 use Rattle.llb_loader.proofs.locals.copied.Given as goal
 
 abbrev pub invariant-loop-i : goal.invariant-loop-i

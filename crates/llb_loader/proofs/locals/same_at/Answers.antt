@@ -1,8 +1,8 @@
 use Rattle.std.proofs.Common.{◌≡◌, true, false, ℕ, List, Option, Some, unwrap_or, option_map, string_bytes, sym, ap, ◌∙◌}
 use Rattle.std.specs.Cmp.Lexicographic.{bytes_decides}
 use Rattle.llb_tree.specs.Tree.{TreeMap}
-use Rattle.llb_loader.specs.Locals.{Local}
-use Rattle.llb_loader.proofs.Trees.{local_at}
+use Rattle.llb_loader.specs.LocalSources.{Local}
+use Rattle.llb_loader.proofs.LocalTreeMaps.{local_at}
 use Rattle.llb_loader.proofs.locals.same_at.Goals as goal
 
 -- two locals that are there are the same by their names and trees

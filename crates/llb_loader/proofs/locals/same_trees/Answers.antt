@@ -1,7 +1,7 @@
 use Rattle.std.proofs.Common.{◌≡◌, List, length, refl, sym, ap, ◌∙◌, arith}
-use Rattle.llb_ops.proofs.Alike.{all_same}
-use Rattle.llb_loader.specs.Locals.{Local, locals_of}
-use Rattle.llb_loader.proofs.Copies.{all_named}
+use Rattle.llb_ops.proofs.ItemwiseListEquality.{all_same}
+use Rattle.llb_loader.specs.LocalSources.{Local, locals_of}
+use Rattle.llb_loader.proofs.LocalTreeCopies.{all_named}
 use Rattle.llb_loader.proofs.locals.same_trees.Goals as goal
 
 pub returns-then-len : goal.returns-then-len

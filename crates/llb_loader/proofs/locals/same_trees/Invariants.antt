@@ -1,5 +1,5 @@
 use Rattle.std.proofs.Common.{◌≡◌, ℕ, ◌<◌, slice_get}
-use Rattle.llb_loader.specs.Locals.{locals_of}
+use Rattle.llb_loader.specs.LocalSources.{locals_of}
 use Rattle.llb_loader.proofs.locals.same_trees.Given as goal
 
 abbrev pub invariant-loop-i : goal.invariant-loop-i

@@ -1,5 +1,5 @@
 use Rattle.std.proofs.Common.{◌≡◌, ℕ, length, get_or, []}
-use Rattle.llb_loader.specs.Rows.{lists}
+use Rattle.llb_loader.specs.ReachedRows.{lists}
 use Rattle.llb_loader.proofs.numbering.empty_lists.Given as goal
 
 abbrev pub invariant-loop-i : goal.invariant-loop-i

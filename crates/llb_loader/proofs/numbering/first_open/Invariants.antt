@@ -1,5 +1,5 @@
 use Rattle.std.proofs.Common.{ℕ, ◌<◌, ◌≤◌, get_or}
-use Rattle.llb_loader.specs.Placing.{IsMarked}
+use Rattle.llb_loader.specs.WaitingRows.{IsMarked}
 use Rattle.llb_loader.proofs.numbering.first_open.Given as goal
 
 abbrev pub invariant-loop-i : goal.invariant-loop-i

@@ -3,10 +3,10 @@ use Rattle.std.specs.List.{Contains}
 use Rattle.std.specs.Ordering.{nat_cmp}
 use Rattle.std.specs.BTreeSet.{contains}
 use Rattle.llb_loader.specs.declared.numbering.Waiter.{Waiter}
-use Rattle.llb_loader.specs.Rows.{lists}
-use Rattle.llb_loader.proofs.Rows.{unmarked}
-use Rattle.llb_loader.proofs.Searching.{NoRow}
-use Rattle.llb_loader.proofs.Turns.{IsPlaced, IsPending, IsOrder, WokenFrom}
+use Rattle.llb_loader.specs.ReachedRows.{lists}
+use Rattle.llb_loader.proofs.RowReadsAndMarks.{unmarked}
+use Rattle.llb_loader.proofs.ReachabilitySearch.{NoRow}
+use Rattle.llb_loader.proofs.NumberingTurns.{IsPlaced, IsPending, IsOrder, WokenFrom}
 use Rattle.llb_loader.proofs.numbering.number.Given as goal
 
 abbrev pub invariant-placing : goal.invariant-placing

@@ -1,8 +1,8 @@
 use Rattle.std.proofs.Common.{◌≡◌, ◌<◌, length, arith, sym, ◌∙◌, inr}
-use Rattle.llb_loader.specs.Rows.{lists, inputs}
-use Rattle.llb_loader.proofs.Rows.{inputs_at}
-use Rattle.llb_loader.proofs.Searching.{named_below}
-use Rattle.llb_loader.proofs.Places.{goes_to_waiting}
+use Rattle.llb_loader.specs.ReachedRows.{lists, inputs}
+use Rattle.llb_loader.proofs.RowReadsAndMarks.{inputs_at}
+use Rattle.llb_loader.proofs.ReachabilitySearch.{named_below}
+use Rattle.llb_loader.proofs.NextWaitingRow.{goes_to_waiting}
 use Rattle.llb_loader.proofs.numbering.place.Goals as goal
 
 pub returns-clause-placed : goal.returns-clause-placed

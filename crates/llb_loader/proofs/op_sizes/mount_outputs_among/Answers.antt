@@ -1,6 +1,6 @@
 use Rattle.std.proofs.Common.{arith, sym, ◌∙◌}
 use Rattle.llb_ops.specs.declared.exec.Mount.{Mount}
-use Rattle.llb_loader.proofs.Outputs.{count_more_yes, count_more_no}
+use Rattle.llb_loader.proofs.OutputNumbers.{count_more_yes, count_more_no}
 use Rattle.llb_loader.proofs.op_sizes.mount_outputs_among.Goals as goal
 use Rattle.llb_loader.proofs.op_sizes.mount_outputs_among.Goals.{then-mount_has_output, else-mount_has_output}
 

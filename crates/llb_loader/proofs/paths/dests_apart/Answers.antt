@@ -5,8 +5,8 @@ use Rattle.llb_tree.specs.declared.fault.TreeFault.{TreeFault}
 use Rattle.llb_tree.specs.Path.{path_cmp}
 use Rattle.llb_tree.specs.PathOrder.{path_cmp-IsTotalOrder, path_cmp-IsAntisymmetric}
 use Rattle.llb_loader.specs.Mounts.{value_at}
-use Rattle.llb_loader.proofs.Outputs.{true_when, false_when}
-use Rattle.llb_loader.proofs.Apart.{when_not_false, when_not_true, seen_skip, seen_more, not_seen, already_seen, apart_skip, apart_more, apart_end}
+use Rattle.llb_loader.proofs.OutputNumbers.{true_when, false_when}
+use Rattle.llb_loader.proofs.DistinctValues.{when_not_false, when_not_true, seen_skip, seen_more, not_seen, already_seen, apart_skip, apart_more, apart_end}
 use Rattle.llb_loader.proofs.paths.dests_apart.Goals as goal
 
 -- a path that is copied is at its place

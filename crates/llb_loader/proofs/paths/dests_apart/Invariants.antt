@@ -1,6 +1,6 @@
 use Rattle.std.specs.BTreeSet.{contains}
 use Rattle.llb_tree.specs.Path.{path_cmp}
-use Rattle.llb_loader.proofs.Apart.{ApartBelow, IsSeen}
+use Rattle.llb_loader.proofs.DistinctValues.{ApartBelow, IsSeen}
 use Rattle.llb_loader.proofs.paths.dests_apart.Given as goal
 
 abbrev pub invariant-loop-dest : goal.invariant-loop-dest

@@ -1,7 +1,7 @@
 use Rattle.std.proofs.Common.{◌<◌, length, get_or, arith, below_more, ◌∙◌}
 use Rattle.std.proofs.lemmas.List.{length-set, get_or-set_same, get_or-set_other}
 use Rattle.std.proofs.lemmas.List.Elements.{All-set}
-use Rattle.llb_loader.proofs.Unique.{numbered_once}
+use Rattle.llb_loader.proofs.UniqueNumbering.{numbered_once}
 use Rattle.llb_loader.proofs.ranks.ranks_of.Goals as goal
 
 pub loop-i-preserved : goal.loop-i-preserved

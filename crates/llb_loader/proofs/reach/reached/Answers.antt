@@ -2,11 +2,11 @@ use Rattle.std.proofs.Common.{rules, ◌≡◌, ℕ, ◌<◌, Bool, true, ◌∷
 use Rattle.std.proofs.lemmas.List.{get_or_read, nil_from_length, length-set, length_push}
 use Rattle.std.proofs.lemmas.List.Elements.{All-from_get_or}
 use Rattle.std.specs.Global.{Vec}
-use Rattle.llb_loader.specs.Placing.{IsMarked}
-use Rattle.llb_loader.specs.Rows.{lists}
-use Rattle.llb_loader.proofs.Rows.{inputs_at}
-use Rattle.llb_loader.proofs.Searching.{IsSearching, NoRow, searching_start, at_row_mark, at_row_skip, at_row_below, searching_pop}
-use Rattle.llb_loader.proofs.Searching.{searching_leave, searching_whole, popped_marked, popped_below}
+use Rattle.llb_loader.specs.WaitingRows.{IsMarked}
+use Rattle.llb_loader.specs.ReachedRows.{lists}
+use Rattle.llb_loader.proofs.RowReadsAndMarks.{inputs_at}
+use Rattle.llb_loader.proofs.ReachabilitySearch.{IsSearching, NoRow, searching_start, at_row_mark, at_row_skip, at_row_below, searching_pop}
+use Rattle.llb_loader.proofs.ReachabilitySearch.{searching_leave, searching_whole, popped_marked, popped_below}
 use Rattle.llb_loader.proofs.reach.reached.Goals as goal
 use Rattle.llb_loader.proofs.reach.reached.Goals.{then-not-index+in_ok-push-2, else-not-index}
 

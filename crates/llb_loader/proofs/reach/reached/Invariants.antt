@@ -1,7 +1,7 @@
 use Rattle.std.proofs.Common.{◌≡◌, ◌+◌, length}
-use Rattle.llb_loader.specs.Rows.{lists}
-use Rattle.llb_loader.proofs.Rows.{unmarked}
-use Rattle.llb_loader.proofs.Searching.{IsSearching, IsAtRow, NoRow}
+use Rattle.llb_loader.specs.ReachedRows.{lists}
+use Rattle.llb_loader.proofs.RowReadsAndMarks.{unmarked}
+use Rattle.llb_loader.proofs.ReachabilitySearch.{IsSearching, IsAtRow, NoRow}
 use Rattle.llb_loader.proofs.reach.reached.Given as goal
 
 abbrev pub invariant-loop-input : goal.invariant-loop-input

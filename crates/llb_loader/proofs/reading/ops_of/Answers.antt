@@ -5,11 +5,11 @@ use Rattle.std.specs.List.{All}
 use Rattle.llb_ops.specs.declared.op.Op.{Op}
 use Rattle.llb_ops.specs.declared.fault.OpFault.{OpFault}
 use Rattle.llb_ops.specs.Messages.{op_of}
-use Rattle.llb_ops.specs.Within.{IsWithinLimits}
+use Rattle.llb_ops.specs.OpsWithinLimits.{IsWithinLimits}
 use Rattle.llb_loader.specs.declared.fault.LoadFault.{LoadFault}
 use Rattle.llb_loader.specs.Faults.{is_memory}
 use Rattle.llb_loader.specs.Linking.{op_at}
-use Rattle.llb_loader.proofs.Bare.{read_push, taken_step, entry_fault}
+use Rattle.llb_loader.proofs.BareRowBytes.{read_push, taken_step, entry_fault}
 use Rattle.llb_loader.proofs.reading.ops_of.Goals as goal
 
 pub returns-in-Err-clause-refused : goal.returns-in-Err-clause-refused

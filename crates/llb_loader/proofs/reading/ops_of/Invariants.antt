@@ -1,7 +1,7 @@
 use Rattle.std.proofs.Common.{◌≡◌, ℕ, ◌<◌, ◌≤◌, length, Ok, get_or, []}
 use Rattle.std.specs.List.{All}
 use Rattle.llb_ops.specs.Messages.{op_of}
-use Rattle.llb_ops.specs.Within.{IsWithinLimits}
+use Rattle.llb_ops.specs.OpsWithinLimits.{IsWithinLimits}
 use Rattle.llb_loader.specs.Linking.{op_at}
 use Rattle.llb_loader.proofs.reading.ops_of.Given as goal
 

@@ -3,7 +3,7 @@ use Rattle.llb_ops.specs.declared.op.Input.{Input}
 use Rattle.std.specs.List.{filter_map}
 use Rattle.std.proofs.lemmas.List.{take_all}
 use Rattle.llb_loader.specs.RowLookup.{row_named}
-use Rattle.llb_loader.proofs.Named.{filter_map_some, filter_map_none}
+use Rattle.llb_loader.proofs.InputRowCollection.{filter_map_some, filter_map_none}
 use Rattle.llb_loader.proofs.row_lookup.rows_named_by.Goals as goal
 use Rattle.llb_loader.proofs.row_lookup.rows_named_by.Goals.{in-Some+in_ok-push, in_default}
 

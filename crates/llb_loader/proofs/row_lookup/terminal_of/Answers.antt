@@ -2,7 +2,7 @@ use Rattle.std.proofs.Common.{◌≡◌, ℕ, ◌-◌, ◌<◌, Option, length, 
 use Rattle.std.specs.Option.{unwrap_or}
 use Rattle.llb_loader.specs.declared.row.Row.{Row}
 use Rattle.llb_loader.specs.RowLookup.{row_at, first_with}
-use Rattle.llb_loader.proofs.Firsts.{row_read, terminal_is, last_there}
+use Rattle.llb_loader.proofs.FirstRowOfDigest.{row_read, terminal_is, last_there}
 use Rattle.llb_loader.proofs.row_lookup.terminal_of.Goals as goal
 
 pub returns-in-Some-clause-terminal : goal.returns-in-Some-clause-terminal

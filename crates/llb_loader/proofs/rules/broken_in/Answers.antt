@@ -1,4 +1,4 @@
-use Rattle.llb_loader.proofs.Rulings.{of_source_at}
+use Rattle.llb_loader.proofs.FirstBrokenRule.{of_source_at}
 use Rattle.llb_loader.proofs.rules.broken_in.Goals as goal
 
 pub returns-in-Source : goal.returns-in-Source

@@ -1,5 +1,5 @@
 -- Both are laws of the definition, of what a tree is by its type.
-use Rattle.llb_merge.proofs.Laid.{get-lay, IsTree-lay}
+use Rattle.llb_merge.proofs.LayingProperties.{get-lay, IsTree-lay}
 use Rattle.llb_merge.proofs.laws.at_each_path.Goals as goal
 
 pub returns : goal.returns

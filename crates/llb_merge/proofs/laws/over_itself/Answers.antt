@@ -1,5 +1,5 @@
 -- A law of the definition.
-use Rattle.llb_merge.proofs.Laid.{lay_itself}
+use Rattle.llb_merge.proofs.LayingProperties.{lay_itself}
 use Rattle.llb_merge.proofs.laws.over_itself.Goals as goal
 
 pub returns : goal.returns

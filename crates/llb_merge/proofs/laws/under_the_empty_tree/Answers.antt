@@ -1,5 +1,5 @@
 -- A law of the definition.
-use Rattle.llb_merge.proofs.Laid.{lay_under_empty}
+use Rattle.llb_merge.proofs.LayingProperties.{lay_under_empty}
 use Rattle.llb_merge.proofs.laws.under_the_empty_tree.Goals as goal
 
 pub returns : goal.returns

@@ -1,5 +1,5 @@
 -- The tree over the lower one in that way is laid.
-use Rattle.llb_merge.proofs.Laid.{over_is_lay}
+use Rattle.llb_merge.proofs.LayingProperties.{over_is_lay}
 use Rattle.llb_merge.proofs.laying.lay_onto.Goals as goal
 
 pub returns : goal.returns

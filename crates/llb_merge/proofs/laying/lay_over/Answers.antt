@@ -1,4 +1,4 @@
-use Rattle.llb_merge.proofs.Laid.{over_is_lay}
+use Rattle.llb_merge.proofs.LayingProperties.{over_is_lay}
 use Rattle.llb_merge.proofs.laying.lay_over.Goals as goal
 
 pub returns-clause-ok : goal.returns-clause-ok

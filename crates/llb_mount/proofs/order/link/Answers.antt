@@ -4,10 +4,10 @@ use Rattle.llb_tree.specs.Path.{is_within}
 use Rattle.llb_mount.specs.declared.order.Row.{Row}
 use Rattle.llb_mount.specs.declared.shown.Shown.{Shown}
 use Rattle.llb_mount.specs.View.{dests}
-use Rattle.llb_mount.specs.Order.{HasFirst, IsNear, mount_of, dest_of}
-use Rattle.llb_mount.proofs.Prefixes.{not_back}
-use Rattle.llb_mount.proofs.Placed.{dest_read, root_first}
-use Rattle.llb_mount.proofs.Climbing.{last_near, rises_still, has_still, root_still, climbs_more, order_is}
+use Rattle.llb_mount.specs.DestOrder.{HasFirst, IsNear, mount_of, dest_of}
+use Rattle.llb_mount.proofs.PathOrderPrefixes.{not_back}
+use Rattle.llb_mount.proofs.DestOrderInsertion.{dest_read, root_first}
+use Rattle.llb_mount.proofs.LongestPrefixSearch.{last_near, rises_still, has_still, root_still, climbs_more, order_is}
 use Rattle.llb_mount.proofs.order.link.Goals as goal
 use Rattle.llb_mount.proofs.order.link.Goals.{In-loop-at}
 

@@ -1,6 +1,6 @@
 use Rattle.std.proofs.Common.{◌≡◌, length}
 use Rattle.llb_mount.specs.View.{dests}
-use Rattle.llb_mount.specs.Order.{Rises, HasFirst, AtRoot, Climbs}
+use Rattle.llb_mount.specs.DestOrder.{Rises, HasFirst, AtRoot, Climbs}
 use Rattle.llb_mount.proofs.order.link.Given as goal
 
 abbrev pub invariant-loop-at : goal.invariant-loop-at

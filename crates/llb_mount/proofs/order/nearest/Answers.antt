@@ -1,9 +1,9 @@
 use Rattle.std.proofs.Common.{◌≡◌, ◌+◌, ◌<◌, false, length, sym, ◌∙◌, arith}
 use Rattle.llb_tree.specs.Path.{is_within}
 use Rattle.llb_mount.specs.View.{dests}
-use Rattle.llb_mount.specs.Order.{dest_of, mount_of}
-use Rattle.llb_mount.proofs.Placed.{dest_read}
-use Rattle.llb_mount.proofs.Climbing.{goes_up, still_near}
+use Rattle.llb_mount.specs.DestOrder.{dest_of, mount_of}
+use Rattle.llb_mount.proofs.DestOrderInsertion.{dest_read}
+use Rattle.llb_mount.proofs.LongestPrefixSearch.{goes_up, still_near}
 use Rattle.llb_mount.proofs.order.nearest.Goals as goal
 
 pub loop-names-preserved : goal.loop-names-preserved

@@ -1,6 +1,6 @@
 use Rattle.std.proofs.Common.{◌+◌}
 use Rattle.llb_mount.specs.View.{dests}
-use Rattle.llb_mount.specs.Order.{IsNear}
+use Rattle.llb_mount.specs.DestOrder.{IsNear}
 use Rattle.llb_mount.proofs.order.nearest.Given as goal
 
 abbrev pub invariant-loop-names : goal.invariant-loop-names

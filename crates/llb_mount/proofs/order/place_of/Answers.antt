@@ -1,8 +1,8 @@
 use Rattle.std.proofs.Common.{◌≡◌, ◌<◌, ◌+◌, ◌-◌, ◌/◌, ℕ, length, sym, ap, ◌∙◌, arith}
 use Rattle.std.specs.Ordering.{is_lt}
 use Rattle.llb_mount.specs.View.{dests}
-use Rattle.llb_mount.specs.Order.{is_before, dest_of, mount_of}
-use Rattle.llb_mount.proofs.Placed.{dest_read, all_before, all_behind}
+use Rattle.llb_mount.specs.DestOrder.{is_before, dest_of, mount_of}
+use Rattle.llb_mount.proofs.DestOrderInsertion.{dest_read, all_before, all_behind}
 use Rattle.llb_mount.proofs.order.place_of.Goals as goal
 use Rattle.llb_mount.proofs.order.place_of.Goals.{After-is_lt}
 

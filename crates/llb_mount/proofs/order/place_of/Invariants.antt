@@ -1,6 +1,6 @@
 use Rattle.std.proofs.Common.{◌≡◌, ℕ, ◌-◌, ◌<◌, ◌≤◌, true, false, length}
 use Rattle.llb_mount.specs.View.{dests}
-use Rattle.llb_mount.specs.Order.{is_before, dest_of}
+use Rattle.llb_mount.specs.DestOrder.{is_before, dest_of}
 use Rattle.llb_mount.proofs.order.place_of.Given as goal
 
 abbrev pub invariant-loop-low : goal.invariant-loop-low

@@ -2,9 +2,9 @@ use Rattle.std.proofs.Common.{◌≡◌, ◌+◌, ◌-◌, ◌<◌, ℕ, length,
 use Rattle.llb_mount.specs.declared.shown.Shown.{Shown}
 use Rattle.llb_mount.specs.View.{dests, mount_at}
 use Rattle.llb_mount.specs.Route.{IsRoute}
-use Rattle.llb_mount.specs.Order.{IsNear, mount_of}
-use Rattle.llb_mount.proofs.Placed.{mount_read}
-use Rattle.llb_mount.proofs.Climbing.{last_near, has_place, routed}
+use Rattle.llb_mount.specs.DestOrder.{IsNear, mount_of}
+use Rattle.llb_mount.proofs.DestOrderInsertion.{mount_read}
+use Rattle.llb_mount.proofs.LongestPrefixSearch.{last_near, has_place, routed}
 use Rattle.llb_mount.proofs.order.route_by.Goals as goal
 use Rattle.llb_mount.proofs.order.route_by.Goals.{After-place_of-place}
 

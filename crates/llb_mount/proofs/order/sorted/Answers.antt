@@ -4,8 +4,8 @@ use Rattle.std.specs.Prelude.{[]}
 use Rattle.llb_mount.specs.declared.order.Row.{Row}
 use Rattle.llb_mount.specs.declared.shown.Shown.{Shown}
 use Rattle.llb_mount.specs.View.{dests}
-use Rattle.llb_mount.specs.Order.{IsPlace, Rises, HasFirst}
-use Rattle.llb_mount.proofs.Placed.{dest_read, has_more, rises_more}
+use Rattle.llb_mount.specs.DestOrder.{IsPlace, Rises, HasFirst}
+use Rattle.llb_mount.proofs.DestOrderInsertion.{dest_read, has_more, rises_more}
 use Rattle.llb_mount.proofs.order.sorted.Goals as goal
 
 pub loop-mount-preserved : goal.loop-mount-preserved

@@ -1,5 +1,5 @@
 use Rattle.llb_mount.specs.View.{dests}
-use Rattle.llb_mount.specs.Order.{Rises, HasFirst}
+use Rattle.llb_mount.specs.DestOrder.{Rises, HasFirst}
 use Rattle.llb_mount.proofs.order.sorted.Given as goal
 
 abbrev pub invariant-loop-mount : goal.invariant-loop-mount

@@ -3,7 +3,7 @@ use Rattle.std.proofs.lemmas.List.{take_all}
 use Rattle.std.specs.List.{Contains}
 use Rattle.llb_mount.specs.declared.shown.Shown.{Shown}
 use Rattle.llb_mount.specs.View.{dests}
-use Rattle.llb_mount.proofs.Differing.{Differ, one_more, twice}
+use Rattle.llb_mount.proofs.DistinctDests.{Differ, one_more, twice}
 use Rattle.llb_mount.proofs.view.all_differ.Goals as goal
 use Rattle.llb_mount.proofs.view.all_differ.Goals.{After-is_taken}
 

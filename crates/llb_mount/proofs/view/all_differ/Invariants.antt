@@ -1,5 +1,5 @@
 use Rattle.std.proofs.Common.{take}
-use Rattle.llb_mount.proofs.Differing.{Differ}
+use Rattle.llb_mount.proofs.DistinctDests.{Differ}
 use Rattle.llb_mount.proofs.view.all_differ.Given as goal
 
 abbrev pub invariant-loop-i : goal.invariant-loop-i

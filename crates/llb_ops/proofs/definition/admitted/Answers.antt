@@ -2,7 +2,7 @@ use Rattle.std.proofs.Common.{ℕ, Bool, Result, Ok, sym, ap, ◌∙◌}
 use Rattle.std.proofs.lemmas.Result.{err_from_is_err_and}
 use Rattle.llb_ops.specs.declared.fault.OpFault.{OpFault}
 use Rattle.llb_ops.specs.Definition.{admission}
-use Rattle.llb_ops.proofs.Admission.{too_long, unreadable, too_many, too_big, fits}
+use Rattle.llb_ops.proofs.EntryCounting.{too_long, unreadable, too_many, too_big, fits}
 use Rattle.llb_ops.proofs.definition.admitted.Goals as goal
 
 abbrev pair : ℕ → Bool → Result (ℕ × Bool) OpFault

@@ -1,4 +1,4 @@
-use Rattle.llb_ops.proofs.DefinitionTrips.{definition_returns}
+use Rattle.llb_ops.proofs.DefinitionRoundTrip.{definition_returns}
 use Rattle.llb_ops.proofs.definition.definition_is_read_again.Goals as goal
 
 pub returns : goal.returns

@@ -2,7 +2,7 @@ use Rattle.std.proofs.Common.{◌≡◌, [], Ok, ◌∙◌, ap, sym}
 use Rattle.std.proofs.lemmas.Result.{err_from_is_err_and}
 use Rattle.llb_ops.specs.Records.{view, records_from, IsFront}
 use Rattle.llb_ops.specs.Definition.{definition_shape}
-use Rattle.llb_ops.proofs.EntriesIn.{behind, in_err, gather_goes_on, gather_done}
+use Rattle.llb_ops.proofs.EntryReadingLoop.{behind, in_err, gather_goes_on, gather_done}
 use Rattle.llb_ops.proofs.definition.gathered.Goals as goal
 
 pub returns-in_err-front : goal.returns-in_err-front

@@ -1,6 +1,6 @@
 use Rattle.std.proofs.Common.{◌≡◌, length}
 use Rattle.llb_ops.specs.Definition.{entries_in}
-use Rattle.llb_ops.proofs.EntriesIn.{behind}
+use Rattle.llb_ops.proofs.EntryReadingLoop.{behind}
 use Rattle.llb_ops.proofs.definition.gathered.Given as goal
 
 abbrev pub invariant-loop-entries : goal.invariant-loop-entries

@@ -1,8 +1,8 @@
 use Rattle.std.proofs.Common.{◌≡◌, false, Ok, sym, ap, ◌∙◌}
 use Rattle.std.proofs.lemmas.Result.{err_from_is_err_and}
 use Rattle.llb_ops.specs.Faults.{is_memory}
-use Rattle.llb_ops.proofs.Admission.{definition_named, refused, admitted_is}
-use Rattle.llb_ops.proofs.Within.{entries_within}
+use Rattle.llb_ops.proofs.EntryCounting.{definition_named, refused, admitted_is}
+use Rattle.llb_ops.proofs.ReadOpsWithinLimits.{entries_within}
 use Rattle.llb_ops.proofs.definition.read_definition.Goals as goal
 
 pub returns-in_err-admitted-clause-last : goal.returns-in_err-admitted-clause-last

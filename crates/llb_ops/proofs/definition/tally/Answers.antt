@@ -2,7 +2,7 @@ use Rattle.std.proofs.Common.{◌≡◌, ℕ, Bool, [], Ok, ◌∙◌, ap, sym, 
 use Rattle.std.proofs.lemmas.Result.{err_from_is_err_and}
 use Rattle.llb_ops.specs.Records.{view, records_from, IsFront}
 use Rattle.llb_ops.specs.Definition.{definition_shape, entries_in}
-use Rattle.llb_ops.proofs.EntriesIn.{tallied, in_err, tally_begins, tally_goes_on, tally_small, tally_done}
+use Rattle.llb_ops.proofs.EntryReadingLoop.{tallied, in_err, tally_begins, tally_goes_on, tally_small, tally_done}
 use Rattle.llb_ops.proofs.definition.tally.Goals as goal
 
 pub loop-front-init : goal.loop-front-init

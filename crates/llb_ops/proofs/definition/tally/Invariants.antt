@@ -1,6 +1,6 @@
 use Rattle.std.proofs.Common.{◌≡◌, ◌+◌, ◌≤◌, length}
 use Rattle.llb_ops.specs.Definition.{entries_in, counted}
-use Rattle.llb_ops.proofs.EntriesIn.{tallied}
+use Rattle.llb_ops.proofs.EntryReadingLoop.{tallied}
 use Rattle.llb_ops.proofs.definition.tally.Given as goal
 
 abbrev pub invariant-loop-front : goal.invariant-loop-front

@@ -1,7 +1,7 @@
 use Rattle.std.proofs.Common.{Ok, sym, ap, ◌∙◌, arith, eq-eqb}
 use Rattle.std.proofs.lemmas.Bool.{ne_eqb}
 use Rattle.std.proofs.lemmas.Result.{err_from_is_err_and}
-use Rattle.llb_ops.proofs.Each.{goes_on, passes, ends, is_done}
+use Rattle.llb_ops.proofs.NestedMessageLoop.{goes_on, passes, ends, is_done}
 use Rattle.llb_ops.specs.Records.{message_of, each, all, views}
 use Rattle.llb_ops.proofs.message.each.Goals as goal
 use Rattle.llb_ops.proofs.message.each.Goals.{then-part-number+in_ok-message+in_ok-push, else-part-number}

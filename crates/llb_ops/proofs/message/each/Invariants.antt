@@ -1,6 +1,6 @@
 use Rattle.std.proofs.Common.{◌≡◌}
 use Rattle.llb_ops.specs.Records.{message_of, views, all, each}
-use Rattle.llb_ops.proofs.Each.{behind, field_from}
+use Rattle.llb_ops.proofs.NestedMessageLoop.{behind, field_from}
 use Rattle.llb_ops.proofs.message.each.Given as goal
 
 abbrev pub invariant-loop-part : goal.invariant-loop-part

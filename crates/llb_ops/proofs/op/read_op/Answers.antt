@@ -1,4 +1,4 @@
-use Rattle.llb_ops.proofs.Within.{op_read_within}
+use Rattle.llb_ops.proofs.ReadOpsWithinLimits.{op_read_within}
 use Rattle.llb_ops.proofs.op.read_op.Goals as goal
 
 pub returns-clause-within : goal.returns-clause-within

@@ -1,7 +1,7 @@
 use Rattle.std.proofs.Common.{◌≡◌, Ok, Err, Some, None, [], ap, sym, ◌∙◌}
 use Rattle.llb_ops.specs.Table.{shape_of}
 use Rattle.llb_ops.specs.Records.{view, records_from, IsFront}
-use Rattle.llb_ops.proofs.Unnamed.{goes_on, is_named, at_end, unread}
+use Rattle.llb_ops.proofs.UnnamedFieldCheck.{goes_on, is_named, at_end, unread}
 use Rattle.llb_ops.proofs.records.are_unnamed.Goals as goal
 
 pub returns-in-Err : goal.returns-in-Err

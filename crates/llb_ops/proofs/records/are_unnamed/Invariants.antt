@@ -1,5 +1,5 @@
 use Rattle.std.proofs.Common.{◌≡◌, length}
-use Rattle.llb_ops.specs.Fields.{are_unnamed}
+use Rattle.llb_ops.specs.CanonicalFields.{are_unnamed}
 use Rattle.llb_ops.proofs.records.are_unnamed.Given as goal
 
 abbrev pub invariant-loop-front : goal.invariant-loop-front

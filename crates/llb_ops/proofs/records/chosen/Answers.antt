@@ -1,6 +1,6 @@
 use Rattle.std.proofs.Common.{true, false, take, get_or, ap, sym, ◌∙◌}
 use Rattle.llb_ops.specs.Records.{view, views, chosen}
-use Rattle.llb_ops.proofs.Members.{views_more, chosen_push}
+use Rattle.llb_ops.proofs.OneofMembers.{views_more, chosen_push}
 use Rattle.llb_ops.proofs.records.chosen.Goals as goal
 use Rattle.llb_ops.proofs.records.chosen.Goals.{then-contains, else-contains}
 

@@ -3,7 +3,7 @@ use Rattle.std.specs.Prelude.{count_by}
 use Rattle.std.specs.Bool.{◌==◌}
 use Rattle.std.proofs.lemmas.Grind.{common_steps}
 use Rattle.llb_ops.specs.Records.{views}
-use Rattle.llb_ops.proofs.Counts.{count_all}
+use Rattle.llb_ops.proofs.FieldRecordCounts.{count_all}
 use Rattle.llb_ops.proofs.records.count.Goals as goal
 
 pub returns : goal.returns

@@ -1,6 +1,6 @@
 use Rattle.std.proofs.Common.{true, false, eq-eqb, ap, ◌++◌, ◌∷◌, [], ◌∙◌}
 use Rattle.std.proofs.lemmas.Bool.{ne_eqb}
-use Rattle.llb_ops.proofs.Pushed.{payloads_more}
+use Rattle.llb_ops.proofs.RecordAppending.{payloads_more}
 use Rattle.llb_ops.proofs.records.each_bytes.Goals as goal
 use Rattle.llb_ops.proofs.records.each_bytes.Goals.{then-record-number+in_ok-bytes+in_ok-push, else-record-number}
 

@@ -2,8 +2,8 @@ use Rattle.std.proofs.Common.{true, false, eq-eqb, ap, ◌++◌, ◌∷◌, [], 
 use Rattle.std.proofs.lemmas.Bool.{ne_eqb}
 use Rattle.std.proofs.lemmas.Str.{IsUtf8-from_is_utf8}
 use Rattle.llb_ops.specs.Table.{shape_of}
-use Rattle.llb_ops.proofs.Texts.{text_at}
-use Rattle.llb_ops.proofs.Pushed.{payloads_more}
+use Rattle.llb_ops.proofs.TextValidity.{text_at}
+use Rattle.llb_ops.proofs.RecordAppending.{payloads_more}
 use Rattle.llb_ops.proofs.records.each_text.Goals as goal
 use Rattle.llb_ops.proofs.records.each_text.Goals.{then-record-number+in_ok-text+in_ok-push, else-record-number}
 

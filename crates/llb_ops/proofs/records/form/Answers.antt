@@ -1,6 +1,6 @@
 use Rattle.std.proofs.Common.{Some, sym, ap, ◌∙◌, option_map}
 use Rattle.llb_ops.specs.Table.{form_of_kind}
-use Rattle.llb_ops.proofs.Forms.{form_found}
+use Rattle.llb_ops.proofs.FieldReadingForms.{form_found}
 use Rattle.llb_ops.proofs.records.form.Goals as goal
 
 pub returns-in-Some : goal.returns-in-Some

@@ -1,6 +1,6 @@
 use Rattle.std.proofs.Common.{true, false, eq-eqb, ap, ◌∙◌}
 use Rattle.std.proofs.lemmas.Bool.{ne_eqb}
-use Rattle.llb_ops.proofs.Pushed.{joined_more}
+use Rattle.llb_ops.proofs.RecordAppending.{joined_more}
 use Rattle.llb_ops.proofs.records.joined.Goals as goal
 use Rattle.llb_ops.proofs.records.joined.Goals.{then-record-number+in_ok-extend_from_slice, else-record-number}
 

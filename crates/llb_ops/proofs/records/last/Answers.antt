@@ -2,7 +2,7 @@ use Rattle.std.proofs.Common.{true, false, take, get_or, eq-eqb, ap, sym, ◌∙
 use Rattle.std.specs.Prelude.{option_map}
 use Rattle.std.proofs.lemmas.Bool.{ne_eqb}
 use Rattle.llb_ops.specs.Records.{view, views, all, last_of}
-use Rattle.llb_ops.proofs.Members.{views_more, last_all_push}
+use Rattle.llb_ops.proofs.OneofMembers.{views_more, last_all_push}
 use Rattle.llb_ops.proofs.records.last.Goals as goal
 use Rattle.llb_ops.proofs.records.last.Goals.{then-record-number, else-record-number}
 

@@ -3,7 +3,7 @@ use Rattle.std.specs.Str.{IsUtf8}
 use Rattle.std.proofs.lemmas.Str.{IsUtf8-from_is_utf8}
 use Rattle.llb_ops.specs.Table.{shape_of}
 use Rattle.llb_ops.specs.Records.{views}
-use Rattle.llb_ops.proofs.Texts.{text_is_utf8}
+use Rattle.llb_ops.proofs.TextValidity.{text_is_utf8}
 use Rattle.llb_ops.proofs.records.last_text.Goals as goal
 
 pub from_utf8_unchecked-requires : goal.from_utf8_unchecked-requires

@@ -2,7 +2,7 @@ use Rattle.std.proofs.Common.{Ok, ◌∙◌, ap, sym}
 use Rattle.std.proofs.lemmas.Result.{err_from_is_err_and}
 use Rattle.llb_wire.specs.Reading.{IsWithin}
 use Rattle.llb_ops.specs.Table.{shape_of}
-use Rattle.llb_ops.proofs.Split.{parts_end, parts_err, parts_wrong, is_front}
+use Rattle.llb_ops.proofs.RecordSplittingLoop.{parts_end, parts_err, parts_wrong, is_front}
 use Rattle.llb_ops.proofs.records.next_part.Goals as goal
 
 pub returns-in_err-field : goal.returns-in_err-field

@@ -1,6 +1,6 @@
 use Rattle.std.proofs.Common.{◌+◌, take, drop, ap, sym, ◌∙◌, arith}
 use Rattle.llb_ops.specs.Records.{views, is_other}
-use Rattle.llb_ops.proofs.Members.{since_keeps, since_clears}
+use Rattle.llb_ops.proofs.OneofMembers.{since_keeps, since_clears}
 use Rattle.llb_ops.proofs.records.since.Goals as goal
 use Rattle.llb_ops.proofs.records.since.Goals.{then-is_other, else-is_other}
 

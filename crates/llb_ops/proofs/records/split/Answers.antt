@@ -3,7 +3,7 @@ use Rattle.std.proofs.lemmas.Result.{err_from_is_err_and}
 use Rattle.std.proofs.lemmas.List.{map_push}
 use Rattle.llb_ops.specs.Table.{shape_of}
 use Rattle.llb_ops.specs.Records.{views, view, records_from, IsFront}
-use Rattle.llb_ops.proofs.Split.{with_front, goes_on, is_done}
+use Rattle.llb_ops.proofs.RecordSplittingLoop.{with_front, goes_on, is_done}
 use Rattle.llb_ops.proofs.records.split.Goals as goal
 
 pub returns-in_err-front : goal.returns-in_err-front

@@ -1,7 +1,7 @@
 use Rattle.std.proofs.Common.{◌≡◌, length}
 use Rattle.llb_ops.specs.Table.{shape_of}
 use Rattle.llb_ops.specs.Records.{views, records_from}
-use Rattle.llb_ops.proofs.Split.{with_front}
+use Rattle.llb_ops.proofs.RecordSplittingLoop.{with_front}
 use Rattle.llb_ops.proofs.records.split.Given as goal
 
 abbrev pub invariant-loop-records : goal.invariant-loop-records

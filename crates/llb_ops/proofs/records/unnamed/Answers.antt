@@ -1,6 +1,6 @@
 use Rattle.std.proofs.Common.{true, false, ap, sym, ◌∙◌}
 use Rattle.llb_ops.specs.Table.{shape_of}
-use Rattle.llb_ops.proofs.Pushed.{unnamed_more}
+use Rattle.llb_ops.proofs.RecordAppending.{unnamed_more}
 use Rattle.llb_ops.proofs.records.unnamed.Goals as goal
 use Rattle.llb_ops.proofs.records.unnamed.Goals.{then-is_unnamed+in_ok-extend_from_slice, else-is_unnamed}
 

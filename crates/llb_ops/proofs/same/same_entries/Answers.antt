@@ -1,5 +1,5 @@
 use Rattle.std.proofs.Common.{refl, arith}
-use Rattle.llb_ops.proofs.Alike.{all_same}
+use Rattle.llb_ops.proofs.ItemwiseListEquality.{all_same}
 use Rattle.llb_ops.proofs.same.same_entries.Goals as goal
 
 pub returns : goal.returns

@@ -2,7 +2,7 @@ use Rattle.std.proofs.Common.{sym, ap, ◌∙◌, map, ◌++◌}
 use Rattle.std.proofs.lemmas.List.{append-nil}
 use Rattle.llb_ops.specs.Attributes.{entry_of}
 use Rattle.llb_ops.specs.Writing.{attribute_entry_bytes, messages_field}
-use Rattle.llb_ops.proofs.Written.{put_next}
+use Rattle.llb_ops.proofs.ConsecutiveMessages.{put_next}
 use Rattle.llb_ops.proofs.source.put_attributes.Goals as goal
 
 pub loop-key-init : goal.loop-key-init

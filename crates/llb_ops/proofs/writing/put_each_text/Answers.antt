@@ -1,7 +1,7 @@
 use Rattle.std.proofs.Common.{sym, ◌∙◌}
 use Rattle.std.proofs.lemmas.List.{append-nil}
 use Rattle.llb_ops.specs.Writing.{each_field}
-use Rattle.llb_ops.proofs.Written.{put_each_more}
+use Rattle.llb_ops.proofs.ConsecutiveMessages.{put_each_more}
 use Rattle.llb_ops.proofs.writing.put_each_text.Goals as goal
 
 pub loop-text-init : goal.loop-text-init

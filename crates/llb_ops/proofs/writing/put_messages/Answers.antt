@@ -1,7 +1,7 @@
 use Rattle.std.proofs.Common.{sym, ap, ◌∙◌}
 use Rattle.std.proofs.lemmas.List.{append-nil}
 use Rattle.llb_ops.specs.Writing.{messages_field}
-use Rattle.llb_ops.proofs.Written.{put_more}
+use Rattle.llb_ops.proofs.ConsecutiveMessages.{put_more}
 use Rattle.llb_ops.proofs.writing.put_messages.Goals as goal
 
 pub loop-message-init : goal.loop-message-init

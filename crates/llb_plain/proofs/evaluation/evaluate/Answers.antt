@@ -2,10 +2,10 @@ use Rattle.std.proofs.Common.{◌≡◌, List, rules, sym, ap, subst, ◌∙◌}
 use Rattle.std.specs.Prelude.{Result, Ok, Err, None, true}
 use Rattle.llb_model.specs.Program.{Build}
 use Rattle.llb_model.specs.Outcome.{Outcome, outcomes}
-use Rattle.llb_loader.specs.Missing.{missing_local}
+use Rattle.llb_loader.specs.FirstMissingTree.{missing_local}
 use Rattle.llb_plain.specs.declared.fault.PlainFault.{PlainFault}
 use Rattle.llb_plain.specs.Evaluation.{evaluate_of, unless_refused, cache_from}
-use Rattle.llb_plain.specs.Faults.{Gives, MemoryLast, may_want_memory}
+use Rattle.llb_plain.specs.CallResults.{Gives, MemoryLast, may_want_memory}
 use Rattle.llb_plain.proofs.NoCaches.{none_has}
 use Rattle.llb_plain.proofs.evaluation.evaluate.Goals as goal
 

@@ -1,4 +1,4 @@
-use Rattle.llb_plain.proofs.Vertices.{OutcomesSoFar}
+use Rattle.llb_plain.proofs.VertexOutcomes.{OutcomesSoFar}
 use Rattle.llb_plain.proofs.evaluation.evaluate_all.Given as goal
 
 abbrev pub invariant-loop-vertex : goal.invariant-loop-vertex

@@ -2,8 +2,8 @@ use Rattle.std.proofs.Common.{◌≡◌, Option, Some, List, sym, subst, rules}
 use Rattle.std.specs.Prelude.{Ok}
 use Rattle.llb_tree.specs.Tree.{TreeMap}
 use Rattle.llb_model.specs.Outcome.{inputs_from, outcome_on}
-use Rattle.llb_plain.specs.Endings.{outcome_of, ending_among}
-use Rattle.llb_plain.specs.Faults.{Gives}
+use Rattle.llb_plain.specs.OutcomeModelValues.{outcome_of, ending_among}
+use Rattle.llb_plain.specs.CallResults.{Gives}
 use Rattle.llb_plain.proofs.evaluation.next.Goals as goal
 
 pub returns-in-Some : goal.returns-in-Some

@@ -1,13 +1,13 @@
 use Rattle.std.proofs.Common.{◌<◌, ℕ, List, [], map, length, sym, ap, subst, ◌∙◌, rules}
 use Rattle.std.specs.Prelude.{Ok}
 use Rattle.std.specs.List.{All}
-use Rattle.llb_execution.specs.Parts.{mounts_in, shown_in}
+use Rattle.llb_execution.specs.ModelValues.{mounts_in, shown_in}
 use Rattle.llb_model.specs.Caches.{Distinct}
 use Rattle.llb_model.specs.Outcome.{Ended, Done, ended}
 use Rattle.llb_model.specs.Program.{mount_of, program_of, workspace_on}
 use Rattle.llb_model.proofs.Outcomes.{no_needs}
 use Rattle.llb_plain.proofs.NoCaches.{bare_on}
-use Rattle.llb_plain.proofs.Steps.{ends_as}
+use Rattle.llb_plain.proofs.ProgramEnd.{ends_as}
 use Rattle.llb_plain.proofs.running.run.Goals as goal
 
 pub on-requires-clause-caches : goal.on-requires-clause-caches

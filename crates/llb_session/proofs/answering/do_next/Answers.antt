@@ -1,5 +1,5 @@
 use Rattle.std.proofs.Common.{sym, ◌∙◌}
-use Rattle.llb_session.proofs.Granting.{chosen_comes}
+use Rattle.llb_session.proofs.ChosenEventRefusals.{chosen_comes}
 use Rattle.llb_session.proofs.answering.do_next.Goals as goal
 
 pub returns : goal.returns

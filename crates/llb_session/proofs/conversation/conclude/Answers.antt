@@ -1,7 +1,7 @@
 -- A line that is not empty gets its reply, or ends the session.
 use Rattle.std.proofs.Common.{◌<◌, length, subst}
-use Rattle.llb_session.specs.Hearing.{standing}
-use Rattle.llb_session.proofs.Ending.{last_said, some_left}
+use Rattle.llb_session.specs.ConversationStates.{standing}
+use Rattle.llb_session.proofs.ConversationEnds.{last_said, some_left}
 use Rattle.llb_session.proofs.conversation.conclude.Goals as goal
 
 pub returns : goal.returns

@@ -1,9 +1,9 @@
 -- A read returns the end of the input, a piece, or nothing.
 use Rattle.std.proofs.Common.{rules, ◌≡◌, ◌+◌, [], length, ap, arith}
 use Rattle.std.proofs.lemmas.Result.{err_from_is_err_and}
-use Rattle.llb_session.specs.Hearing.{standing}
-use Rattle.llb_session.proofs.Ending.{ends_failed, ends_unending, few_listened, both_taken, none_taken, some_left, none_left, ends_last}
-use Rattle.llb_session.proofs.Ending.{ends_quit, ends_fault, ends_long, listened_on, listened_still}
+use Rattle.llb_session.specs.ConversationStates.{standing}
+use Rattle.llb_session.proofs.ConversationEnds.{ends_failed, ends_unending, few_listened, both_taken, none_taken, some_left, none_left, ends_last}
+use Rattle.llb_session.proofs.ConversationEnds.{ends_quit, ends_fault, ends_long, listened_on, listened_still}
 use Rattle.llb_session.proofs.conversation.converse.Goals as goal
 use Rattle.llb_session.proofs.conversation.converse.Goals.{in-Ok+in_ok-hear_all-in-Ok+else-not-branch+else-not-is_empty, in-Err+else-ne}
 

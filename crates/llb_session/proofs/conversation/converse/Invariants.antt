@@ -1,8 +1,8 @@
 -- All that was read so far was heard, and the session goes on; each read returned a byte or was interrupted.
 use Rattle.std.proofs.Common.{◌≡◌, ◌≤◌, ◌+◌, length}
-use Rattle.llb_session.specs.Hearing.{standing}
+use Rattle.llb_session.specs.ConversationStates.{standing}
 use Rattle.llb_session.proofs.Streams.{between}
-use Rattle.llb_session.proofs.Ending.{Listened}
+use Rattle.llb_session.proofs.ConversationEnds.{Listened}
 use Rattle.llb_session.proofs.conversation.converse.Given as goal
 
 abbrev pub invariant-loop-i : goal.invariant-loop-i

@@ -1,8 +1,8 @@
 -- A byte is added to the line that is begun, or ends it.
 use Rattle.std.proofs.Common.{refl}
 use Rattle.std.proofs.lemmas.Result.{err_from_is_err_and}
-use Rattle.llb_session.specs.Hearing.{standing}
-use Rattle.llb_session.proofs.Heard.{byte_on_line, byte_refused, byte_ends, byte_fails}
+use Rattle.llb_session.specs.ConversationStates.{standing}
+use Rattle.llb_session.proofs.ConversationByPieces.{byte_on_line, byte_refused, byte_ends, byte_fails}
 use Rattle.llb_session.proofs.conversation.hear.Goals as goal
 
 pub returns-in-Err : goal.returns-in-Err

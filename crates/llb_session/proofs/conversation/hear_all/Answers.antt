@@ -1,9 +1,9 @@
 -- The bytes so far, one more, and those after it.
 use Rattle.std.proofs.Common.{arith, length-take-le}
 use Rattle.std.proofs.lemmas.Result.{err_from_is_err_and}
-use Rattle.llb_session.specs.Hearing.{standing}
-use Rattle.llb_session.proofs.Talking.{few_said}
-use Rattle.llb_session.proofs.Heard.{went_none, went_on, quit_at, fails_at}
+use Rattle.llb_session.specs.ConversationStates.{standing}
+use Rattle.llb_session.proofs.RepliesByPieces.{few_said}
+use Rattle.llb_session.proofs.ConversationByPieces.{went_none, went_on, quit_at, fails_at}
 use Rattle.llb_session.proofs.conversation.hear_all.Goals as goal
 
 pub loop-byte-init : goal.loop-byte-init

@@ -1,6 +1,6 @@
 -- The bytes so far were heard, and the session goes on.
 use Rattle.std.proofs.Common.{take}
-use Rattle.llb_session.specs.Hearing.{standing, Went}
+use Rattle.llb_session.specs.ConversationStates.{standing, Went}
 use Rattle.llb_session.proofs.Streams.{between}
 use Rattle.llb_session.proofs.conversation.hear_all.Given as goal
 

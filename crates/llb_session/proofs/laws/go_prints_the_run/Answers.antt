@@ -1,6 +1,6 @@
 use Rattle.std.proofs.Common.{subst}
-use Rattle.llb_board.specs.Seen.{Replays}
-use Rattle.llb_session.proofs.Told.{go_prints}
+use Rattle.llb_board.specs.BoardValue.{Replays}
+use Rattle.llb_session.proofs.GoLines.{go_prints}
 use Rattle.llb_session.proofs.laws.go_prints_the_run.Goals as goal
 
 pub returns : goal.returns

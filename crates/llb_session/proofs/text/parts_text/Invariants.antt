@@ -1,6 +1,6 @@
 -- The lines of the trees so far.
 use Rattle.std.proofs.Common.{◌≡◌, string_bytes}
-use Rattle.llb_execution.specs.Looks.{roles_of}
+use Rattle.llb_execution.specs.WorkspaceTrees.{roles_of}
 use Rattle.llb_session.specs.Texts.{role_lines}
 use Rattle.llb_session.proofs.text.parts_text.Given as goal
 

@@ -1,4 +1,4 @@
-use Rattle.llb_sharing.proofs.Boards.{settle_alike}
+use Rattle.llb_sharing.proofs.SettledVertexOutcomes.{settle_alike}
 use Rattle.llb_sharing.proofs.laws.boards_settle_alike.Goals as goal
 
 pub returns : goal.returns

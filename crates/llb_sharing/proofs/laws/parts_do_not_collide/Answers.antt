@@ -1,4 +1,4 @@
-use Rattle.llb_sharing.proofs.Together.{parts_do_not_collide}
+use Rattle.llb_sharing.proofs.CollisionFreeEntries.{parts_do_not_collide}
 use Rattle.llb_sharing.proofs.laws.parts_do_not_collide.Goals as goal
 
 pub returns : goal.returns

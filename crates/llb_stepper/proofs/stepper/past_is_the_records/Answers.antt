@@ -1,6 +1,6 @@
 use Rattle.std.proofs.Common.{ap}
 use Rattle.llb_stepper.specs.Stepping.{Stepping}
-use Rattle.llb_stepper.proofs.Replayed.{past_is}
+use Rattle.llb_stepper.proofs.BoardReplay.{past_is}
 use Rattle.llb_stepper.proofs.stepper.past_is_the_records.Goals as goal
 
 pub returns : goal.returns

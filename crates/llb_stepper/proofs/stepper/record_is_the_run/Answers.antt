@@ -1,7 +1,7 @@
 use Rattle.std.proofs.Common.{ap}
 use Rattle.llb_stepper.specs.Stepping.{Stepping}
-use Rattle.llb_stepper.proofs.Lines.{is_the_run}
-use Rattle.llb_stepper.proofs.Replayed.{past_is}
+use Rattle.llb_stepper.proofs.RecordReplies.{is_the_run}
+use Rattle.llb_stepper.proofs.BoardReplay.{past_is}
 use Rattle.llb_stepper.proofs.stepper.record_is_the_run.Goals as goal
 
 pub returns : goal.returns

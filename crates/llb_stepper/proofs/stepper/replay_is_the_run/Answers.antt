@@ -1,5 +1,5 @@
-use Rattle.llb_stepper.proofs.Again.{has_run}
-use Rattle.llb_stepper.proofs.Replayed.{replayed}
+use Rattle.llb_stepper.proofs.StepperReplay.{has_run}
+use Rattle.llb_stepper.proofs.BoardReplay.{replayed}
 use Rattle.llb_stepper.proofs.stepper.replay_is_the_run.Goals as goal
 
 pub returns-clause-leads : goal.returns-clause-leads

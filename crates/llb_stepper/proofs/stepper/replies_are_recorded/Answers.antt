@@ -1,4 +1,4 @@
-use Rattle.llb_stepper.proofs.Replied.{are_recorded}
+use Rattle.llb_stepper.proofs.RepliesAfterEvents.{are_recorded}
 use Rattle.llb_stepper.proofs.stepper.replies_are_recorded.Goals as goal
 
 pub returns : goal.returns

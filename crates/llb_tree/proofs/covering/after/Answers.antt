@@ -1,8 +1,8 @@
 use Rattle.std.proofs.Common.{◌≡◌, true, is_some, sym, ap, subst, ◌∙◌}
 use Rattle.llb_tree.specs.Path.{name_cmp}
 use Rattle.llb_tree.specs.Nodes.{child, left_in}
-use Rattle.llb_tree.proofs.Covered.{covers_rest, found_here}
-use Rattle.llb_tree.proofs.Cursor.{fewer}
+use Rattle.llb_tree.proofs.CoveringChildren.{covers_rest, found_here}
+use Rattle.llb_tree.proofs.ChildCursor.{fewer}
 use Rattle.llb_tree.proofs.covering.after.Goals as goal
 
 pub loop-kid-smaller : goal.loop-kid-smaller

@@ -2,8 +2,8 @@ use Rattle.std.proofs.Common.{◌+◌, is_some, sym, ap, subst, ◌∙◌}
 use Rattle.std.proofs.lemmas.List.{take_all}
 use Rattle.llb_tree.specs.Nodes.{child, left_in}
 use Rattle.llb_tree.specs.Laying.{Covers}
-use Rattle.llb_tree.proofs.Covered.{covers_more}
-use Rattle.llb_tree.proofs.Cursor.{at_start, at_next, at_end, fewer}
+use Rattle.llb_tree.proofs.CoveringChildren.{covers_more}
+use Rattle.llb_tree.proofs.ChildCursor.{at_start, at_next, at_end, fewer}
 use Rattle.llb_tree.proofs.covering.has_all.Goals as goal
 
 pub loop-kid-init : goal.loop-kid-init

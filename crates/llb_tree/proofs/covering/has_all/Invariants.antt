@@ -1,7 +1,7 @@
 use Rattle.std.proofs.Common.{ℕ, length, take}
 use Rattle.llb_tree.specs.Nodes.{left_in}
 use Rattle.llb_tree.specs.Laying.{Covers}
-use Rattle.llb_tree.proofs.Cursor.{IsAt}
+use Rattle.llb_tree.proofs.ChildCursor.{IsAt}
 use Rattle.llb_tree.proofs.covering.has_all.Given as goal
 
 abbrev pub invariant-loop-kid : goal.invariant-loop-kid

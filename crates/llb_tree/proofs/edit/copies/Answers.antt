@@ -1,4 +1,4 @@
-use Rattle.llb_tree.proofs.Mapped.{map_pushed}
+use Rattle.llb_tree.proofs.CopiedChildren.{map_pushed}
 use Rattle.llb_tree.proofs.edit.copies.Goals as goal
 
 pub loop-kid-preserved : goal.loop-kid-preserved

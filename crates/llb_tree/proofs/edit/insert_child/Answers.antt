@@ -1,8 +1,8 @@
 use Rattle.std.proofs.Common.{[], Some, map, sym, subst, ◌∙◌}
 use Rattle.llb_tree.specs.Nodes.{pair_of}
-use Rattle.llb_tree.specs.Pieces.{Changes}
+use Rattle.llb_tree.specs.ChildPieces.{Changes}
 use Rattle.llb_tree.specs.declared.node.Child.{Child}
-use Rattle.llb_tree.proofs.Setting.{changes_gap, changes_nothing, same_Ok}
+use Rattle.llb_tree.proofs.NodeReplacement.{changes_gap, changes_nothing, same_Ok}
 use Rattle.llb_tree.proofs.edit.insert_child.Goals as goal
 
 pub returns-in-None-clause-ok : goal.returns-in-None-clause-ok

@@ -1,8 +1,8 @@
 use Rattle.std.proofs.Common.{[], Some, None, map, set, sym, subst, refl}
 use Rattle.llb_tree.specs.Nodes.{pair_of}
-use Rattle.llb_tree.specs.Pieces.{Changes}
+use Rattle.llb_tree.specs.ChildPieces.{Changes}
 use Rattle.llb_tree.specs.declared.node.Child.{Child}
-use Rattle.llb_tree.proofs.Setting.{changes_found, changes_removed}
+use Rattle.llb_tree.proofs.NodeReplacement.{changes_found, changes_removed}
 use Rattle.llb_tree.proofs.edit.set_child.Goals as goal
 
 pub returns-in-Some : goal.returns-in-Some

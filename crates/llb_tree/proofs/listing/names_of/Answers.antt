@@ -1,9 +1,9 @@
 use Rattle.std.proofs.Common.{◌≡◌, ◌+◌, [], ◌∷◌, ◌++◌, Ok, sym, ap, ◌∙◌, take, add-one}
 use Rattle.std.proofs.lemmas.List.{take_all}
 use Rattle.llb_tree.specs.Nodes.{flat, name_of, left_in}
-use Rattle.llb_tree.proofs.Cursor.{at_start, at_next, at_end, fewer}
+use Rattle.llb_tree.proofs.ChildCursor.{at_start, at_next, at_end, fewer}
 use Rattle.llb_tree.proofs.Entries.{entries-root}
-use Rattle.llb_tree.proofs.Listed.{tops, tops_more}
+use Rattle.llb_tree.proofs.DirectoryListing.{tops, tops_more}
 use Rattle.llb_tree.proofs.listing.names_of.Goals as goal
 
 pub loop-kid-init : goal.loop-kid-init

@@ -1,7 +1,7 @@
 use Rattle.std.proofs.Common.{◌≡◌, ℕ, length, take}
 use Rattle.llb_tree.specs.Nodes.{flat, left_in}
-use Rattle.llb_tree.proofs.Cursor.{IsAt}
-use Rattle.llb_tree.proofs.Listed.{tops}
+use Rattle.llb_tree.proofs.ChildCursor.{IsAt}
+use Rattle.llb_tree.proofs.DirectoryListing.{tops}
 use Rattle.llb_tree.proofs.listing.names_of.Given as goal
 
 abbrev pub invariant-loop-kid : goal.invariant-loop-kid

@@ -2,8 +2,8 @@ use Rattle.std.proofs.Common.{rules, arith, sym, ap, ◌∙◌}
 use Rattle.std.proofs.lemmas.Fn.{always_returns_same}
 use Rattle.llb_tree.specs.Nodes.{name_of}
 use Rattle.llb_tree.specs.Path.{name_cmp}
-use Rattle.llb_tree.proofs.TriedPlaces.{place_past}
-use Rattle.llb_tree.proofs.Searching.{place_searched}
+use Rattle.llb_tree.proofs.GuessedPlaces.{place_past}
+use Rattle.llb_tree.proofs.ChildBinarySearch.{place_searched}
 use Rattle.llb_tree.specs.declared.node.Child.{Child}
 use Rattle.llb_tree.proofs.node.place_of.Goals as goal
 

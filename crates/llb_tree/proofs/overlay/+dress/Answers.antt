@@ -4,14 +4,14 @@ use Rattle.llb_tree.specs.Tree as tree
 use Rattle.llb_tree.specs.Nodes.{kids_of, kids_in, left_in, map_of, pair_of, AreSorted}
 use Rattle.llb_tree.specs.Laying.{dress, dress_pair}
 use Rattle.llb_tree.specs.declared.node.Kind.TheVariants as kind
-use Rattle.llb_tree.proofs.ByName.{kids_below}
-use Rattle.llb_tree.proofs.Cursor.{at_start, at_next, at_end, fewer}
-use Rattle.llb_tree.proofs.Fitting.{next_below}
-use Rattle.llb_tree.proofs.Pieced.{sorted_kids}
+use Rattle.llb_tree.proofs.ChildLookup.{kids_below}
+use Rattle.llb_tree.proofs.ChildCursor.{at_start, at_next, at_end, fewer}
+use Rattle.llb_tree.proofs.NodeDepths.{next_below}
+use Rattle.llb_tree.proofs.PiecesAroundName.{sorted_kids}
 use Rattle.llb_tree.proofs.PieceEdits.{some_pieced}
 use Rattle.llb_tree.proofs.overlay.+dress.Goals.{dressed-in-File+in_ok-try_clone-in-File, dressed-in-Dir+in_ok-list-in-Dir+in_ok-in_pieces-in-Dir}
 use Rattle.llb_tree.proofs.overlay.+dress.Goals as goal
-use Rattle.llb_tree.proofs.Dressing.{dressed_pushed, pairs_taken, if_ok, dress_same, AreSorted-dressed, node_dressed}
+use Rattle.llb_tree.proofs.ModeAndOwnerSetting.{dressed_pushed, pairs_taken, if_ok, dress_same, AreSorted-dressed, node_dressed}
 
 pub all_dressed-loop-kid-init : goal.all_dressed-loop-kid-init
 all_dressed-loop-kid-init t c = (0, at_start (left_in c.args.kids), ap (map pair_of) c.new-list.ensures.items)

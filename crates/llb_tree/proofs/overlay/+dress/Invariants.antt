@@ -4,7 +4,7 @@ use Rattle.llb_tree.specs.Tree.{height}
 use Rattle.llb_tree.specs.Nodes.{pair_of, left_in}
 use Rattle.llb_tree.specs.Laying.{dress_pair}
 use Rattle.llb_tree.specs.declared.node.Node.TheDeep.{deep-Child}
-use Rattle.llb_tree.proofs.Cursor.{IsAt}
+use Rattle.llb_tree.proofs.ChildCursor.{IsAt}
 use Rattle.llb_tree.proofs.overlay.+dress.Given as goal
 
 abbrev pub decreases-dressed : goal.decreases-dressed

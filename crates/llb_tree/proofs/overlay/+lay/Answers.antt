@@ -5,22 +5,22 @@ use denote.Param.Weighed.{most}
 use Rattle.std.specs.Arc.{arc_value}
 use Rattle.std.specs.FinMap as finite
 use Rattle.llb_tree.specs.Nodes.{AreSorted, name_of, child, look_in, kids_of, kids_in, left_in, rows_in, map_of, pair_of}
-use Rattle.llb_tree.specs.Pieces.{ArePieced, row_pairs}
-use Rattle.llb_tree.proofs.ByName.{le_pieces}
+use Rattle.llb_tree.specs.ChildPieces.{ArePieced, row_pairs}
+use Rattle.llb_tree.proofs.ChildLookup.{le_pieces}
 use Rattle.llb_tree.specs.Overlay.{below_file, over, over_at}
 use Rattle.llb_tree.specs.Laying.{Lays, IsOver, AreLaid, PiecesLaid, those, those_pieces}
 use Rattle.llb_tree.specs.declared.node.Child.{Child}
 use Rattle.llb_tree.specs.declared.node.Node.TheDeep.{deep-Child, deep-Piece}
 use Rattle.llb_tree.specs.declared.node.Kind.TheVariants as kind
-use Rattle.llb_tree.proofs.Covered.{HasLaid, none_yet, same_length, one_stays, one_written, all_laid, file_stays, new_stays, dir_stays}
-use Rattle.llb_tree.proofs.Cursor.{at_start, at_next, at_end, fewer}
-use Rattle.llb_tree.proofs.Dressing.{get-dress, dress_same}
-use Rattle.llb_tree.proofs.Fitting.{next_below}
-use Rattle.llb_tree.proofs.InPlace.{err_holds, laid_pushed}
+use Rattle.llb_tree.proofs.CoveringChildren.{HasLaid, none_yet, same_length, one_stays, one_written, all_laid, file_stays, new_stays, dir_stays}
+use Rattle.llb_tree.proofs.ChildCursor.{at_start, at_next, at_end, fewer}
+use Rattle.llb_tree.proofs.ModeAndOwnerSetting.{get-dress, dress_same}
+use Rattle.llb_tree.proofs.NodeDepths.{next_below}
+use Rattle.llb_tree.proofs.LaidChildInsertion.{err_holds, laid_pushed}
 use Rattle.llb_tree.proofs.LaidPieces.{HaveLaid, no_piece_yet, as_many, piece_stays, piece_written, all_pieces, lays_pieces, laid_pieced, lays_put}
-use Rattle.llb_tree.proofs.Laying.{lone_file, root_there, on_ok, node_laid, over_file, over_none, under_file}
-use Rattle.llb_tree.proofs.Pieced.{sorted_kids}
-use Rattle.llb_tree.proofs.Setting.{same_dir, same_pieces}
+use Rattle.llb_tree.proofs.NodeLaying.{lone_file, root_there, on_ok, node_laid, over_file, over_none, under_file}
+use Rattle.llb_tree.proofs.PiecesAroundName.{sorted_kids}
+use Rattle.llb_tree.proofs.NodeReplacement.{same_dir, same_pieces}
 use Rattle.llb_tree.proofs.overlay.+lay.Goals.{lay_node-in_default-via-in-Dir+in_default, lay_node-in_default-via-in_default}
 use Rattle.llb_tree.proofs.overlay.+lay.Goals.{laid_rows-in-Dir+in_ok-node+in-Some+in_ok-with_node}
 use Rattle.llb_tree.proofs.overlay.+lay.Goals.{laid_rows-in-Dir+in_ok-node+in_default-2}

@@ -3,11 +3,11 @@ use denote.Param.Weighed.{most}
 use Rattle.std.specs.Arc.{arc_value}
 use Rattle.llb_tree.specs.Tree.{height}
 use Rattle.llb_tree.specs.Nodes.{pair_of, kids_in, left_in}
-use Rattle.llb_tree.specs.Pieces.{row_pairs}
+use Rattle.llb_tree.specs.ChildPieces.{row_pairs}
 use Rattle.llb_tree.specs.Laying.{AreLaid, those, those_pieces}
 use Rattle.llb_tree.specs.declared.node.Node.TheDeep.{deep-Child, deep-Piece}
-use Rattle.llb_tree.proofs.Covered.{HasLaid}
-use Rattle.llb_tree.proofs.Cursor.{IsAt}
+use Rattle.llb_tree.proofs.CoveringChildren.{HasLaid}
+use Rattle.llb_tree.proofs.ChildCursor.{IsAt}
 use Rattle.llb_tree.proofs.LaidPieces.{HaveLaid}
 use Rattle.llb_tree.proofs.overlay.+lay.Given as goal
 

@@ -1,16 +1,16 @@
 use Rattle.std.proofs.Common.{◌≡◌, ◌+◌, ◌-◌, ◌<◌, ◌≤◌, [], ◌∷◌, ◌++◌, length, take, drop, arith, true, false, subst, sym, ap, ◌∙◌, refl, append-nil, rules}
 use Rattle.std.specs.FinMap as finite
 use Rattle.std.specs.Prelude.{is_some}
-use Rattle.llb_tree.specs.Falls.{le_height}
+use Rattle.llb_tree.specs.TreeHeights.{le_height}
 use Rattle.llb_tree.specs.Tree.{height}
 use Rattle.llb_tree.specs.Nodes.{name_of, kids_of, kids_in, left_in, below}
-use Rattle.llb_tree.proofs.Cursor.{at_start, at_next, at_end, fewer}
+use Rattle.llb_tree.proofs.ChildCursor.{at_start, at_next, at_end, fewer}
 use Rattle.llb_tree.proofs.Entries.{nothing}
-use Rattle.llb_tree.proofs.Fitting.{kid_within}
-use Rattle.llb_tree.proofs.Pieced.{sorted_kids}
-use Rattle.llb_tree.proofs.Setting.{same_Ok}
-use Rattle.llb_tree.proofs.Thinning.{split_first, keys_of}
-use Rattle.llb_tree.proofs.Found.{under, hits, below_is, none_in, all_in, found_next, found_here, found_all, found_none}
+use Rattle.llb_tree.proofs.NodeDepths.{kid_within}
+use Rattle.llb_tree.proofs.PiecesAroundName.{sorted_kids}
+use Rattle.llb_tree.proofs.NodeReplacement.{same_Ok}
+use Rattle.llb_tree.proofs.FilteredNodes.{split_first, keys_of}
+use Rattle.llb_tree.proofs.SelectedPaths.{under, hits, below_is, none_in, all_in, found_next, found_here, found_all, found_none}
 use Rattle.llb_tree.proofs.passing.+find.Goals as goal
 
 pub find-returns-in_default-clause-found : goal.find-returns-in_default-clause-found

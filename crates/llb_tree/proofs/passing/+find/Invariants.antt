@@ -2,8 +2,8 @@
 use Rattle.std.proofs.Common.{◌≡◌, ℕ, ◌+◌, ◌*◌, ◌∷◌, ◌++◌, length, map, take}
 use Rattle.std.specs.List.{filter}
 use Rattle.llb_tree.specs.Nodes.{flat, left_in}
-use Rattle.llb_tree.specs.Tested.{passes_all}
-use Rattle.llb_tree.proofs.Cursor.{IsAt}
+use Rattle.llb_tree.specs.PathTests.{passes_all}
+use Rattle.llb_tree.proofs.ChildCursor.{IsAt}
 use Rattle.llb_tree.proofs.passing.+find.Given as goal
 
 abbrev pub decreases-find : goal.decreases-find

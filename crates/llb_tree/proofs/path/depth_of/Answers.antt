@@ -5,7 +5,7 @@ use Rattle.std.proofs.lemmas.List.{length_push}
 use Rattle.std.proofs.lemmas.Result.{err_from_is_err_and}
 use Rattle.std.specs.Str.Iter.{split_text, split_has_more, split_pattern}
 use Rattle.llb_tree.specs.Path.{follow, parts_of, depth}
-use Rattle.llb_tree.proofs.Reading.{follow_more, follow_stops, follow_ends, depth_ok, depth_err}
+use Rattle.llb_tree.proofs.PathReading.{follow_more, follow_stops, follow_ends, depth_ok, depth_err}
 use Rattle.llb_tree.proofs.path.depth_of.Goals as goal
 
 pub returns-in_err-names-clause-depth : goal.returns-in_err-names-clause-depth

@@ -1,8 +1,8 @@
 use Rattle.std.specs.Cmp.Lexicographic.{same_text}
 use Rattle.std.proofs.Common.{sym, ap, ◌∙◌}
 use Rattle.llb_tree.specs.Nodes.{kids_in, name_of}
-use Rattle.llb_tree.proofs.TriedPlaces.{named_here}
-use Rattle.llb_tree.proofs.Pieced.{sorted_kids}
+use Rattle.llb_tree.proofs.GuessedPlaces.{named_here}
+use Rattle.llb_tree.proofs.PiecesAroundName.{sorted_kids}
 use Rattle.llb_tree.proofs.pieces.child_near.Goals as goal
 
 pub returns-in-Some : goal.returns-in-Some

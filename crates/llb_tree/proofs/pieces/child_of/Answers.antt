@@ -1,7 +1,7 @@
 use Rattle.std.proofs.Common.{Some, sym, ap, ◌∙◌}
 use Rattle.llb_tree.specs.declared.node.Child.{Child}
-use Rattle.llb_tree.proofs.Placed.{is_found, is_gap}
-use Rattle.llb_tree.proofs.Pieced.{found_rows}
+use Rattle.llb_tree.proofs.ChildPlaces.{is_found, is_gap}
+use Rattle.llb_tree.proofs.PiecesAroundName.{found_rows}
 use Rattle.llb_tree.proofs.pieces.child_of.Goals as goal
 
 pub place_of-requires : goal.place_of-requires

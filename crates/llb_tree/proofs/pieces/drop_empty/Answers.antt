@@ -1,5 +1,5 @@
 use Rattle.std.proofs.Common.{◌==◌, length, map, sym, ap, ◌∙◌}
-use Rattle.llb_tree.specs.Pieces.{row_pairs}
+use Rattle.llb_tree.specs.ChildPieces.{row_pairs}
 use Rattle.llb_tree.proofs.PieceEdits.{emptied, not_emptied}
 use Rattle.llb_tree.proofs.pieces.drop_empty.Goals as goal
 

@@ -1,6 +1,6 @@
 use Rattle.std.proofs.Common.{◌≡◌, ◌++◌, sym, map, subst, ◌∙◌, append-nil}
 use Rattle.llb_tree.specs.Nodes.{kids_in}
-use Rattle.llb_tree.specs.Pieces.{row_pairs, AllFull}
+use Rattle.llb_tree.specs.ChildPieces.{row_pairs, AllFull}
 use Rattle.llb_tree.proofs.PieceEdits.{moved_on}
 use Rattle.llb_tree.proofs.pieces.in_pieces.Goals.{then-len-ge-MOST+in_ok-end_piece, else-len-ge-MOST}
 use Rattle.llb_tree.proofs.pieces.in_pieces.Goals as goal

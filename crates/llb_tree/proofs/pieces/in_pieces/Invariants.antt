@@ -1,6 +1,6 @@
 use Rattle.std.proofs.Common.{◌≡◌, ◌++◌, map}
 use Rattle.llb_tree.specs.Nodes.{kids_in}
-use Rattle.llb_tree.specs.Pieces.{row_pairs, AllFull}
+use Rattle.llb_tree.specs.ChildPieces.{row_pairs, AllFull}
 use Rattle.llb_tree.proofs.pieces.in_pieces.Given as goal
 
 abbrev pub invariant-loop-child : goal.invariant-loop-child

@@ -1,6 +1,6 @@
 use Rattle.std.proofs.Common.{◌/◌, map, length, ap, ◌∙◌, arith, rules}
 use Rattle.llb_tree.specs.Nodes.{rows_in, pair_of}
-use Rattle.llb_tree.proofs.Pieced.{parted}
+use Rattle.llb_tree.proofs.PiecesAroundName.{parted}
 use Rattle.llb_tree.proofs.pieces.part.Goals as goal
 
 pub returns : goal.returns

@@ -1,5 +1,5 @@
 use Rattle.std.proofs.Common.{◌≡◌, ◌-◌, ◌<◌, ◌≤◌, [], true, false, length, map, get_or}
-use Rattle.llb_tree.specs.Pieces.{begins_after, row_pairs}
+use Rattle.llb_tree.specs.ChildPieces.{begins_after, row_pairs}
 use Rattle.llb_tree.proofs.pieces.piece_of.Given as goal
 
 abbrev pub invariant-loop-high : goal.invariant-loop-high

@@ -1,6 +1,6 @@
 use Rattle.std.proofs.Common.{Contains, sym, ap, subst, ◌∙◌, arith}
 use Rattle.llb_tree.specs.Nodes.{rows_in}
-use Rattle.llb_tree.proofs.TriedPlaces.{row_within}
+use Rattle.llb_tree.proofs.GuessedPlaces.{row_within}
 use Rattle.llb_tree.proofs.pieces.row_at.Goals as goal
 
 pub returns : goal.returns

@@ -1,5 +1,5 @@
 use Rattle.std.proofs.Common.{◌≡◌, map, take}
-use Rattle.llb_tree.specs.Pieces.{row_pairs}
+use Rattle.llb_tree.specs.ChildPieces.{row_pairs}
 use Rattle.llb_tree.proofs.pieces.second_owners.Given as goal
 
 abbrev pub invariant-loop-piece : goal.invariant-loop-piece

@@ -1,7 +1,7 @@
 use Rattle.std.proofs.Common.{◌≡◌, map}
 use Rattle.std.specs.Arc.{arc_value}
 use Rattle.llb_tree.specs.Nodes.{pair_of}
-use Rattle.llb_tree.specs.Pieces.{pairs_of, ArePieced}
+use Rattle.llb_tree.specs.ChildPieces.{pairs_of, ArePieced}
 use Rattle.llb_tree.specs.Laying.{puts}
 use Rattle.llb_tree.proofs.putting.put_all.Given as goal
 

@@ -1,8 +1,8 @@
 use Rattle.std.proofs.Common.{◌≡◌, Ok, Err, map, sym, ap, ◌∙◌, refl}
 use Rattle.llb_tree.specs.Nodes.{name_of, pair_of, place}
 use Rattle.llb_tree.specs.declared.node.Child.{Child}
-use Rattle.llb_tree.proofs.Laying.{put_found}
-use Rattle.llb_tree.proofs.Placed.{is_gap}
+use Rattle.llb_tree.proofs.NodeLaying.{put_found}
+use Rattle.llb_tree.proofs.ChildPlaces.{is_gap}
 use Rattle.llb_tree.proofs.putting.put_child.Goals as goal
 
 pub returns-in-Ok-clause-ok : goal.returns-in-Ok-clause-ok

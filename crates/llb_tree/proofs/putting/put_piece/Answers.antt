@@ -2,11 +2,11 @@ use Rattle.std.proofs.Common.{map, ap, sym, subst, ◌∙◌}
 use Rattle.std.specs.FinMap as finite
 use Rattle.llb_tree.specs.Path.{name_cmp}
 use Rattle.llb_tree.specs.Nodes.{rows_in, name_of}
-use Rattle.llb_tree.specs.Pieces.{row_pairs, IsPieceOf, IsPieced}
+use Rattle.llb_tree.specs.ChildPieces.{row_pairs, IsPieceOf, IsPieced}
 use Rattle.llb_tree.specs.declared.node.Piece.{Piece}
-use Rattle.llb_tree.proofs.Pieced.{found_rows}
+use Rattle.llb_tree.proofs.PiecesAroundName.{found_rows}
 use Rattle.llb_tree.proofs.PieceEdits.{put_at, put_pieced, same_pairs}
-use Rattle.llb_tree.proofs.Setting.{on_ok, on_both}
+use Rattle.llb_tree.proofs.NodeReplacement.{on_ok, on_both}
 use Rattle.llb_tree.proofs.putting.put_piece.Goals as goal
 
 pub put_in-requires : goal.put_in-requires

@@ -1,15 +1,15 @@
 use Rattle.std.proofs.Common.{◌≡◌, ◌+◌, Option, Vec, Global, ◌||◌, [], ◌∷◌, arith, true, false, subst, sym, ap, ◌∙◌, refl, Some, None, option_map}
 use Rattle.std.specs.Arc.{arc_value}
 use Rattle.llb_tree.specs.Nodes.{name_of, kids_of, kids_in, left_in, own_entry, seen, AreSorted}
-use Rattle.llb_tree.specs.Tested.{Keeps, KeepsAll}
+use Rattle.llb_tree.specs.PathTests.{Keeps, KeepsAll}
 use Rattle.llb_tree.specs.declared.node.Kind.TheVariants as kind
 use Rattle.llb_tree.specs.declared.node.Child.{Child}
-use Rattle.llb_tree.proofs.Cursor.{at_start, at_next, at_end, fewer}
+use Rattle.llb_tree.proofs.ChildCursor.{at_start, at_next, at_end, fewer}
 use Rattle.llb_tree.proofs.Entries.{nothing}
-use Rattle.llb_tree.proofs.Pieced.{sorted_kids}
+use Rattle.llb_tree.proofs.PiecesAroundName.{sorted_kids}
 use Rattle.llb_tree.proofs.PieceEdits.{some_pieced}
-use Rattle.llb_tree.proofs.Thinning.{keeps_other, keeps_thinned, keeps_gone, thins_none, thins_some, split_first}
-use Rattle.llb_tree.proofs.Thinning.{KeptSoFar, kept_start, kept_next, kept_changed, kept_same}
+use Rattle.llb_tree.proofs.FilteredNodes.{keeps_other, keeps_thinned, keeps_gone, thins_none, thins_some, split_first}
+use Rattle.llb_tree.proofs.FilteredNodes.{KeptSoFar, kept_start, kept_next, kept_changed, kept_same}
 use Rattle.llb_tree.proofs.tested.+thin.Goals as goal
 
 pub keep-returns-then-not-passes : goal.keep-returns-then-not-passes

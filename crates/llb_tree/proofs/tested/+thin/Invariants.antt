@@ -1,8 +1,8 @@
 -- The rest of the tests is one shorter with each level.
 use Rattle.std.proofs.Common.{ℕ, ◌+◌, ◌*◌, length, ◌∷◌}
 use Rattle.llb_tree.specs.Nodes.{left_in}
-use Rattle.llb_tree.proofs.Cursor.{IsAt}
-use Rattle.llb_tree.proofs.Thinning.{KeptSoFar}
+use Rattle.llb_tree.proofs.ChildCursor.{IsAt}
+use Rattle.llb_tree.proofs.FilteredNodes.{KeptSoFar}
 use Rattle.llb_tree.proofs.tested.+thin.Given as goal
 
 abbrev pub decreases-thinned : goal.decreases-thinned

@@ -5,7 +5,7 @@ use Rattle.llb_tree.specs.Tree.{moved}
 use Rattle.llb_tree.specs.Nodes.{flat, left_in, AreSorted}
 use Rattle.llb_tree.specs.Walks.{levels_of, behind, AreShort}
 use Rattle.llb_tree.proofs.Entries.{nothing}
-use Rattle.llb_tree.proofs.Walked.{above, Above, came_to, CameTo, behind-nil}
+use Rattle.llb_tree.proofs.WalkSteps.{above, Above, came_to, CameTo, behind-nil}
 use Rattle.llb_tree.proofs.walk.climb.Goals.{In_ok-enter}
 use Rattle.llb_tree.proofs.walk.climb.Goals as goal
 

@@ -5,7 +5,7 @@ use Rattle.llb_tree.specs.Tree.{moved}
 use Rattle.llb_tree.specs.Nodes.{flat, left_in, AreSorted, seen}
 use Rattle.llb_tree.specs.Walks.{levels_of, behind, AreShort}
 use Rattle.llb_tree.proofs.Entries.{entries-root}
-use Rattle.llb_tree.proofs.Walked.{short_behind, room_below, first_left, came_to, CameTo}
+use Rattle.llb_tree.proofs.WalkSteps.{short_behind, room_below, first_left, came_to, CameTo}
 use Rattle.llb_tree.proofs.walk.descend.Goals.{In_ok-enter-in-Some}
 use Rattle.llb_tree.proofs.walk.descend.Goals as goal
 

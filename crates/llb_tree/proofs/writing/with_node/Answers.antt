@@ -1,7 +1,7 @@
 use Rattle.std.proofs.Common.{◌≡◌, map, sym, ap, ◌∙◌, refl}
 use Rattle.llb_tree.specs.Nodes.{pair_of}
 use Rattle.llb_tree.specs.Laying.{those, written}
-use Rattle.llb_tree.proofs.Covered.{node_written}
+use Rattle.llb_tree.proofs.CoveringChildren.{node_written}
 use Rattle.llb_tree.proofs.writing.with_node.Goals.{in-Some, in-None+in_ok-list-in-None}
 use Rattle.llb_tree.proofs.writing.with_node.Goals as goal
 

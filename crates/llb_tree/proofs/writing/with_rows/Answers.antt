@@ -1,6 +1,6 @@
 use Rattle.std.proofs.Common.{◌≡◌, map, set, sym, ap, ◌∙◌}
 use Rattle.llb_tree.specs.Nodes.{pair_of}
-use Rattle.llb_tree.specs.Pieces.{row_pairs}
+use Rattle.llb_tree.specs.ChildPieces.{row_pairs}
 use Rattle.llb_tree.specs.Laying.{those_pieces}
 use Rattle.llb_tree.proofs.LaidPieces.{map_set}
 use Rattle.llb_tree.proofs.writing.with_rows.Goals.{in-Some, in-None+in_ok-list-in-None}

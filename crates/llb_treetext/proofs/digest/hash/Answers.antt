@@ -2,7 +2,7 @@
 use Rattle.std.proofs.Common.{sym, ap, ◌∙◌}
 use Rattle.sha2.specs.Sha256.{sha256}
 use Rattle.llb_treetext.specs.TreeText.{line_of, tree_text}
-use Rattle.llb_treetext.proofs.Lines.{all_done}
+use Rattle.llb_treetext.proofs.TextsOfLines.{all_done}
 use Rattle.llb_treetext.proofs.digest.hash.Goals as goal
 
 pub returns : goal.returns

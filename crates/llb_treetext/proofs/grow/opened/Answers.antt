@@ -1,5 +1,5 @@
 -- The directory is empty, and nothing is at its path.
-use Rattle.llb_treetext.proofs.Growing.{opens_there}
+use Rattle.llb_treetext.proofs.DetachedDirectory.{opens_there}
 use Rattle.llb_treetext.proofs.grow.opened.Goals as goal
 
 pub returns : goal.returns

@@ -1,7 +1,7 @@
 -- The directory goes back to its place.
 use Rattle.std.proofs.Common.{subst}
-use Rattle.llb_treetext.specs.Growing.{IsKept}
-use Rattle.llb_treetext.proofs.Growing.{goes_back}
+use Rattle.llb_treetext.specs.GrowingTree.{IsKept}
+use Rattle.llb_treetext.proofs.DetachedDirectory.{goes_back}
 use Rattle.llb_treetext.proofs.grow.whole.Goals as goal
 
 pub returns : goal.returns

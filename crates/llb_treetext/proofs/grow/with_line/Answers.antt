@@ -1,10 +1,10 @@
 -- The row that is read is the one of the parts, and goes to the whole tree.
 use Rattle.std.proofs.Common.{sym, ap, subst}
 use Rattle.std.specs.Option.{option_map}
-use Rattle.llb_treetext.specs.Fields.{pair_of, parts_seen}
-use Rattle.llb_treetext.specs.Growing.{IsGrown, IsGrownIfAny}
-use Rattle.llb_treetext.proofs.Apart.{row_made}
-use Rattle.llb_treetext.proofs.Growing.{row_more}
+use Rattle.llb_treetext.specs.LineFields.{pair_of, parts_seen}
+use Rattle.llb_treetext.specs.GrowingTree.{IsGrown, IsGrownIfAny}
+use Rattle.llb_treetext.proofs.EntryLineParts.{row_made}
+use Rattle.llb_treetext.proofs.DetachedDirectory.{row_more}
 use Rattle.llb_treetext.proofs.grow.with_line.Goals as goal
 
 pub returns-in-Ok-Some : goal.returns-in-Ok-Some

@@ -1,6 +1,6 @@
 -- The first line is the root's.
 use Rattle.std.proofs.Common.{refl, sym, ◌∙◌}
-use Rattle.llb_treetext.proofs.Places.{place_names, place_kind, starts, not_first}
+use Rattle.llb_treetext.proofs.NextRowPlace.{place_names, place_kind, starts, not_first}
 use Rattle.llb_treetext.proofs.judge.first_line.Goals as goal
 
 pub returns : goal.returns

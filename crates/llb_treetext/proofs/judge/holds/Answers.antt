@@ -1,5 +1,5 @@
 -- What is after the names of the directory decides.
-use Rattle.llb_treetext.proofs.Trails.{stripped, not_stripped, opens_nothing, opens_byte}
+use Rattle.llb_treetext.proofs.SlashedNames.{stripped, not_stripped, opens_nothing, opens_byte}
 use Rattle.llb_treetext.proofs.judge.holds.Goals as goal
 
 pub returns-in-None-clause-each : goal.returns-in-None-clause-each

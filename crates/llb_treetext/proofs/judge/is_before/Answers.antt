@@ -1,6 +1,6 @@
 -- What ends first comes first.
 use Rattle.std.proofs.Common.{refl, arith}
-use Rattle.llb_treetext.proofs.Trails.{longer, ended}
+use Rattle.llb_treetext.proofs.SlashedNames.{longer, ended}
 use Rattle.llb_treetext.proofs.judge.is_before.Goals as goal
 
 pub returns-then-at-second : goal.returns-then-at-second

@@ -1,6 +1,6 @@
 -- What is left decides.
 use Rattle.std.proofs.Common.{◌≡◌, ◌≤◌, length, drop}
-use Rattle.llb_treetext.specs.Placing.{trail_cmp}
+use Rattle.llb_treetext.specs.RowPlacement.{trail_cmp}
 use Rattle.llb_treetext.proofs.judge.is_before.Given as goal
 
 abbrev pub invariant-loop-at : goal.invariant-loop-at

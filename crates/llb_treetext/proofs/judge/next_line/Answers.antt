@@ -1,7 +1,7 @@
 -- The line is no entry's, or lies before the last one, or has no directory; or a tree has it.
 use Rattle.std.proofs.Common.{refl, ap, ◌∙◌, ◌+◌}
 use Rattle.std.specs.FinMap as finite
-use Rattle.llb_treetext.proofs.Places.{place_names, place_kind, out_of_order, no_directory, goes_to}
+use Rattle.llb_treetext.proofs.NextRowPlace.{place_names, place_kind, out_of_order, no_directory, goes_to}
 use Rattle.llb_treetext.proofs.judge.next_line.Goals as goal
 
 pub returns-in_default : goal.returns-in_default

@@ -1,6 +1,6 @@
 -- The last slash is found, and there is no other.
 use Rattle.std.proofs.Common.{◌∷◌, ◌++◌, [], sym, ap, ◌∙◌, append_assoc}
-use Rattle.llb_treetext.proofs.Trails.{last_slash, none_inside, no_bytes}
+use Rattle.llb_treetext.proofs.SlashedNames.{last_slash, none_inside, no_bytes}
 use Rattle.llb_treetext.proofs.judge.parent.Goals as goal
 
 pub returns-then-byte-eq47 : goal.returns-then-byte-eq47

@@ -1,6 +1,6 @@
 -- No slash is after what is left.
 use Rattle.std.proofs.Common.{◌≡◌, ◌++◌, ℕ, List, length}
-use Rattle.llb_treetext.proofs.Trails.{NoSlash}
+use Rattle.llb_treetext.proofs.SlashedNames.{NoSlash}
 use Rattle.llb_treetext.proofs.judge.parent.Given as goal
 
 abbrev pub invariant-loop-byte : goal.invariant-loop-byte

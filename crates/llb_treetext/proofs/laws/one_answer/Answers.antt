@@ -1,5 +1,5 @@
 -- A law of the definitions.
-use Rattle.llb_treetext.proofs.Unique.{one_answer}
+use Rattle.llb_treetext.proofs.UniqueReading.{one_answer}
 use Rattle.llb_treetext.proofs.laws.one_answer.Goals as goal
 
 pub returns : goal.returns

@@ -1,5 +1,5 @@
 -- A law of the definitions, of what a tree is by its type.
-use Rattle.llb_treetext.proofs.Unique.{reads_back}
+use Rattle.llb_treetext.proofs.UniqueReading.{reads_back}
 use Rattle.llb_treetext.proofs.laws.reads_back.Goals as goal
 
 pub returns : goal.returns

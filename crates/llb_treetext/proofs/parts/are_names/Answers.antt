@@ -6,7 +6,7 @@ use Rattle.std.proofs.lemmas.List.{length_push}
 use Rattle.std.specs.List.{list_all}
 use Rattle.std.specs.Str.Iter.{split_text, split_has_more, split_pattern}
 use Rattle.llb_tree.specs.Path.{is_name, parts_of}
-use Rattle.llb_treetext.proofs.Names.{names_more, no_names, many_names, all_names}
+use Rattle.llb_treetext.proofs.NamesInTexts.{names_more, no_names, many_names, all_names}
 use Rattle.llb_treetext.proofs.parts.are_names.Goals as goal
 
 pub returns-then-count-ge128 : goal.returns-then-count-ge128

@@ -1,6 +1,6 @@
 -- A path begins with a slash.
 use lib.Utf8.{encode}
-use Rattle.llb_treetext.proofs.Names.{no_path}
+use Rattle.llb_treetext.proofs.NamesInTexts.{no_path}
 use Rattle.llb_treetext.proofs.parts.is_path.Goals as goal
 
 pub returns-in-None : goal.returns-in-None

@@ -1,7 +1,7 @@
 -- The first line ends at the first line end.
 use Rattle.std.proofs.Common.{sym, ◌∙◌}
-use Rattle.llb_treetext.proofs.Rows.{no_line_end, no_first_line, has_first_line}
-use Rattle.llb_treetext.proofs.Apart.{begins_none}
+use Rattle.llb_treetext.proofs.RowLines.{no_line_end, no_first_line, has_first_line}
+use Rattle.llb_treetext.proofs.EntryLineParts.{begins_none}
 use Rattle.llb_treetext.proofs.parts.next_parts.Goals as goal
 
 pub returns-in_default : goal.returns-in_default

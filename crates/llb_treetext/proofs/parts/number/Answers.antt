@@ -1,6 +1,6 @@
 -- One digit is taken from the start of those that are left.
 use Rattle.std.proofs.Common.{sym, ap, ◌∙◌, arith}
-use Rattle.llb_treetext.specs.Fields.{number_from}
+use Rattle.llb_treetext.specs.LineFields.{number_from}
 use Rattle.llb_treetext.proofs.Numbers.{number_next, number_stops, number_end}
 use Rattle.llb_treetext.proofs.parts.number.Goals as goal
 

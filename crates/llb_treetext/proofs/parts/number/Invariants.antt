@@ -1,6 +1,6 @@
 -- The digits that are left, read after the number so far, make what all of them make.
 use Rattle.std.proofs.Common.{◌≡◌, drop}
-use Rattle.llb_treetext.specs.Fields.{number_from}
+use Rattle.llb_treetext.specs.LineFields.{number_from}
 use Rattle.llb_treetext.proofs.parts.number.Given as goal
 
 abbrev pub invariant-loop-byte : goal.invariant-loop-byte

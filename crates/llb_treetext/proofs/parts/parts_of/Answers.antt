@@ -1,8 +1,8 @@
 -- A line is UTF-8, and has its parts.
 use Rattle.std.proofs.Common.{sym, subst}
 use Rattle.std.specs.Str.{IsUtf8}
-use Rattle.llb_treetext.proofs.Written.{row_utf8}
-use Rattle.llb_treetext.proofs.Apart.{spells}
+use Rattle.llb_treetext.proofs.EntryLineRoundTrip.{row_utf8}
+use Rattle.llb_treetext.proofs.EntryLineParts.{spells}
 use Rattle.llb_treetext.proofs.parts.parts_of.Goals as goal
 
 pub returns-in-Err : goal.returns-in-Err

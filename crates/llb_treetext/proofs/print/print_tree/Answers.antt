@@ -3,11 +3,11 @@ use Rattle.std.proofs.Common.{ℕ, List, sym, subst, ap, ◌∙◌, ◌++◌, dr
 use Rattle.std.specs.Io.KnownBytes.{Appends}
 use Rattle.std.proofs.KnownBytes.{Appends-trans}
 use Rattle.llb_tree.specs.Tree.{Entry}
-use Rattle.llb_tree.specs.Rows.{seen}
+use Rattle.llb_tree.specs.PathEntries.{seen}
 use Rattle.llb_treetext.specs.TreeText.{line_of, lines_of, tree_text}
-use Rattle.llb_treetext.specs.Faults.{is_refused_memory}
+use Rattle.llb_treetext.specs.CallResults.{is_refused_memory}
 use Rattle.llb_treetext.specs.declared.fault.PrintFault.TheVariants.{Memory}
-use Rattle.llb_treetext.proofs.Lines.{advanced, line_done, all_done, stops_inside, stops_between}
+use Rattle.llb_treetext.proofs.TextsOfLines.{advanced, line_done, all_done, stops_inside, stops_between}
 use Rattle.llb_treetext.proofs.print.print_tree.Goals as goal
 
 pub returns-in_err-print_line-clause-prints : goal.returns-in_err-print_line-clause-prints

@@ -2,7 +2,7 @@
 use Rattle.std.proofs.Common.{[], sym, ap, ◌∙◌, ◌+◌, arith}
 use Rattle.std.specs.FinMap as finite
 use Rattle.llb_tree.specs.Tree.{Dir, empty_tree}
-use Rattle.llb_treetext.proofs.Placing.{few_lines, some_left, stops, front_more, whole_text}
+use Rattle.llb_treetext.proofs.RowAppending.{few_lines, some_left, stops, front_more, whole_text}
 use Rattle.llb_treetext.proofs.read.read_tree.Goals as goal
 
 pub loop-last-init : goal.loop-last-init

@@ -1,6 +1,6 @@
 use Rattle.std.proofs.Common.{◌≡◌, ◌<◌, length, true, sym, ◌∙◌, arith, get_or}
 use Rattle.llb_wire.specs.Decimal.{is_digit}
-use Rattle.llb_wire.proofs.Digits.{digits_more, value_more}
+use Rattle.llb_wire.proofs.DecimalDigits.{digits_more, value_more}
 use Rattle.llb_wire.proofs.decimal.magnitude.Goals as goal
 
 pub loop-byte-preserved : goal.loop-byte-preserved

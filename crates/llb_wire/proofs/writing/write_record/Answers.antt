@@ -1,7 +1,7 @@
 use Rattle.std.proofs.Common.{arith}
 use Rattle.llb_wire.proofs.SpelledRecords.{written_is_shortest}
 use Rattle.llb_wire.proofs.Varints.{are_bytes}
-use Rattle.llb_wire.proofs.Written.{record_again}
+use Rattle.llb_wire.proofs.RecordsReadBack.{record_again}
 use Rattle.llb_wire.proofs.writing.write_record.Goals as goal
 
 pub returns-then-is_err-clause-shortest : goal.returns-then-is_err-clause-shortest

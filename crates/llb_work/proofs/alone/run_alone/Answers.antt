@@ -1,10 +1,10 @@
 use Rattle.std.proofs.Common.{◌≡◌, length, drop, None, true, arith, ap, ◌∙◌}
 use Rattle.llb_model.specs.Run.{events_by, chosen, is_complete}
-use Rattle.llb_model.proofs.Complete.{complete_rests}
-use Rattle.llb_work.proofs.Afters.{no_shorter}
-use Rattle.llb_work.proofs.Driving.{all_granted, when_true}
-use Rattle.llb_work.proofs.Ending.{ends_in_order}
-use Rattle.llb_work.proofs.Gathers.{zeros}
+use Rattle.llb_model.proofs.RunCompletion.{complete_rests}
+use Rattle.llb_work.proofs.BoardContinuations.{no_shorter}
+use Rattle.llb_work.proofs.DriverEvents.{all_granted, when_true}
+use Rattle.llb_work.proofs.DriverRunEnds.{ends_in_order}
+use Rattle.llb_work.proofs.WorkerTallies.{zeros}
 use Rattle.llb_work.proofs.alone.run_alone.Goals.{then-whole, else-whole}
 use Rattle.llb_work.proofs.alone.run_alone.Goals as goal
 

@@ -1,7 +1,7 @@
 use Rattle.std.proofs.Common.{arith}
-use Rattle.llb_work.proofs.Afters.{goes_nowhere, goes_further}
-use Rattle.llb_work.proofs.Resting.{cancel_rests, idle_up, all_idle}
-use Rattle.llb_work.proofs.Workers.{cancel_goes}
+use Rattle.llb_work.proofs.BoardContinuations.{goes_nowhere, goes_further}
+use Rattle.llb_work.proofs.IdleWorkers.{cancel_rests, idle_up, all_idle}
+use Rattle.llb_work.proofs.WorkerCalls.{cancel_goes}
 use Rattle.llb_work.proofs.driver.cancel_all.Goals as goal
 
 pub loop-w-init : goal.loop-w-init

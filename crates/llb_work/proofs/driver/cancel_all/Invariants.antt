@@ -2,7 +2,7 @@
 use Rattle.std.proofs.Common.{◌≡◌, ◌<◌, ◌≤◌, ℕ, length}
 use Rattle.std.specs.Prelude.{slice_get, None}
 use Rattle.llb_model.specs.State.{runs}
-use Rattle.llb_work.specs.Crew.{GoesOn}
+use Rattle.llb_work.specs.LockSharingWorkers.{GoesOn}
 use Rattle.llb_work.proofs.driver.cancel_all.Given as goal
 
 abbrev pub invariant-loop-w : goal.invariant-loop-w

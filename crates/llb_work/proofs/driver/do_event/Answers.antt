@@ -1,8 +1,8 @@
 use Rattle.std.proofs.Common.{sym, subst, ◌∙◌}
 use Rattle.llb_model.specs.Table.{Claimed}
 use Rattle.llb_events.specs.declared.event.Event as event
-use Rattle.llb_work.specs.Alone.{Takes, IsLeft}
-use Rattle.llb_work.proofs.Driving.{on_true, on_false, claim_takes, step_takes, settle_takes, settle_left, cancel_takes, cancel_left}
+use Rattle.llb_work.specs.SingleThreadDriver.{Takes, IsLeft}
+use Rattle.llb_work.proofs.DriverEvents.{on_true, on_false, claim_takes, step_takes, settle_takes, settle_left, cancel_takes, cancel_left}
 use Rattle.llb_work.proofs.driver.do_event.Goals as goal
 
 pub returns-in-Claim-clause-taken : goal.returns-in-Claim-clause-taken

@@ -1,10 +1,10 @@
 use Rattle.std.proofs.Common.{refl, sym, subst, ◌∙◌}
-use Rattle.llb_model.proofs.Alone.{Ascends}
+use Rattle.llb_model.proofs.ChosenEventRuns.{Ascends}
 use Rattle.llb_model.specs.Run.{chosen}
-use Rattle.llb_board.specs.Seen.{BoardValue}
-use Rattle.llb_work.specs.Alone.{TakesMemory}
-use Rattle.llb_work.proofs.Cancels.{takes_no_cancel, chosen_no_cancel, leaves_cancels}
-use Rattle.llb_work.proofs.Driving.{chosen_nowhere, chosen_further, ascends_on, nearer, left_over}
+use Rattle.llb_board.specs.BoardValue.{BoardValue}
+use Rattle.llb_work.specs.SingleThreadDriver.{TakesMemory}
+use Rattle.llb_work.proofs.CancelFreeEvents.{takes_no_cancel, chosen_no_cancel, leaves_cancels}
+use Rattle.llb_work.proofs.DriverEvents.{chosen_nowhere, chosen_further, ascends_on, nearer, left_over}
 use Rattle.llb_work.proofs.driver.go_to_end.Goals as goal
 
 pub loop-event-init : goal.loop-event-init

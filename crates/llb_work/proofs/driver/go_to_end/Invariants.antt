@@ -1,9 +1,9 @@
 -- The events so far are chosen and granted, and none is a cancel; their claims ascend; after each event, fewer are still to come.
 use Rattle.std.proofs.Common.{◌≡◌, []}
-use Rattle.llb_model.specs.Room.{still_to_come}
-use Rattle.llb_model.proofs.Alone.{Ascends}
-use Rattle.llb_work.specs.Crew.{CancelsNothing}
-use Rattle.llb_work.specs.Alone.{Goes}
+use Rattle.llb_model.specs.EventBounds.{still_to_come}
+use Rattle.llb_model.proofs.ChosenEventRuns.{Ascends}
+use Rattle.llb_work.specs.LockSharingWorkers.{CancelsNothing}
+use Rattle.llb_work.specs.SingleThreadDriver.{Goes}
 use Rattle.llb_work.proofs.driver.go_to_end.Given as goal
 
 abbrev pub invariant-loop-event : goal.invariant-loop-event

@@ -1,6 +1,6 @@
 use Rattle.std.proofs.Common.{◌≡◌, ◌≤◌, length, vec_len}
 use Rattle.std.specs.Prelude.{vec_capacity}
-use Rattle.llb_work.proofs.Known.{MarkedSoFar}
+use Rattle.llb_work.proofs.PlainMarksAndKnownJobs.{MarkedSoFar}
 use Rattle.llb_work.proofs.plain.plain_marks.Given as goal
 
 abbrev pub invariant-loop-vertex : goal.invariant-loop-vertex

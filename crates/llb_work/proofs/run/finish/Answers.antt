@@ -1,6 +1,6 @@
-use Rattle.llb_work.proofs.Afters.{goes_further}
-use Rattle.llb_work.proofs.Driving.{all_granted}
-use Rattle.llb_work.proofs.Resting.{idle_complete}
+use Rattle.llb_work.proofs.BoardContinuations.{goes_further}
+use Rattle.llb_work.proofs.DriverEvents.{all_granted}
+use Rattle.llb_work.proofs.IdleWorkers.{idle_complete}
 use Rattle.llb_work.proofs.run.finish.Goals as goal
 
 pub returns-then-not-go_to_end-clause-goes : goal.returns-then-not-go_to_end-clause-goes

@@ -1,4 +1,4 @@
-use Rattle.llb_work.proofs.Crews.{leads_nowhere}
+use Rattle.llb_work.proofs.ThreadedRunEnds.{leads_nowhere}
 use Rattle.llb_work.proofs.run.refused.Goals as goal
 
 pub returns-clause-leads : goal.returns-clause-leads

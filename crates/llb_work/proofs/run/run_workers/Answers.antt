@@ -1,5 +1,5 @@
 use Rattle.std.proofs.Common.{rules, inl, ◌∙◌}
-use Rattle.llb_work.proofs.Crews.{leads_from, never_foreign}
+use Rattle.llb_work.proofs.ThreadedRunEnds.{leads_from, never_foreign}
 use Rattle.llb_work.proofs.run.run_workers.Goals as goal
 
 pub returns-then-not-same-clause-leads : goal.returns-then-not-same-clause-leads

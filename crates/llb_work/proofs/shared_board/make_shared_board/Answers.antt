@@ -1,8 +1,8 @@
 use Rattle.std.proofs.Common.{ap, arith, length, refl, sym, ◌∙◌}
 use Rattle.llb_model.specs.Outcome.{is_plain}
-use Rattle.llb_board.specs.Seen.{BoardValue}
-use Rattle.llb_work.proofs.Afters.{after_itself}
-use Rattle.llb_work.proofs.Cancels.{leaves_cancels}
+use Rattle.llb_board.specs.BoardValue.{BoardValue}
+use Rattle.llb_work.proofs.BoardContinuations.{after_itself}
+use Rattle.llb_work.proofs.CancelFreeEvents.{leaves_cancels}
 use Rattle.llb_work.proofs.shared_board.make_shared_board.Goals as goal
 
 pub invariant_of-result : goal.invariant_of-result

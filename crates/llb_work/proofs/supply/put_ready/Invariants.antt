@@ -1,4 +1,4 @@
-use Rattle.llb_work.specs.Passes.{IsUncut}
+use Rattle.llb_work.specs.WorkerPasses.{IsUncut}
 use Rattle.llb_work.proofs.supply.put_ready.Given as goal
 
 abbrev pub invariant-loop-v : goal.invariant-loop-v

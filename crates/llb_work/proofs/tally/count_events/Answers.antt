@@ -1,6 +1,6 @@
 use Rattle.std.proofs.Common.{arith}
 use Rattle.llb_events.specs.declared.event.Event.TheVariants as event
-use Rattle.llb_work.proofs.Counting.{counted_more}
+use Rattle.llb_work.proofs.WorkerEventCounts.{counted_more}
 use Rattle.llb_work.proofs.tally.count_events.Goals as goal
 
 pub loop-event-preserved : goal.loop-event-preserved

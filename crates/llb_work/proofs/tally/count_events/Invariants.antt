@@ -1,5 +1,5 @@
 -- The counts of the events so far.
-use Rattle.llb_work.proofs.Counting.{Counted}
+use Rattle.llb_work.proofs.WorkerEventCounts.{Counted}
 use Rattle.llb_work.proofs.tally.count_events.Given as goal
 
 abbrev pub invariant-loop-event : goal.invariant-loop-event

@@ -1,7 +1,7 @@
 use Rattle.std.proofs.Common.{◌<◌, drop, ap, ◌∙◌}
 use Rattle.std.proofs.lemmas.List.Elements.{All-same}
 use Rattle.llb_model.specs.Table.{worker_of}
-use Rattle.llb_work.proofs.Counting.{by_workers}
+use Rattle.llb_work.proofs.WorkerEventCounts.{by_workers}
 use Rattle.llb_work.proofs.tally.count_record.Goals as goal
 
 pub count_events-requires-clause-workers : goal.count_events-requires-clause-workers

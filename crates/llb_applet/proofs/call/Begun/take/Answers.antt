@@ -2,9 +2,9 @@ use Rattle.std.proofs.Common.{◌++◌, ◌∷◌, [], sym, ap, ◌∙◌, refl}
 use Rattle.std.proofs.lemmas.Result.{err_from_is_err_and}
 use Rattle.llb_applet.specs.declared.join.Join.TheVariants.{Then}
 use Rattle.llb_applet.specs.Words.{join_of, calls_from}
-use Rattle.llb_applet.specs.Reading.{verdict}
+use Rattle.llb_applet.specs.CallReading.{verdict}
 use Rattle.llb_applet.specs.Scripts.{commands_of}
-use Rattle.llb_applet.proofs.Gathering.{judged_on, judged_stops, at_other, separates_not}
+use Rattle.llb_applet.proofs.CallWordGathering.{judged_on, judged_stops, at_other, separates_not}
 use Rattle.llb_applet.proofs.call.Begun.take.Goals as goal
 
 pub returns-in_err-judge-clause-judges : goal.returns-in_err-judge-clause-judges

@@ -1,4 +1,4 @@
-use Rattle.llb_asm.proofs.Kept.{kept_none}
+use Rattle.llb_asm.proofs.DigestsAndByteCount.{kept_none}
 use Rattle.llb_asm.proofs.earlier.Earlier.new.Goals as goal
 
 pub invariant_of-result : goal.invariant_of-result

@@ -1,7 +1,7 @@
 use Rattle.std.proofs.Common.{◌++◌, ◌∷◌, [], ap, ◌∙◌, length}
 use Rattle.llb_wire.specs.Digest.{digest_text}
-use Rattle.llb_asm.specs.Reading.{record_length}
-use Rattle.llb_asm.proofs.Kept.{kept_more}
+use Rattle.llb_asm.specs.TextGrammar.{record_length}
+use Rattle.llb_asm.proofs.DigestsAndByteCount.{kept_more}
 use Rattle.llb_asm.proofs.earlier.Earlier.push.Goals as goal
 
 pub invariant_of-self-2 : goal.invariant_of-self-2

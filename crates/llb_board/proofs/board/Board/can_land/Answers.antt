@@ -4,10 +4,10 @@ use Rattle.std.specs.Prelude.{slice_get}
 use Rattle.llb_model.specs.Caches.{Instance}
 use Rattle.llb_model.specs.State.{WorkerStatus, places_at}
 use Rattle.llb_board.specs.Jobs.{is_shared, has_shared}
-use Rattle.llb_board.specs.Seen.{BoardValue, seen}
+use Rattle.llb_board.specs.BoardValue.{BoardValue, seen}
 use Rattle.llb_board.specs.Landing.{RunsAlone, RunsShared}
-use Rattle.llb_board.proofs.Choices.{runs_at}
-use Rattle.llb_board.proofs.Landed.{runs_vertex, on_false}
+use Rattle.llb_board.proofs.WorkerSearch.{runs_at}
+use Rattle.llb_board.proofs.LandedBoards.{runs_vertex, on_false}
 use Rattle.llb_board.proofs.board.Board.can_land.Goals as goal
 
 pub is_run_of-requires : goal.is_run_of-requires

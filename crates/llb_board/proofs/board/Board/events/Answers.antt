@@ -1,10 +1,10 @@
 use Rattle.std.proofs.Common.{◌≡◌, ◌≤◌, ◌+◌, length, sym, ap, subst, List, []}
 use Rattle.std.specs.Prelude.{unwrap_or, option_map}
-use Rattle.llb_model.specs.Room.{most_events, owed, still_to_come}
+use Rattle.llb_model.specs.EventBounds.{most_events, owed, still_to_come}
 use Rattle.llb_model.specs.State.{State}
 use Rattle.llb_model.specs.Table.{Reply}
-use Rattle.llb_model.proofs.Rooms.{run_has_few}
-use Rattle.llb_board.specs.Seen.{BoardValue, Replays, replies_in, seen}
+use Rattle.llb_model.proofs.RemainingEvents.{run_has_few}
+use Rattle.llb_board.specs.BoardValue.{BoardValue, Replays, replies_in, seen}
 use Rattle.llb_board.proofs.board.Board.events.Goals as goal
 
 -- the replies of a record that replays are those that it replays with

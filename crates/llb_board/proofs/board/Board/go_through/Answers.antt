@@ -1,8 +1,8 @@
 use Rattle.std.proofs.Common.{sym, subst}
 use Rattle.llb_loader.specs.Graph.{IsGraph}
-use Rattle.llb_board.specs.Seen.{BoardValue, seen}
+use Rattle.llb_board.specs.BoardValue.{BoardValue, seen}
 use Rattle.llb_board.specs.Landing.{CanLand, IsThrough}
-use Rattle.llb_board.proofs.Landed.{runs_job, keeps, room, through}
+use Rattle.llb_board.proofs.LandedBoards.{runs_job, keeps, room, through}
 use Rattle.llb_board.proofs.board.Board.go_through.Goals as goal
 
 pub land-requires-clause-runs : goal.land-requires-clause-runs

@@ -1,7 +1,7 @@
 use Rattle.std.proofs.Common.{subst}
 use Rattle.llb_model.specs.Table.{Job}
 use Rattle.llb_board.specs.Landing.{CanLand}
-use Rattle.llb_board.proofs.Landed.{is_settled, lands}
+use Rattle.llb_board.proofs.LandedBoards.{is_settled, lands}
 use Rattle.llb_board.proofs.board.Board.land.Goals as goal
 
 pub unwrap-requires : goal.unwrap-requires

@@ -1,4 +1,4 @@
-use Rattle.llb_board.proofs.Landed.{is_settled, lands}
+use Rattle.llb_board.proofs.LandedBoards.{is_settled, lands}
 use Rattle.llb_board.proofs.board.Board.land_known.Goals as goal
 
 pub go_through-requires : goal.go_through-requires

@@ -2,7 +2,7 @@ use Rattle.std.proofs.Common.{◌≡◌, ℕ, List, true, refl, rules}
 use Rattle.std.specs.Prelude.{Option, Some, None, is_some}
 use Rattle.llb_cache.specs.Caches.{CachesValue}
 use Rattle.llb_model.specs.Program.{Build}
-use Rattle.llb_loader.specs.Missing.{missing_local}
+use Rattle.llb_loader.specs.FirstMissingTree.{missing_local}
 use Rattle.llb_board.specs.Opening.{open_unless, may_want_memory}
 use Rattle.llb_board.proofs.board.Board.open.Goals as goal
 

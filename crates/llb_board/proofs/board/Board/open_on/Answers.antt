@@ -1,6 +1,6 @@
 use Rattle.std.proofs.Common.{ap}
 use Rattle.llb_cache.specs.Caches.{CachesValue}
-use Rattle.llb_board.proofs.Opened.{kept_open}
+use Rattle.llb_board.proofs.FreshBoards.{kept_open}
 use Rattle.llb_board.proofs.board.Board.open_on.Goals as goal
 
 pub invariant_of-result : goal.invariant_of-result

@@ -1,7 +1,7 @@
 use Rattle.std.proofs.Common.{◌≡◌, ◌∙◌, true, ap, sym}
 use Rattle.llb_board.specs.Vertices.{VerticesValue, all_waiting}
 use Rattle.llb_board.specs.Opening.{may_work}
-use Rattle.llb_board.proofs.Opened.{some_work, few_work, opens, open_last, open_back}
+use Rattle.llb_board.proofs.FreshBoards.{some_work, few_work, opens, open_last, open_back}
 use Rattle.llb_board.proofs.board.Board.open_with.Goals as goal
 
 pub open_on-requires-clause-waits : goal.open_on-requires-clause-waits

@@ -1,7 +1,7 @@
 use Rattle.std.proofs.Common.{subst}
-use Rattle.llb_model.specs.Laws.{IsReached}
-use Rattle.llb_board.specs.Seen.{BoardValue, seen}
-use Rattle.llb_board.proofs.Sound.{reached}
+use Rattle.llb_model.specs.WholeRunLaws.{IsReached}
+use Rattle.llb_board.specs.BoardValue.{BoardValue, seen}
+use Rattle.llb_board.proofs.RecordedRunStates.{reached}
 use Rattle.llb_board.proofs.board.Board.replays.Goals as goal
 
 pub returns-clause-reached : goal.returns-clause-reached

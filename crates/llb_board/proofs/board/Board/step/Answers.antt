@@ -3,10 +3,10 @@ use Rattle.std.specs.Prelude.{Ok}
 use Rattle.llb_events.specs.declared.event.Event.TheVariants.{Step}
 use Rattle.llb_model.specs.Table.{HasStepped, step_grant}
 use Rattle.llb_board.specs.Workers.{state_in}
-use Rattle.llb_board.specs.Seen.{seen}
-use Rattle.llb_board.proofs.Calls.{step_done}
-use Rattle.llb_board.proofs.Kept.{has_room, kept_after}
-use Rattle.llb_board.proofs.Spaces.{space_stays}
+use Rattle.llb_board.specs.BoardValue.{seen}
+use Rattle.llb_board.proofs.RulesGrantedByTable.{step_done}
+use Rattle.llb_board.proofs.InvariantPreservation.{has_room, kept_after}
+use Rattle.llb_board.proofs.RecordRoomAndCancels.{space_stays}
 use Rattle.llb_board.proofs.board.Board.step.Goals as goal
 use Rattle.llb_board.proofs.board.Board.step.Goals.{In_ok-stepped}
 

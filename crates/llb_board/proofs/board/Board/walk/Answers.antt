@@ -1,10 +1,10 @@
 use Rattle.std.proofs.Common.{◌≡◌, ◌∙◌, false, sym, ap, subst, rules}
 use Rattle.std.specs.Prelude.{Err}
 use Rattle.llb_loader.specs.Graph.{IsGraph}
-use Rattle.llb_board.specs.Displaced.{walk_memory}
-use Rattle.llb_board.specs.Seen.{BoardValue}
-use Rattle.llb_board.specs.Undo.{walk_of}
-use Rattle.llb_board.proofs.Walks.{walk_back, walk_can, walk_refused}
+use Rattle.llb_board.specs.DisplacedWorkers.{walk_memory}
+use Rattle.llb_board.specs.BoardValue.{BoardValue}
+use Rattle.llb_board.specs.WalkAndUndo.{walk_of}
+use Rattle.llb_board.proofs.UndoOfGrantedEvents.{walk_back, walk_can, walk_refused}
 use Rattle.llb_board.proofs.board.Board.walk.Goals as goal
 
 pub returns-in_err-undo-clause-gives : goal.returns-in_err-undo-clause-gives

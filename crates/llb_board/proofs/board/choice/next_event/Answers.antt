@@ -1,7 +1,7 @@
 use Rattle.std.proofs.Common.{◌≡◌, ◌∙◌, Some, true, false, sym, ap, rules}
 use Rattle.std.specs.Prelude.{slice_get, if◌then◌else◌}
 use Rattle.llb_events.specs.declared.event.Event.TheVariants.{Step, Settle}
-use Rattle.llb_board.proofs.Choices.{runs_at, idle_at, none_at, next_idle, next_runs, next_none}
+use Rattle.llb_board.proofs.WorkerSearch.{runs_at, idle_at, none_at, next_idle, next_runs, next_none}
 use Rattle.llb_board.proofs.board.choice.next_event.Goals as goal
 
 pub returns-in-None : goal.returns-in-None

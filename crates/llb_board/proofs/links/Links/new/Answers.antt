@@ -3,8 +3,8 @@ use Rattle.std.specs.Prelude.{All, false}
 use Rattle.std.proofs.lemmas.List.{length-map, get_or_default}
 use Rattle.llb_loader.specs.declared.graph.Vertex.{Vertex}
 use Rattle.llb_board.specs.Links.{IsLinked, IsEntered}
-use Rattle.llb_board.proofs.Spread.{got_mapped}
-use Rattle.llb_board.proofs.Linking.{Linking, linking_next, linking_end, linking_below}
+use Rattle.llb_board.proofs.DownstreamMarks.{got_mapped}
+use Rattle.llb_board.proofs.LinkConstruction.{Linking, linking_next, linking_end, linking_below}
 use Rattle.llb_board.proofs.links.Links.new.Goals as goal
 
 pub enter-requires-clause-above : goal.enter-requires-clause-above

@@ -1,5 +1,5 @@
 use Rattle.std.proofs.Common.{◌≤◌, map, length, vec_capacity}
-use Rattle.llb_board.proofs.Linking.{Linking}
+use Rattle.llb_board.proofs.LinkConstruction.{Linking}
 use Rattle.llb_board.proofs.links.Links.new.Given as goal
 
 abbrev pub invariant-loop-v : goal.invariant-loop-v

@@ -2,7 +2,7 @@ use Rattle.std.proofs.Common.{◌≡◌, ◌∙◌, ◌<◌, [], length, map, ge
 use Rattle.std.specs.Prelude.{All}
 use Rattle.std.proofs.lemmas.List.{length-map, get_or_default}
 use Rattle.llb_board.specs.Links.{Linked}
-use Rattle.llb_board.proofs.Spread.{got_mapped}
+use Rattle.llb_board.proofs.DownstreamMarks.{got_mapped}
 use Rattle.llb_board.proofs.links.Links.spread.Goals as goal
 
 pub spread-requires-clause-below : goal.spread-requires-clause-below

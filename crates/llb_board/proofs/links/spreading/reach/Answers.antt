@@ -1,6 +1,6 @@
 use Rattle.std.proofs.Common.{◌≡◌, [], ◌∷◌, length, set, false, true, sym, subst, rules, arith, vec_len}
 use Rattle.llb_board.specs.Links.{Visits, is_marked}
-use Rattle.llb_board.proofs.Spread.{visits_known, visits_new, some_unmarked}
+use Rattle.llb_board.proofs.DownstreamMarks.{visits_known, visits_new, some_unmarked}
 use Rattle.llb_board.proofs.links.spreading.reach.Goals as goal
 
 pub push_reserved-requires : goal.push_reserved-requires

@@ -2,7 +2,7 @@ use Rattle.std.proofs.Common.{◌≡◌, ◌∙◌, ◌<◌, [], ◌∷◌, ◌+
 use Rattle.std.specs.Prelude.{All}
 use Rattle.std.proofs.lemmas.List.Elements.{Contains-get_or}
 use Rattle.llb_board.specs.Links.{Visits}
-use Rattle.llb_board.proofs.Spread.{Spreading, spreading_start, spreading_next, marked_low, got_mapped}
+use Rattle.llb_board.proofs.DownstreamMarks.{Spreading, spreading_start, spreading_next, marked_low, got_mapped}
 use Rattle.llb_board.proofs.links.spreading.spread.Goals as goal
 use Rattle.llb_board.proofs.links.spreading.spread.Goals.{In-Some}
 

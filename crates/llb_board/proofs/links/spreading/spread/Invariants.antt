@@ -1,5 +1,5 @@
 use Rattle.std.proofs.Common.{◌≡◌, map, vec_capacity}
-use Rattle.llb_board.proofs.Spread.{Spreading}
+use Rattle.llb_board.proofs.DownstreamMarks.{Spreading}
 use Rattle.llb_board.proofs.links.spreading.spread.Given as goal
 
 abbrev pub invariant-loop-i : goal.invariant-loop-i

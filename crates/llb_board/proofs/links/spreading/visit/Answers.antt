@@ -1,7 +1,7 @@
 use Rattle.std.proofs.Common.{◌∙◌, take, sym, subst, List, ℕ}
 use Rattle.std.proofs.lemmas.List.{take_more}
 use Rattle.llb_board.specs.Links.{Visits}
-use Rattle.llb_board.proofs.Spread.{visits_more}
+use Rattle.llb_board.proofs.DownstreamMarks.{visits_more}
 use Rattle.llb_board.proofs.links.spreading.visit.Goals as goal
 
 pub loop-user-preserved : goal.loop-user-preserved

@@ -3,8 +3,8 @@ use Rattle.std.specs.Prelude.{false, ◌||◌, ◌&&◌, unwrap_or, slice_get}
 use Rattle.llb_model.specs.State.{is_blocked, is_waiting}
 use Rattle.llb_model.specs.Run.{each, is_settled}
 use Rattle.llb_board.specs.Vertices.{VerticesValue, status_of}
-use Rattle.llb_board.proofs.Searches.{each_next, each_later, each_from}
-use Rattle.llb_board.proofs.InStep.{over_ended}
+use Rattle.llb_board.proofs.VertexSearch.{each_next, each_later, each_from}
+use Rattle.llb_board.proofs.DerivedVertexData.{over_ended}
 use Rattle.llb_board.proofs.vertices.Vertices.are_settled.Goals as goal
 use Rattle.llb_board.proofs.vertices.Vertices.are_settled.Goals.{After-is_ended}
 

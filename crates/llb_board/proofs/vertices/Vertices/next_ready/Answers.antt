@@ -4,8 +4,8 @@ use Rattle.llb_board.specs.Links.{has_inputs}
 use Rattle.llb_model.specs.State.{is_ready, is_waiting}
 use Rattle.llb_model.specs.Run.{least}
 use Rattle.llb_board.specs.Vertices.{VerticesValue, status_of}
-use Rattle.llb_board.proofs.Searches.{least_here, least_later, least_from}
-use Rattle.llb_board.proofs.InStep.{tells_in, ready_here, over_not_ready}
+use Rattle.llb_board.proofs.VertexSearch.{least_here, least_later, least_from}
+use Rattle.llb_board.proofs.DerivedVertexData.{tells_in, ready_here, over_not_ready}
 use Rattle.llb_board.proofs.vertices.Vertices.next_ready.Goals as goal
 use Rattle.llb_board.proofs.vertices.Vertices.next_ready.Goals.{After-is_ready}
 

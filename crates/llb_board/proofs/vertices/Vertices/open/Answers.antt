@@ -2,8 +2,8 @@ use Rattle.std.proofs.Common.{◌∙◌, List, length, map, sym, ap, subst}
 use Rattle.llb_model.specs.Program.{Build}
 use Rattle.llb_model.specs.State.{Status}
 use Rattle.llb_board.specs.Vertices.{VerticesValue, IsInStep, all_waiting, status_of}
-use Rattle.llb_board.proofs.InStep.{in_step_at_first}
-use Rattle.llb_board.proofs.Stages.{all_wait}
+use Rattle.llb_board.proofs.DerivedVertexData.{in_step_at_first}
+use Rattle.llb_board.proofs.StatusLists.{all_wait}
 use Rattle.llb_board.proofs.vertices.Vertices.open.Goals as goal
 
 pub invariant_of-result : goal.invariant_of-result

@@ -5,11 +5,11 @@ use Rattle.llb_model.specs.Program.{Start}
 use Rattle.llb_model.specs.State.{Idle, is_waiting, start_from}
 use Rattle.llb_model.specs.Table.{claim_start}
 use Rattle.llb_model.specs.Table as table
-use Rattle.llb_model.proofs.Vertices.{kind_at}
+use Rattle.llb_model.proofs.VertexKinds.{kind_at}
 use Rattle.llb_board.specs.Vertices.{VerticesValue, status_of}
 use Rattle.llb_events.specs.declared.refusal.ClaimFault.TheVariants.{NotReady}
-use Rattle.llb_board.proofs.Behind.{ready_so}
-use Rattle.llb_board.proofs.InStep.{tells_in}
+use Rattle.llb_board.proofs.LinksOverStatuses.{ready_so}
+use Rattle.llb_board.proofs.DerivedVertexData.{tells_in}
 use Rattle.llb_board.proofs.vertices.Vertices.ready.Goals as goal
 use Rattle.llb_board.proofs.vertices.Vertices.ready.Goals.{After-is_ready}
 

@@ -6,7 +6,7 @@ use Rattle.llb_model.specs.Outcome.{Done, Failed}
 use Rattle.llb_model.specs.State.{Status, Waiting, Running, Settled, is_ready, is_waiting, is_blocked}
 use Rattle.llb_board.specs.Statuses.{look, look_in}
 use Rattle.llb_board.specs.Vertices.{VerticesValue, status_of}
-use Rattle.llb_board.proofs.InStep.{tells_in, ready_here}
+use Rattle.llb_board.proofs.DerivedVertexData.{tells_in, ready_here}
 use Rattle.llb_board.proofs.Lists.{get_map}
 use Rattle.llb_board.proofs.vertices.Vertices.status.Goals as goal
 

@@ -2,7 +2,7 @@ use Rattle.std.proofs.Common.{◌≡◌, ◌∙◌, List, map, sym, ap}
 use Rattle.llb_model.specs.Program.{Build}
 use Rattle.llb_model.specs.State.{Status}
 use Rattle.llb_board.specs.Vertices.{VerticesValue, status_of}
-use Rattle.llb_board.proofs.Stages.{same_stages}
+use Rattle.llb_board.proofs.StatusLists.{same_stages}
 use Rattle.llb_board.proofs.vertices.VerticesSame.same.Goals as goal
 
 together : (b d : Build) (S T : List Status) → b ≡ d → S ≡ T → ◌≡◌ {A = VerticesValue} (record { build = b; statuses = S }) (record { build = d; statuses = T })

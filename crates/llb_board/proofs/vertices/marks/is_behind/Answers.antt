@@ -1,4 +1,4 @@
-use Rattle.llb_board.proofs.Marked.{behind_marked, behind_next, behind_end}
+use Rattle.llb_board.proofs.FailedAndDownstream.{behind_marked, behind_next, behind_end}
 use Rattle.std.proofs.Common.{sym, ◌∙◌}
 use Rattle.llb_board.proofs.vertices.marks.is_behind.Goals as goal
 

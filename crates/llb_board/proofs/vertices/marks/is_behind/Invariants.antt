@@ -1,4 +1,4 @@
-use Rattle.llb_board.proofs.Marked.{AsBehind}
+use Rattle.llb_board.proofs.FailedAndDownstream.{AsBehind}
 use Rattle.llb_board.proofs.vertices.marks.is_behind.Given as goal
 
 abbrev pub invariant-loop-edge : goal.invariant-loop-edge

@@ -2,10 +2,10 @@ use Rattle.std.proofs.Common.{◌≡◌, ◌<◌, List, map, length, sym, ap, su
 use Rattle.std.specs.Prelude.{All, Some, slice_get, slice_set}
 use Rattle.llb_model.specs.State.{Status, ending_of, is_failed}
 use Rattle.llb_model.proofs.Lists.{get_within, length_map}
-use Rattle.llb_model.proofs.Stopped.{stopped_length}
+use Rattle.llb_model.proofs.StoppedVertices.{stopped_length}
 use Rattle.llb_board.specs.Vertices.{status_of, done_in}
-use Rattle.llb_board.proofs.Behind.{all_counted}
-use Rattle.llb_board.proofs.InStep.{marks_as, marks_spread}
+use Rattle.llb_board.proofs.LinksOverStatuses.{all_counted}
+use Rattle.llb_board.proofs.DerivedVertexData.{marks_as, marks_spread}
 use Rattle.llb_board.proofs.vertices.marks.mark.Goals as goal
 use Rattle.llb_board.proofs.vertices.marks.mark.Goals.{After-has_failed}
 

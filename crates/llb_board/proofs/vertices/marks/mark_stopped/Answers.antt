@@ -1,6 +1,6 @@
 use Rattle.std.proofs.Common.{map, rules}
 use Rattle.llb_board.specs.Vertices.{status_of}
-use Rattle.llb_board.proofs.Marked.{marked_more, marked_end}
+use Rattle.llb_board.proofs.FailedAndDownstream.{marked_more, marked_end}
 use Rattle.llb_board.proofs.vertices.marks.mark_stopped.Goals as goal
 
 pub loop-v-preserved : goal.loop-v-preserved

@@ -2,14 +2,14 @@ use Rattle.std.proofs.Common.{◌≡◌, ◌∙◌, List, map, sym, ap, subst}
 use Rattle.std.specs.Prelude.{Some, slice_get}
 use Rattle.std.specs.Bool.{OnTrue, OnFalse}
 use Rattle.llb_model.specs.State.{Runs}
-use Rattle.llb_board.specs.Views.{at_of, leased_by, execution_of}
+use Rattle.llb_board.specs.WorkerModelValues.{at_of, leased_by, execution_of}
 use Rattle.llb_board.specs.Workers.{WorkersValue, Fits, RunsJob}
 use Rattle.llb_board.specs.declared.workers.seat.Seat.{Seat}
 use Rattle.llb_board.specs.declared.workers.seat.Seat.TheVariants as seat
-use Rattle.llb_board.proofs.Supplied.{made_enough}
-use Rattle.llb_board.proofs.Landings.{run_yes, run_no}
-use Rattle.llb_board.proofs.Stepping.{held_within}
-use Rattle.llb_board.proofs.Worked.{seen_of}
+use Rattle.llb_board.proofs.SuppliesAtStartAndEnd.{made_enough}
+use Rattle.llb_board.proofs.LandedWorkers.{run_yes, run_no}
+use Rattle.llb_board.proofs.MicroStepsOnLeases.{held_within}
+use Rattle.llb_board.proofs.TableStepOfWorker.{seen_of}
 use Rattle.llb_board.proofs.workers.Workers.is_run_of.Goals as goal
 
 pub is_left-requires-clause-vertex : goal.is_left-requires-clause-vertex

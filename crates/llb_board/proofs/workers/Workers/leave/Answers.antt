@@ -8,12 +8,12 @@ use Rattle.llb_model.specs.State.{Idle, program_in, is_finished}
 use Rattle.llb_board.specs.Supplies.{ready_made, needed}
 use Rattle.llb_board.specs.WorkerRules.{left_at}
 use Rattle.llb_board.specs.Vertices.{status_of, IsWhole}
-use Rattle.llb_board.specs.Views.{IsRunning, at_of, execution_of}
+use Rattle.llb_board.specs.WorkerModelValues.{IsRunning, at_of, execution_of}
 use Rattle.llb_board.specs.Workers.{WorkersValue, Fits}
 use Rattle.llb_board.specs.declared.workers.seat.Seat.{Seat}
 use Rattle.llb_board.specs.declared.workers.seat.Seat.TheVariants as seat
-use Rattle.llb_board.proofs.Crews.{Crew, crew_idle, crew_out, whole_end}
-use Rattle.llb_board.proofs.Supplied.{all_empty, leaves, supplies_settled}
+use Rattle.llb_board.proofs.SeatsAndLeases.{Crew, crew_idle, crew_out, whole_end}
+use Rattle.llb_board.proofs.SuppliesAtStartAndEnd.{all_empty, leaves, supplies_settled}
 use Rattle.llb_board.proofs.Lists.{map_set}
 use Rattle.llb_board.proofs.workers.Workers.leave.Goals as goal
 

@@ -1,9 +1,9 @@
 use Rattle.std.proofs.Common.{◌∙◌, map, sym, ap, subst}
 use Rattle.llb_board.specs.Supplies.{ready_made}
-use Rattle.llb_board.specs.Displaced.{Back, CanPutBack, workers_before, supplies_before, rows_before, change_in}
-use Rattle.llb_board.specs.Views.{at_of}
+use Rattle.llb_board.specs.DisplacedWorkers.{Back, CanPutBack, workers_before, supplies_before, rows_before, change_in}
+use Rattle.llb_board.specs.WorkerModelValues.{at_of}
 use Rattle.llb_board.specs.Workers.{WorkersValue}
-use Rattle.llb_board.proofs.Worked.{seen_of}
+use Rattle.llb_board.proofs.TableStepOfWorker.{seen_of}
 use Rattle.llb_board.proofs.workers.Workers.put_back.Goals as goal
 
 pub displace-requires-clause-can : goal.displace-requires-clause-can

@@ -5,12 +5,12 @@ use Rattle.llb_model.specs.Table.{Claimed}
 use Rattle.llb_model.specs.State.{Running}
 use Rattle.llb_model.specs.Table.{Job, claim_grant}
 use Rattle.llb_board.specs.OptionalLeases.{lease_if}
-use Rattle.llb_model.specs.Bridge.{rows_after}
+use Rattle.llb_model.specs.CacheBridge.{rows_after}
 use Rattle.llb_board.specs.Vertices.{with_status}
 use Rattle.llb_board.specs.Workers.{WorkersValue, IsBegunAt, Fits, state_in}
 use Rattle.llb_board.specs.declared.workers.seat.Seat.TheVariants as seat
-use Rattle.llb_board.proofs.Claims.{differ, few, start_grants, start_rows, start_crew, start_fits}
-use Rattle.llb_board.proofs.Worked.{seen_of}
+use Rattle.llb_board.proofs.ClaimHalves.{differ, few, start_grants, start_rows, start_crew, start_fits}
+use Rattle.llb_board.proofs.TableStepOfWorker.{seen_of}
 use Rattle.llb_board.proofs.workers.Workers.start.Goals as goal
 use Rattle.llb_board.proofs.workers.Workers.start.Goals.{After-is_exclusive, In-Ok}
 

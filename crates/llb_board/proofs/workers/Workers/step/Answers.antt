@@ -5,15 +5,15 @@ use Rattle.llb_wire.specs.Answer.{MemoryLast}
 use Rattle.llb_model.specs.Table.{HasStepped}
 use Rattle.llb_model.specs.State.{WorkerStatus}
 use Rattle.llb_model.specs.Table.{stepped}
-use Rattle.llb_model.specs.Bridge.{rows_after}
+use Rattle.llb_model.specs.CacheBridge.{rows_after}
 use Rattle.llb_events.specs.Faults.{step_memory, GivesStep}
-use Rattle.llb_board.specs.Views.{at_of}
+use Rattle.llb_board.specs.WorkerModelValues.{at_of}
 use Rattle.llb_board.specs.Workers.{WorkersValue, Fits, state_in, step_in}
 use Rattle.llb_board.specs.declared.workers.seat.Seat.TheVariants as seat
-use Rattle.llb_board.proofs.Supplied.{made_enough}
+use Rattle.llb_board.proofs.SuppliesAtStartAndEnd.{made_enough}
 use Rattle.llb_board.proofs.Lists.{get_map}
-use Rattle.llb_board.proofs.Stepping.{holding}
-use Rattle.llb_board.proofs.Worked.{seen_of, step_gives, step_last, step_rows, step_crew, step_fits}
+use Rattle.llb_board.proofs.MicroStepsOnLeases.{holding}
+use Rattle.llb_board.proofs.TableStepOfWorker.{seen_of, step_gives, step_last, step_rows, step_crew, step_fits}
 use Rattle.llb_board.proofs.workers.Workers.step.Goals as goal
 
 pub micro_step-requires-clause-supplies : goal.micro_step-requires-clause-supplies

@@ -6,11 +6,11 @@ use Rattle.llb_model.specs.Program.{workspace_on}
 use Rattle.llb_model.specs.State.{ending_at}
 use Rattle.llb_model.specs.Table.{Job, Claimed}
 use Rattle.llb_board.specs.Needs.{taken_by}
-use Rattle.llb_board.specs.Outfits.{outfit_as}
-use Rattle.llb_board.proofs.Begins.{Parts, AreParts, put_together, begun_of, supplied, workable}
+use Rattle.llb_board.specs.VertexOutfits.{outfit_as}
+use Rattle.llb_board.proofs.ClaimParts.{Parts, AreParts, put_together, begun_of, supplied, workable}
 use Rattle.llb_board.proofs.workers.claiming.begun_with.Goals as goal
 use Rattle.llb_board.proofs.workers.claiming.begun_with.Goals.{After-new-instances}
-use Rattle.llb_model.proofs.General.{inside_ok}
+use Rattle.llb_model.proofs.ConstructorEqualities.{inside_ok}
 
 parts : goal.After-new-instances → Parts
 parts c =

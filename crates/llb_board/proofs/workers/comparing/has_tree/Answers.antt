@@ -2,11 +2,11 @@ use Rattle.std.proofs.Common.{◌≡◌, ap, sym, ◌∙◌}
 use Rattle.std.specs.Prelude.{unwrap_or}
 use Rattle.llb_cache.specs.Caches.{trees_of}
 use Rattle.llb_tree.specs.Tree.{empty_tree}
-use Rattle.llb_model.specs.Bridge.{store_of}
+use Rattle.llb_model.specs.CacheBridge.{store_of}
 use Rattle.llb_model.proofs.BridgeContents.{shows_instances}
 use Rattle.llb_model.proofs.Lists.{get_within}
 use Rattle.llb_model.specs.Caches.{tree_of}
-use Rattle.llb_model.proofs.General.{none_some}
+use Rattle.llb_model.proofs.ConstructorEqualities.{none_some}
 use Rattle.llb_board.proofs.workers.comparing.has_tree.Goals as goal
 
 pub returns-in-Some : goal.returns-in-Some

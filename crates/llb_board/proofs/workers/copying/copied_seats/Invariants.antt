@@ -1,6 +1,6 @@
 use Rattle.std.proofs.Common.{◌≡◌, map, take}
 use Rattle.llb_board.specs.Supplies.{ready_made}
-use Rattle.llb_board.specs.Views.{at_of, leased_by}
+use Rattle.llb_board.specs.WorkerModelValues.{at_of, leased_by}
 use Rattle.llb_board.proofs.workers.copying.copied_seats.Given as goal
 
 abbrev pub invariant-loop-seat : goal.invariant-loop-seat

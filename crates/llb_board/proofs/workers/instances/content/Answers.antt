@@ -1,6 +1,6 @@
 use Rattle.std.proofs.Common.{◌≡◌, Option, unwrap_or, rules, sym, ap, ◌∙◌}
 use Rattle.llb_tree.specs.Tree.{TreeMap, empty_tree}
-use Rattle.llb_board.proofs.Lent.{tree_shown}
+use Rattle.llb_board.proofs.LeaseInstances.{tree_shown}
 use Rattle.llb_board.proofs.workers.instances.content.Goals as goal
 
 pub returns-in_ok-copy-in-Some-clause-tree : goal.returns-in_ok-copy-in-Some-clause-tree

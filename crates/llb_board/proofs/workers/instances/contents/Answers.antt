@@ -3,7 +3,7 @@ use Rattle.std.specs.Prelude.{slice_get, Some}
 use Rattle.std.proofs.lemmas.Option.{slice_get_read}
 use Rattle.std.proofs.lemmas.List.{take_all}
 use Rattle.llb_tree.specs.Tree.{TreeMap}
-use Rattle.llb_model.specs.Bridge.{store_of}
+use Rattle.llb_model.specs.CacheBridge.{store_of}
 use Rattle.llb_model.specs.Caches.{tree_of}
 use Rattle.llb_board.proofs.Lists.{copied_length, copied_more}
 use Rattle.llb_board.proofs.workers.instances.contents.Goals as goal

@@ -1,5 +1,5 @@
 use Rattle.std.specs.Prelude.{vec_capacity}
-use Rattle.llb_model.specs.Bridge.{store_of}
+use Rattle.llb_model.specs.CacheBridge.{store_of}
 use Rattle.llb_model.specs.Caches.{tree_of}
 use Rattle.llb_board.proofs.Lists.{Copied}
 use Rattle.llb_board.proofs.workers.instances.contents.Given as goal

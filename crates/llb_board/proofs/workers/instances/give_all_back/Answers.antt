@@ -3,7 +3,7 @@ use Rattle.std.specs.Prelude.{slice_get, Some}
 use Rattle.std.proofs.lemmas.Option.{slice_get_read}
 use Rattle.llb_cache.specs.Caches.{CachesValue, Leases}
 use Rattle.llb_board.specs.declared.workers.seat.Seat.TheVariants as seat
-use Rattle.llb_board.proofs.Lent.{LeasedFrom, leased_next, leased_idle, out_next, none_left}
+use Rattle.llb_board.proofs.LeaseInstances.{LeasedFrom, leased_next, leased_idle, out_next, none_left}
 use Rattle.llb_board.proofs.workers.instances.give_all_back.Goals as goal
 use Rattle.llb_board.proofs.workers.instances.give_all_back.Goals.{in-Runs, in_default}
 

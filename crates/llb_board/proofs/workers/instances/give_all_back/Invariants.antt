@@ -1,5 +1,5 @@
 use Rattle.std.proofs.Common.{◌≡◌}
-use Rattle.llb_board.proofs.Lent.{LeasedFrom}
+use Rattle.llb_board.proofs.LeaseInstances.{LeasedFrom}
 use Rattle.llb_board.proofs.workers.instances.give_all_back.Given as goal
 
 abbrev pub invariant-loop-seat : goal.invariant-loop-seat

@@ -3,8 +3,8 @@ use Rattle.std.proofs.lemmas.List.{nil_from_length}
 use Rattle.llb_cache.specs.Caches as cache
 use Rattle.llb_cache.specs.Caches.{CachesValue, Leases, Row, place_at, places_of}
 use Rattle.llb_tree.specs.Tree.{TreeMap}
-use Rattle.llb_model.specs.Bridge.{put_each}
-use Rattle.llb_board.proofs.Lent.{put_next, put_none}
+use Rattle.llb_model.specs.CacheBridge.{put_each}
+use Rattle.llb_board.proofs.LeaseInstances.{put_next, put_none}
 use Rattle.llb_board.proofs.workers.instances.write_all.Goals as goal
 
 pub loop-tree-init : goal.loop-tree-init

@@ -1,6 +1,6 @@
 use Rattle.std.proofs.Common.{◌≡◌, ◌+◌, drop, length}
 use Rattle.llb_cache.specs.Caches.{places_of}
-use Rattle.llb_model.specs.Bridge.{put_each}
+use Rattle.llb_model.specs.CacheBridge.{put_each}
 use Rattle.llb_board.proofs.workers.instances.write_all.Given as goal
 
 abbrev pub invariant-loop-tree : goal.invariant-loop-tree

@@ -1,5 +1,5 @@
 use Rattle.std.proofs.Common.{option_map, sym}
-use Rattle.llb_board.proofs.Looking.{instance_there}
+use Rattle.llb_board.proofs.HeldInstanceTrees.{instance_there}
 use Rattle.llb_board.proofs.workers.looking.instance_at.Goals as goal
 
 pub returns : goal.returns

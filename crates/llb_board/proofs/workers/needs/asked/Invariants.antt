@@ -1,5 +1,5 @@
 use Rattle.std.proofs.Common.{◌≡◌, map, take}
-use Rattle.llb_model.specs.Bridge.{asked}
+use Rattle.llb_model.specs.CacheBridge.{asked}
 use Rattle.llb_board.specs.Needs.{need_of}
 use Rattle.llb_board.proofs.workers.needs.asked.Given as goal
 

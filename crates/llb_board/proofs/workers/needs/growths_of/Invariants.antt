@@ -1,8 +1,8 @@
 use Rattle.std.proofs.Common.{◌≡◌, ◌++◌, map}
 use Rattle.llb_loader.specs.Rules.{kind_mounts}
 use Rattle.llb_model.specs.Program.{needs_of}
-use Rattle.llb_model.specs.Bridge.{growth_for}
-use Rattle.llb_board.proofs.Wanted.{needs_left}
+use Rattle.llb_model.specs.CacheBridge.{growth_for}
+use Rattle.llb_board.proofs.NeedsOfRemainingMounts.{needs_left}
 use Rattle.llb_board.proofs.workers.needs.growths_of.Given as goal
 
 abbrev pub invariant-loop-mount : goal.invariant-loop-mount

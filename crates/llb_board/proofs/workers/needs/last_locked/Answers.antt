@@ -1,7 +1,7 @@
 use Rattle.std.proofs.Common.{◌+◌, cond, Some, sym, ap, ◌∙◌}
 use Rattle.llb_loader.specs.Mounts.{key_of}
 use Rattle.llb_board.specs.Needs.{first_held_key}
-use Rattle.llb_board.proofs.Wanted.{needs_left, needs_next, none_locked, one_locked}
+use Rattle.llb_board.proofs.NeedsOfRemainingMounts.{needs_left, needs_next, none_locked, one_locked}
 use Rattle.llb_board.proofs.workers.needs.last_locked.Goals as goal
 
 pub loop-mount-preserved-in_default : goal.loop-mount-preserved-in_default

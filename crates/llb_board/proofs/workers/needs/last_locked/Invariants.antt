@@ -2,7 +2,7 @@ use Rattle.std.proofs.Common.{◌≡◌}
 use Rattle.llb_loader.specs.Rules.{kind_mounts}
 use Rattle.llb_model.specs.Program.{needs_of}
 use Rattle.llb_board.specs.Needs.{first_held_key}
-use Rattle.llb_board.proofs.Wanted.{needs_left}
+use Rattle.llb_board.proofs.NeedsOfRemainingMounts.{needs_left}
 use Rattle.llb_board.proofs.workers.needs.last_locked.Given as goal
 
 abbrev pub invariant-loop-mount : goal.invariant-loop-mount

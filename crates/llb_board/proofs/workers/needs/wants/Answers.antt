@@ -6,7 +6,7 @@ use Rattle.llb_loader.specs.Mounts.{key_of}
 use Rattle.llb_model.specs.Program.{Need}
 use Rattle.llb_board.specs.declared.workers.needs.Wanted.{Wanted}
 use Rattle.llb_board.specs.Needs.{IsFound, need_of}
-use Rattle.llb_board.proofs.Wanted.{needs_left, needs_next, none_shown, one_shown, one_more}
+use Rattle.llb_board.proofs.NeedsOfRemainingMounts.{needs_left, needs_next, none_shown, one_shown, one_more}
 use Rattle.llb_board.proofs.workers.needs.wants.Goals as goal
 
 pub loop-i-preserved-in_default : goal.loop-i-preserved-in_default

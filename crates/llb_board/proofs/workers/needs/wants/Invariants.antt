@@ -3,7 +3,7 @@ use Rattle.std.specs.List.{All}
 use Rattle.llb_loader.specs.Rules.{kind_mounts}
 use Rattle.llb_model.specs.Program.{needs_of}
 use Rattle.llb_board.specs.Needs.{IsFound, need_of}
-use Rattle.llb_board.proofs.Wanted.{needs_left}
+use Rattle.llb_board.proofs.NeedsOfRemainingMounts.{needs_left}
 use Rattle.llb_board.proofs.workers.needs.wants.Given as goal
 
 abbrev pub invariant-loop-i : goal.invariant-loop-i

@@ -1,6 +1,6 @@
 use Rattle.std.proofs.Common.{true≢false, sym, ◌∙◌}
-use Rattle.llb_board.specs.Views.{at_of}
-use Rattle.llb_board.proofs.Alike.{alike_at, differ}
+use Rattle.llb_board.specs.WorkerModelValues.{at_of}
+use Rattle.llb_board.proofs.MappedListEquality.{alike_at, differ}
 use Rattle.llb_board.proofs.workers.seat.same_seats.Goals as goal
 
 pub returns-then-not-same_seat : goal.returns-then-not-same_seat

@@ -1,5 +1,5 @@
 use Rattle.std.proofs.Common.{◌≡◌, map, take}
-use Rattle.llb_board.specs.Views.{at_of}
+use Rattle.llb_board.specs.WorkerModelValues.{at_of}
 use Rattle.llb_board.proofs.workers.seat.same_seats.Given as goal
 
 abbrev pub invariant-loop-i : goal.invariant-loop-i

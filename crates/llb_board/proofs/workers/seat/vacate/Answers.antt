@@ -1,7 +1,7 @@
 use Rattle.std.proofs.Common.{◌∙◌, sym, ap, subst}
 use Rattle.std.specs.Prelude.{Some, slice_set}
 use Rattle.std.proofs.lemmas.Option.{slice_get-get_or}
-use Rattle.llb_board.specs.Views.{IsRunning}
+use Rattle.llb_board.specs.WorkerModelValues.{IsRunning}
 use Rattle.llb_board.specs.declared.workers.seat.Seat.{Seat}
 use Rattle.llb_board.proofs.workers.seat.vacate.Goals as goal
 

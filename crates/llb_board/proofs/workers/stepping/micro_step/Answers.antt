@@ -2,12 +2,12 @@ use Rattle.std.proofs.Common.{◌≡◌, ◌∙◌, Option, Some, None, length, 
 use Rattle.std.specs.Prelude.{is_some, false}
 use Rattle.llb_model.specs.Table.{HasStepped}
 use Rattle.llb_model.specs.Caches.{trees_at}
-use Rattle.llb_model.specs.Bridge.{store_of}
-use Rattle.llb_execution.specs.Parts.{left_with, step_in}
+use Rattle.llb_model.specs.CacheBridge.{store_of}
+use Rattle.llb_execution.specs.ModelValues.{left_with, step_in}
 use Rattle.llb_board.specs.OptionalLeases.{leased_places}
-use Rattle.llb_board.specs.Views.{execution_of}
+use Rattle.llb_board.specs.WorkerModelValues.{execution_of}
 use Rattle.llb_board.proofs.MicroSteps.{step_at, step_last, skipped_to, stepped_by, shown_apart, shown_within, few_places, few_done}
-use Rattle.llb_board.proofs.Stepping.{held_within, places_are, trees_count}
+use Rattle.llb_board.proofs.MicroStepsOnLeases.{held_within, places_are, trees_count}
 use Rattle.llb_board.proofs.workers.stepping.micro_step.Goals as goal
 
 none_of : {A : Type 0} (o : Option A) → is_some o ≡ false → o ≡ None

@@ -1,5 +1,5 @@
 use Rattle.std.proofs.Common.{sym}
-use Rattle.llb_board.proofs.Wanting.{graph_edges}
+use Rattle.llb_board.proofs.NeedsByMount.{graph_edges}
 use Rattle.llb_board.proofs.workers.undoing.growths_at.Goals as goal
 
 pub growths_of-requires : goal.growths_of-requires

@@ -1,6 +1,6 @@
 use Rattle.std.proofs.Common.{sym, ◌∙◌}
 use Rattle.llb_cache.specs.Caches.{is_locked_and_held}
-use Rattle.llb_cache.proofs.Free.{found_here}
+use Rattle.llb_cache.proofs.FirstMatch.{found_here}
 use Rattle.llb_cache.proofs.caches.Caches.first_held.Goals as goal
 
 pub returns-then-holds_locked-clause-found : goal.returns-then-holds_locked-clause-found

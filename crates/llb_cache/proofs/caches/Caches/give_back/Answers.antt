@@ -2,8 +2,8 @@ use Rattle.std.proofs.Common.{◌≡◌, List, false, ap, subst, sym, ◌∙◌}
 use Rattle.std.specs.Map.{keys_of}
 use Rattle.llb_cache.specs.declared.need.Instance.{Instance}
 use Rattle.llb_cache.specs.Caches.{CachesValue, Leases, places_of}
-use Rattle.llb_cache.specs.Marks.{IsMarked, Remarks, is_one_of}
-use Rattle.llb_cache.proofs.Holding.{back_marked}
+use Rattle.llb_cache.specs.InstanceMarks.{IsMarked, Remarks, is_one_of}
+use Rattle.llb_cache.proofs.ExactMarks.{back_marked}
 use Rattle.llb_cache.proofs.caches.Caches.give_back.Goals as goal
 
 pub invariant_of-self : goal.invariant_of-self

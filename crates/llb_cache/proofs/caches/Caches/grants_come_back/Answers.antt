@@ -1,7 +1,7 @@
 use Rattle.std.proofs.Common.{◌≡◌, subst}
 use Rattle.llb_cache.specs.Caches.{CachesValue, granted}
-use Rattle.llb_cache.specs.Growth.{growths, taken_back}
-use Rattle.llb_cache.proofs.Reversed.{comes_back}
+use Rattle.llb_cache.specs.LeaseGrowth.{growths, taken_back}
+use Rattle.llb_cache.proofs.RevertedLeases.{comes_back}
 use Rattle.llb_cache.proofs.caches.Caches.grants_come_back.Goals as goal
 
 pub returns : goal.returns

@@ -5,10 +5,10 @@ use Rattle.llb_cache.specs.declared.need.Instance.{Instance}
 use Rattle.llb_cache.specs.declared.growing.Ready.{Ready}
 use Rattle.llb_cache.specs.Caches.{CachesValue, Row, Leases, Taken, is_locked_and_held, leases, free_lease, with_lease, taken, made_all, granted, lease_of}
 use Rattle.llb_cache.specs.Caches.{places_of, place_for}
-use Rattle.llb_cache.specs.Growing.{shown}
-use Rattle.llb_cache.specs.Marks.{IsMarked, marked, is_one_of}
-use Rattle.llb_cache.proofs.Granting.{is_granted, not_refused, granted_has, places_shown}
-use Rattle.llb_cache.proofs.Holding.{lease_marked}
+use Rattle.llb_cache.specs.LeasePreparation.{shown}
+use Rattle.llb_cache.specs.InstanceMarks.{IsMarked, marked, is_one_of}
+use Rattle.llb_cache.proofs.PreparedLeases.{is_granted, not_refused, granted_has, places_shown}
+use Rattle.llb_cache.proofs.ExactMarks.{lease_marked}
 use Rattle.llb_cache.proofs.caches.Caches.lease_near.Goals as goal
 use Rattle.llb_cache.proofs.caches.Caches.lease_near.Goals.{After-take_lease-number}
 

@@ -8,9 +8,9 @@ use Rattle.llb_tree.specs.Tree.{TreeMap}
 use Rattle.llb_cache.specs.declared.key.Mode.TheVariants.{Private}
 use Rattle.llb_cache.specs.Key.{same_key}
 use Rattle.llb_cache.specs.Caches.{CachesValue, is_held, is_locked, number_for, place, trees_of}
-use Rattle.llb_cache.proofs.Numbers.{number_within}
-use Rattle.llb_cache.proofs.Marked.{mark_at}
-use Rattle.llb_cache.proofs.Chosen.{none_number, none_held, private_number, locked_held, there_trees, none_tree}
+use Rattle.llb_cache.proofs.PrivateInstanceNumbers.{number_within}
+use Rattle.llb_cache.proofs.MarksByRow.{mark_at}
+use Rattle.llb_cache.proofs.ChosenInstances.{none_number, none_held, private_number, locked_held, there_trees, none_tree}
 use Rattle.llb_cache.proofs.caches.Caches.look_up.Goals as goal
 use Rattle.llb_cache.proofs.caches.Caches.look_up.Goals.{After-row_near, In-Some, After-first_clear}
 

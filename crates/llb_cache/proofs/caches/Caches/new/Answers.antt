@@ -1,7 +1,7 @@
 use Rattle.std.proofs.Common.{List, Bool, subst, sym}
 use Rattle.llb_cache.specs.Caches.{CachesValue}
-use Rattle.llb_cache.specs.Marks.{IsMarked}
-use Rattle.llb_cache.proofs.Holding.{nothing_marked}
+use Rattle.llb_cache.specs.InstanceMarks.{IsMarked}
+use Rattle.llb_cache.proofs.ExactMarks.{nothing_marked}
 use Rattle.llb_cache.proofs.caches.Caches.new.Goals as goal
 
 pub invariant_of-result : goal.invariant_of-result

@@ -3,7 +3,7 @@ use Rattle.std.specs.List.{All}
 use Rattle.std.proofs.lemmas.Grind.{common_steps}
 use Rattle.std.proofs.lemmas.List.Elements.{All-push}
 use Rattle.llb_cache.specs.declared.growing.Ready.{Ready}
-use Rattle.llb_cache.specs.Growing.{FitsIn}
+use Rattle.llb_cache.specs.LeasePreparation.{FitsIn}
 use Rattle.llb_cache.proofs.caches.Caches.readied.Goals as goal
 
 pub loop-need-preserved : goal.loop-need-preserved

@@ -1,7 +1,7 @@
 use Rattle.std.proofs.Common.{◌≡◌, ◌++◌, map}
 use Rattle.std.specs.List.{All}
 use Rattle.llb_cache.specs.Caches.{taken}
-use Rattle.llb_cache.specs.Growing.{shown, FitsIn}
+use Rattle.llb_cache.specs.LeasePreparation.{shown, FitsIn}
 use Rattle.llb_cache.proofs.caches.Caches.readied.Given as goal
 
 abbrev pub invariant-loop-need : goal.invariant-loop-need

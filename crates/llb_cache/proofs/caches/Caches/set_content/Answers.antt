@@ -1,5 +1,5 @@
 use Rattle.llb_cache.specs.Caches.{CachesValue}
-use Rattle.llb_cache.proofs.Holding.{put_marked}
+use Rattle.llb_cache.proofs.ExactMarks.{put_marked}
 use Rattle.llb_cache.proofs.caches.Caches.set_content.Goals as goal
 
 pub invariant_of-self : goal.invariant_of-self

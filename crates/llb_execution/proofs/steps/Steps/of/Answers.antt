@@ -1,5 +1,5 @@
 use Rattle.std.proofs.Common.{◌<◌, ◌^◌, ◌∙◌, length, sym, ap, subst, rules}
-use Rattle.llb_model.proofs.Vertices.{counted_by}
+use Rattle.llb_model.proofs.VertexKinds.{counted_by}
 use Rattle.llb_execution.proofs.steps.Steps.of.Goals as goal
 
 pub returns-clause-count : goal.returns-clause-count

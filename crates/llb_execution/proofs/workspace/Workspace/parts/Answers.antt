@@ -1,7 +1,7 @@
 use Rattle.std.proofs.Common.{◌≡◌, ◌+◌, length, sym, ap, ◌∙◌, rules}
-use Rattle.llb_execution.specs.Looks.{roles_of}
-use Rattle.llb_execution.specs.Parts.{own_of}
-use Rattle.llb_execution.proofs.Looking.{files_count}
+use Rattle.llb_execution.specs.WorkspaceTrees.{roles_of}
+use Rattle.llb_execution.specs.ModelValues.{own_of}
+use Rattle.llb_execution.proofs.WorkspaceTreeNumbers.{files_count}
 use Rattle.llb_execution.proofs.workspace.Workspace.parts.Goals as goal
 
 pub returns-in-Files : goal.returns-in-Files

@@ -1,9 +1,9 @@
 use Rattle.std.proofs.Common.{◌≡◌, ap, ◌∙◌, rules}
 use Rattle.std.specs.Prelude.{Some, None, false}
 use Rattle.llb_events.specs.declared.fault.VertexFault.TheVariants as fault
-use Rattle.llb_fileop.specs.Faults.{is_memory}
-use Rattle.llb_execution.specs.Parts.{left_with}
-use Rattle.llb_execution.proofs.Stepping.{put_tree, put_fault}
+use Rattle.llb_fileop.specs.CallResults.{is_memory}
+use Rattle.llb_execution.specs.ModelValues.{left_with}
+use Rattle.llb_execution.proofs.MicroStepResults.{put_tree, put_fault}
 use Rattle.llb_execution.proofs.workspace.Workspace.put_result.Goals as goal
 
 pub returns-in_ok-push-in-Ok-clause-left : goal.returns-in_ok-push-in-Ok-clause-left

@@ -1,6 +1,6 @@
 use Rattle.std.proofs.Common.{ap, sym, subst, ◌∙◌}
-use Rattle.llb_execution.specs.Saves.{saved_of, PutsBack}
-use Rattle.llb_execution.proofs.Saves.{puts_back}
+use Rattle.llb_execution.specs.SavedWorkspaces.{saved_of, PutsBack}
+use Rattle.llb_execution.proofs.RestoredWorkspaces.{puts_back}
 use Rattle.llb_execution.proofs.workspace.Workspace.save.Goals as goal
 
 pub returns-clause-back : goal.returns-clause-back

@@ -1,11 +1,11 @@
 use Rattle.std.proofs.Common.{◌≡◌, ap, sym, ◌∙◌, arith, to_z, of_z, w64}
 use Rattle.std.specs.Prelude.{Some, None}
 use Rattle.std.proofs.lemmas.Int.{to_z-of_z}
-use Rattle.llb_fileop.specs.Faults.{Gives}
+use Rattle.llb_fileop.specs.CallResults.{Gives}
 use Rattle.llb_model.specs.Program.{all_and, act_among, trees_in, lay_on, step_on}
-use Rattle.llb_execution.specs.Parts.{step_in, work_with, left_with}
+use Rattle.llb_execution.specs.ModelValues.{step_in, work_with, left_with}
 use Rattle.llb_execution.specs.declared.micro_step.MicroStep.{MicroStep}
-use Rattle.llb_execution.proofs.Stepping.{acts_among, has_acted, read, laid, has_run, has_stepped}
+use Rattle.llb_execution.proofs.MicroStepResults.{acts_among, has_acted, read, laid, has_run, has_stepped}
 use Rattle.llb_execution.proofs.workspace.Workspace.step.Goals as goal
 use Rattle.llb_execution.proofs.workspace.Workspace.step.Goals.{in-Some, in-None+in_ok-empty-in-None}
 

@@ -1,7 +1,7 @@
 use Rattle.std.proofs.Common.{◌≡◌, ◌↔◌, Bool, true, false, not, IsTrue, refl, sym, subst, ◌∙◌}
 use Rattle.std.specs.Bool.{beq}
 use Rattle.llb_glob.specs.Class.{ClassTakes, class_takes, excluding}
-use Rattle.llb_glob.proofs.Decided.{class_takes-tells}
+use Rattle.llb_glob.proofs.MatchDecision.{class_takes-tells}
 use Rattle.llb_glob.proofs.class.Class.takes.Goals as goal
 
 -- a class matches a character if being in an item differs from excluding

@@ -1,9 +1,9 @@
 use Rattle.std.proofs.Common.{◌≡◌, ◌+◌, Bool, Ok, ap, sym, ◌∙◌, drop, append-nil}
 use Rattle.std.specs.Str.{chars}
 use Rattle.std.proofs.lemmas.Result.{err_from_is_err_and}
-use Rattle.llb_glob.specs.Items.{behind, is_whole, ended, items_from, items_of}
-use Rattle.llb_glob.specs.Reading.{ahead}
-use Rattle.llb_glob.proofs.Cutting.{behind_none, at_drop, cut_ends}
+use Rattle.llb_glob.specs.ItemReading.{behind, is_whole, ended, items_from, items_of}
+use Rattle.llb_glob.specs.PartReading.{ahead}
+use Rattle.llb_glob.proofs.ItemsAndPartsSplitting.{behind_none, at_drop, cut_ends}
 use Rattle.llb_glob.proofs.part.Part.read.Goals as goal
 use Rattle.llb_glob.proofs.part.Part.read.Goals.{After-loop-letter}
 

@@ -1,6 +1,6 @@
 use Rattle.std.proofs.Common.{◌≡◌, drop}
-use Rattle.llb_glob.specs.Items.{items_of}
-use Rattle.llb_glob.specs.Reading.{ahead}
+use Rattle.llb_glob.specs.ItemReading.{items_of}
+use Rattle.llb_glob.specs.PartReading.{ahead}
 use Rattle.llb_glob.proofs.part.Part.read.Given as goal
 
 abbrev pub invariant-loop-letter : goal.invariant-loop-letter

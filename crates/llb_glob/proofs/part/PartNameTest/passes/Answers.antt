@@ -1,6 +1,6 @@
 use Rattle.std.proofs.Common.{◌≡◌, ◌≤◌, List, ℕ, length, subst, sym}
 use Rattle.std.specs.Str.{chars}
-use Rattle.llb_glob.proofs.Decided.{is_the_name_test}
+use Rattle.llb_glob.proofs.MatchDecision.{is_the_name_test}
 use Rattle.llb_glob.specs.Matching.{name_matches}
 use Rattle.llb_glob.proofs.Names.{short_name}
 use Rattle.llb_glob.proofs.part.PartNameTest.passes.Goals as goal

@@ -2,9 +2,9 @@ use Rattle.std.proofs.Common.{◌+◌, ◌≤◌, length, Ok, ap, sym, ◌∙◌
 use Rattle.std.specs.Str.{chars}
 use Rattle.std.proofs.lemmas.Result.{err_from_is_err_and}
 use Rattle.std.proofs.lemmas.List.{drop_all}
-use Rattle.llb_glob.specs.Items.{behind, items_of}
+use Rattle.llb_glob.specs.ItemReading.{behind, items_of}
 use Rattle.llb_glob.specs.Pattern.{each_cut}
-use Rattle.llb_glob.proofs.Cutting.{behind_none, part_more, part_stops}
+use Rattle.llb_glob.proofs.ItemsAndPartsSplitting.{behind_none, part_more, part_stops}
 use Rattle.llb_glob.proofs.Names.{short_name}
 use Rattle.llb_glob.proofs.pattern.Pattern.cut.Goals as goal
 

@@ -1,6 +1,6 @@
 use Rattle.std.proofs.Common.{◌≡◌, drop}
 use Rattle.llb_glob.specs.Pattern.{each_cut}
-use Rattle.llb_glob.specs.Items.{behind}
+use Rattle.llb_glob.specs.ItemReading.{behind}
 use Rattle.llb_glob.proofs.pattern.Pattern.cut.Given as goal
 
 abbrev pub invariant-loop-name : goal.invariant-loop-name

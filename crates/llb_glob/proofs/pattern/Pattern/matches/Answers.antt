@@ -1,7 +1,7 @@
 use Rattle.std.proofs.Common.{◌↔◌, List, ℕ, IsTrue, subst, ◌∙◌}
 use Rattle.llb_glob.specs.declared.item.Item.{Item}
 use Rattle.llb_glob.specs.Matching.{Matches}
-use Rattle.llb_glob.proofs.Decided.{is_the_test}
+use Rattle.llb_glob.proofs.MatchDecision.{is_the_test}
 use Rattle.llb_glob.proofs.pattern.Pattern.matches.Goals as goal
 
 pub returns-clause-test : goal.returns-clause-test

@@ -5,9 +5,9 @@ use Rattle.std.specs.Cmp.Lexicographic.{pointwise}
 use Rattle.std.specs.List.{prefix_len}
 use Rattle.llb_tree.specs.Path.{is_dot, is_dots}
 use Rattle.llb_glob.specs.declared.pattern.Walk.{Walk}
-use Rattle.llb_glob.specs.Walk.{Stands, Enters, is_part}
+use Rattle.llb_glob.specs.TextCheckCounts.{Stands, Enters, is_part}
 use Rattle.llb_glob.proofs.Names.{short_name}
-use Rattle.llb_glob.proofs.Following.{goes_down, goes_up, prefix_len-take, sound_more, sound_stays}
+use Rattle.llb_glob.proofs.PartwiseTextCheck.{goes_down, goes_up, prefix_len-take, sound_more, sound_stays}
 use Rattle.llb_glob.proofs.pattern.Walk.enter.Goals as goal
 use Rattle.llb_glob.proofs.pattern.Walk.enter.Goals.{After-eq-2, then-self+then-is_part, else-self, else-self-via-then-self+else-is_part}
 use Rattle.llb_glob.proofs.pattern.Walk.enter.Goals.{else-self-via-else-self}

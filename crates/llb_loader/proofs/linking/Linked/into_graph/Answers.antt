@@ -5,13 +5,14 @@ use Rattle.std.specs.List.{All}
 use Rattle.llb_ops.specs.declared.op.Op.{Op}
 use Rattle.llb_loader.specs.declared.graph.Vertex.{Vertex}
 use Rattle.llb_loader.specs.declared.graph.Edge.{Edge}
-use Rattle.llb_loader.specs.Rows.{lists, inputs, InRange}
+use Rattle.llb_loader.specs.ReachedRows.{lists, inputs, InRange}
 use Rattle.llb_loader.specs.Numbering.{IsNumbering}
 use Rattle.llb_loader.specs.Linking.{Plan, op_at, input_at}
-use Rattle.llb_loader.specs.Stages.{plan_in}
-use Rattle.llb_loader.specs.Building.{IsBuildable, AreBuilt, edge_to}
-use Rattle.llb_loader.proofs.Parts.{op_read}
-use Rattle.llb_loader.proofs.Stages.{links_there, graph_below, terminal_there, start_there, order_below, last_input, ops_buildable, is_numbered, graph_of_rows}
+use Rattle.llb_loader.specs.LinkingStages.{plan_in}
+use Rattle.llb_loader.specs.VertexBuilding.{IsBuildable, AreBuilt, edge_to}
+use Rattle.llb_loader.proofs.OpAndInputReads.{op_read}
+use Rattle.llb_loader.proofs.LinkedRowRefusals.{links_there, graph_below, terminal_there, start_there, order_below, last_input, ops_buildable, is_numbered}
+use Rattle.llb_loader.proofs.LinkedRowRefusals.{graph_of_rows}
 use Rattle.llb_loader.proofs.linking.Linked.into_graph.Goals as goal
 
 pub ranks_of-requires-clause-numbering : goal.ranks_of-requires-clause-numbering

@@ -5,10 +5,10 @@ use Rattle.llb_loader.specs.declared.row.Row.{Row}
 use Rattle.llb_loader.specs.declared.fault.LoadFault.{LoadFault}
 use Rattle.llb_loader.specs.RowLookup.{AllSame, Collides, RefusesCollision}
 use Rattle.llb_loader.specs.Linking.{IsApart, Refused}
-use Rattle.llb_loader.specs.Stages.{AreNames}
-use Rattle.llb_loader.specs.Bare.{with_bytes}
-use Rattle.llb_loader.proofs.Bare.{ops_with, refuses_with, both_apart, with_len, with_digest}
-use Rattle.llb_loader.proofs.Transfers.{refused_rows}
+use Rattle.llb_loader.specs.LinkingStages.{AreNames}
+use Rattle.llb_loader.specs.BareRows.{with_bytes}
+use Rattle.llb_loader.proofs.BareRowBytes.{ops_with, refuses_with, both_apart, with_len, with_digest}
+use Rattle.llb_loader.proofs.BareRowTransfers.{refused_rows}
 use Rattle.llb_loader.proofs.linking.Linked.of.Goals as goal
 
 pub returns-in_err-ops-clause-refused : goal.returns-in_err-ops-clause-refused

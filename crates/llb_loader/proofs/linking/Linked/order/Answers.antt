@@ -1,6 +1,6 @@
 use Rattle.std.proofs.Common.{◌∙◌, arith}
 use Rattle.std.proofs.lemmas.Result.{err_from_is_err_and}
-use Rattle.llb_loader.proofs.Stages.{below, lens, marked, limited, asked, there, cyclic, unsupported, invalid, bad_index, whole_order}
+use Rattle.llb_loader.proofs.LinkedRowRefusals.{below, lens, marked, limited, asked, there, cyclic, unsupported, invalid, bad_index, whole_order}
 use Rattle.llb_loader.proofs.linking.Linked.order.Goals as goal
 
 pub number-requires-clause-rows : goal.number-requires-clause-rows

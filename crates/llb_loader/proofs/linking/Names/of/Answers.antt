@@ -1,9 +1,9 @@
 use Rattle.std.proofs.Common.{ℕ, List, Bool, length, refl, sym, ◌∙◌, ap, arith}
 use Rattle.std.proofs.lemmas.Result.{err_from_is_err_and}
 use Rattle.std.specs.Global.{Vec}
-use Rattle.llb_loader.specs.Rows.{lists}
-use Rattle.llb_loader.proofs.Plans.{named_below}
-use Rattle.llb_loader.proofs.Stages.{graph_len, graph_below, refused_start, refused_unknown, resolved}
+use Rattle.llb_loader.specs.ReachedRows.{lists}
+use Rattle.llb_loader.proofs.InputRowPlaces.{named_below}
+use Rattle.llb_loader.proofs.LinkedRowRefusals.{graph_len, graph_below, refused_start, refused_unknown, resolved}
 use Rattle.llb_loader.proofs.linking.Names.of.Goals as goal
 
 pub returns-in_err-start-clause-refused : goal.returns-in_err-start-clause-refused

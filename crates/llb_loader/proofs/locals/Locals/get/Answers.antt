@@ -1,6 +1,6 @@
 use Rattle.std.proofs.Common.{◌∙◌, ap, List}
-use Rattle.llb_loader.specs.Locals.{Local, tree_of_local}
-use Rattle.llb_loader.proofs.Trees.{locals_found}
+use Rattle.llb_loader.specs.LocalSources.{Local, tree_of_local}
+use Rattle.llb_loader.proofs.LocalTreeMaps.{locals_found}
 use Rattle.llb_loader.proofs.locals.Locals.get.Goals as goal
 
 pub returns : goal.returns

@@ -1,8 +1,8 @@
 use Rattle.std.proofs.Common.{List, ℕ, refl}
 use Rattle.std.specs.Prelude.{IfSome}
 use Rattle.std.specs.Arc.{arc_value}
-use Rattle.llb_mount.specs.Order.{IsOrder}
-use Rattle.llb_mount.proofs.Exchange.{exchanged_view, exchanged_dests}
+use Rattle.llb_mount.specs.DestOrder.{IsOrder}
+use Rattle.llb_mount.proofs.MountTreeReplacement.{exchanged_view, exchanged_dests}
 use Rattle.llb_mount.proofs.view.View.swap_tree.Goals as goal
 
 pub invariant_of-self : goal.invariant_of-self

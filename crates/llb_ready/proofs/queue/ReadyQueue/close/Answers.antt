@@ -1,5 +1,5 @@
-use Rattle.llb_ready.proofs.Steps.{learns}
-use Rattle.llb_ready.proofs.Lessons.{no_more_taken}
+use Rattle.llb_ready.proofs.PutAndTake.{learns}
+use Rattle.llb_ready.proofs.WholePassFacts.{no_more_taken}
 use Rattle.llb_ready.proofs.queue.ReadyQueue.close.Goals as goal
 
 pub learn_as-requires-clause-rule : goal.learn_as-requires-clause-rule

@@ -1,4 +1,4 @@
-use Rattle.llb_ready.proofs.Cuts.{merges}
+use Rattle.llb_ready.proofs.PassSplitAndJoin.{merges}
 use Rattle.llb_ready.proofs.queue.ReadyQueue.join.Goals as goal
 
 pub absorb-requires-clause-rule : goal.absorb-requires-clause-rule

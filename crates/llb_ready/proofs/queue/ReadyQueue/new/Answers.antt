@@ -1,5 +1,5 @@
-use Rattle.llb_ready.proofs.Steps.{begins}
-use Rattle.llb_ready.proofs.Cuts.{widens, first_has_all}
+use Rattle.llb_ready.proofs.PutAndTake.{begins}
+use Rattle.llb_ready.proofs.PassSplitAndJoin.{widens, first_has_all}
 use Rattle.llb_ready.proofs.queue.ReadyQueue.new.Goals as goal
 
 pub ruled-requires-clause-rule : goal.ruled-requires-clause-rule

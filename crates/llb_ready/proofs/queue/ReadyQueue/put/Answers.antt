@@ -1,4 +1,4 @@
-use Rattle.llb_ready.proofs.Steps.{puts, learns}
+use Rattle.llb_ready.proofs.PutAndTake.{puts, learns}
 use Rattle.llb_ready.proofs.queue.ReadyQueue.put.Goals as goal
 
 pub push_as-requires-clause-rule : goal.push_as-requires-clause-rule

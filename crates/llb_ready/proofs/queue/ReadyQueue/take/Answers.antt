@@ -1,5 +1,5 @@
-use Rattle.llb_ready.proofs.Steps.{takes, learns}
-use Rattle.llb_ready.proofs.Lessons.{took}
+use Rattle.llb_ready.proofs.PutAndTake.{takes, learns}
+use Rattle.llb_ready.proofs.WholePassFacts.{took}
 use Rattle.llb_ready.proofs.queue.ReadyQueue.take.Goals as goal
 
 pub pop_as-requires-clause-rule : goal.pop_as-requires-clause-rule

@@ -1,5 +1,5 @@
 use Rattle.std.proofs.Common.{arith}
-use Rattle.llb_stepper.proofs.Stops.{one_fewer}
+use Rattle.llb_stepper.proofs.EventSequences.{one_fewer}
 use Rattle.llb_stepper.proofs.stepper.Stepper.back_by.Goals as goal
 
 pub loop-i-preserved : goal.loop-i-preserved

@@ -1,4 +1,4 @@
-use Rattle.llb_stepper.proofs.Stops.{BackTo}
+use Rattle.llb_stepper.proofs.EventSequences.{BackTo}
 use Rattle.llb_stepper.proofs.stepper.Stepper.back_by.Given as goal
 
 abbrev pub invariant-loop-i : goal.invariant-loop-i

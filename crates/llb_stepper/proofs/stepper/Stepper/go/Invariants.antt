@@ -1,7 +1,7 @@
 -- The chosen events so far; fewer can come with each.
 use Rattle.std.proofs.Common.{◌≡◌, length}
-use Rattle.llb_model.specs.Room.{still_to_come}
-use Rattle.llb_stepper.proofs.Stops.{Chosen}
+use Rattle.llb_model.specs.EventBounds.{still_to_come}
+use Rattle.llb_stepper.proofs.EventSequences.{Chosen}
 use Rattle.llb_stepper.proofs.stepper.Stepper.go.Given as goal
 
 abbrev pub invariant-loop-event : goal.invariant-loop-event

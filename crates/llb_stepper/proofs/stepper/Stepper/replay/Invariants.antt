@@ -1,6 +1,6 @@
 -- So many of the events were done, and met no breakpoint.
 use Rattle.std.proofs.Common.{◌≡◌, map, length}
-use Rattle.llb_stepper.proofs.Stops.{GoneTo}
+use Rattle.llb_stepper.proofs.EventSequences.{GoneTo}
 use Rattle.llb_stepper.proofs.stepper.Stepper.replay.Given as goal
 
 abbrev pub invariant-loop-event : goal.invariant-loop-event

@@ -1,9 +1,9 @@
 use Rattle.std.proofs.Common.{◌≡◌, ◌+◌, ◌≤◌, [], sym, ap, ◌∙◌, true≢false, arith}
 use Rattle.llb_tree.specs.Nodes.{kids_of, kids_in, left_in}
-use Rattle.llb_tree.proofs.ByName.{kids_below}
-use Rattle.llb_tree.proofs.Compared.{differ, agree}
-use Rattle.llb_tree.proofs.Cursor.{at_start, at_next, at_end, fewer}
-use Rattle.llb_tree.proofs.Fitting.{above_none, within_kids, kid_within, all_more, next_below}
+use Rattle.llb_tree.proofs.ChildLookup.{kids_below}
+use Rattle.llb_tree.proofs.NodeComparison.{differ, agree}
+use Rattle.llb_tree.proofs.ChildCursor.{at_start, at_next, at_end, fewer}
+use Rattle.llb_tree.proofs.NodeDepths.{above_none, within_kids, kid_within, all_more, next_below}
 use Rattle.llb_tree.proofs.node.Node.+is_within.Goals as goal
 
 pub returns-then-levels-eq0 : goal.returns-then-levels-eq0

@@ -2,8 +2,8 @@
 use Rattle.std.proofs.Common.{ℕ, ◌-◌, length}
 use Rattle.llb_tree.specs.Tree.{height}
 use Rattle.llb_tree.specs.Nodes.{left_in}
-use Rattle.llb_tree.proofs.Cursor.{IsAt}
-use Rattle.llb_tree.proofs.Fitting.{AllWithin}
+use Rattle.llb_tree.proofs.ChildCursor.{IsAt}
+use Rattle.llb_tree.proofs.NodeDepths.{AllWithin}
 use Rattle.llb_tree.proofs.node.Node.+is_within.Given as goal
 
 abbrev pub decreases-is_within : goal.decreases-is_within

@@ -1,11 +1,11 @@
 use Rattle.std.proofs.Common.{◌≡◌, refl, sym, ap, subst, ◌∙◌, is_some, true≢false, arith}
 use Rattle.llb_tree.specs.Nodes.{kids_of, own_entry, kids_in, left_in, AreSorted}
-use Rattle.llb_tree.proofs.Compared.{dirs_same, files_same, file_no_dir, differ, agree}
-use Rattle.llb_tree.proofs.Compared.{all_alike, none_yet, one_more, one_less, same_name, same_node, one_further, equal, unequal}
-use Rattle.llb_tree.proofs.ByName.{kids_below}
-use Rattle.llb_tree.proofs.Cursor.{fewer}
-use Rattle.llb_tree.proofs.Fitting.{first_below}
-use Rattle.llb_tree.proofs.Pieced.{sorted_kids}
+use Rattle.llb_tree.proofs.NodeComparison.{dirs_same, files_same, file_no_dir, differ, agree}
+use Rattle.llb_tree.proofs.NodeComparison.{all_alike, none_yet, one_more, one_less, same_name, same_node, one_further, equal, unequal}
+use Rattle.llb_tree.proofs.ChildLookup.{kids_below}
+use Rattle.llb_tree.proofs.ChildCursor.{fewer}
+use Rattle.llb_tree.proofs.NodeDepths.{first_below}
+use Rattle.llb_tree.proofs.PiecesAroundName.{sorted_kids}
 use Rattle.llb_tree.proofs.node.Node.+same.Goals as goal
 
 pub returns-then-not-same : goal.returns-then-not-same

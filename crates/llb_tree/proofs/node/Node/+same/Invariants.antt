@@ -4,7 +4,7 @@ use Rattle.std.proofs.Common.{◌≤◌, length}
 use Rattle.llb_tree.specs.Tree.{height}
 use Rattle.llb_tree.specs.Nodes.{left_in}
 use Rattle.llb_tree.specs.declared.node.Node.TheDeep.{deep-Child}
-use Rattle.llb_tree.proofs.Compared.{SoFar}
+use Rattle.llb_tree.proofs.NodeComparison.{SoFar}
 use Rattle.llb_tree.proofs.node.Node.+same.Given as goal
 
 abbrev pub decreases-same : goal.decreases-same

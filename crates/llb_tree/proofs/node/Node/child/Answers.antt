@@ -1,7 +1,7 @@
 use Rattle.std.proofs.Common.{◌≡◌, Some, None, sym, ap, ◌∙◌}
 use Rattle.llb_tree.specs.Nodes.{kids_of, kids_in}
-use Rattle.llb_tree.proofs.ByName.{read_file, read_found}
-use Rattle.llb_tree.proofs.Pieced.{sorted_kids}
+use Rattle.llb_tree.proofs.ChildLookup.{read_file, read_found}
+use Rattle.llb_tree.proofs.PiecesAroundName.{sorted_kids}
 use Rattle.llb_tree.proofs.node.Node.child.Goals as goal
 
 pub returns-in-File : goal.returns-in-File

@@ -1,7 +1,7 @@
 use Rattle.std.proofs.Common.{ap, sym, subst, ◌∙◌}
 use Rattle.llb_tree.specs.Nodes.{kids_of, kids_in, AreSorted}
 use Rattle.llb_tree.proofs.Entries.{node_entries}
-use Rattle.llb_tree.proofs.Pieced.{sorted_kids}
+use Rattle.llb_tree.proofs.PiecesAroundName.{sorted_kids}
 use Rattle.llb_tree.proofs.node.Node.children.Goals as goal
 
 pub returns-in-File-clause-entries : goal.returns-in-File-clause-entries

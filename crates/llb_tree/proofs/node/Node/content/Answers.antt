@@ -1,7 +1,7 @@
 use Rattle.std.proofs.Common.{Some, sym, ap, ◌∙◌}
 use Rattle.llb_tree.specs.Nodes.{own_entry}
 use Rattle.llb_tree.specs.Tree.{content_of}
-use Rattle.llb_tree.proofs.ByName.{read_root}
+use Rattle.llb_tree.proofs.ChildLookup.{read_root}
 use Rattle.llb_tree.proofs.node.Node.content.Goals as goal
 
 pub returns-in-Dir : goal.returns-in-Dir

@@ -1,7 +1,7 @@
 use Rattle.std.proofs.Common.{ap, ◌∙◌, ◌++◌, ◌∷◌}
 use Rattle.std.specs.FinMap as finite
-use Rattle.llb_tree.proofs.ByName.{dir_alone}
-use Rattle.llb_tree.proofs.Setting.{if_ok}
+use Rattle.llb_tree.proofs.ChildLookup.{dir_alone}
+use Rattle.llb_tree.proofs.NodeReplacement.{if_ok}
 use Rattle.llb_tree.proofs.node.Node.dir_at.Goals as goal
 
 pub returns-in-None : goal.returns-in-None

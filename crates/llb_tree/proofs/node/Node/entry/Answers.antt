@@ -1,7 +1,7 @@
 use Rattle.std.proofs.Common.{Some, ap, sym, ◌∙◌}
 use Rattle.llb_tree.specs.Nodes.{own_entry}
 use Rattle.llb_tree.specs.Tree.{File}
-use Rattle.llb_tree.proofs.ByName.{read_root}
+use Rattle.llb_tree.proofs.ChildLookup.{read_root}
 use Rattle.llb_tree.proofs.node.Node.entry.Goals as goal
 
 pub returns-in-File : goal.returns-in-File

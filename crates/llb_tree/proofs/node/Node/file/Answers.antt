@@ -1,4 +1,4 @@
-use Rattle.llb_tree.proofs.ByName.{file_alone}
+use Rattle.llb_tree.proofs.ChildLookup.{file_alone}
 use Rattle.llb_tree.proofs.node.Node.file.Goals as goal
 
 pub returns : goal.returns

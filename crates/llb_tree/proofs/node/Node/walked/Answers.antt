@@ -3,8 +3,8 @@ use Rattle.std.proofs.lemmas.List.{append-nil}
 use Rattle.std.specs.FinMap as finite
 use Rattle.llb_tree.specs.Tree.{Dir}
 use Rattle.llb_tree.specs.Nodes.{look_in}
-use Rattle.llb_tree.proofs.Walks.{walk_dir}
-use Rattle.llb_tree.proofs.Setting.{take_next}
+use Rattle.llb_tree.proofs.WalkByName.{walk_dir}
+use Rattle.llb_tree.proofs.NodeReplacement.{take_next}
 use Rattle.llb_tree.proofs.node.Node.walked.Goals as goal
 
 pub loop-name-preserved : goal.loop-name-preserved

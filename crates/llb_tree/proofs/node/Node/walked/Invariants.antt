@@ -2,7 +2,7 @@ use Rattle.std.proofs.Common.{◌≡◌, ℕ, List, ◌++◌, take, option_map}
 use Rattle.std.specs.FinMap as finite
 use Rattle.llb_tree.specs.Tree.{walk}
 use Rattle.llb_tree.specs.Nodes.{look_in}
-use Rattle.llb_tree.proofs.Walks.{walk_from}
+use Rattle.llb_tree.proofs.WalkByName.{walk_from}
 use Rattle.llb_tree.proofs.node.Node.walked.Given as goal
 
 abbrev pub invariant-loop-name : goal.invariant-loop-name

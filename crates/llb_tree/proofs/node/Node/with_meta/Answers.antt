@@ -2,8 +2,8 @@ use Rattle.std.proofs.Common.{ap, sym, ◌∙◌, refl}
 use Rattle.std.specs.FinMap as finite
 use Rattle.llb_tree.specs.Nodes.{kids_of, kids_in}
 use Rattle.llb_tree.specs.declared.node.Kind.TheVariants as kind
-use Rattle.llb_tree.proofs.ByName.{dir_alone, dir_kept, read_file}
-use Rattle.llb_tree.proofs.Setting.{if_ok}
+use Rattle.llb_tree.proofs.ChildLookup.{dir_alone, dir_kept, read_file}
+use Rattle.llb_tree.proofs.NodeReplacement.{if_ok}
 use Rattle.llb_tree.proofs.node.Node.with_meta.Goals as goal
 
 pub returns-in-File : goal.returns-in-File

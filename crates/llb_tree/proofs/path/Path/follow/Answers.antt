@@ -5,7 +5,7 @@ use Rattle.std.proofs.lemmas.List.{length_push}
 use Rattle.std.proofs.lemmas.Result.{err_from_is_err_and}
 use Rattle.std.specs.Str.Iter.{split_text, split_has_more, split_pattern}
 use Rattle.llb_tree.specs.Path.{follow, parts_of}
-use Rattle.llb_tree.proofs.Reading.{follow_more, follow_stops, follow_ends}
+use Rattle.llb_tree.proofs.PathReading.{follow_more, follow_stops, follow_ends}
 use Rattle.llb_tree.proofs.path.Path.follow.Goals as goal
 
 pub returns-in_err-enter : goal.returns-in_err-enter

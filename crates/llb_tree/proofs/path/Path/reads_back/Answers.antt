@@ -1,6 +1,6 @@
 use Rattle.std.proofs.Common.{subst}
 use Rattle.llb_tree.specs.Path.{ReadsBack}
-use Rattle.llb_tree.proofs.Joined.{reads_back}
+use Rattle.llb_tree.proofs.PathTextRoundTrip.{reads_back}
 use Rattle.llb_tree.proofs.path.Path.reads_back.Goals as goal
 
 pub returns : goal.returns

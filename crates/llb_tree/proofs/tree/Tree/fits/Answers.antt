@@ -1,6 +1,6 @@
 use Rattle.std.proofs.Common.{◌≡◌, ◌+◌, ◌-◌, ◌≤◌, length, sym, ap, subst, ◌∙◌, true≢false, arith}
 use Rattle.llb_tree.specs.Tree.{height}
-use Rattle.llb_tree.proofs.Fitting.{fit_all, fit_none, less}
+use Rattle.llb_tree.proofs.NodeDepths.{fit_all, fit_none, less}
 use Rattle.llb_tree.proofs.tree.Tree.fits.Goals as goal
 
 pub returns-then-self-room-clause-fit : goal.returns-then-self-room-clause-fit

@@ -3,7 +3,7 @@ use Rattle.std.specs.FinMap as finite
 use Rattle.llb_tree.specs.Path.{IsPath, is_within}
 use Rattle.llb_tree.specs.Nodes.{IsWhole, set_look}
 use Rattle.llb_tree.specs.Tree.{graft, places_fit}
-use Rattle.llb_tree.proofs.Changed.{set_inside, set_outside}
+use Rattle.llb_tree.proofs.EditedMaps.{set_inside, set_outside}
 use Rattle.llb_tree.proofs.Edits.{grafting}
 use Rattle.llb_tree.proofs.tree.Tree.graft.Goals as goal
 

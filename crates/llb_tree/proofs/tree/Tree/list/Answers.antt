@@ -3,7 +3,7 @@ use Rattle.std.proofs.lemmas.List.{append-nil}
 use Rattle.std.specs.FinMap as finite
 use Rattle.llb_tree.specs.Tree.{all_dirs, dir_there}
 use Rattle.llb_tree.specs.Nodes.{flat, left_in}
-use Rattle.llb_tree.proofs.Listed.{tops, listed, list-Ok, list-none}
+use Rattle.llb_tree.proofs.DirectoryListing.{tops, listed, list-Ok, list-none}
 use Rattle.llb_tree.proofs.tree.Tree.list.Goals as goal
 
 pub returns-in_default-clause-gives : goal.returns-in_default-clause-gives

@@ -1,6 +1,6 @@
 use Rattle.std.proofs.Common.{arith, ◌+◌, ◌≤◌}
 use Rattle.llb_tree.specs.Tree.{height}
-use Rattle.llb_tree.proofs.Overlaid.{IsTree-overlaid, height-overlaid}
+use Rattle.llb_tree.proofs.OverlayTrees.{IsTree-overlaid, height-overlaid}
 use Rattle.llb_tree.proofs.tree.Tree.overlay.Goals as goal
 
 pub invariant_of-self-2 : goal.invariant_of-self-2

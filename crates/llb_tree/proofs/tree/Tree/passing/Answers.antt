@@ -1,6 +1,6 @@
 use Rattle.std.proofs.Common.{◌++◌, ap, sym, ◌∙◌, Ok}
 use Rattle.std.specs.FinMap as finite
-use Rattle.llb_tree.proofs.Found.{under, hits, under_root}
+use Rattle.llb_tree.proofs.SelectedPaths.{under, hits, under_root}
 use Rattle.llb_tree.proofs.tree.Tree.passing.Goals as goal
 
 pub returns : goal.returns

@@ -1,7 +1,7 @@
 use Rattle.std.proofs.Common.{[], sym, ap, subst, ◌∙◌}
 use Rattle.std.specs.FinMap as finite
 use Rattle.llb_tree.specs.Walks.{levels_of, AreBehind, AreShort}
-use Rattle.llb_tree.proofs.Walked.{whole_left, short_tree}
+use Rattle.llb_tree.proofs.WalkSteps.{whole_left, short_tree}
 use Rattle.llb_tree.proofs.tree.Tree.walk.Goals as goal
 
 pub invariant_of-result : goal.invariant_of-result

@@ -1,7 +1,7 @@
 use Rattle.std.proofs.Common.{sym, ◌∙◌}
-use Rattle.llb_tree.specs.Tested.{rid_of}
-use Rattle.llb_tree.proofs.Thinning.{split_first}
-use Rattle.llb_tree.proofs.Thinned.{thinned_tree, unthinned_tree}
+use Rattle.llb_tree.specs.PathTests.{rid_of}
+use Rattle.llb_tree.proofs.FilteredNodes.{split_first}
+use Rattle.llb_tree.proofs.FilteredTrees.{thinned_tree, unthinned_tree}
 use Rattle.llb_tree.proofs.tree.Tree.without_passing.Goals as goal
 
 pub invariant_of-result : goal.invariant_of-result

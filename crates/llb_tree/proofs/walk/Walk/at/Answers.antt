@@ -2,7 +2,7 @@ use Rattle.std.proofs.Common.{sym, ap, ◌∙◌}
 use Rattle.std.specs.List.{slice_get}
 use Rattle.llb_tree.specs.Walks.{levels_of, left}
 use Rattle.llb_tree.proofs.Entries.{entries-root}
-use Rattle.llb_tree.proofs.Walked.{first_left}
+use Rattle.llb_tree.proofs.WalkSteps.{first_left}
 use Rattle.llb_tree.proofs.walk.Walk.at.Goals as goal
 
 pub returns : goal.returns

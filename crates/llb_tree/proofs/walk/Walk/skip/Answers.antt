@@ -1,7 +1,7 @@
 use Rattle.std.proofs.Common.{Ok, sym, ap, subst, ◌∙◌}
 use Rattle.llb_tree.specs.Walks.{levels_of, left, past, GoesOn}
 use Rattle.llb_tree.proofs.Entries.{entries-root}
-use Rattle.llb_tree.proofs.Walked.{short_behind, skipped}
+use Rattle.llb_tree.proofs.WalkSteps.{short_behind, skipped}
 use Rattle.llb_tree.proofs.walk.Walk.skip.Goals as goal
 
 pub climb-requires-clause-short : goal.climb-requires-clause-short

@@ -1,7 +1,7 @@
 use Rattle.std.proofs.Common.{◌≡◌, length, arith, rules, ap, ◌∙◌}
 use Rattle.std.proofs.lemmas.Grind.{common_steps}
-use Rattle.llb_work.proofs.Keeping.{keeps_pushed}
-use Rattle.llb_work.proofs.Fractions.{twice}
+use Rattle.llb_work.proofs.ThreadLists.{keeps_pushed}
+use Rattle.llb_work.proofs.PassFractions.{twice}
 use Rattle.llb_work.proofs.crew.Crew.all_serve.Goals as goal
 
 pub loop-news-preserved : goal.loop-news-preserved

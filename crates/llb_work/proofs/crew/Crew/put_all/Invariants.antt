@@ -1,4 +1,4 @@
-use Rattle.llb_work.specs.Passes.{IsPassFor}
+use Rattle.llb_work.specs.WorkerPasses.{IsPassFor}
 use Rattle.llb_work.proofs.crew.Crew.put_all.Given as goal
 
 abbrev pub invariant-loop-i : goal.invariant-loop-i

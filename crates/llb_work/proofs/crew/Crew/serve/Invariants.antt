@@ -1,4 +1,4 @@
-use Rattle.llb_work.specs.Passes.{IsPassFor}
+use Rattle.llb_work.specs.WorkerPasses.{IsPassFor}
 use Rattle.llb_work.specs.Tasks.{IsReport}
 use Rattle.llb_work.proofs.crew.Crew.serve.Given as goal
 

@@ -4,7 +4,7 @@ use denote.Param.Send.{param_send, arg_send}
 use denote.RattleType.{RattleType}
 use Rattle.std.proofs.Common.{sym, subst}
 use Rattle.llb_ready.specs.declared.queue.ReadyQueue.{ReadyQueue}
-use Rattle.llb_work.specs.Passes.{IsPassFor}
+use Rattle.llb_work.specs.WorkerPasses.{IsPassFor}
 use Rattle.llb_work.proofs.Crossing.{number, three_cross, crew_crosses, kit_crosses}
 use Rattle.llb_work.proofs.crew.Crew.start.Goals as goal
 

@@ -1,7 +1,7 @@
 use Rattle.std.proofs.Common.{arith}
-use Rattle.llb_work.proofs.Afters.{after_more, no_shorter}
-use Rattle.llb_work.proofs.Cancels.{some_noted}
-use Rattle.llb_work.proofs.Workers.{cancel_goes}
+use Rattle.llb_work.proofs.BoardContinuations.{after_more, no_shorter}
+use Rattle.llb_work.proofs.CancelFreeEvents.{some_noted}
+use Rattle.llb_work.proofs.WorkerCalls.{cancel_goes}
 use Rattle.llb_work.proofs.shared_board.SharedBoard.cancel.Goals as goal
 
 pub invariant_of-self : goal.invariant_of-self

@@ -1,7 +1,7 @@
 use Rattle.std.proofs.Common.{arith, ◌∙◌}
-use Rattle.llb_work.proofs.Afters.{after_more, no_shorter}
-use Rattle.llb_work.proofs.Here.{claimed_at_first}
-use Rattle.llb_work.proofs.Workers.{claim_works, claim_here}
+use Rattle.llb_work.proofs.BoardContinuations.{after_more, no_shorter}
+use Rattle.llb_work.proofs.WorkersAndVertices.{claimed_at_first}
+use Rattle.llb_work.proofs.WorkerCalls.{claim_works, claim_here}
 use Rattle.llb_work.proofs.shared_board.SharedBoard.claim.Goals as goal
 
 pub invariant_of-self : goal.invariant_of-self

@@ -1,7 +1,7 @@
 use Rattle.std.proofs.Common.{arith, ◌∙◌}
 use Rattle.llb_model.specs.Table.{HasSettled}
-use Rattle.llb_work.proofs.Afters.{after_more, no_shorter}
-use Rattle.llb_work.proofs.Workers.{land_works, landed_works}
+use Rattle.llb_work.proofs.BoardContinuations.{after_more, no_shorter}
+use Rattle.llb_work.proofs.WorkerCalls.{land_works, landed_works}
 use Rattle.llb_work.proofs.shared_board.SharedBoard.land.Goals as goal
 
 pub invariant_of-self : goal.invariant_of-self

@@ -1,6 +1,6 @@
 use Rattle.std.proofs.Common.{arith, ◌∙◌}
-use Rattle.llb_work.proofs.Afters.{after_more, no_shorter}
-use Rattle.llb_work.proofs.Workers.{settle_works}
+use Rattle.llb_work.proofs.BoardContinuations.{after_more, no_shorter}
+use Rattle.llb_work.proofs.WorkerCalls.{settle_works}
 use Rattle.llb_work.proofs.shared_board.SharedBoard.settle.Goals as goal
 
 pub invariant_of-self : goal.invariant_of-self

@@ -1,6 +1,6 @@
 use Rattle.std.proofs.Common.{arith, ◌∙◌}
-use Rattle.llb_work.proofs.Afters.{after_more, no_shorter}
-use Rattle.llb_work.proofs.Workers.{step_works}
+use Rattle.llb_work.proofs.BoardContinuations.{after_more, no_shorter}
+use Rattle.llb_work.proofs.WorkerCalls.{step_works}
 use Rattle.llb_work.proofs.shared_board.SharedBoard.step.Goals as goal
 
 pub invariant_of-self : goal.invariant_of-self

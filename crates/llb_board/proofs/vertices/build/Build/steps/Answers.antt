@@ -1,7 +1,7 @@
 use Rattle.std.proofs.Common.{◌≡◌, length, sym, ap, ◌∙◌}
 use Rattle.std.specs.Prelude.{slice_get, Some}
 use Rattle.llb_model.specs.Program.{program_at}
-use Rattle.llb_model.proofs.Vertices.{counted, few_steps}
+use Rattle.llb_model.proofs.VertexKinds.{counted, few_steps}
 use Rattle.llb_board.proofs.vertices.build.Build.steps.Goals as goal
 
 pub returns-in-Some-clause-all : goal.returns-in-Some-clause-all

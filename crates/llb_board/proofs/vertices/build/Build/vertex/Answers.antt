@@ -1,4 +1,4 @@
-use Rattle.llb_model.proofs.Vertices.{few_of}
+use Rattle.llb_model.proofs.VertexKinds.{few_of}
 use Rattle.llb_board.proofs.vertices.build.Build.vertex.Goals as goal
 
 pub returns-clause-few : goal.returns-clause-few

@@ -1,0 +1,176 @@
+package control
+
+import (
+	"context"
+	"crypto/rand"
+	"errors"
+	"strings"
+	"time"
+
+	controlapi "github.com/moby/buildkit/api/services/control"
+	spb "github.com/moby/buildkit/sourcepolicy/pb"
+	digest "github.com/opencontainers/go-digest"
+	"google.golang.org/grpc/codes"
+	"google.golang.org/grpc/status"
+	"llbm/daemon/internal/builds"
+	"llbm/daemon/internal/exports"
+	"llbm/daemon/internal/fields"
+	"llbm/daemon/internal/gateway"
+	"llbm/daemon/internal/solver"
+)
+
+const keyEpoch = "source-date-epoch"
+
+var errIdle = errors.New("nothing was taken")
+
+// Solve does one build. The build is there from the first moment, so that a refusal reaches all who wait for it.
+func (c *Control) Solve(ctx context.Context, req *controlapi.SolveRequest) (*controlapi.SolveResponse, error) {
+	user, err := userOf(ctx)
+	if err != nil {
+		return nil, err
+	}
+	ctx, cancel := context.WithCancel(ctx)
+	b, err := c.Builds.Start(ctx, user, req.Ref, req.Session)
+	if err != nil {
+		cancel()
+		return nil, err
+	}
+	defer c.Builds.End(b)
+	defer cancel()
+	modern(req)
+	if req.Internal {
+		return c.solve(ctx, b, req)
+	}
+	record := c.History.Start(user, req)
+	response, err := c.solve(ctx, b, req)
+	c.History.End(user, record, response.GetExporterResponse(), b.Steps(), err)
+	return response, err
+}
+
+// modern puts the exporter of an older client where newer ones have it, and the time of a build argument where exporters look.
+func modern(req *controlapi.SolveRequest) {
+	if len(req.Exporters) == 0 && req.ExporterDeprecated != "" {
+		req.Exporters = []*controlapi.Exporter{{Type: req.ExporterDeprecated, Attrs: req.ExporterAttrsDeprecated}}
+	}
+	epoch, ok := req.FrontendAttrs["build-arg:SOURCE_DATE_EPOCH"]
+	for _, e := range req.Exporters {
+		if _, has := e.Attrs[keyEpoch]; ok && !has {
+			if e.Attrs == nil {
+				e.Attrs = map[string]string{}
+			}
+			e.Attrs[keyEpoch] = epoch
+		}
+	}
+}
+
+// refused refuses what llbm has not.
+func refused(req *controlapi.SolveRequest) error {
+	if len(req.Entitlements) > 0 {
+		return status.Errorf(codes.PermissionDenied, "entitlement %s is not allowed", req.Entitlements[0])
+	}
+	if req.Cache.ExportRefDeprecated != "" || len(req.Cache.Exports) > 0 {
+		return status.Error(codes.Unimplemented, "llbmd has no cache exports")
+	}
+	if len(req.Cache.ImportRefsDeprecated) > 0 || len(req.Cache.Imports) > 0 {
+		return status.Error(codes.Unimplemented, "llbmd has no cache imports")
+	}
+	for key, value := range req.FrontendAttrs {
+		key = strings.ToLower(key)
+		asked := strings.HasPrefix(key, "attest:") || strings.HasPrefix(key, "build-arg:buildkit_attest_")
+		if asked && !strings.Contains(value, "inline-only=true") && !strings.Contains(value, "disabled=true") {
+			return status.Errorf(codes.Unimplemented, "llbmd has no attestations: %s=%s", key, value)
+		}
+	}
+	if err := solver.CheckPolicy(req.SourcePolicy); err != nil {
+		return err
+	}
+	return fields.Refuse("SolveRequest", req.XXX_unrecognized)
+}
+
+func (c *Control) solve(ctx context.Context, b *builds.Build, req *controlapi.SolveRequest) (*controlapi.SolveResponse, error) {
+	if err := refused(req); err != nil {
+		return nil, err
+	}
+	var exporters []*exports.Exporter
+	for i, asked := range req.Exporters {
+		e, err := exports.New(i, asked, c.Store)
+		if err != nil {
+			return nil, err
+		}
+		exporters = append(exporters, e)
+	}
+	b.Inputs = req.FrontendInputs
+	if req.SourcePolicy != nil {
+		b.Policies = []*spb.Policy{req.SourcePolicy}
+	}
+	returned, err := c.result(ctx, b, req)
+	if err != nil {
+		return nil, err
+	}
+	results, err := returned.Results(ctx)
+	if err != nil {
+		return nil, err
+	}
+	out := answer(results.Metadata)
+	for _, e := range exporters {
+		told, err := c.export(ctx, b, e, results)
+		if err != nil {
+			return nil, err
+		}
+		for k, v := range told {
+			out[k] = v
+		}
+	}
+	return &controlapi.SolveResponse{ExporterResponse: out}, nil
+}
+
+// result asks a frontend, or takes the definition, or waits for the frontend in the client.
+func (c *Control) result(ctx context.Context, b *builds.Build, req *controlapi.SolveRequest) (*gateway.Returned, error) {
+	switch {
+	case req.Frontend != "":
+		return c.Frontends.Run(ctx, b, gateway.Frontend{Name: req.Frontend, Options: req.FrontendAttrs, Inputs: req.FrontendInputs})
+	case req.Definition != nil:
+		return &gateway.Returned{Single: c.Solver.Lazily(b, "", req.Definition, nil)}, nil
+	default:
+		return gateway.Await(ctx, b, b.Returned)
+	}
+}
+
+// export sends the results, and shows this as a vertex.
+func (c *Control) export(ctx context.Context, b *builds.Build, e *exports.Exporter, results *exports.Results) (map[string]string, error) {
+	caller, err := c.Sessions.Get(ctx, b.User, b.Session)
+	if err != nil {
+		return nil, err
+	}
+	started := time.Now()
+	vertex := controlapi.Vertex{Digest: digest.FromString(rand.Text()), Name: e.Name(), Started: &started}
+	show := func(completed *time.Time, err error) {
+		v := vertex
+		if v.Completed = completed; err != nil {
+			v.Error = err.Error()
+		}
+		b.Events.Add(&controlapi.StatusResponse{Vertexes: []*controlapi.Vertex{&v}})
+	}
+	show(nil, nil)
+	ctx, cancel := context.WithCancelCause(ctx)
+	defer cancel(nil)
+	idle := time.AfterFunc(c.Idle, func() { cancel(errIdle) })
+	defer idle.Stop()
+	moved := func() { idle.Reset(c.Idle) }
+	var last time.Time
+	told, err := e.Export(ctx, caller, results, exports.Watch{Moved: moved, Sent: func(n int64) {
+		moved()
+		if now := time.Now(); now.Sub(last) > 100*time.Millisecond {
+			last = now
+			b.Events.Add(&controlapi.StatusResponse{Statuses: []*controlapi.VertexStatus{{
+				ID: "copying files", Vertex: vertex.Digest, Current: n, Timestamp: now, Started: &started,
+			}}})
+		}
+	}})
+	if errors.Is(context.Cause(ctx), errIdle) {
+		err = status.Errorf(codes.DeadlineExceeded, "%s: the client took nothing for %s", e.Name(), c.Idle)
+	}
+	ended := time.Now()
+	show(&ended, err)
+	return told, err
+}

@@ -1,0 +1,61 @@
+package differences
+
+import (
+	"fmt"
+
+	"github.com/moby/buildkit/solver/pb"
+	digest "github.com/opencontainers/go-digest"
+)
+
+// Execution is the name of the note that an execution is one.
+const Execution = "Execution"
+
+func otherLine(name string) Line {
+	text := other(name)
+	return Line{Words: fmt.Sprintf("%s (here %s)", text.BuildKit, text.LLBM), Texts: []Text{text}}
+}
+
+// Static returns what can be said of a vertex without its trees: that it is an execution, and what BuildKit's daemon dies of.
+func Static(v int, op *pb.Op) []Step {
+	var out []Step
+	add := func(action int, name string) {
+		out = append(out, Step{Vertex: v, Action: action, Lines: []Line{otherLine(name)}})
+	}
+	switch {
+	case op.GetExec() != nil:
+		add(-1, Execution)
+	case op.GetSource() != nil && len(op.Inputs) > 0:
+		add(-1, "SourceInputs")
+	case op.GetMerge() != nil && len(op.GetMerge().Inputs) < len(op.Inputs):
+		add(-1, "ShortMerge")
+	}
+	for number, action := range op.GetFile().GetActions() {
+		if rm := action.GetRm(); rm != nil && leavesTree(rm) {
+			add(number, "RmAboveRoot")
+		}
+	}
+	return out
+}
+
+// UnknownInputs returns a line for each input of an entry that names no entry.
+func UnknownInputs(def *pb.Definition) []Line {
+	known := map[digest.Digest]bool{}
+	for _, entry := range def.Def {
+		known[digest.FromBytes(entry)] = true
+	}
+	var out []Line
+	for row, entry := range def.Def {
+		op := &pb.Op{}
+		if op.Unmarshal(entry) != nil {
+			continue
+		}
+		for i, input := range op.Inputs {
+			if !known[input.Digest] {
+				line := otherLine("UnknownInput")
+				line.Words = fmt.Sprintf("entry %d input %d: %s", row, i, line.Words)
+				out = append(out, line)
+			}
+		}
+	}
+	return out
+}

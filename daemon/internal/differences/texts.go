@@ -1,0 +1,92 @@
+package differences
+
+import (
+	"strings"
+
+	"llbm/daemon/internal/paths"
+)
+
+const (
+	// mostOfPath is about how many bytes a path has on a system.
+	mostOfPath = 4000
+	// mostParts is more names than a path has in BuildKit or in llbm. It bounds what is done by other sets of rules.
+	mostParts = 4096
+)
+
+// checkNames fails if a system has no such name.
+func checkNames(path []string) error {
+	for _, name := range path {
+		if len(name) > paths.MostOfName || strings.IndexByte(name, 0) >= 0 {
+			return fails("a name is too long, or has a byte 0")
+		}
+	}
+	return nil
+}
+
+func bytesOf(path []string) int {
+	count := len(path)
+	for _, name := range path {
+		count += len(name)
+	}
+	return count
+}
+
+// checkLength fails if a path is too long. Rule Length: in BuildKit one of more than about 4,000 bytes. Rule Names: in llbm
+// one of more than 128 names.
+func checkLength(path []string, like Rules) error {
+	if like.has(Length) && bytesOf(path) > mostOfPath {
+		return fails("the path is too long")
+	}
+	if !like.has(Names) && len(path) > paths.MostNames {
+		return fails("a path has more than 128 names")
+	}
+	return nil
+}
+
+// fits is whether all paths of a tree that is put at a path pass checkLength.
+func fits(path []string, n *Node, like Rules) bool {
+	e := n.measure()
+	return (!like.has(Length) || bytesOf(path)+e.bytes <= mostOfPath) && (like.has(Names) || len(path)+e.names <= paths.MostNames)
+}
+
+// read reads the text of a path. Rule Names: BuildKit takes control bytes and more than 128 names, and skips names that a
+// `..` removes.
+func read(text string, like Rules) ([]string, error) {
+	if !like.has(Names) && !paths.IsPath(text) {
+		return nil, fails("a text is no path")
+	}
+	path := paths.Names(text)
+	if len(path) > mostParts {
+		return nil, fails("the path is too long")
+	}
+	if err := checkNames(path); err != nil {
+		return nil, err
+	}
+	return path, checkLength(path, like)
+}
+
+// readOfMkdir reads the path of an mkdir. Rule MkdirPath: it is walked part by part, so also what a `..` removes must not be
+// below a file.
+func readOfMkdir(text string, base *Node, like Rules) ([]string, error) {
+	path, err := read(text, like)
+	if err != nil || !like.has(MkdirPath) {
+		return path, err
+	}
+	var walked []string
+	for _, part := range strings.Split(text, "/") {
+		switch part {
+		case "", ".":
+		case "..":
+			walked = walked[:max(0, len(walked)-1)]
+		default:
+			walked = append(walked, part)
+			if err := checkNames([]string{part}); err != nil {
+				return nil, err
+			}
+			if base.isBelowFile(walked) {
+				return nil, fails("%s is below a file", shown(walked))
+			}
+		}
+	}
+	return path, nil
+}

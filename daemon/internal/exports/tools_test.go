@@ -1,0 +1,274 @@
+package exports
+
+import (
+	"bytes"
+	"context"
+	"encoding/json"
+	"fmt"
+	"io"
+	"math/rand"
+	"os"
+	"os/exec"
+	"path/filepath"
+	"strconv"
+	"strings"
+	"testing"
+
+	controlapi "github.com/moby/buildkit/api/services/control"
+	"github.com/moby/buildkit/exporter/containerimage/exptypes"
+	digest "github.com/opencontainers/go-digest"
+	ocispecs "github.com/opencontainers/image-spec/specs-go/v1"
+	"llbm/daemon/internal/contents"
+	"llbm/daemon/internal/solver"
+	"llbm/daemon/internal/tree"
+)
+
+// python writes for each image of a list in JSON the archive that tools/build writes, into a folder by its number.
+const python = `
+import io, json, os, sys
+from llbm_tools.images import oci_layout
+from llbm_tools.trees import tar_of_tree
+for number, one in enumerate(json.load(sys.stdin)):
+    layer = io.BytesIO()
+    tar_of_tree.write(io.BytesIO(one["Tree"].encode()), layer, int(one["Time"] or 0))
+    with open(os.path.join(sys.argv[1], str(number)), "wb") as output:
+        config = oci_layout.config_in(one["Config"].encode(), "config")
+        oci_layout.write(layer, output, config, int(one["Time"] or 0), one["Time"] != "")
+`
+
+// headers prints for each header of a list in JSON its blocks, in hexadecimal, as Python writes them.
+const headers = `
+import json, sys, tarfile
+for name, mode, uid, gid, size, time in json.load(sys.stdin):
+    header = tarfile.TarInfo(name.rstrip("/"))
+    header.type = tarfile.DIRTYPE if name.endswith("/") else tarfile.REGTYPE
+    header.mode, header.uid, header.gid, header.size, header.mtime = mode, uid, gid, size, time
+    print(header.tobuf(tarfile.PAX_FORMAT, "utf-8").hex())
+`
+
+// values prints each value of a list in JSON in the form of tools/build, a line each, as a text of JSON.
+const values = `
+import json, sys
+from llbm_tools.images import oci_layout
+for text in json.load(sys.stdin):
+    print(json.dumps(oci_layout.as_json(json.loads(text)).decode()))
+`
+
+// byTools runs a program of Python with the repository's tools, or skips the test, and returns what it prints.
+func byTools(t *testing.T, program string, given any, words ...string) []byte {
+	t.Helper()
+	working, err := os.Getwd()
+	if err == nil {
+		working, err = filepath.EvalSymlinks(working) // it may be below a link
+	}
+	if err != nil {
+		t.Fatal(err)
+	}
+	folder := filepath.Join(working, "../../../tools")
+	if _, err := os.Stat(filepath.Join(folder, "llbm_tools/images/oci_layout.py")); err != nil {
+		t.Skip("the repository's tools are not there")
+	}
+	in, err := json.Marshal(given)
+	if err != nil {
+		t.Fatal(err)
+	}
+	interpreter, err := exec.LookPath("python3")
+	if err != nil {
+		t.Skip("python3 is not there")
+	}
+	cmd := exec.Command(interpreter, append([]string{"-c", program}, words...)...)
+	cmd.Env = append(os.Environ(), "PYTHONPATH="+folder, "PYTHONDONTWRITEBYTECODE=1")
+	cmd.Stdin, cmd.Stderr = bytes.NewReader(in), os.Stderr
+	out, err := cmd.Output()
+	if err != nil {
+		t.Fatal(err)
+	}
+	return out
+}
+
+// A given is what an image is made of. Without a time none is asked for.
+type given struct {
+	Tree   string
+	Config string
+	Time   string
+}
+
+// image writes the image of a tree without compression.
+func (g given) image(t *testing.T, attrs map[string]string) []byte {
+	t.Helper()
+	store, err := contents.New(t.TempDir(), 1<<30)
+	if err != nil {
+		t.Fatal(err)
+	}
+	attrs["compression"], attrs["source-date-epoch"] = "uncompressed", g.Time
+	e, err := New(0, &controlapi.Exporter{Type: "oci", Attrs: attrs}, store)
+	if err != nil {
+		t.Fatal(err)
+	}
+	result := &solver.Result{}
+	for _, line := range strings.Split(strings.TrimSuffix(g.Tree, "\n"), "\n") {
+		entry, err := tree.ParseLine([]byte(line))
+		if err != nil {
+			t.Fatal(err)
+		}
+		result.Tree = append(result.Tree, entry)
+	}
+	metadata := map[string][]byte{exptypes.ExporterImageConfigKey: []byte(g.Config)}
+	list, byID, err := (&Results{Single: result, Metadata: metadata}).list()
+	if err != nil {
+		t.Fatal(err)
+	}
+	moved := 0
+	i := &image{e: e, watch: Watch{Moved: func() { moved++ }}}
+	defer i.close()
+	top, _, err := i.add(context.Background(), list, byID, metadata)
+	if err != nil {
+		t.Fatal(err)
+	}
+	if moved < len(result.Tree) {
+		t.Errorf("a layer of %d entries moved %d times", len(result.Tree), moved)
+	}
+	var out bytes.Buffer
+	if err := i.write(&out, top); err != nil {
+		t.Fatal(err)
+	}
+	return out.Bytes()
+}
+
+const root = "d 0755 0 0 /\n"
+
+// odd are trees with names, modes, owners and sizes that have to be written in several ways.
+func odd() []string {
+	long, deep := strings.Repeat("n", 255), strings.Repeat("d", 60)
+	hundred := strings.Repeat("h", 99)
+	large := strings.Repeat("61", 3<<20)
+	return []string{
+		root,
+		"d 0700 7 8 /\n",
+		root + "f 0644 0 0 - /empty\n",
+		root + "f 4755 1 2 6869 /a b\nf 0000 2097151 2097152 00ff /ü\nd 7777 4294967295 0 /漢\nf 0640 0 3000000 0a /漢/😀\n",
+		root + "d 1755 0 0 /" + deep + "\nd 0755 0 0 /" + deep + "/" + deep + "\nf 0644 0 0 61 /" + deep + "/" + deep + "/f\n",
+		root + "f 0644 0 0 - /" + hundred + "\nf 0644 0 0 - /" + hundred + "h\nf 0644 0 0 - /" + hundred + "hh\nd 0755 0 0 /" + hundred + "i\n",
+		root + "f 0644 0 0 61 /" + long + "\nf 0644 0 0 61 /" + strings.Repeat("ß", 127) + "\n",
+		root + "f 0644 0 0 " + large + " /large\nf 0644 0 0 " + strings.Repeat("00", 512) + " /one\nf 0644 0 0 " + strings.Repeat("01", 513) + " /two\n",
+		root + "f 0644 0 0 61 /\"quoted\"\nf 0644 0 0 61 /*\nf 0644 0 0 61 /.hidden\nf 0644 0 0 61 /a=b\nf 0644 0 0 61 /back\\slash\n",
+		root + "d 0755 0 0 /.wh\nf 0644 0 0 61 /.wh/a.wh.b\n",
+	}
+}
+
+// configurations are those that frontends return, and odder ones.
+var configurations = []string{
+	`{}`,
+	`{"config": {"Env": ["PATH=/bin", "A=<&>\u2028é\u0001\t"], "Cmd": ["/a"], "Labels": null, "Volumes": {}}, "author": null}`,
+	`{"architecture": "arm64", "os": "linux", "variant": "v8", "created": "2001-01-01T00:00:00.5Z", "rootfs": null}`,
+	`{"architecture": "arm", "os": "linux", "history": [], "config": {"Healthcheck": {"Interval": 30000000000, "x": [1.50, 1e30, -0, 1E-7]}}}`,
+	`{"created": "2030-01-01T00:00:00Z", "history": [{"created_by": "COPY"}, {"created_by": "ENV", "empty_layer": true, "comment": null}]}`,
+	`{"history": [{"created": "2002-02-02T02:02:02+02:00", "created_by": "COPY"}, {"created_by": "COPY b"}, {"empty_layer": false}]}`,
+	`{"history": [{"created": "2040-02-02T02:02:02Z", "empty_layer": true}], "created": null, "config": null}`,
+	`{"z": {"b": [true, false, null, {"y": 1, "x": "\ud83d\ude00"}], "a": ""}, "os.version": "1", "os.features": ["b", "a"]}`,
+	`{"rootfs": {"type": "other"}, "moby.buildkit.buildinfo.v1": "x"}`,
+}
+
+func TestImagesAreThoseOfTheTools(t *testing.T) {
+	var all []given
+	for _, text := range odd() {
+		all = append(all, given{text, "{}", ""}, given{text, `{"created": "2020-01-01T00:00:00Z"}`, "1445412480"})
+	}
+	for _, config := range configurations {
+		for _, time := range []string{"", "0", "1445412480", "8589934591"} {
+			all = append(all, given{root + "f 0644 0 0 61 /a\n", config, time})
+		}
+	}
+	folder := t.TempDir()
+	byTools(t, python, all, folder)
+	for n, one := range all {
+		want, err := os.ReadFile(filepath.Join(folder, strconv.Itoa(n)))
+		if err != nil {
+			t.Fatal(err)
+		}
+		if got := one.image(t, map[string]string{}); !bytes.Equal(got, want) {
+			at := 0
+			for at < min(len(got), len(want)) && got[at] == want[at] {
+				at++
+			}
+			at = max(0, at-100)
+			t.Errorf("image %d, %.200q %s %s: %d bytes, and %d by the tools; from byte %d on\n%.300q\n%.300q",
+				n, one.Tree, one.Config, one.Time, len(got), len(want), at, got[at:], want[at:])
+		}
+	}
+}
+
+func TestHeadersAreThoseOfPython(t *testing.T) {
+	random := rand.New(rand.NewSource(1))
+	numbers := []int64{0, 1, 1<<21 - 1, 1 << 21, 1<<32 - 1, 1<<33 - 1, 1 << 33, 9 << 30, 1 << 40}
+	pick := func() int64 { return numbers[random.Intn(len(numbers))] }
+	var all []header
+	var given [][]any
+	for n := 0; n < 400; n++ {
+		name := strings.Repeat("a", random.Intn(120)) + strings.Repeat("é", random.Intn(2)*random.Intn(60)) + "b"
+		if n%2 == 0 {
+			name += "/"
+		}
+		h := header{name, uint32(random.Intn(0o10000)), pick(), pick(), pick(), pick()}
+		all, given = append(all, h), append(given, []any{h.name, h.mode, h.uid, h.gid, h.size, h.time})
+	}
+	lines := strings.Fields(string(byTools(t, headers, given)))
+	for n, h := range all {
+		if got := fmt.Sprintf("%x", h.bytes()); got != lines[n] {
+			t.Errorf("%+v: %s, and %s by Python", h, got, lines[n])
+		}
+	}
+}
+
+func TestValuesAreWrittenAsByTheTools(t *testing.T) {
+	all := []string{
+		`"\u0000\u001f\u007f\u0080\u2028\u2029\b\f\n\r\t\"\\\/<>&'é😀"`, `[]`, `{}`, `[null,true,false]`, `{"b":{"ä":1,"z":2,"Z":3},"a":[[],{}]}`,
+		`[0,-0,1,-1,9007199254740993,123456789012345678901234567890]`, `[0.0,-0.0,1.0,1.5,100.0,0.1,1e1,1E5,1e15,1e16,1e-4,1e-5,12345678901234567.0]`,
+		`[1.7976931348623157e308,5e-324,2.5e-10,1e21,1e22,3.0e+10,0.30000000000000004]`, `{"a":1,"a":2}`,
+	}
+	var want []string
+	for _, line := range strings.Split(strings.TrimSpace(string(byTools(t, values, all))), "\n") {
+		var text string
+		if err := json.Unmarshal([]byte(line), &text); err != nil {
+			t.Fatal(err)
+		}
+		want = append(want, text)
+	}
+	for n, text := range all {
+		value, err := decoded([]byte(text))
+		if err != nil {
+			t.Fatal(err)
+		}
+		if got, err := canonical(value); err != nil || string(got) != want[n] {
+			t.Errorf("%s: %s %v, and %s by the tools", text, got, err, want[n])
+		}
+	}
+	for _, text := range []string{`1 2`, `{`, ``, `[1e999]`} {
+		value, err := decoded([]byte(text))
+		if err == nil {
+			_, err = canonical(value)
+		}
+		if err == nil {
+			t.Errorf("%s was taken", text)
+		}
+	}
+}
+
+func TestANameThatRemovesIsRefused(t *testing.T) {
+	e := &Exporter{}
+	result := &solver.Result{Tree: tree.Tree{{Dir: true, Mode: 0o755}, {Path: "d", Dir: true}, {Path: "d/.wh.f"}}}
+	err := writeLayer(context.Background(), files{result, e.when, func() {}}, new(bytes.Buffer))
+	if err == nil || !strings.Contains(err.Error(), "can't have a name that begins with .wh.: /d/.wh.f") {
+		t.Error(err)
+	}
+}
+
+func TestABlobOfTwoPlatformsIsWrittenOnce(t *testing.T) {
+	text := []byte("x")
+	one := blob{digest: digest.FromBytes(text), size: 1, open: func() io.Reader { return bytes.NewReader(text) }}
+	i := &image{e: &Exporter{attrs: map[string]string{}}, blobs: []blob{one, one}}
+	var out bytes.Buffer
+	if err := i.write(&out, ocispecs.Descriptor{}); err != nil || bytes.Count(out.Bytes(), []byte("blobs/sha256/")) != 1 || out.Len()%recordSize != 0 {
+		t.Error(out.Len(), err)
+	}
+}

@@ -1,0 +1,190 @@
+// Package frontends runs frontends as children: without rights, with bounds, and with the gateway on their standard input
+// and output, as BuildKit runs those of images.
+package frontends
+
+import (
+	"context"
+	"encoding/json"
+	"errors"
+	"fmt"
+	"os"
+	"os/exec"
+	"path/filepath"
+	"sort"
+	"strings"
+	"sync/atomic"
+	"syscall"
+	"time"
+
+	apitypes "github.com/moby/buildkit/api/types"
+	gatewaypb "github.com/moby/buildkit/frontend/gateway/pb"
+	"golang.org/x/net/http2"
+	"google.golang.org/grpc"
+	"google.golang.org/grpc/codes"
+	"google.golang.org/grpc/health"
+	"google.golang.org/grpc/health/grpc_health_v1"
+	"google.golang.org/grpc/status"
+	"llbm/daemon/internal/builds"
+	"llbm/daemon/internal/gateway"
+	"llbm/daemon/internal/machine"
+)
+
+const (
+	nobody       = 65534
+	mostFiles    = 256
+	mostMessages = 1 << 16
+	// images is the frontend of BuildKit that runs a frontend's image, which its option `source` names.
+	images = "gateway.v0"
+)
+
+// Frontends are programs by name.
+type Frontends struct {
+	Programs map[string]string
+	Limits   machine.Limits
+	Gateway  *gateway.Gateway
+	Server   func() *grpc.Server // makes the server of a child's connection
+	shared   atomic.Bool         // whether a network of its own can't be had for a child
+}
+
+// Set adds NAME=PROGRAM.
+func (f *Frontends) Set(text string) error {
+	name, program, ok := strings.Cut(text, "=")
+	if !ok || name == "" || program == "" {
+		return fmt.Errorf("%q is not NAME=PROGRAM", text)
+	}
+	program, err := exec.LookPath(program)
+	if err == nil {
+		program, err = filepath.Abs(program) // it is run in another folder
+	}
+	if err != nil {
+		return err
+	}
+	if f.Programs == nil {
+		f.Programs = map[string]string{}
+	}
+	f.Programs[name] = program
+	return nil
+}
+
+// String lists the names.
+func (f *Frontends) String() string {
+	var names []string
+	for name := range f.Programs {
+		names = append(names, name)
+	}
+	sort.Strings(names)
+	return strings.Join(names, " ")
+}
+
+func (f *Frontends) find(frontend gateway.Frontend) (string, error) {
+	name := frontend.Name
+	if _, ok := f.Programs[name]; !ok && name == images {
+		name = frontend.Options["source"]
+	}
+	if program, ok := f.Programs[name]; ok {
+		return program, nil
+	}
+	return "", status.Errorf(codes.Unimplemented, "llbmd has no frontend %q: it was started with %q (-frontend NAME=PROGRAM adds one)", name, f.String())
+}
+
+// Run runs a frontend for a build, and returns its result.
+func (f *Frontends) Run(ctx context.Context, b *builds.Build, frontend gateway.Frontend) (*gateway.Returned, error) {
+	program, err := f.find(frontend)
+	if err != nil {
+		return nil, err
+	}
+	leave, err := b.EnterFrontend()
+	if err != nil {
+		return nil, err
+	}
+	defer leave()
+	ctx, cancel := context.WithCancel(ctx)
+	defer cancel()
+	bridge, returned := f.Gateway.For(b, frontend)
+	c, err := f.start(ctx, program, environment(b, frontend, f.Gateway.Workers))
+	if err != nil {
+		return nil, status.Errorf(codes.Internal, "frontend %s: %v", frontend.Name, err)
+	}
+	server := f.Server()
+	gatewaypb.RegisterLLBBridgeServer(server, bridge)
+	grpc_health_v1.RegisterHealthServer(server, health.NewServer())
+	served := make(chan struct{})
+	go func() {
+		defer close(served)
+		(&http2.Server{}).ServeConn(c.conn, &http2.ServeConnOpts{Context: ctx, Handler: server})
+	}()
+	result, err := c.await(ctx, b, returned)
+	cancel()
+	_ = c.conn.Close()
+	<-served
+	<-c.ended
+	if errors.Is(err, errEnded) {
+		return nil, status.Errorf(codes.Unknown, "frontend %s: %v (%v): %.2000s", frontend.Name, err, c.failed, strings.TrimSpace(c.messages.String()))
+	}
+	return result, err
+}
+
+// environment is all that a frontend is told, in the form that BuildKit has for it.
+func environment(b *builds.Build, frontend gateway.Frontend, workers []*apitypes.WorkerRecord) []string {
+	type platform struct {
+		Architecture string `json:"architecture"`
+		OS           string `json:"os"`
+	}
+	type worker struct {
+		ID        string
+		Labels    map[string]string
+		Platforms []platform
+	}
+	var all []worker
+	for _, w := range workers {
+		one := worker{ID: w.ID, Labels: w.Labels}
+		for _, p := range w.Platforms {
+			one.Platforms = append(one.Platforms, platform{p.Architecture, p.OS})
+		}
+		all = append(all, one)
+	}
+	text, _ := json.Marshal(all) // strings always marshal
+	env := []string{"BUILDKIT_SESSION_ID=" + b.Session, "BUILDKIT_WORKERS=" + string(text), "BUILDKIT_EXPORTEDPRODUCT=llbmd"}
+	var keys []string
+	for k := range frontend.Options {
+		keys = append(keys, k)
+	}
+	sort.Strings(keys)
+	for i, k := range keys {
+		env = append(env, fmt.Sprintf("BUILDKIT_FRONTEND_OPT_%d=%s=%s", i, k, frontend.Options[k]))
+	}
+	return env
+}
+
+// attributes give a child nothing of the daemon's rights: its own process group, user nobody if the daemon is root, no new
+// privileges, and no network if the kernel lets it be taken away.
+func (f *Frontends) attributes() *syscall.SysProcAttr {
+	attributes := &syscall.SysProcAttr{Setpgid: true, Pdeathsig: syscall.SIGKILL}
+	root := os.Getuid() == 0
+	if root {
+		attributes.Credential = &syscall.Credential{Uid: nobody, Gid: nobody}
+	}
+	if f.shared.Load() {
+		return attributes
+	}
+	attributes.Cloneflags = syscall.CLONE_NEWNET | syscall.CLONE_NEWIPC
+	if !root {
+		attributes.Cloneflags |= syscall.CLONE_NEWUSER
+		attributes.UidMappings = []syscall.SysProcIDMap{{ContainerID: nobody, HostID: os.Getuid(), Size: 1}}
+		attributes.GidMappings = []syscall.SysProcIDMap{{ContainerID: nobody, HostID: os.Getgid(), Size: 1}}
+	}
+	return attributes
+}
+
+// command is what runs a program within its bounds. A shell sets them, as only the child itself may once it has another
+// user; it becomes the program, or ends if a bound can't be set.
+func (f *Frontends) command(program string) []string {
+	bounds := []string{"ulimit -c 0", "ulimit -f 0", fmt.Sprintf("ulimit -n %d", mostFiles)}
+	if f.Limits.Memory > 0 {
+		bounds = append(bounds, fmt.Sprintf("ulimit -d %d", max(1, f.Limits.Memory>>10)))
+	}
+	if f.Limits.Time > 0 {
+		bounds = append(bounds, fmt.Sprintf("ulimit -t %d", (f.Limits.Time+time.Second-1)/time.Second))
+	}
+	return []string{"/bin/sh", "-c", strings.Join(bounds, " && ") + ` && exec "$0"`, program}
+}

@@ -1,0 +1,241 @@
+// Package gateway is what frontends call: in a client's process through the daemon's socket, or in a child of the daemon.
+package gateway
+
+import (
+	"context"
+	"fmt"
+	"sync/atomic"
+	"time"
+
+	controlapi "github.com/moby/buildkit/api/services/control"
+	apitypes "github.com/moby/buildkit/api/types"
+	"github.com/moby/buildkit/client/buildid"
+	gatewaypb "github.com/moby/buildkit/frontend/gateway/pb"
+	"github.com/moby/buildkit/solver/pb"
+	spb "github.com/moby/buildkit/sourcepolicy/pb"
+	"google.golang.org/grpc/codes"
+	"google.golang.org/grpc/status"
+	"llbm/daemon/internal/builds"
+	"llbm/daemon/internal/fields"
+	"llbm/daemon/internal/peers"
+	"llbm/daemon/internal/solver"
+)
+
+// A Frontend is asked to solve a build.
+type Frontend struct {
+	Name    string
+	Options map[string]string
+	Inputs  map[string]*pb.Definition
+}
+
+// Frontends run frontends by their names.
+type Frontends interface {
+	Run(ctx context.Context, b *builds.Build, frontend Frontend) (*Returned, error)
+}
+
+// A Gateway serves frontends.
+type Gateway struct {
+	gatewaypb.UnimplementedLLBBridgeServer
+	Builds    *builds.Builds
+	Solver    *solver.Solver
+	Frontends Frontends
+	Workers   []*apitypes.WorkerRecord
+	only      *child
+}
+
+// A child is the frontend that a gateway serves alone.
+type child struct {
+	build    *builds.Build
+	inputs   map[string]*pb.Definition
+	returned chan *gatewaypb.ReturnRequest
+}
+
+// For returns a gateway for one frontend of a build, and where its result comes.
+func (g *Gateway) For(b *builds.Build, frontend Frontend) (*Gateway, <-chan *gatewaypb.ReturnRequest) {
+	one := *g
+	one.only = &child{build: b, inputs: frontend.Inputs, returned: make(chan *gatewaypb.ReturnRequest, 1)}
+	return &one, one.only.returned
+}
+
+// build returns the build that a call belongs to.
+func (g *Gateway) build(ctx context.Context) (*builds.Build, error) {
+	if g.only != nil {
+		return g.only.build, nil
+	}
+	user, err := peers.User(ctx)
+	if err != nil {
+		return nil, status.Error(codes.Unauthenticated, err.Error())
+	}
+	id := buildid.FromIncomingContext(ctx)
+	if id == "" {
+		return nil, status.Error(codes.InvalidArgument, "no buildid found in context")
+	}
+	return g.Builds.Get(ctx, user, id)
+}
+
+// Ping says what the gateway can do.
+func (g *Gateway) Ping(ctx context.Context, _ *gatewaypb.PingRequest) (*gatewaypb.PongResponse, error) {
+	if _, err := g.build(ctx); err != nil {
+		return nil, err
+	}
+	return &gatewaypb.PongResponse{FrontendAPICaps: caps(gatewayCaps, noGatewayCaps), LLBCaps: caps(llbCaps, noLLBCaps), Workers: g.Workers}, nil
+}
+
+var lastID atomic.Uint64
+
+// Solve makes a result of a definition, which is solved when it is used, or of another frontend.
+func (g *Gateway) Solve(ctx context.Context, req *gatewaypb.SolveRequest) (*gatewaypb.SolveResponse, error) {
+	b, err := g.build(ctx)
+	if err != nil {
+		return nil, err
+	}
+	if err := refused(req); err != nil {
+		return nil, err
+	}
+	var r *Returned
+	switch {
+	case req.Frontend != "":
+		r, err = g.Frontends.Run(ctx, b, Frontend{Name: req.Frontend, Options: req.FrontendOpt, Inputs: req.FrontendInputs})
+	case solver.IsEmpty(req.Definition):
+		r = &Returned{Single: solver.Empty()}
+	default:
+		r, err = g.lazily(b, req.Definition, req.SourcePolicies)
+	}
+	if err != nil {
+		return nil, err
+	}
+	if req.Evaluate {
+		if _, err := r.Results(ctx); err != nil {
+			return nil, err
+		}
+	}
+	return r.response(req)
+}
+
+func refused(req *gatewaypb.SolveRequest) error {
+	if len(req.CacheImports) > 0 {
+		return status.Error(codes.Unimplemented, "llbmd has no cache imports")
+	}
+	if req.Final {
+		return status.Error(codes.Unimplemented, "llbmd has no results that are returned with Solve: call Return")
+	}
+	for _, policy := range req.SourcePolicies {
+		if policy == nil {
+			return status.Error(codes.InvalidArgument, "invalid nil source policy")
+		}
+		if err := solver.CheckPolicy(policy); err != nil {
+			return err
+		}
+	}
+	return fields.Refuse("SolveRequest", req.XXX_unrecognized)
+}
+
+func (g *Gateway) lazily(b *builds.Build, def *pb.Definition, policies []*spb.Policy) (*Returned, error) {
+	id := fmt.Sprintf("%s-%d", b.Ref, lastID.Add(1))
+	lazy := g.Solver.Lazily(b, id, def, policies)
+	return &Returned{Single: lazy}, b.AddResult(id, lazy)
+}
+
+// result returns a result of a build by its ID; without an ID it is the empty one.
+func result(b *builds.Build, id string) (*solver.Lazy, error) {
+	if id == "" {
+		return solver.Empty(), nil
+	}
+	if lazy, ok := b.Result(id).(*solver.Lazy); ok {
+		return lazy, nil
+	}
+	return nil, status.Errorf(codes.NotFound, "no result %q", id)
+}
+
+func (g *Gateway) solved(ctx context.Context, id string) (*solver.Result, error) {
+	b, err := g.build(ctx)
+	if err != nil {
+		return nil, err
+	}
+	lazy, err := result(b, id)
+	if err != nil {
+		return nil, err
+	}
+	return lazy.Result(ctx)
+}
+
+// Evaluate solves a result.
+func (g *Gateway) Evaluate(ctx context.Context, req *gatewaypb.EvaluateRequest) (*gatewaypb.EvaluateResponse, error) {
+	_, err := g.solved(ctx, req.Ref)
+	return &gatewaypb.EvaluateResponse{}, err
+}
+
+// Inputs returns the definitions that the frontend was called with.
+func (g *Gateway) Inputs(ctx context.Context, _ *gatewaypb.InputsRequest) (*gatewaypb.InputsResponse, error) {
+	b, err := g.build(ctx)
+	if err != nil {
+		return nil, err
+	}
+	if g.only != nil {
+		return &gatewaypb.InputsResponse{Definitions: g.only.inputs}, nil
+	}
+	return &gatewaypb.InputsResponse{Definitions: b.Inputs}, nil
+}
+
+// Warn shows a frontend's warning.
+func (g *Gateway) Warn(ctx context.Context, req *gatewaypb.WarnRequest) (*gatewaypb.WarnResponse, error) {
+	b, err := g.build(ctx)
+	if err != nil {
+		return nil, err
+	}
+	for _, r := range req.Ranges {
+		if r == nil {
+			return nil, status.Error(codes.InvalidArgument, "invalid source range")
+		}
+	}
+	b.Events.Add(&controlapi.StatusResponse{Warnings: []*controlapi.VertexWarning{{
+		Vertex: req.Digest, Level: req.Level, Short: req.Short, Detail: req.Detail, Url: req.Url, Info: req.Info, Ranges: req.Ranges,
+	}}})
+	return &gatewaypb.WarnResponse{}, nil
+}
+
+// Return takes what the frontend made of the build.
+func (g *Gateway) Return(ctx context.Context, req *gatewaypb.ReturnRequest) (*gatewaypb.ReturnResponse, error) {
+	b, err := g.build(ctx)
+	if err != nil {
+		return nil, err
+	}
+	to := b.Returned
+	if g.only != nil {
+		to = g.only.returned
+	}
+	select {
+	case to <- req:
+		return &gatewaypb.ReturnResponse{}, nil
+	default:
+		return nil, status.Error(codes.AlreadyExists, "the build has returned")
+	}
+}
+
+// ResolveImageConfig is refused as a source of an image is.
+func (g *Gateway) ResolveImageConfig(_ context.Context, req *gatewaypb.ResolveImageConfigRequest) (*gatewaypb.ResolveImageConfigResponse, error) {
+	return nil, status.Errorf(codes.Unimplemented, "llbm: fault 88 Source: %s is an image, and llbm has no registries", req.Ref)
+}
+
+// ResolveSourceMeta is refused as the source is.
+func (g *Gateway) ResolveSourceMeta(_ context.Context, req *gatewaypb.ResolveSourceMetaRequest) (*gatewaypb.ResolveSourceMetaResponse, error) {
+	return nil, status.Errorf(codes.Unimplemented, "llbm: fault 88 Source: nothing is known of %s before it is read", req.Source.GetIdentifier())
+}
+
+var errContainers = status.Error(codes.Unimplemented, "llbmd has no containers for frontends")
+
+// NewContainer is refused: llbm starts no processes.
+func (g *Gateway) NewContainer(context.Context, *gatewaypb.NewContainerRequest) (*gatewaypb.NewContainerResponse, error) {
+	return nil, errContainers
+}
+
+// ReleaseContainer is refused: there is no container.
+func (g *Gateway) ReleaseContainer(context.Context, *gatewaypb.ReleaseContainerRequest) (*gatewaypb.ReleaseContainerResponse, error) {
+	return nil, errContainers
+}
+
+// ExecProcess is refused: llbm starts no processes.
+func (g *Gateway) ExecProcess(gatewaypb.LLBBridge_ExecProcessServer) error { return errContainers }
+
+// epoch is the time of everything in a tree.
+var epoch = time.Unix(0, 0)

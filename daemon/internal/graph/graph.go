@@ -1,0 +1,297 @@
+// Package graph joins the graph that llbm shows of a definition with the definition's entries.
+package graph
+
+import (
+	"bytes"
+	"container/heap"
+	"fmt"
+	"sort"
+	"strconv"
+	"strings"
+
+	"github.com/moby/buildkit/solver/errdefs"
+	"github.com/moby/buildkit/solver/pb"
+	digest "github.com/opencontainers/go-digest"
+	"google.golang.org/grpc/status"
+)
+
+// A Vertex is a line of `llbm show`, with the entry that it is.
+type Vertex struct {
+	Op     *pb.Op
+	Row    int
+	Inputs []int // the vertices that the op's inputs name
+	// Digest, Needs and Name are what clients know of the vertex: of the entry as the client sent it.
+	Digest digest.Digest
+	Needs  []digest.Digest
+	Name   string
+	Group  *pb.ProgressGroup
+}
+
+// A Graph is numbered as llbm numbers it (docs/FORMATS.md, "Loading").
+type Graph struct {
+	Vertices       []Vertex
+	Result, Output int
+	// Canonical is whether llbm reads each op as this package does: its bytes are those that this package writes.
+	Canonical bool
+	sent      *pb.Definition
+}
+
+// Entries returns the bytes of a definition that llbm reads.
+func Entries(def *pb.Definition) ([]byte, error) { return (&pb.Definition{Def: def.Def}).Marshal() }
+
+// rows are the entries of a definition, each with the first row of its digest.
+type rows struct {
+	ops   []*pb.Op
+	first map[digest.Digest]int
+}
+
+func rowsOf(def *pb.Definition) (*rows, bool, error) {
+	r, canonical := &rows{first: map[digest.Digest]int{}}, true
+	for k, entry := range def.Def {
+		op := &pb.Op{}
+		if err := op.Unmarshal(entry); err != nil {
+			return nil, false, fmt.Errorf("entry %d: %w", k, err)
+		}
+		again, err := op.Marshal()
+		canonical = canonical && err == nil && bytes.Equal(again, entry)
+		if d := digest.FromBytes(entry); !has(r.first, d) {
+			r.first[d] = k
+		}
+		r.ops = append(r.ops, op)
+	}
+	return r, canonical, nil
+}
+
+func has(first map[digest.Digest]int, d digest.Digest) bool {
+	_, ok := first[d]
+	return ok
+}
+
+// inputs returns the rows that the inputs of a row name.
+func (r *rows) inputs(k int) ([]int, error) {
+	out := make([]int, 0, len(r.ops[k].Inputs))
+	for _, in := range r.ops[k].Inputs {
+		row, ok := r.first[in.Digest]
+		if !ok {
+			return nil, fmt.Errorf("entry %d: no entry has the digest %s", k, in.Digest)
+		}
+		out = append(out, row)
+	}
+	return out, nil
+}
+
+// Read reads the graph of a definition that llbm may not have seen, and refuses one whose ops name what they have not.
+func Read(def, sent *pb.Definition) (*Graph, error) {
+	g, err := Load(def, sent)
+	if err != nil {
+		return nil, err
+	}
+	for v := range g.Vertices {
+		if err := checkIndexes(g.Vertices[v].Op); err != nil {
+			return nil, fmt.Errorf("entry %d: %w", g.Vertices[v].Row, err)
+		}
+	}
+	return g, nil
+}
+
+// Load reads the graph of a definition. The client sent the other definition, from which the first was rewritten row by row;
+// it may be the same.
+func Load(def, sent *pb.Definition) (*Graph, error) {
+	r, canonical, err := rowsOf(def)
+	if err != nil {
+		return nil, err
+	}
+	if len(r.ops) == 0 || len(sent.Def) != len(r.ops) {
+		return nil, fmt.Errorf("%d entries, and %d before", len(r.ops), len(sent.Def))
+	}
+	order, err := r.order()
+	if err != nil {
+		return nil, err
+	}
+	number := map[int]int{}
+	for v, k := range order {
+		number[k] = v
+	}
+	g := &Graph{Canonical: canonical, sent: sent}
+	for _, k := range order {
+		v := Vertex{Op: r.ops[k], Row: k, Digest: digest.FromBytes(sent.Def[k])}
+		inputs, err := r.inputs(k)
+		if err != nil {
+			return nil, err
+		}
+		for _, row := range inputs {
+			v.Inputs = append(v.Inputs, number[row])
+			v.Needs = append(v.Needs, g.Vertices[number[row]].Digest)
+		}
+		metadata := sent.Metadata[v.Digest]
+		v.Name, v.Group = Describe(metadata, sentOp(sent.Def[k], v.Op)), metadata.ProgressGroup
+		g.Vertices = append(g.Vertices, v)
+	}
+	last := len(r.ops) - 1
+	terminal, err := r.inputs(last)
+	if err != nil {
+		return nil, err
+	}
+	g.Result, g.Output = number[terminal[0]], int(r.ops[last].Inputs[0].Index)
+	return g, nil
+}
+
+// sentOp returns the op as the client sent it, or else the op that it was rewritten to.
+func sentOp(entry []byte, op *pb.Op) *pb.Op {
+	before := &pb.Op{}
+	if before.Unmarshal(entry) == nil {
+		return before
+	}
+	return op
+}
+
+// order returns the rows that the result depends on, in the order of their vertex numbers.
+func (r *rows) order() ([]int, error) {
+	terminal, err := r.inputs(len(r.ops) - 1)
+	if err != nil || len(terminal) == 0 {
+		return nil, fmt.Errorf("no result: %w", err)
+	}
+	reached, todo := map[int]bool{}, []int{terminal[0]}
+	users, waits, ready := map[int][]int{}, map[int]int{}, &least{}
+	for len(todo) > 0 {
+		k := todo[len(todo)-1]
+		if todo = todo[:len(todo)-1]; reached[k] {
+			continue
+		}
+		reached[k] = true
+		inputs, err := r.inputs(k)
+		if err != nil {
+			return nil, err
+		}
+		before := map[int]bool{}
+		for _, b := range inputs {
+			if !before[b] {
+				before[b] = true
+				users[b] = append(users[b], k)
+			}
+		}
+		if waits[k] = len(before); len(before) == 0 {
+			heap.Push(ready, k)
+		}
+		todo = append(todo, inputs...)
+	}
+	var order []int
+	for ready.Len() > 0 {
+		k := heap.Pop(ready).(int)
+		order = append(order, k)
+		for _, user := range users[k] {
+			if waits[user]--; waits[user] == 0 {
+				heap.Push(ready, user)
+			}
+		}
+	}
+	if len(order) != len(reached) {
+		return nil, fmt.Errorf("a cycle")
+	}
+	return order, nil
+}
+
+// Check compares the graph with the text that llbm shows of it.
+func (g *Graph) Check(shown string) error {
+	lines := strings.Split(strings.TrimSuffix(shown, "\n"), "\n")
+	if len(lines) != len(g.Vertices)+1 {
+		return fmt.Errorf("llbm shows %d vertices, not %d", len(lines)-1, len(g.Vertices))
+	}
+	for i, v := range g.Vertices {
+		words := strings.Fields(lines[i])
+		if len(words) < 8 || words[0] != strconv.Itoa(i) || len(v.Inputs) > 0 && len(words)-7 != len(v.Inputs) {
+			return fmt.Errorf("llbm shows another vertex: %q", lines[i])
+		}
+		for j, in := range v.Inputs {
+			if want := fmt.Sprintf("%d.%d", in, v.Op.Inputs[j].Index); words[7+j] != want {
+				return fmt.Errorf("llbm shows another input than %s: %q", want, lines[i])
+			}
+		}
+	}
+	if last, want := lines[len(lines)-1], fmt.Sprintf("result %d.%d", g.Result, g.Output); last != want {
+		return fmt.Errorf("llbm shows another result than %s: %q", want, last)
+	}
+	return nil
+}
+
+// Describe names an op for a person: by the client's name for it, or by what it does.
+func Describe(metadata pb.OpMetadata, op *pb.Op) string {
+	if name := metadata.Description["llb.customname"]; name != "" {
+		return name
+	}
+	switch o := op.Op.(type) {
+	case *pb.Op_Source:
+		return o.Source.GetIdentifier()
+	case *pb.Op_Exec:
+		return strings.Join(o.Exec.GetMeta().GetArgs(), " ")
+	case *pb.Op_File:
+		var words []string
+		for _, a := range o.File.GetActions() {
+			words = append(words, describeAction(a))
+		}
+		return strings.Join(words, ", ")
+	case *pb.Op_Merge:
+		return "merge"
+	case *pb.Op_Diff:
+		return "diff"
+	}
+	return "op"
+}
+
+func describeAction(action *pb.FileAction) string {
+	switch x := action.GetAction().(type) {
+	case *pb.FileAction_Mkfile:
+		return "mkfile " + x.Mkfile.GetPath()
+	case *pb.FileAction_Mkdir:
+		return "mkdir " + x.Mkdir.GetPath()
+	case *pb.FileAction_Rm:
+		return "rm " + x.Rm.GetPath()
+	case *pb.FileAction_Copy:
+		return "copy " + x.Copy.GetSrc() + " " + x.Copy.GetDest()
+	}
+	return "action"
+}
+
+// Wrap adds to an error which vertex it is of, and the places in files from which the client made the vertex.
+func (g *Graph) Wrap(v int, err error) error {
+	return located(g.sent, g.Vertices[v].Digest, errdefs.WrapVertex(err, g.Vertices[v].Digest))
+}
+
+func located(def *pb.Definition, d digest.Digest, err error) error {
+	if def.Source == nil || def.Source.Locations[d.String()] == nil {
+		return err
+	}
+	for _, place := range def.Source.Locations[d.String()].Locations {
+		if i := int(place.SourceIndex); i >= 0 && i < len(def.Source.Infos) {
+			err = errdefs.WithSource(err, errdefs.Source{Info: def.Source.Infos[i], Ranges: place.Ranges})
+		}
+	}
+	return err
+}
+
+// WrapRow adds to a refusal of llbm which names a row, as `llbm: fault 88 k ..`, what the client knows of this row.
+func WrapRow(sent *pb.Definition, err error) error {
+	var number, k int
+	st, _ := status.FromError(err)
+	if n, _ := fmt.Sscanf(st.Message(), "llbm: fault %d %d", &number, &k); n != 2 || number < 82 || number == 83 || number > 90 || k >= len(sent.Def) {
+		return err
+	}
+	d := digest.FromBytes(sent.Def[k])
+	op := &pb.Op{}
+	if op.Unmarshal(sent.Def[k]) == nil {
+		err = status.Errorf(st.Code(), "%s (%s)", st.Message(), Describe(sent.Metadata[d], op))
+	}
+	return located(sent, d, errdefs.WrapVertex(err, d))
+}
+
+// least hands out the least of its numbers.
+type least struct{ sort.IntSlice }
+
+func (l *least) Push(k any) { l.IntSlice = append(l.IntSlice, k.(int)) }
+
+func (l *least) Pop() any {
+	last := len(l.IntSlice) - 1
+	k := l.IntSlice[last]
+	l.IntSlice = l.IntSlice[:last]
+	return k
+}

@@ -1,0 +1,201 @@
+package graph
+
+import (
+	"fmt"
+	"strings"
+	"testing"
+
+	"github.com/moby/buildkit/solver/pb"
+	digest "github.com/opencontainers/go-digest"
+)
+
+// A definition under construction: each entry is added with the indexes of earlier entries as its inputs.
+type builder struct{ def pb.Definition }
+
+func (b *builder) add(t *testing.T, op *pb.Op, inputs ...int) int {
+	t.Helper()
+	for _, k := range inputs {
+		op.Inputs = append(op.Inputs, &pb.Input{Digest: digest.FromBytes(b.def.Def[k])})
+	}
+	entry, err := op.Marshal()
+	if err != nil {
+		t.Fatal(err)
+	}
+	b.def.Def = append(b.def.Def, entry)
+	return len(b.def.Def) - 1
+}
+
+func source(name string) *pb.Op {
+	return &pb.Op{Op: &pb.Op_Source{Source: &pb.SourceOp{Identifier: "local://" + name}}}
+}
+
+func merge(n int) *pb.Op {
+	op := &pb.MergeOp{}
+	for i := 0; i < n; i++ {
+		op.Inputs = append(op.Inputs, &pb.MergeInput{Input: pb.InputIndex(i)})
+	}
+	return &pb.Op{Op: &pb.Op_Merge{Merge: op}}
+}
+
+// A diamond, with an entry that the result does not need, and with entries after those that use them.
+func diamond(t *testing.T) *pb.Definition {
+	b := &builder{}
+	a := b.add(t, source("a"))
+	b.add(t, source("unused"))
+	c := b.add(t, source("c"))
+	left := b.add(t, merge(2), a, c)
+	right := b.add(t, merge(2), c, a)
+	top := b.add(t, merge(2), left, right)
+	b.add(t, &pb.Op{}, top)
+	return &b.def
+}
+
+const shown = "0 source steps 1 outputs 1 inputs -\n1 source steps 1 outputs 1 inputs -\n2 merge steps 2 outputs 1 inputs 0.0 1.0\n" +
+	"3 merge steps 2 outputs 1 inputs 1.0 0.0\n4 merge steps 2 outputs 1 inputs 2.0 3.0\nresult 4.0\n"
+
+// read reads a graph, and compares it with what llbm shows.
+func read(def, sent *pb.Definition, shown string) (*Graph, error) {
+	g, err := Read(def, sent)
+	if err != nil {
+		return nil, err
+	}
+	return g, g.Check(shown)
+}
+
+func TestVerticesAreNumberedAsLlbmShowsThem(t *testing.T) {
+	def := diamond(t)
+	g, err := read(def, def, shown)
+	if err != nil || !g.Canonical || g.Result != 4 || g.Output != 0 {
+		t.Fatalf("%+v %v", g, err)
+	}
+	for v, want := range []int{0, 2, 3, 4, 5} {
+		if g.Vertices[v].Row != want || g.Vertices[v].Digest != digest.FromBytes(def.Def[want]) {
+			t.Errorf("vertex %d is row %d", v, g.Vertices[v].Row)
+		}
+	}
+	if g.Vertices[0].Name != "local://a" || g.Vertices[4].Name != "merge" {
+		t.Errorf("%+v", g.Vertices)
+	}
+}
+
+func TestAnotherGraphIsRefused(t *testing.T) {
+	def := diamond(t)
+	turned, beyond := strings.Replace(shown, "2.0 3.0", "3.0 2.0", 1), strings.Replace(shown, "result 4.0", "result 5.0", 1)
+	for _, text := range []string{"", "result 4.0\n", turned, beyond, shown + "x\n"} {
+		if _, err := read(def, def, text); err == nil {
+			t.Errorf("%q", text)
+		}
+	}
+}
+
+func TestARewrittenOpIsNamedByItsUsersAnew(t *testing.T) {
+	def := diamond(t)
+	out, err := Rewrite(def, func(_ int, op *pb.Op) (bool, error) {
+		if op.GetSource().GetIdentifier() != "local://c" {
+			return false, nil
+		}
+		op.GetSource().Identifier = "local://d"
+		return true, nil
+	})
+	if err != nil {
+		t.Fatal(err)
+	}
+	g, err := read(out, def, shown)
+	if err != nil {
+		t.Fatal(err)
+	}
+	if g.Vertices[1].Op.GetSource().Identifier != "local://d" || g.Vertices[1].Digest != digest.FromBytes(def.Def[2]) || g.Vertices[1].Name != "local://c" {
+		t.Errorf("%+v", g.Vertices[1])
+	}
+	if string(out.Def[0]) != string(def.Def[0]) || string(out.Def[3]) == string(def.Def[3]) {
+		t.Error("what does not depend on the op is kept, and what does is changed")
+	}
+}
+
+func TestNothingToRewriteIsTheSameDefinition(t *testing.T) {
+	def := diamond(t)
+	if out, err := Rewrite(def, func(int, *pb.Op) (bool, error) { return false, nil }); err != nil || out != def {
+		t.Error(err)
+	}
+}
+
+func TestALongChainIsRewritten(t *testing.T) {
+	b := &builder{}
+	last := b.add(t, source("a"))
+	for i := 0; i < 5000; i++ {
+		last = b.add(t, merge(1), last)
+	}
+	b.add(t, &pb.Op{}, last)
+	// Backwards, so that each entry comes before the one that it names.
+	def := &pb.Definition{}
+	for k := len(b.def.Def) - 2; k >= 0; k-- {
+		def.Def = append(def.Def, b.def.Def[k])
+	}
+	def.Def = append(def.Def, b.def.Def[len(b.def.Def)-1])
+	out, err := Rewrite(def, func(_ int, op *pb.Op) (bool, error) {
+		if op.GetSource() == nil {
+			return false, nil
+		}
+		op.GetSource().Identifier = "local://b"
+		return true, nil
+	})
+	if err != nil || len(out.Def) != len(def.Def) || string(out.Def[0]) == string(def.Def[0]) {
+		t.Error(err)
+	}
+}
+
+func TestAnOpWithUnknownFieldsIsNotCanonical(t *testing.T) {
+	b := &builder{}
+	a := b.add(t, source("a"))
+	b.def.Def[a] = append(b.def.Def[a], 0x98, 0x06, 0x01) // field 99 is the number 1
+	b.add(t, &pb.Op{}, a)
+	g, err := read(&b.def, &b.def, "0 source steps 1 outputs 1 inputs -\nresult 0.0\n")
+	if err != nil || g.Canonical {
+		t.Error(fmt.Sprint(g), err)
+	}
+}
+
+func TestAnOpThatNamesWhatItHasNotIsRefused(t *testing.T) {
+	action := func(input, second pb.InputIndex, copied bool) *pb.FileAction {
+		out := &pb.FileAction{Input: input, SecondaryInput: second, Action: &pb.FileAction_Rm{Rm: &pb.FileActionRm{Path: "a"}}}
+		if copied {
+			out.Action = &pb.FileAction_Copy{Copy: &pb.FileActionCopy{Src: "a", Dest: "b"}}
+		}
+		return out
+	}
+	file := func(actions ...*pb.FileAction) *pb.Op {
+		return &pb.Op{Op: &pb.Op_File{File: &pb.FileOp{Actions: actions}}}
+	}
+	merged := func(input pb.InputIndex) *pb.Op {
+		return &pb.Op{Op: &pb.Op_Merge{Merge: &pb.MergeOp{Inputs: []*pb.MergeInput{{Input: 0}, {Input: input}}}}}
+	}
+	mounted := func(kind pb.MountType, input pb.InputIndex) *pb.Op {
+		return &pb.Op{Op: &pb.Op_Exec{Exec: &pb.ExecOp{Mounts: []*pb.Mount{{Input: input, MountType: kind}}}}}
+	}
+	for name, c := range map[string]struct {
+		op    *pb.Op
+		taken bool
+	}{
+		"merge":              {merged(1), true},
+		"merge of nothing":   {merged(-1), true},
+		"merge beyond":       {merged(2), false},
+		"merge before":       {merged(-2), false},
+		"copy":               {file(action(0, -1, false), action(2, 1, true)), true},
+		"input beyond":       {file(action(2, -1, false)), false},
+		"input before":       {file(action(-2, -1, false)), false},
+		"second beyond":      {file(action(0, 2, true)), false},
+		"second of no copy":  {file(action(0, 2, false)), true},
+		"second action":      {file(action(0, -1, false), action(3, 0, true)), false},
+		"mount":              {mounted(pb.MountType_BIND, 1), true},
+		"mount beyond":       {mounted(pb.MountType_BIND, 2), false},
+		"cache beyond":       {mounted(pb.MountType_CACHE, 2), false},
+		"mount of no inputs": {mounted(pb.MountType_TMPFS, 2), true},
+	} {
+		b := &builder{}
+		op := b.add(t, c.op, b.add(t, source("a")), b.add(t, source("b")))
+		b.add(t, &pb.Op{}, op)
+		if _, err := Read(&b.def, &b.def); (err == nil) != c.taken {
+			t.Errorf("%s: %v", name, err)
+		}
+	}
+}

@@ -1,0 +1,92 @@
+package machine
+
+import (
+	"context"
+	"os"
+	"path/filepath"
+	"strings"
+	"sync/atomic"
+	"testing"
+
+	"github.com/moby/buildkit/client/llb"
+	"github.com/moby/buildkit/solver/pb"
+)
+
+// ran runs an execution that writes a file to its end, with a bound on what is written.
+func ran(t *testing.T, most int64) *Run {
+	t.Helper()
+	path := os.Getenv("LLBM")
+	if path == "" {
+		t.Skip("llbm is not there: set LLBM")
+	}
+	ctx := context.Background()
+	program, err := Find(ctx, path, Limits{Output: most})
+	if err != nil {
+		t.Fatal(err)
+	}
+	sent, err := llb.Scratch().Run(llb.Args([]string{"write", "/f", "some-text"}), llb.Dir("/")).Root().Marshal(ctx)
+	if err != nil {
+		t.Fatal(err)
+	}
+	data, err := (&pb.Definition{Def: sent.Def}).Marshal()
+	if err != nil {
+		t.Fatal(err)
+	}
+	file, err := InMemory("definition")
+	if err == nil {
+		_, err = file.Write(data)
+	}
+	if err != nil {
+		t.Fatal(err)
+	}
+	t.Cleanup(func() { _ = file.Close() })
+	run, err := program.Step(ctx, file, nil, 1, new(atomic.Int64))
+	if err != nil {
+		t.Fatal(err)
+	}
+	t.Cleanup(run.Stop)
+	for more := true; more; {
+		if _, more, err = run.Next(); err != nil {
+			t.Fatal(err)
+		}
+	}
+	return run
+}
+
+func TestATreeThatIsReadAsideIsNoOutput(t *testing.T) {
+	run := ran(t, 500)
+	for range 10 {
+		tree, size, err := run.Aside(0, 0, 1, 1000)
+		if err != nil || len(tree) != 2 || tree[1].Path != "f" || size < 40 {
+			t.Fatal(tree, size, err)
+		}
+	}
+	if tree, _, err := run.Aside(0, 1, 1, 1000); tree != nil || err != nil {
+		t.Error(tree, err)
+	}
+	if tree, err := run.Tree(0, 0); err != nil || len(tree) != 2 {
+		t.Error(tree, err)
+	}
+}
+
+func TestATreeThatIsReadAsideIsBounded(t *testing.T) {
+	run := ran(t, 1000)
+	if tree, _, err := run.Aside(0, 0, 1, 30); err == nil {
+		t.Error(tree)
+	}
+}
+
+func TestAProgramMayBeNamedFromHere(t *testing.T) {
+	path := os.Getenv("LLBM")
+	if path == "" {
+		t.Skip("llbm is not there: set LLBM")
+	}
+	t.Chdir(filepath.Dir(path))
+	program, err := Find(context.Background(), "./"+filepath.Base(path), Limits{})
+	if err != nil {
+		t.Fatal(err)
+	}
+	if _, err := program.Show(context.Background(), nil); err == nil || !strings.Contains(err.Error(), "fault ") {
+		t.Error(err)
+	}
+}

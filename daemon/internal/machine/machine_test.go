@@ -1,0 +1,91 @@
+package machine
+
+import (
+	"os"
+	"path/filepath"
+	"strconv"
+	"strings"
+	"testing"
+
+	"google.golang.org/grpc/codes"
+	"google.golang.org/grpc/status"
+)
+
+func TestFaultsBecomeStatuses(t *testing.T) {
+	for line, want := range map[string]struct {
+		code codes.Code
+		text string
+	}{
+		"fault 88 0 Source":       {codes.Unimplemented, "llbm: fault 88 0 Source"},
+		"fault 89 3 Script 71 ls": {codes.InvalidArgument, "llbm: fault 89 3 Script 71 ls"},
+		"fault 81 1":              {codes.InvalidArgument, "llbm: fault 81 1 Definition"},
+		"fault 81 13":             {codes.ResourceExhausted, "llbm: fault 81 13 Definition"},
+		"fault 121 context":       {codes.FailedPrecondition, "llbm: fault 121 context MissingLocal"},
+		"fault 123":               {codes.ResourceExhausted, "llbm: fault 123 Opening"},
+		"fault 185":               {codes.ResourceExhausted, "llbm: fault 185 TooLong"},
+		"fault 171 141":           {codes.ResourceExhausted, "llbm: fault 171 141 Board: memory was refused"},
+		"fault 171 135":           {codes.Internal, "llbm: fault 171 135 Board"},
+		"fault 173 5":             {codes.Internal, "llbm: fault 173 5"},
+		"what":                    {codes.Internal, "llbm: what"},
+	} {
+		if st := status.Convert(Fault(line)); st.Code() != want.code || st.Message() != want.text {
+			t.Errorf("%q: %v %q", line, st.Code(), st.Message())
+		}
+	}
+}
+
+// page is the list of faults in the repository, if this folder is in one.
+func page(t *testing.T) string {
+	t.Helper()
+	working, err := os.Getwd()
+	if err == nil {
+		working, err = filepath.EvalSymlinks(working)
+	}
+	if err != nil {
+		t.Fatal(err)
+	}
+	data, err := os.ReadFile(filepath.Join(working, "../../../docs/FAULTS.md"))
+	if err != nil {
+		t.Skip("docs/FAULTS.md is not there")
+	}
+	return string(data)
+}
+
+func TestNamesAreThoseOfThePage(t *testing.T) {
+	named := map[int]string{}
+	for _, line := range strings.Split(page(t), "\n") {
+		cells := strings.Split(line, "|")
+		if len(cells) < 7 {
+			continue
+		}
+		number, err := strconv.Atoi(strings.TrimSpace(cells[1]))
+		if err == nil {
+			named[number] += cells[2]
+		}
+	}
+	for number, name := range names {
+		if !strings.Contains(named[number], "::"+name+"`") {
+			t.Errorf("%d %s: %s", number, name, named[number])
+		}
+	}
+}
+
+func TestEventsAreRead(t *testing.T) {
+	for line, want := range map[string]Event{
+		"1 claim 0 2 -> exec 6":      {Kind: Claim, Vertex: 2, Reply: "exec 6"},
+		"12 step 3 -> ran 1 0":       {Kind: Step, Worker: 3, Reply: "ran 1 0"},
+		"14 settle 0 -> 2 failed":    {Kind: Settle, Reply: "2 failed"},
+		"9 step 0 -> a -> b":         {Kind: Step, Reply: "a -> b"},
+		"100 claim 63 65535 -> file": {Kind: Claim, Worker: 63, Vertex: 65535, Reply: "file"},
+	} {
+		want.Line = line
+		if got, err := parseEvent(line); err != nil || got != want {
+			t.Errorf("%q: %+v %v", line, got, err)
+		}
+	}
+	for _, line := range []string{"", "end", "1 claim 0 -> x", "1 step 0 1 -> x", "1 step x -> y", "1 back 0 -> y", "1 step 0"} {
+		if got, err := parseEvent(line); err == nil {
+			t.Errorf("%q: %+v", line, got)
+		}
+	}
+}

@@ -1,0 +1,122 @@
+// Package peers listens on a unix socket of mode 0600, serves the daemon's own user and root, and says whose call one is.
+package peers
+
+import (
+	"context"
+	"errors"
+	"fmt"
+	"net"
+	"os"
+	"strings"
+	"sync"
+	"syscall"
+	"time"
+
+	"google.golang.org/grpc/credentials"
+	"google.golang.org/grpc/peer"
+)
+
+// patience bounds the wait for a server that may still listen on a socket.
+const patience = time.Second
+
+var umask sync.Mutex
+
+// Path returns the path of an address, which is a path or has the form unix://PATH.
+func Path(address string) (string, error) {
+	path := strings.TrimPrefix(address, "unix://")
+	if path == "" || strings.Contains(path, "://") {
+		return "", fmt.Errorf("%q is not the path of a socket", address)
+	}
+	return path, nil
+}
+
+// Listen makes a socket of mode 0600 at a path. A socket that nobody listens on is replaced; anything else that is there is an error.
+func Listen(path string) (net.Listener, error) {
+	if info, err := os.Lstat(path); err == nil {
+		if info.Mode()&os.ModeSocket == 0 {
+			return nil, fmt.Errorf("%s: is there, and is no socket", path)
+		}
+		conn, err := net.DialTimeout("unix", path, patience)
+		if err == nil {
+			_ = conn.Close()
+			return nil, fmt.Errorf("%s: another server listens there", path)
+		}
+		if !errors.Is(err, syscall.ECONNREFUSED) { // a server that is busy may take no connection now
+			return nil, fmt.Errorf("%s: another server may listen there: %w", path, err)
+		}
+		if err := os.Remove(path); err != nil {
+			return nil, err
+		}
+	}
+	umask.Lock()
+	defer umask.Unlock()
+	before := syscall.Umask(0o177)
+	defer syscall.Umask(before)
+	return net.Listen("unix", path)
+}
+
+// Info is the user at the other end of a connection.
+type Info struct{ UID uint32 }
+
+// AuthType names the way in which the user is known: by the kernel.
+func (Info) AuthType() string { return "SO_PEERCRED" }
+
+// User returns the user whose call a context belongs to.
+func User(ctx context.Context) (uint32, error) {
+	if p, ok := peer.FromContext(ctx); ok {
+		if info, ok := p.AuthInfo.(Info); ok {
+			return info.UID, nil
+		}
+	}
+	return 0, errors.New("the call has no user")
+}
+
+// Credentials refuse connections of users other than the daemon's and root, and keep the user for User.
+func Credentials() credentials.TransportCredentials { return kernel{uint32(os.Getuid())} }
+
+type kernel struct{ own uint32 }
+
+func (k kernel) ServerHandshake(conn net.Conn) (net.Conn, credentials.AuthInfo, error) {
+	uid, err := userOf(conn)
+	if err != nil {
+		return nil, nil, err
+	}
+	if uid != k.own && uid != 0 {
+		return nil, nil, fmt.Errorf("user %d is not served", uid)
+	}
+	return conn, Info{uid}, nil
+}
+
+func (kernel) ClientHandshake(context.Context, string, net.Conn) (net.Conn, credentials.AuthInfo, error) {
+	return nil, nil, errors.New("these credentials are a server's")
+}
+
+func (kernel) Info() credentials.ProtocolInfo {
+	return credentials.ProtocolInfo{SecurityProtocol: "unix socket"}
+}
+
+func (k kernel) Clone() credentials.TransportCredentials { return k }
+
+func (kernel) OverrideServerName(string) error { return nil }
+
+func userOf(conn net.Conn) (uint32, error) {
+	socket, ok := conn.(syscall.Conn)
+	if !ok {
+		return 0, errors.New("the connection is no socket")
+	}
+	raw, err := socket.SyscallConn()
+	if err != nil {
+		return 0, err
+	}
+	var found *syscall.Ucred
+	var fault error
+	if err := raw.Control(func(fd uintptr) {
+		found, fault = syscall.GetsockoptUcred(int(fd), syscall.SOL_SOCKET, syscall.SO_PEERCRED)
+	}); err != nil {
+		return 0, err
+	}
+	if fault != nil {
+		return 0, fault
+	}
+	return found.Uid, nil
+}

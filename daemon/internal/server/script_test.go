@@ -1,0 +1,90 @@
+package server
+
+import (
+	"os"
+	"path/filepath"
+	"strings"
+	"testing"
+
+	"github.com/moby/buildkit/client"
+	"github.com/moby/buildkit/client/llb"
+	"github.com/moby/buildkit/solver/pb"
+	digest "github.com/opencontainers/go-digest"
+	"google.golang.org/grpc/codes"
+	"google.golang.org/grpc/status"
+)
+
+// stub is a program for one definition, a file in a directory. It shows it once `step` runs, and does not end by itself.
+const stub = `#!/bin/sh
+case $1 in
+--version) echo llbm 1.0 ;;
+show)
+	for try in $(seq 600); do
+		[ -e "${0%/*}/runs" ] && break
+		sleep 0.1
+	done
+	[ -e "${0%/*}/runs" ] || exit 1
+	echo 0 file steps 1 outputs 1 inputs -
+	echo result 0.0 ;;
+step)
+	: > "${0%/*}/runs"
+	event=0
+	while read command vertex output; do
+		if [ "$command" = tree ]; then
+			printf 'd 0755 0 0 /\nf 0644 0 0 6869 /a\n'
+			continue
+		fi
+		event=$((event + 1))
+		case $event in
+		1) echo '1 claim 0 0 -> file 1' ;;
+		2) echo '2 step 0 -> acted 0' ;;
+		3) echo '3 settle 0 -> 0 done' ;;
+		*) echo end ;;
+		esac
+	done
+	exec sleep 600 ;;
+esac
+`
+
+func TestADefinitionIsShownWhileItRunsAndNobodyWaitsForTheEnd(t *testing.T) {
+	path := filepath.Join(t.TempDir(), "llbm")
+	if err := os.WriteFile(path, []byte(stub), 0o700); err != nil {
+		t.Fatal(err)
+	}
+	d := started(t, func(o *Options) { o.Program, o.AtOnce = path, 2 })
+	got, err := d.solved(t, llb.Scratch().File(llb.Mkfile("/a", 0o644, []byte("hi"))), client.SolveOpt{})
+	if err != nil || !strings.Contains(got, `0:0 a "hi"`) {
+		t.Errorf("%s %v", got, err)
+	}
+}
+
+func TestADefinitionThatNamesWhatItHasNotIsRefusedByLlbm(t *testing.T) {
+	d := started(t, nil)
+	for _, op := range []*pb.Op{
+		{Op: &pb.Op_Merge{Merge: &pb.MergeOp{Inputs: []*pb.MergeInput{{Input: 5}}}}, Inputs: make([]*pb.Input, 2)},
+		{Op: &pb.Op_File{File: &pb.FileOp{Actions: []*pb.FileAction{{
+			Input: 7, SecondaryInput: -1, Action: &pb.FileAction_Copy{Copy: &pb.FileActionCopy{Src: "/", Dest: "/a/", DirCopyContents: true}},
+		}}}}},
+	} {
+		base, err := (&pb.Op{Op: &pb.Op_Merge{Merge: &pb.MergeOp{Inputs: []*pb.MergeInput{{Input: -1}, {Input: -1}}}}}).Marshal()
+		if err != nil {
+			t.Fatal(err)
+		}
+		for i := range op.Inputs {
+			op.Inputs[i] = &pb.Input{Digest: digest.FromBytes(base)}
+		}
+		entry, err := op.Marshal()
+		if err != nil {
+			t.Fatal(err)
+		}
+		last, err := (&pb.Op{Inputs: []*pb.Input{{Digest: digest.FromBytes(entry)}}}).Marshal()
+		if err != nil {
+			t.Fatal(err)
+		}
+		def := &llb.Definition{Def: [][]byte{base, entry, last}}
+		_, err = d.Solve(t.Context(), def, client.SolveOpt{}, nil)
+		if st, _ := status.FromError(err); st.Code() != codes.InvalidArgument || !strings.Contains(st.Message(), "fault 89 1") {
+			t.Errorf("%v", err)
+		}
+	}
+}

@@ -1,0 +1,142 @@
+package server
+
+import (
+	"context"
+	"fmt"
+	"os"
+	"strings"
+	"sync"
+	"testing"
+
+	"github.com/moby/buildkit/client"
+	"github.com/moby/buildkit/client/llb"
+	"llbm/daemon/internal/notes"
+)
+
+// warnings builds a state, and returns the short texts of the warnings, and the error of the build.
+func (d *daemon) warnings(t *testing.T, state llb.State, o client.SolveOpt) (string, error) {
+	t.Helper()
+	var shorts []string
+	all, err := d.warned(t, state, o)
+	for _, w := range all {
+		shorts = append(shorts, string(w.Short))
+	}
+	return strings.Join(shorts, "\n"), err
+}
+
+// warned builds a state, and returns the warnings, and the error of the build.
+func (d *daemon) warned(t *testing.T, state llb.State, o client.SolveOpt) ([]*client.VertexWarning, error) {
+	t.Helper()
+	ch := make(chan *client.SolveStatus)
+	var all []*client.VertexWarning
+	var done sync.WaitGroup
+	done.Add(1)
+	go func() {
+		defer done.Done()
+		for event := range ch {
+			all = append(all, event.Warnings...)
+		}
+	}()
+	_, err := d.Solve(context.Background(), marshal(t, state, llb.LinuxAmd64), o, ch)
+	done.Wait()
+	return all, err
+}
+
+const anExecution = "runs a process of the root mount (here runs applets, of which `rm`, `cp`, `envfile`, `listing` differ from programs): Execution"
+
+func TestFieldsWithoutAnEffectAreWarnings(t *testing.T) {
+	table, err := notes.Read("../notes/testdata/fields.json")
+	if err != nil {
+		t.Fatal(err)
+	}
+	d := started(t, func(o *Options) { o.Notes = table })
+	run := llb.Scratch().Run(llb.Args([]string{"true"}), llb.Dir("/"), llb.User("app"), llb.Network(llb.NetModeHost))
+	want := "User has no effect: the user of the process\nNetwork has no effect: the network of the process\n" + anExecution
+	if got, err := d.warnings(t, run.Root(), client.SolveOpt{}); got != want || err != nil {
+		t.Errorf("%q %v", got, err)
+	}
+}
+
+func TestWhatEndsOtherwiseInBuildKitIsAWarning(t *testing.T) {
+	d := started(t, nil)
+	file := llb.Scratch().File(llb.Mkfile("/a", 0o604, []byte("1")))
+	other := llb.Scratch().File(llb.Mkfile("/b", 0o644, nil))
+	removed := file.File(llb.Rm("/a")).File(llb.Mkfile("/c", 0o644, nil))
+	again := llb.Scratch().File(llb.Mkfile("/a", 0o640, []byte("2")))
+	into := llb.Scratch().File(llb.Mkdir("/d/e", 0o700, llb.WithParents(true)))
+	from := llb.Scratch().File(llb.Mkdir("/d/e", 0o755, llb.WithParents(true)).Mkdir("/d/f", 0o755))
+	made := into.File(llb.Copy(from, "/d", "/"))
+	run := llb.Scratch().Run(llb.Args([]string{"write", "/f", "x"}), llb.Dir("/")).Root()
+	for name, one := range map[string]struct {
+		state llb.State
+		want  string
+	}{
+		"nothing differs":              {llb.Merge([]llb.State{file, other}).File(llb.Copy(other, "/b", "/n/", &llb.CopyInfo{CreateDestPath: true})), ""},
+		"a file over a file":           {file.File(llb.Mkdir("/x", 0o755).Mkfile("/a", 0o755, nil)), "action 1: /a has mode 0604 (here 0755): MkfileOver"},
+		"a removal that counts":        {llb.Merge([]llb.State{again, removed}), "/a is missing (here a file): MergeLayers"},
+		"a removal of what is not":     {llb.Merge([]llb.State{other, removed}), ""},
+		"a removal that comes first":   {llb.Merge([]llb.State{removed, again}), ""},
+		"what follows of a difference": {file.File(llb.Mkfile("/a", 0o755, nil)).File(llb.Mkdir("/y", 0o755)), "action 0: /a has mode 0604 (here 0755): MkfileOver"},
+		"a directory over another one": {made, "action 0: /d/e has mode 0755 (here 0700): NestedDirectory"},
+		"over what an execution made":  {run.File(llb.Mkfile("/f", 0o600, nil)), anExecution + "\naction 0: /f has mode 0644 (here 0600): MkfileOver"},
+		"an action after one that is new": {
+			file.File(llb.Copy(other, "/b", "/new/").Mkfile("/a", 0o755, nil)), "action 1: /a has mode 0604 (here 0755): MkfileOver",
+		},
+	} {
+		if got, err := d.warnings(t, one.state, client.SolveOpt{}); got != one.want || err != nil {
+			t.Errorf("%s: %q, not %q %v", name, got, one.want, err)
+		}
+	}
+}
+
+func TestAFailureThatBuildKitDoesNotHaveIsAWarning(t *testing.T) {
+	d := started(t, nil)
+	file := llb.Scratch().File(llb.Mkfile("/a", 0o604, nil))
+	got, err := d.warnings(t, file.File(llb.Mkdir("/a", 0o755)), client.SolveOpt{})
+	if err == nil || got != "action 0: does not fail (here: /a is a file): MkdirOver" {
+		t.Errorf("%q %v", got, err)
+	}
+	got, err = d.warnings(t, file.File(llb.Rm("/a/b", llb.WithAllowNotFound(true))), client.SolveOpt{})
+	if err != nil || got != "action 0: fails: /a/b is below a file: RmBelowFile" {
+		t.Errorf("%q %v", got, err)
+	}
+}
+
+func TestAnExecutionOfWhatDiffersIsAWarning(t *testing.T) {
+	d := started(t, nil)
+	state := llb.Scratch().File(llb.Mkfile("/a", 0o604, nil)).File(llb.Mkfile("/a", 0o755, nil))
+	run := state.Run(llb.Args([]string{"true"}), llb.Dir("/")).Root().File(llb.Mkfile("/a", 0o600, nil))
+	want := anExecution + "\naction 0: /a has mode 0604 (here 0755): MkfileOver\nits inputs differ, so what it makes in BuildKit is not known: Execution"
+	if got, err := d.warnings(t, run, client.SolveOpt{}); err != nil || got != want {
+		t.Errorf("%q %v", got, err)
+	}
+}
+
+func TestPathsWithOneCauseAreOneWarning(t *testing.T) {
+	d := started(t, nil)
+	files := map[string]string{}
+	for i := 0; i < 30; i++ {
+		files[fmt.Sprintf("d/%02d/f", i)] = "x"
+	}
+	root := directory(t, files)
+	for i := 0; i < 30; i++ {
+		if err := os.Chmod(fmt.Sprintf("%s/d/%02d", root, i), 0o750); err != nil {
+			t.Fatal(err)
+		}
+	}
+	source := llb.Local("src")
+	state := source.File(llb.Copy(source, "/d", "/", &llb.CopyInfo{Mode: modeOf(0o711)}))
+	all, err := d.warned(t, state, client.SolveOpt{LocalDirs: map[string]string{"src": root}})
+	if err != nil || len(all) != 1 {
+		t.Fatal(all, err)
+	}
+	if got := string(all[0].Short); got != "action 0: /d/00 has mode 0711 (here 0750): NestedDirectory, and 29 more" {
+		t.Error(got)
+	}
+	if details := all[0].Detail; len(details) != 20 || !strings.HasPrefix(string(details[0]), "NestedDirectory: a directory below the source") ||
+		string(details[19]) != "action 0: /d/19 has mode 0711 (here 0750): NestedDirectory" {
+		t.Errorf("%q", details)
+	}
+}
+
+func modeOf(mode os.FileMode) *os.FileMode { return &mode }

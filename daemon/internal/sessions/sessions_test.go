@@ -1,0 +1,71 @@
+package sessions
+
+import (
+	"context"
+	"fmt"
+	"net"
+	"testing"
+	"time"
+
+	"google.golang.org/grpc/codes"
+	"google.golang.org/grpc/status"
+)
+
+func headers(id string) map[string][]string { return map[string][]string{headerID: {id}} }
+
+func served(ctx context.Context, s *Sessions, user uint32, id string) chan error {
+	here, _ := net.Pipe()
+	ended := make(chan error, 1)
+	go func() { ended <- s.Serve(ctx, user, here, headers(id)) }()
+	return ended
+}
+
+func TestASessionIsItsUsersAlone(t *testing.T) {
+	s, err := New(10)
+	if err != nil {
+		t.Fatal(err)
+	}
+	ctx, cancel := context.WithCancel(context.Background())
+	ended := served(ctx, s, 1000, "id")
+	for _, id := range []string{"id", "prefix:id"} {
+		if _, err := s.Get(ctx, 1000, id); err != nil {
+			t.Error(id, err)
+		}
+		if _, err := s.Get(ctx, 1001, id); status.Code(err) != codes.FailedPrecondition {
+			t.Error(id, err)
+		}
+	}
+	if err := <-served(ctx, s, 1001, "id"); status.Code(err) != codes.AlreadyExists {
+		t.Error(err)
+	}
+	cancel()
+	<-ended
+	short, stop := context.WithTimeout(context.Background(), 50*time.Millisecond)
+	defer stop()
+	if _, err := s.Get(short, 1000, "id"); status.Code(err) != codes.FailedPrecondition {
+		t.Error(err)
+	}
+}
+
+func TestSessionsAreBounded(t *testing.T) {
+	s, err := New(3)
+	if err != nil {
+		t.Fatal(err)
+	}
+	ctx, cancel := context.WithCancel(context.Background())
+	defer cancel()
+	for i := 0; i < 3; i++ {
+		served(ctx, s, 0, fmt.Sprint(i))
+		if _, err := s.Get(ctx, 0, fmt.Sprint(i)); err != nil {
+			t.Error(err)
+		}
+	}
+	if err := <-served(ctx, s, 0, "one more"); status.Code(err) != codes.ResourceExhausted {
+		t.Error(err)
+	}
+	for _, ids := range [][]string{nil, {""}, {"a", "b"}} {
+		if err := s.Serve(ctx, 0, nil, map[string][]string{headerID: ids}); status.Code(err) != codes.InvalidArgument {
+			t.Error(ids, err)
+		}
+	}
+}

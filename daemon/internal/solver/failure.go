@@ -1,0 +1,97 @@
+package solver
+
+import (
+	"fmt"
+	"strconv"
+	"strings"
+
+	"github.com/moby/buildkit/solver/errdefs"
+	"github.com/moby/buildkit/solver/pb"
+	"google.golang.org/grpc/codes"
+	"google.golang.org/grpc/status"
+	"llbm/daemon/internal/graph"
+	"llbm/daemon/internal/machine"
+	"llbm/daemon/internal/plan"
+)
+
+// failure returns why a vertex failed: `V failed action A fault N` or `V failed command C status S` as llbm prints it,
+// with what the action or the command is, and the reason where it is known.
+func (s *Solver) failure(run *machine.Run, p *progress, v int) error {
+	g := p.g
+	lines, err := run.Status(len(g.Vertices))
+	if err != nil {
+		return err
+	}
+	line := ""
+	for _, one := range lines {
+		if strings.HasPrefix(one, strconv.Itoa(v)+" failed") {
+			line = one
+		}
+	}
+	op := g.Vertices[v].Op
+	var number, place, code int
+	if n, _ := fmt.Sscanf(line, "%d failed action %d fault %d", &number, &place, &code); n == 3 && place < len(op.GetFile().GetActions()) {
+		why := reason(run, g, v, place, code)
+		text := fmt.Sprintf("llbm: failed %d action %d fault %d %s: %s", number, p.action(v, place), code, machine.Name(code), why)
+		subject := &errdefs.Solve_File{File: &errdefs.FileAction{Index: int64(p.action(v, place))}}
+		return failed(op, subject, status.Error(codes.Unknown, text))
+	}
+	text := "llbm: failed " + strings.Replace(line, " failed", "", 1)
+	if n, _ := fmt.Sscanf(line, "%d failed command %d status %d", &number, &place, &code); n == 3 {
+		if calls := plan.Calls(op); place < len(calls) {
+			text += ": " + strings.Join(calls[place], " ")
+		}
+	}
+	return failed(op, nil, status.Error(codes.Unknown, text))
+}
+
+// causes say what a fault of a file action means.
+var causes = map[int]string{
+	21: "no such file or directory",
+	22: "a parent is not a directory",
+	23: "a directory is in the way of a file",
+	24: "a file is in the way of a directory",
+	25: "this can't be done at the root",
+	26: "a part of the path is no name, or the path has more than 128 names",
+	52: "the text is not a pattern",
+}
+
+// reason says what is wrong with an action. Of a copy it looks whether its source is there.
+func reason(run *machine.Run, g *graph.Graph, v, place, fault int) string {
+	action := g.Vertices[v].Op.GetFile().Actions[place]
+	switch a := action.Action.(type) {
+	case *pb.FileAction_Mkfile:
+		return a.Mkfile.Path + ": " + causes[fault]
+	case *pb.FileAction_Mkdir:
+		return a.Mkdir.Path + ": " + causes[fault]
+	case *pb.FileAction_Rm:
+		return a.Rm.Path + ": " + causes[fault]
+	case *pb.FileAction_Copy:
+		if fault == 21 && !(a.Copy.AllowWildcard && strings.ContainsAny(a.Copy.Src, `*?[\\`)) {
+			if missing, known := lacks(run, g, v, int(action.SecondaryInput), a.Copy.Src); known && missing {
+				return fmt.Sprintf("%q: not found: lstat %s: no such file or directory", a.Copy.Src, a.Copy.Src) // as BuildKit says it
+			} else if known {
+				return "a parent of " + a.Copy.Dest + ": no such file or directory"
+			}
+		}
+		return a.Copy.Src + " to " + a.Copy.Dest + ": " + causes[fault]
+	}
+	return causes[fault]
+}
+
+// lacks returns whether the tree that a copy copies from lacks a path, and whether this is known: it is of a tree that is
+// empty or another vertex' output.
+func lacks(run *machine.Run, g *graph.Graph, v, input int, path string) (missing, known bool) {
+	inputs := g.Vertices[v].Op.Inputs
+	switch {
+	case input < 0:
+		return strings.Trim(path, "/.") != "", true
+	case input >= len(inputs):
+		return false, false
+	}
+	t, err := run.TreeOf(g.Vertices[v].Inputs[input], int(inputs[input].Index), len(g.Vertices))
+	if err != nil || t == nil {
+		return false, false
+	}
+	return t.Find(path) == nil, true
+}

@@ -1,0 +1,253 @@
+package solver
+
+import (
+	"context"
+	"errors"
+	"fmt"
+	"io"
+	"regexp"
+	"strings"
+	"sync"
+
+	"github.com/moby/buildkit/solver/pb"
+	"golang.org/x/sync/errgroup"
+	"google.golang.org/grpc/codes"
+	"google.golang.org/grpc/status"
+	"llbm/daemon/internal/builds"
+	"llbm/daemon/internal/contents"
+	"llbm/daemon/internal/graph"
+	"llbm/daemon/internal/machine"
+	"llbm/daemon/internal/plan"
+	"llbm/daemon/internal/sources"
+)
+
+const local = "local://"
+
+// mostOfText is the longest text of a tree that llbm takes.
+const mostOfText = 64 << 20
+
+// plain are the names that can be given to llbm as NAME=FILE as they are.
+var plain = regexp.MustCompile(`^[A-Za-z0-9_.][A-Za-z0-9_./-]*$`)
+
+// An input is one local source: a name in a session, with the client's filters. Several vertices may name it.
+type input struct {
+	given    string // the name that llbm knows it by
+	request  sources.Request
+	session  string
+	key      string
+	vertices []int
+	manifest *sources.Manifest
+}
+
+type inputs struct {
+	all     []*input
+	byKey   map[string]*input
+	build   *builds.Build
+	renamed bool
+}
+
+func keyOf(session string, r sources.Request) string {
+	return fmt.Sprintf("%s\x00%s\x00%s\x00%v", session, r.Name, r.Filters(), r.ByMetadata)
+}
+
+func sessionOf(b *builds.Build, source *pb.SourceOp) string {
+	if id := source.Attrs[pb.AttrLocalSessionID]; id != "" {
+		return id
+	}
+	return b.Session
+}
+
+// gather fetches the local sources of a graph, all at once. Each is fetched once in a build.
+func (s *Solver) gather(ctx context.Context, b *builds.Build, g *graph.Graph, p *progress) (*inputs, error) {
+	in := &inputs{byKey: map[string]*input{}, build: b}
+	names := map[string]bool{}
+	for v := range g.Vertices {
+		source := g.Vertices[v].Op.GetSource()
+		if source == nil {
+			continue
+		}
+		request, err := sources.RequestOf(source)
+		if err != nil {
+			return nil, p.failed(v, err)
+		}
+		session := sessionOf(b, source)
+		key := keyOf(session, request)
+		one, ok := in.byKey[key]
+		if !ok {
+			one = &input{given: request.Name, request: request, session: session, key: key}
+			if names[request.Name] || !plain.MatchString(request.Name) {
+				one.given = ""
+			}
+			names[request.Name] = true
+			in.byKey[key] = one
+			in.all = append(in.all, one)
+		}
+		one.vertices = append(one.vertices, v)
+	}
+	group, ctx := errgroup.WithContext(ctx)
+	for i, one := range in.all {
+		for n := i; one.given == ""; n++ {
+			if name := fmt.Sprintf("source-%d", n); !names[name] {
+				names[name] = true
+				one.given, in.renamed = name, true
+			}
+		}
+		group.Go(func() (err error) {
+			one.manifest, err = s.fetch(ctx, b, one, p)
+			return err
+		})
+	}
+	if err := group.Wait(); err != nil {
+		in.close()
+		return nil, err
+	}
+	return in, nil
+}
+
+// A fetched source is shared by the results of a build.
+type fetched struct {
+	mu       sync.Mutex
+	manifest *sources.Manifest
+}
+
+// fetch returns a source of a build with a hold of it.
+func (s *Solver) fetch(ctx context.Context, b *builds.Build, one *input, p *progress) (*sources.Manifest, error) {
+	v := one.vertices[0]
+	shared := b.Share("source\x00"+one.key, func() any { return &fetched{} }).(*fetched)
+	shared.mu.Lock()
+	defer shared.mu.Unlock()
+	if shared.manifest == nil {
+		manifest, err := s.transfer(ctx, b, one.session, v, one.request, p)
+		if err != nil {
+			return nil, p.failed(v, err)
+		}
+		shared.manifest = manifest
+		b.OnEnd(manifest.Drop)
+	}
+	shared.manifest.Hold()
+	return shared.manifest, nil
+}
+
+func (s *Solver) transfer(
+	ctx context.Context, b *builds.Build, session string, v int, request sources.Request, p *progress,
+) (*sources.Manifest, error) {
+	caller, err := s.Sessions.Get(ctx, b.User, session)
+	if err != nil {
+		return nil, err
+	}
+	bar := p.bar(v, "transferring "+request.Name+":")
+	manifest, err := s.Keeper.Fetch(ctx, b.User, caller, request, bar.at)
+	if err != nil {
+		return nil, err
+	}
+	bar.done(manifest.Sent)
+	if manifest.Left > 0 {
+		p.warn(v, fmt.Sprintf("local source %s: %d entries are left out, as llbm has only directories and files", request.Name, manifest.Left), manifest.LeftOut)
+	}
+	return manifest, nil
+}
+
+// close gives up the holds of the sources.
+func (in *inputs) close() {
+	for _, one := range in.all {
+		if one.manifest != nil {
+			one.manifest.Drop()
+		}
+	}
+}
+
+// rename gives each source that shares its name with another one, or whose name is no word, a name of its own.
+func (in *inputs) rename(def *pb.Definition) (*pb.Definition, error) {
+	if !in.renamed {
+		return def, nil
+	}
+	return graph.Rewrite(def, func(_ int, op *pb.Op) (bool, error) {
+		source := op.GetSource()
+		if source == nil || !strings.HasPrefix(source.Identifier, local) {
+			return false, nil
+		}
+		request, err := sources.RequestOf(source)
+		if err != nil {
+			return false, nil // the result does not depend on this one: those that it depends on were read before
+		}
+		one, ok := in.byKey[keyOf(sessionOf(in.build, source), request)]
+		if !ok || one.given == request.Name {
+			return false, nil
+		}
+		source.Identifier = local + one.given
+		return true, nil
+	})
+}
+
+// texts writes the texts of all sources: by reference, or by value where the plan needs the contents themselves. The
+// table is that of the result; it is nil if there are no tokens.
+func (in *inputs) texts(g *graph.Graph) ([]machine.Source, *contents.Table, error) {
+	p := plan.Of(g.Vertices)
+	all := p.All || !g.Canonical
+	if !all {
+		table := contents.NewTable()
+		texts, err := in.write(func(one *input, to io.Writer) error {
+			for _, v := range one.vertices {
+				if p.Vertices[v] {
+					return writeValue(one, to, true)
+				}
+			}
+			return one.manifest.WriteByReference(to, table)
+		})
+		var mark sources.HasMark
+		if !errors.As(err, &mark) {
+			if err != nil {
+				table.Close()
+				table = nil
+			}
+			return texts, table, err
+		}
+		for _, text := range texts {
+			_ = text.Text.Close()
+		}
+		table.Close()
+	}
+	texts, err := in.write(func(one *input, to io.Writer) error { return writeValue(one, to, false) })
+	return texts, nil, err
+}
+
+func writeValue(one *input, to io.Writer, noMark bool) error {
+	if one.manifest.Bytes > mostOfText/2 {
+		return status.Errorf(
+			codes.ResourceExhausted, "llbm: fault 185 TooLong: local source %s has to be given by value, and has %d bytes", one.request.Name, one.manifest.Bytes)
+	}
+	return one.manifest.WriteByValue(to, noMark)
+}
+
+func (in *inputs) write(text func(*input, io.Writer) error) ([]machine.Source, error) {
+	var out []machine.Source
+	for _, one := range in.all {
+		file, err := machine.InMemory("source")
+		if err != nil {
+			return out, err
+		}
+		out = append(out, machine.Source{Name: one.given, Text: file})
+		if err := text(one, &limited{to: file, left: mostOfText}); err != nil {
+			if errors.Is(err, errTooLong) {
+				err = status.Errorf(codes.ResourceExhausted, "llbm: fault 185 TooLong: the text of local source %s", one.request.Name)
+			}
+			return out, err
+		}
+	}
+	return out, nil
+}
+
+var errTooLong = errors.New("the text is too long")
+
+// limited refuses more bytes than llbm takes.
+type limited struct {
+	to   io.Writer
+	left int
+}
+
+func (l *limited) Write(data []byte) (int, error) {
+	if l.left -= len(data); l.left < 0 {
+		return 0, errTooLong
+	}
+	return l.to.Write(data)
+}

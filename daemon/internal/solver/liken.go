@@ -1,0 +1,49 @@
+package solver
+
+import (
+	"github.com/moby/buildkit/solver/pb"
+	"llbm/daemon/internal/alike"
+	"llbm/daemon/internal/graph"
+)
+
+// note shows a warning for each field that has an effect in BuildKit alone.
+func (s *Solver) note(g *graph.Graph, p *progress) {
+	for v := range g.Vertices {
+		for _, note := range s.Notes.Of(g.Vertices[v].Op, s.Platform) {
+			p.note(v, note.String(), nil)
+		}
+	}
+}
+
+// liken rewrites ops on which BuildKit and llbm do not agree, as far as they then do, whatever the trees are.
+func (s *Solver) liken(c *checks, def, sent *pb.Definition, g *graph.Graph, p *progress) (*pb.Definition, *graph.Graph, error) {
+	if !g.Canonical {
+		p.warn(g.Result, "the definition has bytes that BuildKit's library would not write, so it runs by the rules of llbm alone", nil)
+		return def, g, nil
+	}
+	reached := map[int]bool{}
+	for _, v := range g.Vertices {
+		reached[v.Row] = true
+	}
+	actions := map[int][]int{}
+	rewritten, err := graph.Rewrite(def, func(row int, op *pb.Op) (bool, error) {
+		if !reached[row] {
+			return false, nil
+		}
+		changed, from := alike.Op(op)
+		if changed {
+			actions[row] = from
+		}
+		return changed, nil
+	})
+	if err != nil || rewritten == def {
+		return def, g, err
+	}
+	g, err = c.load(rewritten, sent)
+	if err != nil {
+		return nil, nil, err
+	}
+	p.change(g)
+	p.actions = actions
+	return rewritten, g, nil
+}

@@ -1,0 +1,50 @@
+package solver
+
+import (
+	"context"
+	"errors"
+
+	"github.com/moby/buildkit/solver/pb"
+	"github.com/moby/buildkit/sourcepolicy"
+	spb "github.com/moby/buildkit/sourcepolicy/pb"
+	"google.golang.org/grpc/codes"
+	"google.golang.org/grpc/status"
+	"llbm/daemon/internal/graph"
+)
+
+// CheckPolicy refuses a policy with a part that is missing.
+func CheckPolicy(policy *spb.Policy) error {
+	for _, rule := range policy.GetRules() {
+		if rule == nil {
+			return status.Error(codes.InvalidArgument, "invalid nil rule in policy")
+		}
+		if rule.Selector == nil {
+			return status.Error(codes.InvalidArgument, "invalid nil selector in policy")
+		}
+		for _, constraint := range rule.Selector.Constraints {
+			if constraint == nil {
+				return status.Error(codes.InvalidArgument, "invalid nil constraint in policy")
+			}
+		}
+	}
+	return nil
+}
+
+// convert applies policies for sources: a source is denied, or becomes another one.
+func convert(ctx context.Context, def *pb.Definition, policies []*spb.Policy) (*pb.Definition, error) {
+	if len(policies) == 0 {
+		return def, nil
+	}
+	engine := sourcepolicy.NewEngine(policies)
+	return graph.Rewrite(def, func(_ int, op *pb.Op) (bool, error) {
+		source := op.GetSource()
+		if source == nil {
+			return false, nil
+		}
+		changed, err := engine.Evaluate(ctx, source)
+		if errors.Is(err, sourcepolicy.ErrSourceDenied) {
+			return false, status.Error(codes.PermissionDenied, err.Error())
+		}
+		return changed, err
+	})
+}

@@ -1,0 +1,233 @@
+// Package solver solves definitions for builds: it fetches their sources, runs llbm, and shows the progress.
+package solver
+
+import (
+	"bytes"
+	"context"
+	"io"
+	"log"
+	"sync/atomic"
+
+	"github.com/moby/buildkit/solver/errdefs"
+	"github.com/moby/buildkit/solver/pb"
+	spb "github.com/moby/buildkit/sourcepolicy/pb"
+	"google.golang.org/grpc/codes"
+	"google.golang.org/grpc/status"
+	"llbm/daemon/internal/builds"
+	"llbm/daemon/internal/contents"
+	"llbm/daemon/internal/graph"
+	"llbm/daemon/internal/kept"
+	"llbm/daemon/internal/machine"
+	"llbm/daemon/internal/notes"
+	"llbm/daemon/internal/sessions"
+	"llbm/daemon/internal/sources"
+	"llbm/daemon/internal/tree"
+)
+
+// A Solver has what all builds share.
+type Solver struct {
+	Program  *machine.Program
+	Workers  int
+	Sessions *sessions.Sessions
+	Keeper   *sources.Keeper
+	Kept     *kept.Folder // or nil
+	Notes    *notes.Table // or nil
+	Platform pb.Platform  // the worker's
+	Literal  bool         // whether definitions run by llbm's rules where they differ from BuildKit's
+	slots    chan struct{}
+}
+
+// New returns a solver with at most some processes of the program at once.
+func New(program *machine.Program, workers, atOnce int, open *sessions.Sessions, keeper *sources.Keeper, folder *kept.Folder) *Solver {
+	return &Solver{Program: program, Workers: workers, Sessions: open, Keeper: keeper, Kept: folder, slots: make(chan struct{}, atOnce)}
+}
+
+// A Result is a tree, with the table of the contents that its tokens stand for.
+type Result struct {
+	Tree     tree.Tree
+	Contents *contents.Table
+	Def      *pb.Definition
+}
+
+// slot waits until one more process of the program may run.
+func (s *Solver) slot(ctx context.Context) (leave func(), err error) {
+	select {
+	case s.slots <- struct{}{}:
+		return func() { <-s.slots }, nil
+	case <-ctx.Done():
+		return nil, status.FromContextError(ctx.Err()).Err()
+	}
+}
+
+// IsEmpty is whether a definition is the client's Scratch(), which has no entries.
+func IsEmpty(def *pb.Definition) bool { return def == nil || len(def.Def) == 0 }
+
+// Solve runs a definition of a build. What the result holds is given up when the build ends.
+//
+// llbm shows each definition while it is worked on. A refusal ends the work, and nothing is returned before llbm has shown all.
+func (s *Solver) Solve(ctx context.Context, b *builds.Build, sent *pb.Definition, policies []*spb.Policy) (*Result, error) {
+	if IsEmpty(sent) {
+		return &Result{Tree: tree.Empty(), Def: sent}, nil
+	}
+	def, err := convert(ctx, sent, append(append([]*spb.Policy{}, b.Policies...), policies...))
+	if err != nil {
+		return nil, err
+	}
+	c := s.checks(ctx)
+	result, err := s.work(c, b, def, sent)
+	if refused := c.wait(); refused != nil {
+		err = refused
+	}
+	if result != nil {
+		b.OnEnd(result.Contents.Close)
+	}
+	if err != nil {
+		return nil, err
+	}
+	result.Def = sent
+	return result, nil
+}
+
+// work runs a definition by the rules that it is to be run by.
+func (s *Solver) work(c *checks, b *builds.Build, def, sent *pb.Definition) (*Result, error) {
+	g, err := c.load(def, sent)
+	if err != nil {
+		return nil, err
+	}
+	b.AddSteps(len(g.Vertices))
+	p := newProgress(b, g)
+	s.note(g, p)
+	if !s.Literal {
+		if def, g, err = s.liken(c, def, sent, g, p); err != nil {
+			return nil, err
+		}
+	}
+	in, err := s.gather(c.ctx, b, g, p)
+	if err != nil {
+		return nil, err
+	}
+	defer in.close()
+	if in.renamed {
+		if def, err = in.rename(def); err != nil {
+			return nil, err
+		}
+		// The graph is the same, except for names.
+		if g, err = graph.Load(def, sent); err != nil {
+			return nil, status.Errorf(codes.Internal, "%v", err)
+		}
+		p.change(g)
+	}
+	return s.run(c.ctx, b, def, g, in, p)
+}
+
+// run runs a definition in a session of llbm, and returns the result's tree.
+func (s *Solver) run(ctx context.Context, b *builds.Build, def *pb.Definition, g *graph.Graph, in *inputs, p *progress) (*Result, error) {
+	texts, table, err := in.texts(g)
+	defer func() {
+		for _, text := range texts {
+			_ = text.Text.Close()
+		}
+	}()
+	if err != nil {
+		return nil, err
+	}
+	c := compare(ctx, def, g, in, texts, p)
+	defer c.stop()
+	t, record, err := s.session(ctx, b, g, def, texts, p, c)
+	if s.Kept != nil {
+		s.keep(b, def, record, in, err)
+	}
+	if err != nil {
+		table.Close()
+		return nil, err
+	}
+	return &Result{Tree: t, Contents: table}, nil
+}
+
+// session does the events that llbm chooses, up to the end or to the first vertex that fails. The record is returned if it
+// is kept.
+func (s *Solver) session(
+	ctx context.Context, b *builds.Build, g *graph.Graph, def *pb.Definition, texts []machine.Source, p *progress, c *comparison,
+) (tree.Tree, []byte, error) {
+	entries, err := graph.Entries(def)
+	if err != nil {
+		return nil, nil, err
+	}
+	file, err := machine.InMemory("definition")
+	if err != nil {
+		return nil, nil, err
+	}
+	defer file.Close()
+	if _, err := file.Write(entries); err != nil {
+		return nil, nil, err
+	}
+	leave, err := s.slot(ctx)
+	if err != nil {
+		return nil, nil, err
+	}
+	written := b.Share("written", func() any { return new(atomic.Int64) }).(*atomic.Int64)
+	run, err := s.Program.Step(ctx, file, texts, s.Workers, written)
+	if err != nil {
+		leave()
+		return nil, nil, err
+	}
+	// Nobody waits for the end of a process that has said all.
+	defer func() {
+		go func() {
+			run.Stop()
+			leave()
+		}()
+	}()
+	var record bytes.Buffer
+	for {
+		event, more, err := run.Next()
+		if err != nil {
+			p.stopped(err)
+			return nil, record.Bytes(), err
+		}
+		if !more {
+			break
+		}
+		if s.Kept != nil && record.Len() < kept.MostOfRecord {
+			record.WriteString(event.Line + "\n")
+		}
+		if v, failed := p.event(event); failed {
+			err := p.failed(v, s.failure(run, p, v))
+			c.end(run)
+			return nil, record.Bytes(), err
+		}
+	}
+	t, err := run.Tree(g.Result, g.Output)
+	if err == nil {
+		c.end(run)
+	}
+	return t, record.Bytes(), err
+}
+
+// keep keeps a definition, its run and its sources. A source that is too long for a text by value has tokens.
+func (s *Solver) keep(b *builds.Build, def *pb.Definition, record []byte, in *inputs, err error) {
+	bytes, marshalErr := def.Marshal()
+	if marshalErr != nil {
+		log.Printf("llbmd: build %q is not kept: %v", b.Ref, marshalErr)
+		return
+	}
+	solved := kept.Solved{Ref: b.Ref, Definition: bytes, Record: record, Err: err}
+	for _, one := range in.all {
+		solved.Sources = append(solved.Sources, kept.Source{Name: one.given, Write: func(to io.Writer) error {
+			if one.manifest.Bytes <= mostOfText/2 {
+				return one.manifest.WriteByValue(to, false)
+			}
+			table := contents.NewTable()
+			defer table.Close()
+			return one.manifest.WriteByReference(to, table)
+		}})
+	}
+	if err := s.Kept.Add(solved); err != nil {
+		log.Printf("llbmd: build %q is not kept: %v", b.Ref, err)
+	}
+}
+
+// failed adds to the error of a vertex what clients show of it.
+func failed(op *pb.Op, subject errdefs.IsSolve_Subject, err error) error {
+	return errdefs.WithSolveError(errdefs.WithOp(err, op), subject, nil, nil)
+}

@@ -1,0 +1,101 @@
+// Package sources takes local sources from clients' sessions, and keeps them so that an unchanged file is not sent again.
+package sources
+
+import (
+	"bufio"
+	"bytes"
+	"fmt"
+	"io"
+	"sort"
+
+	"llbm/daemon/internal/contents"
+	"llbm/daemon/internal/tree"
+)
+
+// An Entry is what a client sent of a directory or a file.
+type Entry struct {
+	Path     string
+	Dir      bool
+	Mode     uint32
+	UID, GID uint32
+	Modified int64
+	Content  contents.Ref
+}
+
+// A Manifest is a local source as it was sent: its entries in path order, without the root. Its holders share it.
+type Manifest struct {
+	Name    string
+	Entries []Entry
+	Bytes   int64    // of all contents
+	Sent    int64    // of the contents that were sent this time
+	LeftOut []string // what was left out, up to a bound, and how many there were
+	Left    int
+	packs   map[*contents.Pack]bool
+}
+
+// Hold keeps the contents until a Drop.
+func (m *Manifest) Hold() {
+	for pack := range m.packs {
+		pack.Hold()
+	}
+}
+
+// Drop ends a hold.
+func (m *Manifest) Drop() {
+	for pack := range m.packs {
+		pack.Drop()
+	}
+}
+
+func (m *Manifest) find(path string) *Entry {
+	i := sort.Search(len(m.Entries), func(i int) bool { return tree.Compare(m.Entries[i].Path, path) >= 0 })
+	if i < len(m.Entries) && m.Entries[i].Path == path {
+		return &m.Entries[i]
+	}
+	return nil
+}
+
+// WriteByReference writes the source's tree with a token of the table in the place of each content.
+func (m *Manifest) WriteByReference(to io.Writer, table *contents.Table) error {
+	return m.write(to, func(e *Entry) ([]byte, error) { return table.Add(e.Content) })
+}
+
+// A HasMark says that a source by value has the byte with which tokens begin, so tokens would be mistaken.
+type HasMark string
+
+func (path HasMark) Error() string { return string(path) + " has the byte 255" }
+
+// WriteByValue writes the source's tree with its contents. With tokens elsewhere, the byte 255 in a content is a HasMark.
+func (m *Manifest) WriteByValue(to io.Writer, noMark bool) error {
+	return m.write(to, func(e *Entry) ([]byte, error) {
+		data := make([]byte, e.Content.Size)
+		if _, err := e.Content.ReadAt(data, 0); err != nil {
+			return nil, fmt.Errorf("%s: %w", e.Path, err)
+		}
+		if noMark && bytes.IndexByte(data, contents.Mark) >= 0 {
+			return nil, HasMark(e.Path)
+		}
+		return data, nil
+	})
+}
+
+func (m *Manifest) write(to io.Writer, content func(*Entry) ([]byte, error)) error {
+	out := bufio.NewWriterSize(to, 1<<16)
+	if err := tree.WriteEntry(out, &tree.Empty()[0]); err != nil {
+		return err
+	}
+	for i := range m.Entries {
+		e := &m.Entries[i]
+		line := tree.Entry{Path: e.Path, Dir: e.Dir, Mode: e.Mode, UID: e.UID, GID: e.GID}
+		if !e.Dir && e.Content.Size > 0 {
+			var err error
+			if line.Content, err = content(e); err != nil {
+				return err
+			}
+		}
+		if err := tree.WriteEntry(out, &line); err != nil {
+			return err
+		}
+	}
+	return out.Flush()
+}

@@ -1,0 +1,5 @@
+package frontend
+
+import "llbm/daemon/suite"
+
+func init() { suite.Register() }

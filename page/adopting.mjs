@@ -1,0 +1,231 @@
+/**
+ * Changes a foreign definition into one that the machine takes, as `tools/adopt --all` does: sources that are images
+ * and the like become local ones; secrets, agents, unpacking and owners by name are dropped; words that are refused run
+ * `true`. A change of an entry changes all entries that depend on it, since inputs name entries by their digests.
+ */
+
+import { findingsOf, Rows } from './findings.mjs';
+import { canBeGiven, isKnown, LOCAL, LocalNames } from './local_names.mjs';
+import { entriesIn, membersOf, read, readDefinition } from './op_reading.mjs';
+import { orderOf } from './order.mjs';
+import {
+  areEqual, changed, Faulty, recordsIn, withEach, withMessage, without, withText, withTexts, written,
+} from './records.mjs';
+import { faultOfScript } from './script_faults.mjs';
+import { sha256 } from './sha256.mjs';
+import { fieldsOf, text } from './wire.mjs';
+
+const EXEC = 2;
+const SOURCE = 3;
+const FILE = 4;
+const OWNERS = { copy: [4, 3], mkfile: [5, 4], mkdir: [6, 4] };
+const UNPACK = 7;
+const NOTHING = ['true'];
+const DROPPED_MOUNTS = new Map([[1, 'secret'], [2, 'SSH']]);
+const MOST_CHARACTERS = 60;
+
+function quoted(word) {
+  if (word === '') return "''";
+  return /^[A-Za-z0-9_@%+=:,./-]+$/.test(word) ? word : `'${word.replaceAll("'", "'\"'\"'")}'`;
+}
+
+function wordsShown(words) {
+  const letters = [...words.map(quoted).join(' ')];
+  return letters.length > MOST_CHARACTERS ? `${letters.slice(0, MOST_CHARACTERS - 3).join('')}...` : letters.join('');
+}
+
+// The text in a field of a message that may be unreadable.
+function textIn(bytes, field) {
+  try {
+    return text(fieldsOf(bytes), field);
+  } catch {
+    return '';
+  }
+}
+
+/** One entry while it is changed, with a description of each change. */
+class Entry {
+  constructor(local) {
+    this.local = local;
+    this.changes = [];
+  }
+
+  // The changed op; its inputs still have their old digests.
+  changedOp(digest, entry, op) {
+    if (op.source && this.local.has(digest)) {
+      const identifier = LOCAL + this.local.get(digest);
+      this.changes.push(`source ${op.source.identifier} is ${identifier}`);
+      return this.member(entry, SOURCE, (held) => withText(held, 1, identifier));
+    }
+    if (op.exec) return this.member(entry, EXEC, (records) => this.execution(op.exec, records));
+    if (!op.file) return entry;
+    let number = 0;
+    return this.member(entry, FILE, (held) => withEach(held, 2, (action) => {
+      number += 1;
+      return this.action(number - 1, action);
+    }));
+  }
+
+  member(entry, field, change) {
+    const members = membersOf('Op');
+    return changed(entry, (records) => withMessage(records, field, (held) => changed(held, change), members));
+  }
+
+  execution(exec, records) {
+    let left = withEach(records, 2, (held) => this.mount(held));
+    if (exec.secretenv.length) {
+      const names = exec.secretenv.map((held) => textIn(held, 2) || textIn(held, 1));
+      this.changes.push(`dropped: secret environment ${names.join(', ')}`);
+      left = without(left, 5);
+    }
+    const old = exec.meta?.args;
+    if (!exec.meta || (old.length && faultOfScript(old) === null)) return left;
+    this.changes.push(`runs ${wordsShown(NOTHING)} in place of ${wordsShown(old)}`);
+    return withMessage(left, 1, (held) => changed(held, (meta) => withTexts(meta, 1, NOTHING)));
+  }
+
+  mount(held) {
+    const { mountType, dest } = read('Mount', held);
+    if (!DROPPED_MOUNTS.has(mountType)) return held;
+    this.changes.push(`dropped: ${DROPPED_MOUNTS.get(mountType)} mount at ${dest}`);
+    return null;
+  }
+
+  action(number, held) {
+    const { kind } = read('FileAction', held);
+    if (!Object.hasOwn(OWNERS, kind ?? '')) return held;
+    const [field, owner] = OWNERS[kind];
+    const change = (records) => this.actionMember(number, kind, owner, records);
+    const members = membersOf('FileAction');
+    return changed(held, (records) => withMessage(records, field, (one) => changed(one, change), members));
+  }
+
+  actionMember(number, kind, owner, records) {
+    let left = records;
+    const unpacks = kind === 'copy' ? records.findLast((record) => record.field === UNPACK) : null;
+    if (unpacks && Number(unpacks.held) !== 0) {
+      this.changes.push(`dropped: unpacking by action ${number}`);
+      left = without(left, UNPACK);
+    }
+    return withMessage(left, owner, (held) => changed(held, (users) => this.owner(number, held, users)));
+  }
+
+  owner(number, held, records) {
+    const { user, group } = read('ChownOpt', held);
+    let left = records;
+    for (const [field, who, given] of [[1, 'user', user], [2, 'group', group]]) {
+      if (given?.byName !== null && given?.byName !== undefined) {
+        this.changes.push(`dropped: ${who} ${textIn(given.byName, 1)} of action ${number}`);
+        left = without(left, field);
+      }
+    }
+    return left;
+  }
+}
+
+/** A definition while it is adopted. */
+class Adoption {
+  constructor(data) {
+    this.records = readDefinition(data);
+    this.rows = new Rows(entriesIn(this.records));
+    this.reached = this.rows.reached();
+    this.sources = [];
+    this.local = new Map();
+    this.nameSources();
+    this.fresh = new Map();
+    this.made = new Map();
+    this.changes = [];
+  }
+
+  // Chooses names for the sources that are reached, in the order of rows, and lists all that are local then.
+  nameSources() {
+    const reached = [...this.rows.ops].filter(([row, op]) => this.reached.has(row) && op.source);
+    const ops = reached.sort(([a], [b]) => a - b);
+    const given = new LocalNames(ops.map(([, op]) => op.source.identifier));
+    const renamed = new Map();
+    for (const [row, { source: { identifier } }] of ops) {
+      let name = identifier.startsWith(LOCAL) ? identifier.slice(LOCAL.length) : null;
+      if (isKnown(identifier)) {
+        name = given.newName(identifier);
+        this.local.set(this.rows.digests[row], name);
+      } else if (name && !canBeGiven(name)) {
+        name = renamed.get(identifier) ?? given.newName(identifier);
+        renamed.set(identifier, name);
+        this.local.set(this.rows.digests[row], name);
+      }
+      if (name !== null) this.sources.push({ name, identifier });
+    }
+  }
+
+  order() {
+    const ops = [...this.rows.ops].filter(([row]) => this.reached.has(row));
+    const among = new Set(ops.map(([row]) => row));
+    const rowsOf = ({ inputs }) => inputs.map((edge) => this.rows.named.get(edge.digest));
+    const named = (op) => rowsOf(op).filter((row) => among.has(row));
+    const order = orderOf(new Map(ops.map(([row, op]) => [row, named(op)])));
+    if (order.length < ops.length) throw new Error('the rows have a cycle');
+    return order;
+  }
+
+  input(held) {
+    const { digest } = read('Input', held);
+    const fresh = this.fresh.get(digest) ?? digest;
+    return fresh === digest ? held : changed(held, (records) => withText(records, 1, fresh));
+  }
+
+  adoptRow(row) {
+    const digest = this.rows.digests[row];
+    const one = new Entry(this.local);
+    const entry = one.changedOp(digest, this.rows.entries[row], this.rows.ops.get(row));
+    const linked = changed(entry, (records) => withEach(records, 1, (held) => this.input(held)));
+    if (!areEqual(linked, entry)) one.changes.push('its inputs have new digests');
+    this.made.set(digest, linked);
+    this.fresh.set(digest, `sha256:${sha256(linked)}`);
+    this.changes.push(...one.changes.map((words) => ({ row, words })));
+  }
+
+  // An entry of a map with the new digest as its key; one that can't be read stays as it is.
+  renamed(held) {
+    const records = recordsOrNull(held);
+    if (records === null) return held;
+    const key = textIn(held, 1);
+    const fresh = this.fresh.get(key) ?? key;
+    return fresh === key ? held : written(withText(records, 1, fresh));
+  }
+
+  places(held) {
+    const records = recordsOrNull(held);
+    return records === null ? held : written(withEach(records, 1, (one) => this.renamed(one)));
+  }
+
+  result() {
+    let row = 0;
+    const records = withEach(this.records, 1, (entry) => {
+      row += 1;
+      return this.made.get(this.rows.digests[row - 1]) ?? entry;
+    });
+    const metadata = withEach(records, 2, (held) => this.renamed(held));
+    return written(withMessage(metadata, 3, (held) => this.places(held)));
+  }
+}
+
+function recordsOrNull(data) {
+  try {
+    return [...recordsIn(data)];
+  } catch (fault) {
+    if (!(fault instanceof Faulty)) throw fault;
+    return null;
+  }
+}
+
+/**
+ * Returns a definition that is adopted as far as possible, its changes by row, the local sources that it has then with
+ * what they were before, and the findings that are left. Throws if there is a cycle, or if it is no definition.
+ */
+export function adopted(data) {
+  const adoption = new Adoption(data);
+  for (const row of adoption.order()) adoption.adoptRow(row);
+  const result = adoption.result();
+  const changes = adoption.changes.sort((a, b) => a.row - b.row);
+  return { data: result, changes, sources: adoption.sources, left: findingsOf(result) };
+}

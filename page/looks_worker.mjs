@@ -1,0 +1,29 @@
+/** The worker that makes the page's looks: one call after another, but for searches, each with its answer. */
+
+import { Looks } from './looking.mjs';
+import { Machine } from './machine.mjs';
+
+let looks = null;
+let last = Promise.resolve();
+
+async function answered({ call, args }) {
+  if (call === 'open') {
+    looks = new Looks(new Machine(args[0].module), args[0]);
+    return null;
+  }
+  return looks[call](...args);
+}
+
+async function answer({ id, ...given }) {
+  try {
+    postMessage({ id, value: await answered(given) });
+  } catch (fault) {
+    postMessage({ id, fault: fault.message });
+  }
+}
+
+// A search has a session of its own and goes on in slices: nothing waits for it.
+addEventListener('message', ({ data }) => {
+  const done = last.then(() => answer(data));
+  if (data.call !== 'search') last = done;
+});

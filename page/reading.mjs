@@ -1,0 +1,37 @@
+/** Reading of what a person gives, by workers: files for a local source, and definitions. */
+
+import { keepShown } from './session.mjs';
+
+// Returns a promise of the one answer of a worker to what it is given.
+async function answerOf(worker, given, moved = []) {
+  try {
+    return await new Promise((done, failed) => {
+      worker.addEventListener('message', ({ data: { value, fault, what } }) => {
+        if (fault === undefined) done(value);
+        else failed(Object.assign(new Error(fault), { what }));
+      });
+      worker.addEventListener('error', (event) => failed(new Error(event.message || 'the worker ended')));
+      worker.postMessage(given, moved);
+    });
+  } finally {
+    worker.terminate();
+  }
+}
+
+/** Returns a promise of the tree text of a file (a tar, also packed, or a tree's text), and what was left out. */
+export async function treeOfFile(file) {
+  const bytes = new Uint8Array(await file.arrayBuffer());
+  return answerOf(new Worker('sources_worker.mjs', { type: 'module' }), bytes, [bytes.buffer]);
+}
+
+/**
+ * Returns a promise of a definition, given by its bytes or by the text of its entries, with the names of its local
+ * sources. What a machine shows of it is kept.
+ */
+export async function definitionOf(machine, bytes, isWritten) {
+  const given = { module: machine.module, bytes, isWritten };
+  const worker = new Worker('definition_worker.mjs', { type: 'module' });
+  const { definition, shown, names } = await answerOf(worker, given);
+  keepShown(definition, shown);
+  return { definition, names };
+}

@@ -1,0 +1,58 @@
+/** Which events of a run made, changed or removed a path: the changes of each event, found by a session of its own. */
+
+import { changesOf } from './changes.mjs';
+
+const MOST_FOUND = 100;
+const SLICE = 12;
+
+const pause = () => new Promise((done) => { setTimeout(done, 0); });
+
+/** The paths that the events of a run changed. After the events that are given the machine chooses. */
+export class PathIndex {
+  constructor(session, entries) {
+    this.session = session;
+    this.entries = entries;
+    this.found = [];
+    this.isComplete = false;
+  }
+
+  // Does the next event and keeps what it changed; returns whether there was one.
+  step(given) {
+    const event = given ? this.session.event(given.command) : this.session.event('next');
+    if (!event) return false;
+    const { vertex } = this.session.ways.at.event;
+    const changes = new Map();
+    for (const part of changesOf(this.session, this.entries[vertex]).compared) {
+      for (const { path, kind } of part.changes) if (!changes.has(path)) changes.set(path, kind);
+    }
+    this.found.push({ event: this.session.ways.at.event, changes });
+    return true;
+  }
+
+  /** Goes over all events, in slices, so that other calls are answered in between. */
+  async complete(events) {
+    let since = performance.now();
+    while (!this.isComplete) {
+      this.isComplete = !this.step(events[this.found.length]);
+      if (performance.now() - since > SLICE) {
+        await pause();
+        since = performance.now();
+      }
+    }
+  }
+
+  /** Returns the events that changed paths with a text in them, and how many changes are left out. */
+  async find(text, events) {
+    await this.complete(events);
+    const found = [];
+    let more = 0;
+    for (const { event, changes } of this.found) {
+      for (const [path, kind] of changes) {
+        if (!path.includes(text)) continue;
+        if (found.length < MOST_FOUND) found.push({ event, path, kind });
+        else more += 1;
+      }
+    }
+    return { found, more, events: this.found.length };
+  }
+}

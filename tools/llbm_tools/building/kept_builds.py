@@ -1,0 +1,132 @@
+"""The file in which a build keeps what it read and what it made, so that the next build does only what is needed.
+
+The file has a line that names its form, a line of JSON, and then bytes whose lengths the JSON has: the parts of what
+was read of each source (`kept_sources`), and the text of the result with tokens in the place of contents. A file of
+another form, or one that is cut off, is as if there were none.
+"""
+
+import hashlib
+import json
+import os
+from typing import BinaryIO, NamedTuple
+
+from llbm_tools.streams import of_place, temporary_file, write_and_rename
+from llbm_tools.trees.kept_sources import Kept, Part, Stored, bytes_of
+
+FORM = b"llbm-build kept 1\n"
+PARTS = 8
+PIECE = 1 << 20
+
+State = list[int]
+
+
+def state_at(place: str) -> State | None:
+    """Returns what shows that a file, or a directory but not what is below it, was replaced; None if there is none."""
+    try:
+        found = os.stat(place, follow_symlinks=False)
+    except OSError:
+        return None
+    return [found.st_dev, found.st_ino, found.st_mode, found.st_size, found.st_mtime_ns, found.st_ctime_ns]
+
+
+def digest_of_file(place: str) -> str:
+    """Returns the digest of a file."""
+    digest = hashlib.sha256()
+    with open(place, "rb") as file:
+        while piece := file.read(PIECE):
+            digest.update(piece)
+    return digest.hexdigest()
+
+
+class File(NamedTuple):
+    """What was read of a source that is one file: its state, and its digest."""
+
+    state: State | None
+    digest: str
+
+
+class Build(NamedTuple):
+    """What is kept of a build: what it was asked for, when it began to read, its sources, the state and the text of its
+    result, whether that has tokens, and the digests of the contents that are no files of a directory, by their tokens.
+    """
+
+    asked: dict[str, object]
+    began: int
+    sources: list[Kept | File]
+    result: State | None
+    text: Part
+    has_tokens: bool
+    others: dict[int, str]
+
+
+def load(place: str) -> Build | None:
+    """Returns what is kept in a file, or None if there is no such file or it has another form."""
+    try:
+        return build_in(open(place, "rb"))
+    except (OSError, ValueError, KeyError, TypeError, AttributeError):
+        return None
+
+
+def build_in(file: BinaryIO) -> Build | None:
+    """Returns what is kept in an open file, whose larger parts are read later."""
+    if file.readline() != FORM:
+        return None
+    head = json.loads(file.readline())
+    place = file.tell()
+    sources: list[Kept | File] = []
+    for one in head["sources"]:
+        if "parts" not in one:
+            sources.append(File(one["state"], one["digest"]))
+            continue
+        parts: list[Part] = []
+        for length in one["parts"]:
+            parts.append(Stored(file, place, length))
+            place += length
+        if len(parts) != PARTS or place > os.fstat(file.fileno()).st_size:
+            return None
+        sources.append(Kept(one["mode"], one["latest"], parts))
+    text = Stored(file, place, head["text"])
+    if place + head["text"] != os.fstat(file.fileno()).st_size:
+        return None
+    others = {int(number): digest for number, digest in head["others"].items()}
+    return Build(head["asked"], head["began"], sources, head["result"], text, head["tokens"], others)
+
+
+def head_of(build: Build, parts: list[list[bytes]]) -> bytes:
+    """Returns the line of JSON."""
+    given = iter(parts)
+    sources: list[dict[str, object]] = []
+    for one in build.sources:
+        if isinstance(one, File):
+            sources.append({"state": one.state, "digest": one.digest})
+        else:
+            lengths = [len(part) for part in next(given)]
+            sources.append({"mode": one.mode, "latest": one.latest, "parts": lengths})
+    head = {"asked": build.asked, "began": build.began, "sources": sources, "result": build.result}
+    rest = {"text": len(bytes_of(build.text)), "tokens": build.has_tokens, "others": build.others}
+    return json.dumps({**head, **rest}).encode() + b"\n"
+
+
+def store(place: str, build: Build) -> None:
+    """Writes what is kept to a file, which appears complete."""
+    parts = [one.parts() for one in build.sources if isinstance(one, Kept)]
+    try:
+        with temporary_file("what is kept") as stored:
+            stored.write(FORM + head_of(build, parts))
+            for part in parts:
+                stored.writelines(part)
+            stored.write(bytes_of(build.text))
+            stored.seek(0)
+            write_and_rename(stored, place)
+    except OSError as fault:
+        raise of_place(fault, place) from fault
+
+
+def forget(place: str) -> None:
+    """Removes what is kept, before the result is changed; there may be none."""
+    try:
+        os.unlink(place)
+    except FileNotFoundError:
+        return
+    except OSError as fault:
+        raise of_place(fault, place) from fault

@@ -1,0 +1,245 @@
+"""Does one build: reads the sources, runs the program, and writes the result."""
+
+import io
+import os
+import tempfile
+
+from llbm_tools.building import by_value, children, replacing
+from llbm_tools.building.children import held_back
+from llbm_tools.building.comparing import digests_of, kept_of, other_digests, recorders_of, resolved
+from llbm_tools.building.exchange import exchange
+from llbm_tools.building.given_sources import Given, stored_at
+from llbm_tools.building.kept_builds import Build as LastBuild
+from llbm_tools.building.kept_builds import forget, state_at
+from llbm_tools.building.kept_changes import Memory
+from llbm_tools.building.program_runs import Program
+from llbm_tools.building.requests import NOTHING, Ended, Request
+from llbm_tools.building.result_texts import Checked, read_line
+from llbm_tools.building.result_writing import DirectoryWriter, write_archive
+from llbm_tools.common import say
+from llbm_tools.images import packing
+from llbm_tools.inputs import shown
+from llbm_tools.llb import source_names
+from llbm_tools.streams import FAILED, REFUSED, program_at, write_output
+from llbm_tools.trees import times
+from llbm_tools.trees.kept_sources import bytes_of
+from llbm_tools.trees.references import Copier, Table
+from llbm_tools.trees.source_texts import Reading
+
+ASKED = "--by-value asks for it"
+UNREADABLE = "the definition can't be read"
+CUT_OFF = "the archive is cut off"
+
+
+class Build:
+    """One build: what it was asked for, what is kept of the last one, and what it has made so far."""
+
+    def __init__(self, request: Request, memory: Memory | None) -> None:
+        self.request = request
+        self.options = request.options
+        self.memory = memory
+        self.sources = request.sources
+        self.left = NOTHING
+        self.texts = ""
+        self.directory = ""
+        self.program: Program | None = None
+        self.given: Given | None = None
+        self.writer: DirectoryWriter | None = None
+        self.has_tokens = False
+
+    def has_begun(self) -> bool:
+        """Returns whether there was more than checks."""
+        return bool(self.texts)
+
+    def make_folders(self) -> None:
+        """Makes the folder for the texts, and the one that becomes the result."""
+        with held_back():
+            self.texts = tempfile.mkdtemp(prefix="llbm-build-")
+            above = self.texts if self.request.is_output else self.request.above
+            self.directory = tempfile.mkdtemp(prefix=".llbm-build-", dir=above)
+
+    def hidden(self) -> list[os.stat_result]:
+        """Returns what is no part of a source."""
+        return [*map(os.stat, (self.texts, self.directory)), *self.request.hidden()]
+
+    def store(self) -> None:
+        """Stores the definition, and the sources that can be read only once."""
+        with open(os.path.join(self.texts, "definition"), "xb") as file:
+            file.write(self.request.data)
+        self.sources = [stored_at(source, number, self.texts) for number, source in enumerate(self.sources)]
+
+    def clean(self) -> None:
+        """Removes everything but the result. It may be called twice."""
+        for part in (self.program, self.writer):
+            if part:
+                part.end()
+        if self.given:
+            self.given.close()
+        for folder in (self.texts, self.directory):
+            try:
+                children.remove(folder)
+            except OSError as fault:
+                say(f"could not be removed: {folder}: {fault.strerror}")
+
+    def text(self, number: int) -> str:
+        """Returns the path of the text of a source."""
+        return os.path.join(self.texts, f"{number}.tree")
+
+    def read_all(self) -> None:
+        """Writes the texts of all sources: by reference, unless the options or the graph need all by value."""
+        names = [source.name for source in self.sources]
+        for note in source_names.word_notes(self.request.data, names) if names else []:
+            say(note)
+        plan = by_value.plan_of(self.request.data)
+        cause = ASKED if self.options.by_value else plan.all if plan else UNREADABLE
+        if not cause and plan:
+            cause = self.new_given().give(plan)
+        if cause:
+            if names and cause not in (ASKED, UNREADABLE):
+                say(f"all sources are given by value: {cause}")
+            self.new_given().give_values(cause)
+        self.has_tokens = bool(names) and not cause
+        if self.given and not self.given.is_whole:
+            raise Ended(FAILED)
+
+    def new_given(self) -> Given:
+        """Returns a new reading of the sources, in place of one that was begun."""
+        if self.given:
+            self.given.close()
+        reading = Reading(strict=self.options.strict, platform=self.options.platform)
+        records = recorders_of(self.memory.last, self.sources) if self.memory else [None] * len(self.sources)
+        self.given = Given(self.sources, self.text, self.hidden(), reading, records)
+        return self.given
+
+    def table(self) -> Table | None:
+        """Returns the table of the contents, or None if the texts have the contents themselves."""
+        return self.given.table if self.given and self.has_tokens else None
+
+    def run(self, llbm: str) -> str:
+        """Runs the program, and returns the path of the result's text."""
+        say(f"running {shown(self.options.definition)}")
+        texts = [(source.name, self.text(number)) for number, source in enumerate(self.sources)]
+        definition = os.path.join(self.texts, "definition")
+        self.program = Program(llbm, definition, texts, self.texts)
+        run = self.program.run_session if self.options.progress else self.program.run
+        return run(self.options.workers)
+
+    def write(self, result: str, made: LastBuild | None) -> None:
+        """Writes the result from its text; if there is a last build, only what differs from its result."""
+        request, last = self.request, self.memory.last if self.memory else None
+        if last and made and not request.ending and self.write_differences(result, last, made):
+            return
+        say("writing to standard output" if request.is_output else f"writing {request.result}")
+        place = os.path.join(self.directory, f"result{request.ending}") if request.ending else self.directory
+        self.write_contents(result, place)
+        if request.is_output:
+            self.pass_archive(place)
+        else:
+            self.rename(place)
+
+    def write_contents(self, result: str, place: str) -> None:
+        """Writes the result from its text and the contents of the sources."""
+        table, most = self.table(), self.options.largest
+        if self.request.ending:
+            self.write_archive(result, place)
+        else:
+            self.writer = DirectoryWriter(result, place, table, self.options.mtime, most)
+            self.writer.write()
+        if table:
+            table.check_archives()
+
+    def write_archive(self, result: str, place: str) -> None:
+        """Writes the result as an archive, which is packed or made the layer of an image if its name says so."""
+        form, time = packing.form_of_name(place), times.time_of_archive(self.options.mtime)
+        is_image = self.request.ending == packing.IMAGE
+        plain = os.path.join(self.directory, "plain") if form or is_image else place
+        write_archive(result, plain, self.table(), time, self.options.largest)
+        if plain == place:
+            return
+        with open(plain, "rb") as archive, open(place, "xb") as packed:
+            if form:
+                packing.pack(form, archive, packed)
+                return
+            # Few results are images.
+            from llbm_tools.images import oci_layout
+
+            oci_layout.write(archive, packed, self.request.config, time, times.is_given(self.options.mtime))
+
+    def pass_archive(self, place: str) -> None:
+        """Writes the archive to standard output."""
+        self.left = CUT_OFF
+        with open(place, "rb") as archive:
+            write_output(archive, "the archive")
+        say("the archive is written")
+
+    def rename(self, place: str) -> None:
+        """Gives the result its own name; an old one is exchanged with it."""
+        result = self.request.result
+        with held_back():
+            if not os.path.lexists(result):
+                os.rename(place, result)
+                self.directory = "" if place == self.directory else self.directory
+            elif self.options.replace:
+                self.forget()
+                replacing.say_steps(exchange(place, result))
+            else:
+                raise Ended(REFUSED, f"this exists already: {result}")
+            children.ignore_signals()
+        say(f"{result} is written")
+
+    def forget(self) -> None:
+        """Removes what is kept, since the result is about to change."""
+        if self.memory:
+            forget(self.memory.place)
+
+    def write_differences(self, result: str, last: LastBuild, made: LastBuild) -> bool:
+        """Writes only what differs from the last result; returns False if all of it has to be written."""
+        if last.has_tokens != made.has_tokens:
+            return False
+        with open(result, "rb") as text:
+            Checked(Copier(self.table()).size, self.options.largest).read(text)
+        before, after = digests_of(last), digests_of(made)
+
+        def same(one: bytes, two: bytes) -> bool:
+            """Returns whether two contents are the same."""
+            return one == two and not self.has_tokens or resolved(one, before) == resolved(two, after)
+
+        with open(result, "rb") as new:
+            old = io.BytesIO(bytes_of(last.text))
+            found = list(replacing.differences(map(read_line, old), map(read_line, new), same))
+        if not found:
+            say(f"{self.request.result} stays as it is")
+            return True
+        return self.replace_part(bytes_of(made.text), found)
+
+    def replace_part(self, text: bytes, found: list[tuple[bytes, bytes]]) -> bool:
+        """Replaces the place that has all differences; returns False if that is most of the result."""
+        place = replacing.common_place(above for _, above in found)
+        part = replacing.Part(place, list(replacing.lines_at(text, place)), {path for path, _ in found})
+        if 2 * len(found) > len(part.lines) and not place:
+            return False
+        self.forget()
+        replacing.replace(part, self.request.result, self.directory, self.table(), self.options.mtime)
+        return True
+
+    def new_build(self, result: str) -> LastBuild:
+        """Returns what is to be kept of this build."""
+        assert self.memory and self.given
+        hidden = frozenset((found.st_dev, found.st_ino) for found in self.hidden())
+        sources = kept_of(self.memory.last, self.given, hidden)
+        with open(result, "rb") as text:
+            data = text.read()
+        others = other_digests(self.given.table) if self.has_tokens else {}
+        return LastBuild(self.memory.asked, self.memory.began, sources, None, data, self.has_tokens, others)
+
+    def whole(self) -> None:
+        """Does the whole build."""
+        llbm = program_at(self.options.llbm)
+        self.make_folders()
+        self.store()
+        self.read_all()
+        result = self.run(llbm)
+        made = self.new_build(result) if self.memory else None
+        self.write(result, made)
+        if self.memory and made:
+            self.memory.store(made._replace(result=state_at(self.request.result)))

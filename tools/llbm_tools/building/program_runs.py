@@ -1,0 +1,122 @@
+"""Runs the program for a build, at once or vertex by vertex, and prints its messages with what they mean."""
+
+import contextlib
+import os
+import pathlib
+import shutil
+import subprocess
+from collections.abc import Iterable
+from typing import BinaryIO
+
+from llbm_tools.building import children, progress
+from llbm_tools.building.children import ended
+from llbm_tools.building.requests import Ended
+from llbm_tools.common import say, shortened
+from llbm_tools.sessions import shows
+from llbm_tools.streams import FAILED, Refused
+
+MOST_OF_A_NAME = 100
+NOT_DONE = 1
+
+
+class Program:
+    """The program with a stored definition and the texts of its local sources, and the folder for what it prints."""
+
+    def __init__(self, place: str, definition: str, sources: list[tuple[str, str]], folder: str) -> None:
+        self.place = place
+        self.definition = definition
+        self.sources = sources
+        self.folder = folder
+        self.child: subprocess.Popen[bytes] | None = None
+
+    def words(self, *words: str, workers: str | None) -> list[str]:
+        """Returns a command of the program with the texts of all sources."""
+        command = [self.place, *words]
+        command += ["--workers", workers] if workers else []
+        return command + [f"{name}={text}" for name, text in self.sources]
+
+    def start(self, command: list[str], **streams: children.Stream) -> subprocess.Popen[bytes]:
+        """Starts the program, which is stopped by `end`."""
+        with children.held_back():
+            self.child = children.start(command, **streams)
+        return self.child
+
+    def end(self) -> None:
+        """Stops the program if it still runs."""
+        if self.child:
+            children.end(self.child)
+
+    def run(self, workers: str | None) -> str:
+        """Runs the definition at once, and returns the path of the result's text."""
+        result = os.path.join(self.folder, "result")
+        with open(self.definition, "rb") as given, open(result, "wb") as text:
+            child = self.start(self.words("run", workers=workers), stdin=given, stdout=text, stderr=subprocess.PIPE)
+            self.pass_on(child.stderr or [])
+            status = ended(child)
+        if status:
+            raise Ended(status)
+        return result
+
+    def shown(self) -> shows.Show | None:
+        """Returns the graph as the program shows it, or None if the definition is refused; the session says why."""
+        graph = os.path.join(self.folder, "graph")
+        with open(self.definition, "rb") as given, open(graph, "wb") as text:
+            ended(self.start([self.place, "show"], stdin=given, stdout=text, stderr=subprocess.DEVNULL))
+        with contextlib.suppress(Refused):
+            return shows.show_of(pathlib.Path(graph).read_text("ascii", "backslashreplace"))
+        return None
+
+    def run_session(self, workers: str | None) -> str:
+        """Runs the definition vertex by vertex, prints a line for each, and returns the path of the result's text."""
+        show = self.shown()
+        result, causes = os.path.join(self.folder, "result"), os.path.join(self.folder, "causes")
+        with open(causes, "wb") as words, open(result, "wb") as text:
+            command = self.words("step", self.definition, workers=workers or "1")
+            child = self.start(command, stdin=subprocess.PIPE, stdout=subprocess.PIPE, stderr=words)
+            failures = self.follow(progress.Session(child), show, text)
+            status = ended(child)
+            is_empty = not text.tell()
+        with open(causes, "rb") as given:
+            self.pass_on(given)
+        self.pass_on(failures)
+        if status or failures:
+            raise Ended(status or NOT_DONE)
+        if is_empty:
+            raise Ended(FAILED, "the session ended before the result was out")
+        return result
+
+    def follow(self, session: progress.Session, show: shows.Show | None, text: BinaryIO) -> list[bytes]:
+        """Runs a session to its end, and writes the result's text, or returns a line for each failure."""
+        failures: list[bytes] = []
+        try:
+            with contextlib.suppress(progress.Closed):
+                failures = self.print_progress(session, show)
+                if show and not failures:
+                    shutil.copyfileobj(session.last("tree {} {}".format(*show.result)), text)
+        except progress.Unexpected as line:
+            self.pass_on([str(line).encode()])
+            raise Ended(FAILED, "the session gave an unexpected answer") from line
+        session.close()
+        return failures
+
+    def print_progress(self, session: progress.Session, show: shows.Show | None) -> list[bytes]:
+        """Prints a line for each vertex as it settles, and returns a line for each that failed."""
+        names = progress.names_in(pathlib.Path(self.definition).read_bytes())
+        failed = False
+        for count, settled in enumerate(session.settled(), 1):
+            of = len(show.vertices) if show else "?"
+            name = shortened(names.get(settled.vertex, ""), MOST_OF_A_NAME)
+            line = f"[{count}/{of}] vertex {settled.vertex} {settled.kind} {settled.state}"
+            say(f"{line}: {name}" if name else line)
+            failed = failed or settled.state == "failed"
+        return [line.encode() for line in session.failures()] if failed else []
+
+    def pass_on(self, lines: Iterable[bytes]) -> None:
+        """Prints the program's messages, with what they mean below each, and why a vertex failed."""
+        messages = None
+        for line in lines:
+            # Most runs have no message, and need not import what explains one.
+            from llbm_tools.building.program_messages import Messages
+
+            messages = messages or Messages(self.place, self.definition, self.sources)
+            messages.print(line)

@@ -1,0 +1,72 @@
+"""BuildKit's own daemon, built from Debian's packages if it is not there, and run until the comparison ends."""
+
+import contextlib
+import os
+import pathlib
+import shutil
+import subprocess
+import tempfile
+from collections.abc import Iterator
+
+from llbm_tools.buildkit import examples
+from llbm_tools.buildkit.rules import Rule
+from llbm_tools.daemon import buildkitd, debian_packages
+from llbm_tools.daemon import daemon as daemons
+from llbm_tools.daemon.go_building import OUT, NotBuilt
+from llbm_tools.daemon.runs import Daemon, DaemonBusy, DaemonLost
+
+MEMORY = pathlib.Path("/dev/shm")
+ENOUGH = 1 << 30
+SPACE = " \t*"
+
+
+class NoDaemon(Exception):
+    """There is no daemon to compare with; the message says why."""
+
+
+def place() -> str | None:
+    """Returns where the daemon keeps its state: in memory, if that has a gigabyte, or else in a temporary folder."""
+    with contextlib.suppress(OSError):
+        if os.access(MEMORY, os.W_OK) and shutil.disk_usage(MEMORY).free > ENOUGH:
+            return str(MEMORY)
+    return None
+
+
+def check(daemon: Daemon) -> None:
+    """Raises NoDaemon unless the daemon copies from a source, and merges."""
+    for one in examples.examples():
+        if one.rule in (Rule.MERGE_LAYERS, Rule.LOCAL_ROOT):
+            try:
+                ran = daemon.run(one.data, one.sources)
+            except (DaemonBusy, DaemonLost, OSError, subprocess.TimeoutExpired) as fault:
+                raise NoDaemon(f"buildkitd does not build here: {fault}") from fault
+            if ran.tree is None:
+                raise NoDaemon(f"buildkitd does not build here: {ran.said.strip(SPACE)}")
+
+
+def build(packages: pathlib.Path) -> None:
+    """Builds the daemon and its client, without fetching anything, or raises NoDaemon."""
+    try:
+        daemons.check_offline(packages)
+        buildkitd.build(packages, offline=True)
+    except (debian_packages.Missing, NotBuilt, OSError) as fault:
+        last = str(fault).strip().splitlines()[-1:]
+        raise NoDaemon(f"buildkitd is not built: {''.join(last)}") from fault
+
+
+@contextlib.contextmanager
+def started(packages: pathlib.Path) -> Iterator[Daemon]:
+    """Yields a daemon that builds, or raises NoDaemon."""
+    if os.geteuid() != 0:
+        raise NoDaemon("only root can run buildkitd")
+    build(packages)
+    with contextlib.ExitStack() as stack:
+        made = tempfile.TemporaryDirectory(prefix="b", dir=place(), ignore_cleanup_errors=True)
+        folder = pathlib.Path(stack.enter_context(made))
+        try:
+            address, _ = stack.enter_context(buildkitd.running(folder))
+        except (debian_packages.Missing, NotBuilt, OSError) as fault:
+            raise NoDaemon(f"buildkitd does not start here: {fault}") from fault
+        daemon = Daemon(str(OUT / "buildctl"), address)
+        check(daemon)
+        yield daemon

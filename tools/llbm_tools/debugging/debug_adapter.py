@@ -1,0 +1,88 @@
+"""Lets an editor step through the run of a definition, by the Debug Adapter Protocol over `llbm step`.
+
+In: requests on standard input, each a JSON object after a header with its Content-Length. A launch names the
+`definition` (a file), or the `text` of its entries (a file with what `llbm dis` prints, or any text that `llbm asm`
+accepts), or both; `sources`, an object with a directory, a tar (both with owner 0:0) or a tree text for each local
+source by its name; `files`, an object with the paths of files that the definition was made from, by their names there;
+`workers`, 2 by default; `stopOnEntry`, to stop before the first event; `stopAtEnd`, to stop after the last one, true by
+default; and `llbm`, the program, else the one on PATH, else crates/llbm/out/llbm of the repository, or else its
+out/llbm-unproved, which is named on standard error as not proved.
+
+Out: responses and events on standard output. Threads are the workers of the run; the source is the text of the entries,
+where a vertex is at the lines of its entry, and beside it the files that the definition was made from. A breakpoint on
+a line, or on a vertex by its name, stops after the claim of the vertex, with the condition `settle` after its settle;
+the exception filter `failed` stops after the settle of a vertex that failed. Scopes show the trees that a worker works
+on, caches, and what the last event changed. Each line of the record is an output event. A request that can't be granted
+gets a failure response with the cause in one line. When the run is over, or the client leaves, `exited` (with 1 if a
+vertex failed, else 0) and `terminated` are sent.
+
+Exit status: 0 the client has left, by `disconnect` or at the end of the input; 2 the input is not a message, or the
+command line is refused: standard error says why; 3 a read or a write failed; 130 or 143 interrupted or terminated.
+"""
+
+import argparse
+import json
+import signal
+import sys
+
+from llbm_tools import common, os_errors
+from llbm_tools.debugging.adapter import RUNNING, Adapter
+from llbm_tools.debugging.wire import Malformed, Reader, Writer
+
+
+def parse_options() -> argparse.Namespace:
+    """Parses the command line."""
+    parser = argparse.ArgumentParser(
+        description="A debug adapter over llbm step, on standard input and output.", allow_abbrev=False
+    )
+    return parser.parse_args()
+
+
+def handle(adapter: Adapter, content: bytes) -> None:
+    """Handles the content of one message."""
+    try:
+        message = json.loads(content)
+    except (ValueError, RecursionError) as fault:
+        adapter.fail(0, "", f"the message is not JSON: {fault}")
+        return
+    adapter.handle(message)
+
+
+def serve(adapter: Adapter, reader: Reader) -> None:
+    """Handles requests until the client leaves; between them a run continues."""
+    while not adapter.left:
+        if adapter.state == RUNNING and not reader.waits():
+            adapter.turn()
+            continue
+        content = reader.content()
+        if content is None:
+            return
+        handle(adapter, content)
+
+
+def terminated(number: int, _frame: object) -> None:
+    """Exits on a signal, after cleanup."""
+    sys.exit(128 + number)
+
+
+def main() -> int:
+    """Runs the tool, and returns its exit status."""
+    parse_options()
+    signal.signal(signal.SIGTERM, terminated)
+    try:
+        common.check_open(sys.stdin, "standard input")
+        common.check_open(sys.stdout, "standard output")
+        adapter = Adapter(Writer(sys.stdout.fileno()))
+        try:
+            serve(adapter, Reader(sys.stdin.fileno()))
+        finally:
+            adapter.dismiss()
+    except Malformed as fault:
+        common.say(str(fault))
+        return 2
+    except OSError as fault:
+        common.say(os_errors.os_error_text(fault))
+        return 3
+    except KeyboardInterrupt:
+        return 130
+    return 0

@@ -1,0 +1,72 @@
+"""The rules by which `adopt` replaces the words of executions.
+
+A file of rules is UTF-8, with one rule on a line; empty lines and lines that begin with `#` are skipped:
+
+    digest DIGEST => NEW ..
+    name NAME => NEW ..
+    words OLD .. => NEW ..
+
+Words are separated by spaces and quoted as in a POSIX shell; `=>` is the first word of this form on the line. A rule
+applies to the execution whose entry has this digest in the given definition, to each execution with this name in its
+metadata, or to each with exactly these words. The first rule that applies is used. Its new words have to be a script of
+llbm; if there are none, the execution keeps its words.
+"""
+
+import shlex
+from collections.abc import Sequence
+from typing import NamedTuple
+
+from llbm_tools.llb import script_faults
+from llbm_tools.streams import Refused
+
+ARROW = "=>"
+KINDS = ("digest", "name", "words")
+
+
+class Rule(NamedTuple):
+    """A rule: its line number, what it compares, the wanted value, and the new words (empty: keep the old ones)."""
+
+    line: int
+    kind: str
+    wanted: tuple[str, ...]
+    words: tuple[str, ...]
+
+    def fits(self, digest: str, name: str, args: Sequence[str]) -> bool:
+        """Returns whether the rule applies to an execution."""
+        return self.wanted == {"digest": (digest,), "name": (name,), "words": tuple(args)}[self.kind]
+
+
+def rule_of(number: int, line: str) -> Rule:
+    """Returns the rule on a line."""
+    try:
+        words = shlex.split(line)
+    except ValueError as fault:
+        raise Refused(f"{str(fault).lower()}: line {number}") from fault
+    kind, *rest = words
+    if kind not in KINDS:
+        raise Refused(f"a rule begins with digest, name or words: line {number}")
+    if ARROW not in rest:
+        raise Refused(f"there is no {ARROW}: line {number}")
+    place = rest.index(ARROW)
+    wanted, new = tuple(rest[:place]), tuple(rest[place + 1 :])
+    if len(wanted) != 1 and kind != "words":
+        raise Refused(f"exactly one word goes between {kind} and {ARROW}: line {number}")
+    cause = script_faults.fault_of(new) if new else None
+    if cause:
+        raise Refused(f"the new words are not a script, fault {cause}: line {number}")
+    return Rule(number, kind, wanted, new)
+
+
+def rules_in(data: bytes) -> list[Rule]:
+    """Returns the rules in a file."""
+    try:
+        lines = data.decode("utf-8").split("\n")
+    except UnicodeDecodeError as fault:
+        raise Refused("not UTF-8") from fault
+    stripped = [(number, line.strip(" \t\r")) for number, line in enumerate(lines, 1)]
+    return [rule_of(number, line) for number, line in stripped if line and not line.startswith("#")]
+
+
+def rule_for(rules: Sequence[Rule], digest: str, name: str, args: Sequence[str]) -> Rule | None:
+    """Returns the first rule that applies to an execution, or None."""
+    return next((rule for rule in rules if rule.fits(digest, name, args)), None)

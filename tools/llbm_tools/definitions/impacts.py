@@ -1,0 +1,205 @@
+"""Finds for each vertex of a definition whether its outcome can differ from the one in an older definition.
+
+Both definitions have to be ones that the program accepts. The laws are those of the crate `llb_sharing`: vertices that
+do the same on inputs that match have one plain outcome, whatever their digests and the names of sources are, and an
+outcome depends on no other sources than those at or before the vertex. That no two unequal entries have one digest is
+checked here.
+"""
+
+from collections.abc import Iterable, Iterator
+from typing import NamedTuple
+
+from llbm_tools.definitions import matching
+from llbm_tools.definitions.matching import Part, Trees
+from llbm_tools.llb import definition, findings, names, op_reading, op_rules
+from llbm_tools.streams import Refused
+
+KEPT, NEW, FED, CACHED = "kept", "new", "fed", "cached"
+OTHER = "other"
+OTHER_RESULT = "OLD's result is an output of another vertex, or another output of this one; no law says anything"
+
+LAWS = {
+    KEPT: "its outcome is that of OLD's vertex that does the same on inputs that match (matched_vertices_end_alike)",
+    NEW: "OLD has no vertex that matches it or has its digest; no law says anything",
+    FED: "its outcome depends on the sources before it alone, and these of them have changed (outcome_by_sources)",
+    CACHED: "a cache mount is at or before it; no law says what it leaves in a run",
+}
+
+Names = frozenset[str]
+
+EMPTY: Trees = {}
+
+
+class Vertex(NamedTuple):
+    """A vertex: its entry, its digest, its kind, and its inputs (vertices with outputs).
+
+    `source` is its name if it is a local source, `has_cache` whether it mounts a cache.
+    """
+
+    entry: bytes
+    digest: str
+    kind: str
+    inputs: list[tuple[int, int]]
+    source: str | None
+    has_cache: bool
+
+    def part(self) -> Part:
+        """Returns what the law of matching looks at."""
+        return Part(self.entry, self.inputs, self.source)
+
+
+class Result(NamedTuple):
+    """The result of the newer definition: its vertex and its output, the word, and the older one's result."""
+
+    vertex: int
+    output: int
+    word: str
+    old: tuple[int, int]
+
+
+class Impact(NamedTuple):
+    """What is known of a vertex of the newer definition: one of the four words, and why.
+
+    `old` is the vertex of the older definition that matches it or, if none does, that has its digest; `changed` has the
+    changed sources at or before it, and `cached` says whether a cache mount is at or before it.
+    """
+
+    vertex: Vertex
+    name: str
+    word: str
+    old: int | None
+    changed: Names
+    cached: bool
+
+
+def vertex_of(entry: bytes, inputs: list[tuple[int, int]]) -> Vertex:
+    """Returns the vertex of an entry."""
+    op = op_reading.read_op(entry)
+    source = op.source.identifier.removeprefix(op_rules.LOCAL) if op.source else None
+    has_cache = op_rules.has_mount(op, op_rules.CACHE)
+    return Vertex(entry, definition.digest_of(entry), op.kind or "no kind", inputs, source, has_cache)
+
+
+def vertices_of(data: bytes, place: str) -> tuple[list[Vertex], tuple[int, int]]:
+    """Returns the vertices and the result of a definition that the program accepts."""
+    found = findings.findings_of(data)
+    if found:
+        raise Refused(f"the program does not accept it: {place}: fault {found[0].words()}; tools/lint prints why")
+    entries = definition.entries_of(data)
+    graph = definition.graph_of(entries)
+    vertices = [vertex_of(entries[row], inputs) for row, inputs in zip(graph.rows, graph.inputs, strict=True)]
+    return vertices, graph.result
+
+
+def check_digests(old: bytes, new: bytes) -> None:
+    """Checks that no two unequal entries have one digest."""
+    entries: dict[str, bytes] = {}
+    for entry in [*definition.entries_of(old), *definition.entries_of(new)]:
+        digest = definition.digest_of(entry)
+        if entries.setdefault(digest, entry) != entry:
+            raise Refused(f"two unequal entries have the digest {digest}: no law holds")
+
+
+def sources_of(vertices: Iterable[Vertex]) -> Names:
+    """Returns the names of the local sources."""
+    return frozenset(vertex.source for vertex in vertices if vertex.source is not None)
+
+
+def names_by_digest(data: bytes) -> dict[str, str]:
+    """Returns the names that the metadata of a definition has for its entries."""
+    return {name.digest: shown for name in names.names_of(data) if (shown := name.shown())}
+
+
+def joined(own: Names, sets: list[Names]) -> Names:
+    """Returns the union of sets; a set that has all of it is not copied."""
+    most = max([own, *sets], key=len)
+    return most if all(one <= most for one in [own, *sets]) else own.union(*sets)
+
+
+def changed_before(vertices: list[Vertex], changed: Names) -> list[Names]:
+    """Returns the changed sources at or before each vertex."""
+    found: list[Names] = []
+    for vertex in vertices:
+        own = changed & sources_of([vertex])
+        found.append(joined(own, [found[number] for number, _ in vertex.inputs]))
+    return found
+
+
+def caches_before(vertices: list[Vertex]) -> list[bool]:
+    """Returns whether a cache mount is at or before each vertex."""
+    found: list[bool] = []
+    for vertex in vertices:
+        found.append(vertex.has_cache or any(found[number] for number, _ in vertex.inputs))
+    return found
+
+
+def word_of(matched: int | None, digested: int | None, cached: bool) -> str:
+    """Returns the word for a vertex, given the vertices of the older definition that match it and have its digest."""
+    if matched is None and digested is None:
+        return NEW
+    if cached:
+        return CACHED
+    return FED if matched is None else KEPT
+
+
+def words_of(names: Names, side: str, changed: Names, digests: Trees) -> dict[str, str]:
+    """Returns words for the trees of sources in one of the definitions: the digest if it is known, else the name.
+
+    The trees of a changed source have another word in each definition.
+    """
+    return {name: digests.get(name, f"{side} {name}" if name in changed else f"same {name}") for name in names}
+
+
+class Comparison:
+    """Two definitions that the program accepts, without a collision of digests."""
+
+    def __init__(self, old: bytes, new: bytes, places: tuple[str, str] = ("OLD", "NEW")) -> None:
+        self.old, self.old_result = vertices_of(old, places[0])
+        self.new, self.new_result = vertices_of(new, places[1])
+        check_digests(old, new)
+        self.names = {**names_by_digest(old), **names_by_digest(new)}
+        self.numbers = {vertex.digest: number for number, vertex in enumerate(self.old)}
+
+    def sources(self) -> Names:
+        """Returns the names of the local sources of both."""
+        return sources_of(self.old) | sources_of(self.new)
+
+    def renamed(self, before: Trees, after: Trees) -> Names:
+        """Returns the names that are in one definition alone, and whose tree another source has in the other one."""
+        old, new = sources_of(self.old), sources_of(self.new)
+        return frozenset(
+            [name for name in new - old if name in after and after[name] in before.values()]
+            + [name for name in old - new if name in before and before[name] in after.values()]
+        )
+
+    def impacts(self, changed: Names, before: Trees = EMPTY, after: Trees = EMPTY) -> Iterator[Impact]:
+        """Yields what is known of each vertex of the newer definition, if these sources have other trees.
+
+        `before` and `after` have the digests of trees that are known, for the older and for the newer definition.
+        """
+        old = matching.keys_of(
+            (vertex.part() for vertex in self.old), words_of(sources_of(self.old), "old", changed, before)
+        )
+        new = matching.keys_of(
+            (vertex.part() for vertex in self.new), words_of(sources_of(self.new), "new", changed, after)
+        )
+        numbers = {key: number for number, key in reversed(list(enumerate(old)))}
+        befores = zip(self.new, new, changed_before(self.new, changed), caches_before(self.new), strict=True)
+        for vertex, key, fed, cached in befores:
+            matched, digested = numbers.get(key), self.numbers.get(vertex.digest)
+            name = self.names.get(vertex.digest, "")
+            word = word_of(matched, digested, cached)
+            yield Impact(vertex, name, word, digested if matched is None else matched, fed, cached)
+
+    def result(self, found: list[Impact]) -> Result:
+        """Returns what is known of the result, given what is known of the vertices."""
+        vertex, output = self.new_result
+        is_same = (found[vertex].old, output) == self.old_result or found[vertex].old is None
+        return Result(vertex, output, found[vertex].word if is_same else OTHER, self.old_result)
+
+    def gone(self, found: Iterable[Impact]) -> list[int]:
+        """Returns the vertices of the older definition that no vertex of the newer one matches or has the digest of."""
+        matched = {impact.old for impact in found}
+        there = {vertex.digest for vertex in self.new}
+        digests = enumerate(vertex.digest for vertex in self.old)
+        return [number for number, digest in digests if number not in matched and digest not in there]

@@ -1,0 +1,94 @@
+"""Prints everything that keeps llbm from accepting a definition, not only the first fault, and what has no effect.
+
+In: a definition, on standard input or in the file DEFINITION.
+
+Out: on standard output a line for each finding, `fault NUMBER ..` in the words of the program, as `explain` reads them;
+then, after a tab, the name of the entry and its place in its source, if the definition has them. Characters that cannot
+be printed are escaped. The first line is the fault that the program prints. The others are sorted by entry, those
+without an entry first, and within an entry by the number of the fault. Each feature of fault 88 and each rule of fault
+89 is checked in each entry that is reachable from the result. If an entry is not an op, or an input names no row, the
+reachable entries are not known, and all entries but the terminal are checked. Of an entry that is not an op only its
+first fault is printed. If the definition is a text, standard error says so.
+
+After the findings there is a line `note ENTRY NAME` for each field of such an entry that is set, has an effect in
+BuildKit and none here; `action N`, `mount N` or the key of an attribute may follow the name. With --like-buildkit there
+is also a note for each rule by which a vertex can end otherwise in BuildKit, if no fault was found, and for what
+BuildKit's daemon dies of. docs/BUILDKIT.md lists the names. --strict makes findings of notes.
+
+Exit status: 0 the program accepts the definition, and nothing but notes is printed; 1 there are findings; 2 the command
+line is refused; 3 a read or a write failed.
+"""
+
+import argparse
+import re
+import sys
+
+from llbm_tools import common, inputs
+from llbm_tools.buildkit import notes
+from llbm_tools.llb import findings, names, op_reading
+from llbm_tools.llb.wire import Unreadable
+from llbm_tools.streams import exit_status
+
+NO_TEXT = re.compile(rb"[^\t\n\r -~\x80-\xf4]")
+HINT = "`llbm asm` makes a definition of a text of entries, BuildKit's client one of a Dockerfile"
+
+
+def names_in(data: bytes) -> list[str]:
+    """Returns the names of the entries for a person; an empty list if the definition cannot be parsed."""
+    try:
+        return [name.shown() for name in names.names_of(data)]
+    except Unreadable:
+        return []
+
+
+def lines_of(data: bytes, is_like: bool) -> tuple[list[str], list[str]]:
+    """Returns a line for each finding, and one for each note; with `is_like` also for what can end otherwise."""
+    found = findings.findings_of(data)
+    noted = notes.notes_of(data, found, is_like)
+    shown = names_in(data) if found or noted else []
+
+    def line(kind: str, words: str, row: int | None) -> str:
+        name = shown[row] if shown and row is not None else ""
+        return "\t".join(filter(None, [common.printable(f"{kind} {words}"), name]))
+
+    faults = [line("fault", finding.words(), finding.row) for finding in found]
+    return faults, [line("note", one.words(), one.row) for one in noted]
+
+
+def parse_options() -> argparse.Namespace:
+    """Parses the command line."""
+    parser = argparse.ArgumentParser(
+        description="Prints everything that keeps llbm from accepting a definition, one line each.", allow_abbrev=False
+    )
+    add = parser.add_argument
+    add("definition", nargs="?", metavar="DEFINITION", help="the definition (default: standard input)")
+    add("--like-buildkit", action="store_true", help="also print what can end otherwise in BuildKit")
+    add("--strict", action="store_true", help="end with status 1 if there are notes")
+    return parser.parse_args()
+
+
+def is_text(data: bytes) -> bool:
+    """Returns whether bytes can't be read as a definition, and are a text."""
+    try:
+        op_reading.read_definition(data)
+    except Unreadable:
+        return bool(data.strip()) and not NO_TEXT.search(data)
+    return False
+
+
+def lint(options: argparse.Namespace) -> int:
+    """Prints the findings, and returns the exit status."""
+    data = inputs.data_at(options.definition)
+    faults, noted = lines_of(data, options.like_buildkit)
+    if is_text(data):
+        common.say(f"not the bytes of a definition but a text: {inputs.shown(options.definition)}; {HINT}")
+    common.check_open(sys.stdout, "standard output")
+    sys.stdout.buffer.write("".join(f"{line}\n" for line in faults + noted).encode("utf-8", "backslashreplace"))
+    sys.stdout.flush()
+    return 1 if faults or (noted and options.strict) else 0
+
+
+def main() -> int:
+    """Runs the tool, and returns its exit status."""
+    options = parse_options()
+    return exit_status(lambda: lint(options))

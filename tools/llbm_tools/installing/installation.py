@@ -1,0 +1,189 @@
+"""What an installation has: the program, the tools, the pages, the examples, completions and a page of the manual.
+
+`lib/llbm` is like the repository: it has `tools`, `docs` and `examples`, so that the tools find what they read. The
+tools' commands in `bin` are links into it. `share` has what shells and `man` look for.
+"""
+
+import hashlib
+import os
+import pathlib
+import re
+import shutil
+import stat
+import subprocess
+from collections.abc import Iterator
+from typing import NamedTuple
+
+from llbm_tools import common, paths
+from llbm_tools.installing import editor_extension, tool_pages, tool_parsers
+from llbm_tools.os_errors import in_words
+from llbm_tools.running import command_words
+from llbm_tools.streams import why_not
+
+# The tools that test or prove the repository, or install it, and their tests.
+OF_THE_REPOSITORY = {
+    "against-buildkit", "bindings", "claims", "daemon", "daemon-suite", "daemon-tests", "dist", "floors", "fuzz",
+    "gate", "install", "library", "lines", "measure", "measure-daemons", "minutes", "page", "page-tests", "plants",
+    "proved", "refuse", "style", "test", "tests", "transcripts", "unproved-program", "wasm",
+}
+LIBRARY = "lib/llbm"
+PAGES = ("README.md", "CHANGELOG.md")
+PACKAGE = "tools/llbm_tools/debugging/package.json"
+EXAMPLES = (
+    "*.definition", "*.text", "*.tree", "*.commands", "*.answers", "*.llb", "*.rules", "launch.json", "nvim-dap.lua",
+    "dape.el",
+)
+RECEIPT = paths.ROOT / "out" / "gate-passed"
+STATE = f"{LIBRARY}/program"
+LISTED = f"{LIBRARY}/{paths.INSTALLED.name}"
+
+VERSION = re.compile(r"^llbm (([\w.]+), .*)$", re.M)
+
+
+class NotInstalled(Exception):
+    """There is no program, or something that is needed is missing."""
+
+
+class Item(NamedTuple):
+    """A file of an installation, by its path below PREFIX: its content and mode, or what it links to."""
+
+    path: str
+    content: bytes = b""
+    mode: int = 0o644
+    link: str = ""
+
+
+class Program(NamedTuple):
+    """A program: its bytes, its version, and whether the gate left it."""
+
+    content: bytes
+    version: str
+    is_proved: bool
+
+    def number(self) -> str:
+        """Returns the number of the version."""
+        return self.version.partition(",")[0]
+
+    def state(self) -> str:
+        """Returns the lines that say what the program is."""
+        proved = "left by ./gate, which passed" if self.is_proved else "not proved, or not known to be"
+        return f"llbm {self.version}\nproof: {proved}\nsha256: {digest(self.content)}\n"
+
+
+def digest(content: bytes) -> str:
+    """Returns the SHA-256 of a content, in hexadecimal."""
+    return hashlib.sha256(content).hexdigest()
+
+
+def receipt_of(program: bytes) -> str:
+    """Returns what the gate writes when it passed on a program."""
+    return f"{digest(program)}  llbm\n{common.PROVER}\n"
+
+
+def program_at(place: str) -> Program:
+    """Returns the program in a file; it is proved only if the gate has passed on these bytes."""
+    cause = why_not(place)
+    if cause:
+        raise NotInstalled(f"{cause}: {place}; tools/unproved-program makes a program")
+    try:
+        content = pathlib.Path(shutil.which(place) or place).read_bytes()
+        said = subprocess.run([place, "--version"], stdin=subprocess.DEVNULL, capture_output=True, text=True).stderr
+    except OSError as fault:
+        raise NotInstalled(f"{in_words(fault)}: {place}; tools/unproved-program makes a program") from fault
+    found = VERSION.search(said)
+    if not found:
+        raise NotInstalled(f"this is not the program llbm: {place}")
+    passed = RECEIPT.is_file() and RECEIPT.read_text("utf-8") == receipt_of(content)
+    return Program(content, found[1], passed and common.NOT_PROVED not in found[1])
+
+
+def file_item(path: str, place: pathlib.Path) -> Item:
+    """Returns a file of the repository as an item; it can be run if its owner can run it."""
+    return Item(path, place.read_bytes(), 0o755 if place.stat().st_mode & stat.S_IXUSR else 0o644)
+
+
+def files_below(place: pathlib.Path) -> Iterator[pathlib.Path]:
+    """Yields the files below a folder in order, without what Python and other programs keep there."""
+    for file in sorted(place.rglob("*")):
+        kept = any(part == "__pycache__" or part.startswith(".") for part in file.relative_to(place).parts)
+        if file.is_file() and not kept:
+            yield file
+
+
+def tool_places() -> Iterator[pathlib.Path]:
+    """Yields what is installed of the folder of the tools: all but the repository's own tools."""
+    for place in sorted((paths.ROOT / "tools").iterdir()):
+        if place.name not in OF_THE_REPOSITORY and place.name != "__pycache__" and not place.name.startswith("."):
+            yield place
+
+
+def is_tool(place: pathlib.Path) -> bool:
+    """Returns whether a file is a tool."""
+    return place.is_file() and not place.suffix and os.access(place, os.X_OK)
+
+
+def tool_names() -> list[str]:
+    """Returns the names of the tools that are installed."""
+    return [place.name for place in tool_places() if is_tool(place)]
+
+
+def tool_items() -> Iterator[Item]:
+    """Yields the tools with their modules, and a command for each."""
+    for place in tool_places():
+        for file in files_below(place) if place.is_dir() else [place]:
+            yield file_item(f"{LIBRARY}/tools/{file.relative_to(place.parent)}", file)
+        if is_tool(place):
+            yield Item(f"bin/{tool_parsers.PREFIX}{place.name}", link=f"../{LIBRARY}/tools/{place.name}")
+
+
+def extension_item(version: str, tools: list[Item]) -> Item:
+    """Returns the extension for VS Code, which has the tools and the page that explains faults inside of it."""
+    files = {item.path.removeprefix(f"{LIBRARY}/"): item.content for item in tools if not item.link}
+    page = paths.ROOT / "docs" / "FAULTS.md"
+    files[f"docs/{page.name}"] = page.read_bytes()
+    package = files[PACKAGE].decode("utf-8")
+    return Item(f"{LIBRARY}/llbm.vsix", editor_extension.packed(package, version, files))
+
+
+def page_items() -> Iterator[Item]:
+    """Yields the pages and the examples, which are beside the tools as in the repository."""
+    for name in PAGES:
+        yield file_item(f"{LIBRARY}/{name}", paths.ROOT / name)
+    for page in sorted((paths.ROOT / "docs").glob("*.md")):
+        yield file_item(f"{LIBRARY}/docs/{page.name}", page)
+    for pattern in EXAMPLES:
+        for file in sorted((paths.ROOT / "examples").glob(pattern)):
+            yield file_item(f"{LIBRARY}/examples/{file.name}", file)
+    yield Item("share/doc/llbm", link=f"../../{LIBRARY}/docs")
+
+
+def texts_for_shells(command: str, bash: str, zsh: str, fish: str, manual: str) -> Iterator[Item]:
+    """Yields the completions and the page of the manual of a command."""
+    yield Item(f"share/bash-completion/completions/{command}", bash.encode())
+    yield Item(f"share/zsh/site-functions/_{command}", zsh.encode())
+    yield Item(f"share/fish/vendor_completions.d/{command}.fish", fish.encode())
+    yield Item(f"share/man/man1/{command}.1", manual.encode())
+
+
+def shell_items(version: str) -> Iterator[Item]:
+    """Yields the completions and the pages of the manual: of the program, and of each tool as its parser has it."""
+    table = command_words
+    yield from texts_for_shells("llbm", table.for_bash(), table.for_zsh(), table.for_fish(), table.manual(version))
+    for name in tool_names():
+        tool = tool_parsers.tool_named(name)
+        yield from texts_for_shells(
+            tool.name, tool_pages.for_bash(tool), tool_pages.for_zsh(tool), tool_pages.for_fish(tool),
+            tool_pages.manual(tool, version),
+        )  # fmt: skip
+
+
+def items_of(program: Program) -> list[Item]:
+    """Returns the files of an installation in the order of their paths, with the list of them all."""
+    tools, version = list(tool_items()), program.number()
+    items = [
+        Item("bin/llbm", program.content, 0o755), Item(STATE, program.state().encode()), *tools, *page_items(),
+        extension_item(version, tools), *shell_items(version),
+    ]
+    paths = sorted([*(item.path for item in items), LISTED])
+    items.append(Item(LISTED, "".join(f"{path}\n" for path in paths).encode()))
+    return sorted(items)

@@ -1,0 +1,223 @@
+"""Prints what has to be read to believe a statement, and maintains the tables in docs/CLAIMS.md.
+
+In: the sources in crates/. `tools/claims STATEMENT` prints every definition that a statement depends on, nearest first,
+each with its file and line, then the types of src/ that they name, and the number of lines in each file; STATEMENT is a
+column of the table in docs/CLAIMS.md: aim, load, assemble, disassemble, run, show, asm, dis, step or program.
+`--first` prints the definitions that docs/CLAIMS.md has read first, in its order, each below its question. `--bodies`
+prints the wrong bodies that the prover refuses, each with its file and its function. `--write` writes the
+tables in docs/CLAIMS.md from the sources: for each statement the number of lines to read in each crate, and the number
+of wrong bodies of each crate. `--check` compares the page with the sources.
+
+Out: definitions or wrong bodies on standard output, or with --check a line for each table that differs.
+
+Exit status: 0 done, or the page agrees with the sources; 1 it does not; 2 the command line is refused; 3 a read or a
+write failed.
+"""
+
+import argparse
+import pathlib
+import re
+import sys
+import textwrap
+
+from llbm_tools.paths import ROOT
+from llbm_tools.repository.specs import Definition, Library, contract
+from llbm_tools.streams import exit_status
+
+PAGE = ROOT / "docs" / "CLAIMS.md"
+COLUMNS = 160
+FILE = re.compile(r"`(?:(\w+)/specs/)?(\w+)\.antt`")
+QUESTION = re.compile(r"- `(\w+)`: (.*)")
+FUNCTION = re.compile(r"\s*(?:pub(?:\(\w+\))? )?(?:const |unsafe )?fn (\w+)")
+STATEMENTS = {
+    "aim": ("llb_commands", "laws.rt", "aim"),
+    "load": ("llb_loader", "loading.rt", "load"),
+    "assemble": ("llb_asm", "assembling.rt", "assemble"),
+    "disassemble": ("llb_asm", "print.rt", "disassemble"),
+    "run": ("llb_commands", "run.rt", "run_many_over"),
+    "show": ("llb_commands", "show.rt", "show_over"),
+    "asm": ("llb_commands", "assembling.rt", "asm_over"),
+    "dis": ("llb_commands", "disassembling.rt", "dis_over"),
+    "step": ("llb_commands", "stepping.rt", "step_over"),
+    "program": ("llb_commands", "performing.rt", "program"),
+}
+
+
+def resting(library: Library, statement: str) -> tuple[list[Definition], list[str]]:
+    """Returns the definitions and the types of src/ that a statement depends on."""
+    crate, file, name = STATEMENTS[statement]
+    return library.cone(*contract(library.root / "crates" / crate / "src" / file, name))
+
+
+def first(library: Library) -> list[tuple[Definition, str]]:
+    """Returns the definitions that the page has read first, in its order, each with its question.
+
+    A group of them begins with a paragraph that names their files; one without a crate is in the crate before it.
+    """
+    known = {(one.crate, one.file, one.name): one for one in resting(library, "aim")[0]}
+    section = PAGE.read_text("utf-8").partition("\n## The definitions to read first\n")[2].partition("\n### ")[0]
+    found: list[tuple[Definition, str]] = []
+    files: list[tuple[str, str]] = []
+    for part in re.split(r"\n\n|\n(?=- )", section):
+        text = " ".join(part.split())
+        if asked := QUESTION.fullmatch(text):
+            keys = [(*file, asked[1]) for file in files]
+            found += [(known[key], asked[2]) for key in keys if key in known][:1]
+        elif text.startswith("**"):
+            crate, files = "", []
+            for named, file in FILE.findall(text):
+                crate = named or crate
+                files.append((crate, file))
+    return found
+
+
+def counted(definitions: list[Definition]) -> dict[tuple[str, str], int]:
+    """Returns how many lines of each file the definitions have, the nearest file first."""
+    lines: dict[tuple[str, str], int] = {}
+    for one in definitions:
+        lines[one.crate, one.file] = lines.get((one.crate, one.file), 0) + len(one.lines)
+    return lines
+
+
+def table_of(head: list[str], rows: list[list[str]]) -> list[str]:
+    """Returns the lines of a table whose first column has words and whose other columns have numbers."""
+    return ["| " + " | ".join(row) + " |" for row in [head, ["---"] + ["--:"] * (len(head) - 1), *rows]]
+
+
+def reading(library: Library) -> list[str]:
+    """Returns the table of crates to read, with how many lines of each."""
+    cones = {name: resting(library, name) for name in STATEMENTS}
+    lines: dict[str, dict[str, int]] = {}
+    for name, (definitions, _) in cones.items():
+        for (crate, _), count in counted(definitions).items():
+            lines.setdefault(crate, dict.fromkeys(STATEMENTS, 0))[name] += count
+    rows = [[f"`{crate}`", *(str(it or "") for it in counts.values())] for crate, counts in lines.items()]
+    sums = [
+        ["definitions", *(str(len(them)) for them, _ in cones.values())],
+        ["files", *(str(len(counted(them))) for them, _ in cones.values())],
+        ["lines", *(str(sum(counted(them).values())) for them, _ in cones.values())],
+        ["types of `src/`", *(str(len(types)) for _, types in cones.values())],
+    ]
+    whole = sum(len(it.read_text("utf-8").splitlines()) for it in library.root.glob("crates/*/specs/**/*.antt"))
+    table = table_of(["Lines in", *STATEMENTS], [*sums, *rows])
+    return [*table, "", f"All files of `specs/` have {whole} lines."]
+
+
+def edited(crate: pathlib.Path, edit: pathlib.Path) -> str:
+    """Returns the file and the function that an edit changes."""
+    fields = dict(line.split(": ", 1) for line in reversed(edit.read_text("utf-8").splitlines()) if ": " in line)
+    rows = (crate / fields["file"]).read_text("utf-8").splitlines()
+    at = next((i for i, row in enumerate(rows) if fields["old"].strip() in row), 0)
+    names = [found[1] for row in rows[: at + 1] if (found := FUNCTION.match(row))]
+    return f"`{fields['file'].removeprefix('src/')}`" + (f", `{names[-1]}`" if names else "")
+
+
+def edits_of(crate: pathlib.Path) -> list[pathlib.Path]:
+    """Returns the edits of a crate, by name."""
+    return sorted((crate / "must-fail").glob("*.edit"))
+
+
+def crates_with_edits(library: Library) -> list[tuple[pathlib.Path, list[pathlib.Path]]]:
+    """Returns the folders of the crates that have edits, in the order of crates.txt, each with its edits."""
+    lines = (library.root / "crates.txt").read_text("utf-8").splitlines()
+    names = [words[0] for line in lines if (words := line.partition(":")[0].split())]
+    crates = [library.root / "crates" / name for name in names]
+    return [(crate, found) for crate in crates if (found := edits_of(crate))]
+
+
+def bodies(library: Library) -> list[str]:
+    """Returns the list of wrong bodies, crate by crate."""
+    items = []
+    for crate, found in crates_with_edits(library):
+        each = "; ".join(f"{edit.stem.replace('_', ' ')} ({edited(crate, edit)})" for edit in found)
+        text = f"- `{crate.name}`: {each}."
+        items += textwrap.wrap(text, COLUMNS, subsequent_indent="  ", break_long_words=False, break_on_hyphens=False)
+    return items
+
+
+def edits(library: Library) -> list[str]:
+    """Returns how many wrong bodies there are, and how many of each crate."""
+    crates = crates_with_edits(library)
+    each = ", ".join(f"`{crate.name}` {len(found)}" for crate, found in crates)
+    text = f"{sum(len(found) for _, found in crates)} wrong bodies: {each}."
+    return textwrap.wrap(text, COLUMNS, break_long_words=False, break_on_hyphens=False)
+
+
+def page_of(text: str, lists: dict[str, list[str]]) -> tuple[str, list[str]]:
+    """Returns the page with the lists replaced, and the names of the lists that differed."""
+    differing = []
+    for name, lines in lists.items():
+        marks = rf"(<!-- tools/claims writes: {name} -->\n)(.*?)(\n<!-- end -->)"
+        found = re.search(marks, text, re.S)
+        if not found or found[2] != "\n".join(lines):
+            differing.append(name)
+        if found:
+            text = text[: found.end(1)] + "\n".join(lines) + text[found.start(3) :]
+    return text, differing
+
+
+def write_or_check(library: Library, writes: bool) -> int:
+    """Writes the tables of the page, or compares them; returns the exit status."""
+    page, differing = page_of(PAGE.read_text("utf-8"), {"reading": reading(library), "wrong bodies": edits(library)})
+    if writes:
+        PAGE.write_text(page, "utf-8")
+        return 0
+    for name in differing:
+        print(f"docs/CLAIMS.md: the part `{name}` differs from the sources: run tools/claims --write")
+    return 1 if differing else 0
+
+
+def show(library: Library, statement: str) -> None:
+    """Prints the definitions that a statement depends on, and in which files they are."""
+    definitions, types = resting(library, statement)
+    for one in definitions:
+        print(f"{one.crate}/specs/{one.file}.antt:{one.first}")
+        print("\n".join(one.lines), end="\n\n")
+    print("Types to be read in src/:")
+    print("\n".join(types))
+    print("\nLines in each file, nearest first:")
+    for (crate, file), count in counted(definitions).items():
+        print(f"{count:5} {crate}/specs/{file}.antt")
+
+
+def show_first(library: Library) -> None:
+    """Prints the definitions that the page has read first, each below its question."""
+    for one, question in first(library):
+        print(f"{one.name}: {question}\n{one.crate}/specs/{one.file}.antt:{one.first}")
+        print("\n".join(one.lines), end="\n\n")
+
+
+def parse_options() -> argparse.Namespace:
+    """Parses the command line."""
+    parser = argparse.ArgumentParser(
+        description="Prints what has to be read to believe a statement.", allow_abbrev=False
+    )
+    what = parser.add_mutually_exclusive_group(required=True)
+    what.add_argument(
+        "statement", metavar="STATEMENT", nargs="?", choices=[*STATEMENTS], help=f"one of {', '.join(STATEMENTS)}"
+    )
+    what.add_argument("--first", action="store_true", help="print the definitions to read first")
+    what.add_argument("--bodies", action="store_true", help="print the wrong bodies that the prover refuses")
+    what.add_argument("--write", action="store_true", help="write the tables in docs/CLAIMS.md")
+    what.add_argument("--check", action="store_true", help="compare them with the sources")
+    return parser.parse_args()
+
+
+def work(library: Library, options: argparse.Namespace) -> int:
+    """Does what the command line asks for, and returns the exit status."""
+    if options.write or options.check:
+        return write_or_check(library, options.write)
+    if options.first:
+        show_first(library)
+    elif options.bodies:
+        print("\n".join(bodies(library)))
+    else:
+        show(library, options.statement)
+    sys.stdout.flush()
+    return 0
+
+
+def main() -> int:
+    """Runs the tool, and returns its exit status."""
+    options, library = parse_options(), Library()
+    return exit_status(lambda: work(library, options))

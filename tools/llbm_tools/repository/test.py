@@ -1,0 +1,261 @@
+"""Tests the tools by examples, in temporary folders that are removed at the end.
+
+In: the tools, with their tests in tools/tests; names of test cases on the command line, with or without their package,
+as in `test trees.RoundTrip`, or none for all. Some tests need the program: it is --llbm PROGRAM, or else
+crates/llbm/out/llbm of the repository, or else its out/llbm-unproved, which is named on standard error as not proved;
+without one they are skipped. It can run as root, who can set owners, or as another user, who cannot: the number of
+examples is the same. Test cases run in parallel, in --jobs N processes, or in one for each processor.
+
+Out: on standard output the number of tests and of runs of the tools, and how many tests were skipped and why; failures
+are printed on standard error. --slowest N also lists there the N tests that took longest, in seconds.
+
+Exit status: 0 all tests pass; 1 some fail; 2 the command line is refused; 130 interrupted.
+"""
+
+import argparse
+import collections
+import io
+import multiprocessing
+import os
+import shutil
+import signal
+import sys
+import tempfile
+import time
+import unittest
+from collections.abc import Iterator
+from typing import NamedTuple, TextIO, cast
+
+from llbm_tools import common, paths, streams
+from tests import base
+
+MODULES = [
+    "debugging.adapter_runs",
+    "debugging.adapter_steps",
+    "debugging.adapter_eyes",
+    "debugging.adapter_breaks",
+    "debugging.reasons",
+    "sessions.tracing",
+    "debugging.adapter_parts",
+    "program",
+    "definitions.linting",
+    "definitions.adopting",
+    "fuzzing.fuzzing",
+    "repository.gating",
+    "repository.transcripts",
+    "repository.minutes",
+    "trees.trees",
+    "definitions.graphs",
+    "definitions.explaining",
+    "building.building",
+    "building.contents",
+    "building.value_rules",
+    "building.rebuilding",
+    "bad_inputs",
+    "repository.repository",
+    "repository.pages",
+    "repository.floors",
+    "buildkit.buildkit",
+    "repository.refusing",
+    "measuring.measuring",
+    "trees.archives",
+    "images.images",
+    "trees.differences",
+    "sessions.jsons",
+    "building.sessions",
+    "llb.naming",
+    "compiling.compiling",
+    "compiling.embedding",
+    "repository.planting",
+    "installing.installing",
+    "running.words",
+    "running.running",
+    "statuses",
+    "llb.properties",
+    "definitions.impacting",
+    "page.page_adopting",
+    "page.page_serving",
+    "page.paging",
+    "starting",
+    "definitions.dumping",
+    "images.layouts",
+    "installing.commands",
+    "daemon.packages",
+    "buildkit.field_table",
+    "daemon.daemon_suites",
+    "measuring.measuring_daemons",
+    "daemon.daemon_clients",
+    "daemon.daemon_warnings",
+    "buildkit.like_rules",
+    "buildkit.like_runs",
+    "buildkit.like_tools",
+    "buildkit.file_backend",
+    "daemon.against",
+    "repository.layering",
+]
+
+PLACES = {module.rpartition(".")[2]: module for module in MODULES}
+
+
+class Timed(unittest.TextTestResult):
+    """A result that measures how long each test takes."""
+
+    def __init__(self, stream: TextIO, descriptions: bool, verbosity: int) -> None:
+        super().__init__(stream, descriptions, verbosity)
+        self.seconds: list[tuple[float, str]] = []
+        self.start = 0.0
+
+    def startTest(self, test: unittest.TestCase) -> None:
+        """Starts the clock of a test."""
+        super().startTest(test)
+        self.start = time.monotonic()
+
+    def stopTest(self, test: unittest.TestCase) -> None:
+        """Stops the clock of a test."""
+        super().stopTest(test)
+        self.seconds.append((time.monotonic() - self.start, test.id()))
+
+
+class GroupResult(NamedTuple):
+    """The result of some tests: the output of those that failed, and counts."""
+
+    output: str
+    tests: int
+    runs: int
+    wrong: collections.Counter[str]
+    left_out: collections.Counter[str]
+    seconds: list[tuple[float, str]]
+
+
+groups: list[unittest.TestSuite] = []
+
+
+def tests_in(suite: unittest.TestSuite) -> Iterator[unittest.TestCase]:
+    """Yields all tests of a suite, in order."""
+    for one in suite:
+        if isinstance(one, unittest.TestSuite):
+            yield from tests_in(one)
+        else:
+            yield one
+
+
+def grouped(suite: unittest.TestSuite) -> list[unittest.TestSuite]:
+    """Returns the tests one by one; those of a class with a `setUpClass` stay together."""
+    whole: dict[type, unittest.TestSuite] = {}
+    found = []
+    for test in tests_in(suite):
+        kind = type(test)
+        if "setUpClass" not in vars(kind):
+            found.append(unittest.TestSuite([test]))
+        elif kind in whole:
+            whole[kind].addTest(test)
+        else:
+            whole[kind] = unittest.TestSuite([test])
+            found.append(whole[kind])
+    return found
+
+
+def run_group(number: int) -> GroupResult:
+    """Runs a group of tests."""
+    base.runs = 0
+    out = io.StringIO()
+    result = cast(Timed, unittest.TextTestRunner(out, verbosity=0, resultclass=Timed).run(groups[number]))
+    wrong = collections.Counter(
+        {
+            "failures": len(result.failures),
+            "errors": len(result.errors),
+            "unexpected successes": len(result.unexpectedSuccesses),
+        }
+    )
+    output = "" if result.wasSuccessful() else out.getvalue().rpartition("-" * 70)[0]
+    left_out = collections.Counter(cause for _, cause in result.skipped)
+    return GroupResult(output, result.testsRun, base.runs, +wrong, left_out, result.seconds)
+
+
+def end_at_once() -> None:
+    """Lets SIGTERM end a process that runs tests."""
+    signal.signal(signal.SIGTERM, signal.SIG_DFL)
+
+
+def run_groups(jobs: int) -> Iterator[GroupResult]:
+    """Runs all groups in this many processes, and yields their results as they end."""
+    if jobs == 1:
+        yield from map(run_group, range(len(groups)))
+        return
+    with multiprocessing.get_context("fork").Pool(jobs, end_at_once) as pool:
+        yield from pool.imap_unordered(run_group, range(len(groups)))
+
+
+def known(word: str) -> str:
+    """Returns the place of a module of tests, or of a part of it, if it is one; its package can be left out."""
+    name, dot, part = word.partition(".")
+    for place in [*([PLACES[name] + dot + part] if name in PLACES else []), word]:
+        loader = unittest.TestLoader()
+        loader.loadTestsFromName(f"tests.{place}")
+        if f"{place}.".startswith(tuple(f"{module}." for module in MODULES)) and not loader.errors:
+            return place
+    raise argparse.ArgumentTypeError(f"there are no such tests: {word}")
+
+
+def positive(word: str) -> int:
+    """Parses a number that is at least 1."""
+    if not word.isdecimal() or int(word) == 0:
+        raise argparse.ArgumentTypeError(f"not a number above 0: {word}")
+    return int(word)
+
+
+def parse_options() -> argparse.Namespace:
+    """Parses the command line."""
+    parser = argparse.ArgumentParser(description="Tests the tools of this folder.", allow_abbrev=False)
+    parser.add_argument("--llbm", metavar="PROGRAM", help="the program llbm")
+    jobs = len(os.sched_getaffinity(0))
+    parser.add_argument("--jobs", metavar="N", type=positive, default=jobs, help="the number of processes")
+    parser.add_argument("--slowest", metavar="N", type=positive, default=0, help="list the N tests that took longest")
+    named = "a module of tests, or a part of it"
+    parser.add_argument("name", nargs="*", metavar="NAME", type=known, default=MODULES, help=named)
+    return parser.parse_args()
+
+
+def test_all(options: argparse.Namespace) -> int:
+    """Runs all tests, prints the results, and returns the exit status."""
+    groups.extend(grouped(unittest.defaultTestLoader.loadTestsFromNames([f"tests.{name}" for name in options.name])))
+    start = time.monotonic()
+    tests, runs = 0, 0
+    wrong: collections.Counter[str] = collections.Counter()
+    left_out: collections.Counter[str] = collections.Counter()
+    seconds: list[tuple[float, str]] = []
+    for one in run_groups(options.jobs):
+        sys.stderr.write(one.output)
+        tests, runs, seconds = tests + one.tests, runs + one.runs, seconds + one.seconds
+        wrong += one.wrong
+        left_out += one.left_out
+    print(f"Ran {tests} tests in {time.monotonic() - start:.1f} s", file=sys.stderr)
+    for taken, name in sorted(seconds, reverse=True)[: options.slowest]:
+        print(f"{taken:6.2f} s {name}", file=sys.stderr)
+    if wrong:
+        print(f"FAILED ({', '.join(f'{cause}={count}' for cause, count in wrong.items())})", file=sys.stderr)
+    sys.stderr.flush()
+    user = "root" if base.IS_ROOT else "another user"
+    print(f"{tests} tests, {runs} runs of the tools, as {user}: {'some failed' if wrong else 'all passed'}")
+    for cause, count in left_out.items():
+        print(f"{count} of them skipped: {cause}")
+    return 1 if wrong else 0
+
+
+def test(options: argparse.Namespace) -> int:
+    """Runs the tests with a program, if there is one, and returns the exit status."""
+    word = options.llbm
+    base.llbm = shutil.which(common.program_named(None)) if word is None else streams.program_at(word)
+    with tempfile.TemporaryDirectory(prefix="tools-test-cache-") as cache:
+        # What copies of the tools keep compiled is removed with them.
+        os.environ["LLBM_CACHE"] = str(paths.CACHE)
+        os.environ["XDG_CACHE_HOME"] = cache
+        return test_all(options)
+
+
+def main() -> int:
+    """Runs the tool, and returns its exit status."""
+    options = parse_options()
+    os.umask(0o022)
+    signal.signal(signal.SIGTERM, signal.default_int_handler)
+    return streams.exit_status(lambda: test(options))

@@ -1,0 +1,166 @@
+"""Runs a definition, and says in words what each step did and which paths it changed.
+
+In: a definition (`-` for standard input), and NAME=PATH for each local source: a directory, a tar (both with owner 0:0)
+or a tree text. The program is --llbm PROGRAM, else the one on PATH, else crates/llbm/out/llbm of the repository, or
+else its out/llbm-unproved, which is named on standard error as not proved.
+
+Out: on standard output the run by one worker, vertex by vertex: a line with its number, its kind and its name or what
+it does; below it a line for each micro-step, with the paths that it added, removed or changed, or why it failed, and a
+line `BuildKit: ..` for each path that ends otherwise there (docs/BUILDKIT.md); and at its end `done` or `failed`. At
+most --paths N changes of one tree are shown for each step, 20 by default; a line says how many more there are. The
+trees are those that a session of `llbm step` shows. With --summary a micro-step has one line, which counts the paths
+that it changed and the bytes by which their files grew; and each output of a vertex has a line with its numbers of
+directories, files and bytes.
+
+Exit status: 0 the run is complete; 1 a vertex failed; 2 something is refused: standard error says what; 3 a read or a
+write failed, or the program ended by itself.
+"""
+
+import argparse
+import sys
+import tempfile
+from collections.abc import Iterator
+
+from llbm_tools import common, inputs
+from llbm_tools.debugging import launching
+from llbm_tools.debugging.changes import Change, Compared
+from llbm_tools.debugging.happened import Happened, Watch
+from llbm_tools.debugging.views import Views
+from llbm_tools.running import summary
+from llbm_tools.sessions.session import Event, Refusal, Session, SessionFailed
+from llbm_tools.streams import FAILED, Refused, exit_status
+
+MOST_OF_A_LINE = 200
+USUAL_PATHS = 20
+
+
+def change_line(change: Change) -> str:
+    """Returns a change in one line: what happened, to which path, and the rest."""
+    kind, _, rest = change.shown().partition(" ")
+    return f"{kind} {change.path}: {rest}"
+
+
+def compared_lines(compared: Compared, most: int) -> Iterator[str]:
+    """Yields a line for each change of a tree that is shown, and one that counts the others."""
+    if compared.left:
+        yield f"{compared.name}: {compared.left}"
+    for change in compared.changes[:most]:
+        yield f"{compared.name}: {change_line(change)}"
+    more = sum(compared.counts.values()) - len(compared.changes[:most])
+    if more > 0:
+        yield f"{compared.name}: and {more:,} more paths"
+
+
+def step_lines(happened: Happened, most: int) -> Iterator[str]:
+    """Yields the lines of a micro-step."""
+    yield f"  {happened.text}"
+    for compared in happened.compared:
+        yield from (f"    {line}" for line in compared_lines(compared, most))
+    yield from otherwise_lines(happened)
+
+
+def otherwise_lines(happened: Happened | None) -> Iterator[str]:
+    """Yields a line for each way in which an event ends otherwise in BuildKit."""
+    yield from (f"    BuildKit: {line}" for line in (happened.otherwise if happened else []))
+
+
+def event_lines(event: Event, watch: Watch, views: Views, options: argparse.Namespace) -> Iterator[str]:
+    """Yields the lines of an event."""
+    if event.kind == "claim":
+        place = views.place_of(event.vertex)
+        yield f"vertex {views.title(event.vertex)}" + (f" ({place})" if place else "")
+    elif event.kind == "settle":
+        if options.summary and not event.fails():
+            outputs = watch.graph.vertices[event.vertex].outputs
+            yield from summary.output_lines(watch.session, event.vertex, outputs)
+        yield "  failed" if event.fails() else "  done"
+        yield from [] if options.summary else otherwise_lines(watch.last(options.paths))
+    elif happened := watch.last(summary.ALL_PATHS if options.summary else options.paths):
+        yield from [summary.step_line(happened)] if options.summary else step_lines(happened, options.paths)
+
+
+def blocked_lines(session: Session, views: Views) -> Iterator[str]:
+    """Yields the lines of the vertices that were not run."""
+    blocked = [vertex for vertex, status in enumerate(session.status()) if status == "blocked"]
+    for vertex in blocked:
+        yield from [f"vertex {views.title(vertex)}", "  not run: a vertex that it needs failed"]
+
+
+def run_lines(launched: launching.Launched, options: argparse.Namespace) -> Iterator[str]:
+    """Yields the lines of a whole run."""
+    session, views = launched.session, Views(launched)
+    watch = Watch(session, launched.graph)
+    while event := session.event("next"):
+        yield from event_lines(event, watch, views, options)
+    yield from blocked_lines(session, views)
+
+
+def launched_by(options: argparse.Namespace) -> launching.Launched:
+    """Starts the run on a copy of the definition."""
+    with tempfile.TemporaryDirectory(prefix="llbm-explain-") as folder:
+        file = inputs.stored_data(options.definition, folder, "definition")
+        given = {"definition": file, "sources": dict(options.source), "workers": 1, "llbm": options.llbm}
+        return launching.launch(given, common.say, "--llbm PROGRAM")
+
+
+def explain(options: argparse.Namespace) -> int:
+    """Runs the definition, prints the lines, and returns the exit status."""
+    common.check_open(sys.stdout, "standard output")
+    launched = launched_by(options)
+    try:
+        for line in run_lines(launched, options):
+            text = common.shortened(common.printable(line), MOST_OF_A_LINE)
+            sys.stdout.buffer.write(text.encode("utf-8") + b"\n")
+            sys.stdout.flush()
+        failed = any(event.fails() for event in launched.session.record)
+        if not failed:
+            count, result = len(launched.session.record), launched.graph.result
+            sys.stdout.buffer.write(f"the run is complete after {count} events, with the result {result}\n".encode())
+            sys.stdout.flush()
+        return int(failed)
+    finally:
+        launched.session.end()
+
+
+def source_of(word: str) -> tuple[str, str]:
+    """Parses NAME=PATH."""
+    name, mark, path = word.partition("=")
+    if not name or not mark:
+        raise argparse.ArgumentTypeError(f"{word!r} is not NAME=PATH")
+    return name, path
+
+
+def number_of(word: str) -> int:
+    """Parses a number of paths."""
+    if not word.isdecimal() or len(word) > 9:
+        raise argparse.ArgumentTypeError(f"{word!r} is not a number")
+    return int(word)
+
+
+def parse_options() -> argparse.Namespace:
+    """Parses the command line."""
+    parser = argparse.ArgumentParser(description="Says what each step of a run did.", allow_abbrev=False)
+    parser.add_argument("definition", metavar="DEFINITION", help="the file of the definition, or -")
+    parser.add_argument("source", nargs="*", type=source_of, metavar="NAME=PATH", help="a local source")
+    parser.add_argument("--llbm", metavar="PROGRAM", default="", help="the program llbm")
+    parser.add_argument("--paths", metavar="N", type=number_of, default=USUAL_PATHS, help="the most paths of a step")
+    parser.add_argument("--summary", action="store_true", help="print one line for each step, and sizes of outputs")
+    return parser.parse_args()
+
+
+def explain_or_refuse(options: argparse.Namespace) -> int:
+    """Runs the definition, prints the lines or why the program ended by itself, and returns the exit status."""
+    try:
+        return explain(options)
+    except Refusal as fault:
+        raise Refused(str(fault)) from fault
+    except SessionFailed as fault:
+        for line in [str(fault), *fault.words]:
+            common.say(line)
+        return FAILED
+
+
+def main() -> int:
+    """Runs the tool, and returns its exit status."""
+    options = parse_options()
+    return exit_status(lambda: explain_or_refuse(options))

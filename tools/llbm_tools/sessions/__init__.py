@@ -1,0 +1,5 @@
+"""What the program prints: a session of `llbm step`, the lines of its record, and those of `llbm show`. The tools make
+JSON and traces of them.
+
+It may import `llb` and `trees`.
+"""

@@ -1,0 +1,190 @@
+"""The texts of trees that are given: as a text, a directory, an archive or an image, each of which all tools read.
+
+A text has the contents themselves or, for a build, tokens in their place. What can't be in a tree is named on standard
+error and left out; it is refused if the reading is strict.
+"""
+
+import binascii
+import contextlib
+import os
+import re
+from collections.abc import Callable, Iterator
+from typing import BinaryIO, NamedTuple, cast
+
+from llbm_tools import common, inputs
+from llbm_tools.images import archives, packing, unpacking
+from llbm_tools.images.archive_entries import Placed, entries_of
+from llbm_tools.streams import Failed, Refused, temporary_file
+from llbm_tools.trees import archive_texts
+from llbm_tools.trees.directory_texts import DirectoryText, Text, Values
+from llbm_tools.trees.kept_sources import Recorder
+from llbm_tools.trees.leftout import LeftOut
+from llbm_tools.trees.references import Table, stamp_of, token
+from llbm_tools.trees.trees import Owner, checked_at, line_start, path_of, warn_of_length
+
+DIRECTORY, ARCHIVE, IMAGE, TEXT = "directory", "archive", "image", "text"
+ROOT = (0, 0)
+TREE_TEXT = re.compile(rb"d [0-7]{4} [0-9]+ [0-9]+ /\n")
+TAR_MAGIC, TAR_PLACE = b"ustar", 257
+
+
+class Reading(NamedTuple):
+    """How trees are read: the owner of all entries, or None for their own (a text keeps its own); whether what can't be
+    in a tree is refused; the platform of images; what prints lines; whether `left out: nothing` is not printed.
+    """
+
+    owner: Owner | None = ROOT
+    strict: bool = False
+    platform: str | None = None
+    say: Callable[[str], None] = common.say
+    quiet: bool = False
+
+
+def start_of(place: str) -> bytes:
+    """Returns the first bytes of a file."""
+    with inputs.opened_file(place) as file, inputs.reading(place):
+        return file.read(TAR_PLACE + len(TAR_MAGIC))
+
+
+def kind_of(place: str) -> str:
+    """Returns what a place is read as: a directory, an archive, an image that is one of these, or a text.
+
+    A file is an archive by its name, or by its first bytes; what begins like the text of a tree is one.
+    """
+    if os.path.isdir(place):
+        return IMAGE if unpacking.is_image(place) else DIRECTORY
+    start = start_of(place) if os.path.isfile(place) else b""
+    is_packed = packing.form_of_start(start) or start[TAR_PLACE:] == TAR_MAGIC
+    if TREE_TEXT.match(start) or not archives.is_archive(place) and not is_packed:
+        return TEXT
+    return IMAGE if unpacking.is_image(place) else ARCHIVE
+
+
+class ArchiveText(archive_texts.Text):
+    """The text of an archive or of an image: with contents if it is one of values, else with tokens."""
+
+    def __init__(self, given: archive_texts.Entries, source: "Source", numbers: dict[int, int]) -> None:
+        super().__init__(given, source.text, source.reading.owner, source.left_out)
+        self.values = source.text if isinstance(source.text, Values) else None
+        self.numbers = numbers
+        self.table = source.table
+
+    def content(self, placed: Placed) -> None:
+        """Writes a file's content or its token, and a space after it."""
+        member = placed.member
+        if not member.size:
+            self.output.write(b"- ")
+            return
+        if self.values or member.sparse is not None:
+            self.value(placed)
+        else:
+            content = self.table.add_part(self.numbers[id(placed.archive)], member.offset_data, member.size)
+            self.output.write(token(content).hex().encode())
+        self.output.write(b" ")
+
+    def value(self, placed: Placed) -> None:
+        """Writes a file's content, or the token of a copy of it."""
+        if not self.values:
+            self.output.write(token(self.table.add_copy(placed.content())).hex().encode())
+            return
+        for piece in placed.content():
+            self.values.add(piece, placed.member.name)
+
+
+class Source:
+    """One reading of a tree; what it needs stays open as long as `kept`."""
+
+    def __init__(self, text: Text, table: Table, kept: contextlib.ExitStack, reading: Reading) -> None:
+        self.text = text
+        self.table = table
+        self.kept = kept
+        self.reading = reading
+        self.left_out = LeftOut(reading.say)
+
+    def finish(self) -> None:
+        """Prints what was left out, which is refused if the reading is strict, and a warning of a text too long."""
+        if self.left_out.counts or not self.reading.quiet:
+            self.left_out.print_counts()
+        if self.reading.strict and self.left_out.counts:
+            raise Refused("refused: something was left out")
+        warn_of_length(self.text.count, self.reading.say)
+
+    def read_directory(self, place: str, hidden: list[os.stat_result], record: Recorder | None) -> bool:
+        """Writes the text of a directory, and returns whether all of it could be read; hidden entries are skipped."""
+        walked = DirectoryText(self.text, self.table, self.reading.owner, hidden, None, record, self.left_out)
+        walked.walk(place)
+        self.finish()
+        return walked.is_whole
+
+    def read_archive(self, place: str) -> None:
+        """Writes the text of an archive."""
+        given = self.kept.enter_context(inputs.opened_file(place))
+        stamp = stamp_of(os.fstat(given.fileno()))
+        stored = [self.kept.enter_context(temporary_file("the archive")) for _ in range(2)]
+        bare = packing.open_unpacked(given, *stored)
+        archive = archives.open_archive(bare)
+        numbers = {id(archive): self.table.add_archive(bare.fileno(), place, stamp if bare is given else None)}
+        self.write(entries_of(archive), numbers)
+
+    def read_image(self, place: str) -> None:
+        """Writes the text of an image."""
+        files = self.kept.enter_context(unpacking.files_at(place))
+        entries = self.kept.enter_context(unpacking.tree_of(files, None, *self.reading[2:4]))
+        numbers: dict[int, int] = {}
+        for placed in entries.values():
+            if id(placed.archive) not in numbers:
+                file = cast(BinaryIO, placed.archive.fileobj)
+                numbers[id(placed.archive)] = self.table.add_archive(file.fileno(), "a temporary file", None)
+        self.write(entries, numbers)
+
+    def write(self, entries: archive_texts.Entries, numbers: dict[int, int]) -> None:
+        """Writes the text of the entries of an archive or an image."""
+        ArchiveText(entries, self, numbers).write()
+        self.finish()
+
+    def read_text(self, place: str, shown: str) -> None:
+        """Writes the text in a file; its entries keep their owners."""
+        with inputs.opened(place) as given:
+            for line, entry in checked_at(shown, given):
+                if entry.content is None:
+                    self.text.write(line)
+                    continue
+                self.text.write(line_start(b"f", entry.mode, (entry.user, entry.group)))
+                content = binascii.unhexlify(entry.content)
+                if isinstance(self.text, Values) and content:
+                    self.text.add(content, os.fsdecode(path_of(entry.names)))
+                else:
+                    number = self.table.add_copy(iter([content])) if content else None
+                    self.text.write(b"-" if number is None else token(number).hex().encode())
+                self.text.write(b" %b\n" % path_of(entry.names))
+        warn_of_length(self.text.count, self.reading.say)
+
+    def read(
+        self, place: str, hidden: list[os.stat_result], record: Recorder | None = None, shown: str | None = None
+    ) -> bool:
+        """Writes the text of what is at a place, and returns whether all of it could be read; `shown` names it."""
+        kind = kind_of(place)
+        if kind == TEXT:
+            self.read_text(place, shown or place)
+            return True
+        try:
+            if kind == DIRECTORY:
+                return self.read_directory(place, hidden, record)
+            (self.read_image if kind == IMAGE else self.read_archive)(place)
+        except Refused as fault:
+            raise fault if place in str(fault) else Refused(f"{fault}: {shown or place}") from fault
+        return True
+
+
+@contextlib.contextmanager
+def text_at(place: str, reading: Reading) -> Iterator[BinaryIO]:
+    """Yields the text of the tree at a place: the file itself, which is not checked, if that is a text."""
+    if inputs.is_standard_input(place) or kind_of(place) == TEXT:
+        with inputs.opened(place) as file:
+            yield file
+        return
+    with temporary_file("a text") as stored, contextlib.ExitStack() as kept:
+        if not Source(Values(stored, None), Table(), kept, reading).read(place, []):
+            raise Failed(f"could not be read as a tree: {place}")
+        stored.seek(0)
+        yield stored

@@ -1,0 +1,269 @@
+"""Tests of the options of `lint` and `adopt` for BuildKit's rules, and of `as-buildkit`."""
+
+import unittest
+
+from llbm_tools.buildkit import files
+from llbm_tools.buildkit.examples import examples
+from llbm_tools.debugging import happened, launching
+from llbm_tools.llb import messages
+from llbm_tools.llb.messages import made
+from tests import base
+from tests.base import Folder, run
+
+FILTERS = {"local.followpaths": '["a"]', "local.includepattern": '["b"]', "local.excludepatterns": '["c"]'}
+
+
+def example(shows):
+    """Returns the example that shows something."""
+    return next(one for one in examples() if one.shows == shows)
+
+
+def definition(*ops):
+    """Returns the definition of ops without inputs, of which the last one is the result."""
+    entries = [messages.encoded(op) for op in ops]
+    return base.ending(*entries)
+
+
+def source(**attributes):
+    """Returns a local source with attributes."""
+    given = tuple(made("AttributeEntry", key=key, value=value) for key, value in attributes.items())
+    return made("Op", source=made("SourceOp", identifier="local://p", attrs=given))
+
+
+class Fields(Folder):
+    """The notes of `lint` for fields that have no effect."""
+
+    def notes(self, data, *options, status=0):
+        """Returns the lines that `lint` prints for a definition that the program accepts."""
+        done = run("lint", *options, text=data)
+        self.assertEqual((done.returncode, done.stderr), (status, b""))
+        return done.stdout.decode().splitlines()
+
+    def test_filters_and_unknown_attributes_of_a_source_are_noted(self):
+        names = {"local.followpaths": "FollowPaths", "local.includepattern": "IncludePatterns"}
+        names |= {"local.excludepatterns": "ExcludePatterns", "local.session": "SessionID", "x": "Attribute x"}
+        for key, name in names.items():
+            self.assertEqual(self.notes(definition(source(**{key: '["a"]'}))), [f"note 0 {name}"])
+
+    def test_empty_filters_and_what_only_names_a_transfer_are_not(self):
+        given = {"local.followpaths": "[]", "local.unique": "u", "local.sharedkeyhint": "h", "local.differ": "none"}
+        self.assertEqual(self.notes(definition(source(**given))), [])
+
+    def test_times_and_followed_links_are_noted_by_action(self):
+        actions = [
+            {"mkdir": made("FileActionMkDir", path="/a", timestamp=-1)},
+            {"mkfile": made("FileActionMkFile", path="/a/f", timestamp=7)},
+            {"copy": made("FileActionCopy", src="/", dest="/b", followSymlink=1, timestamp=0)},
+        ]
+        given = [
+            made("FileAction", input=number - 1, secondaryInput=-1, output=number - 2 if number == 2 else -1, **one)
+            for number, one in enumerate(actions)
+        ]
+        data = definition(made("Op", file=made("FileOp", actions=tuple(given))))
+        self.assertEqual(self.notes(data), ["note 0 FollowSymlink action 2", "note 0 Timestamp action 1"])
+
+    def test_what_a_process_would_have_is_noted(self):
+        meta = made("Meta", args=("true",), user="app") + [
+            (5, [(1, b"p")]), (6, [(1, b"h")]), (7, b"host"), (9, [(1, b"nofile")]), (10, b"/group"),
+        ]  # fmt: skip
+        mount = made("Mount", input=-1, dest="/", output=0)
+        tmpfs = made("Mount", input=-1, dest="/t", output=-1, mountType=4, TmpfsOpt=made("TmpfsOpt", size=9))
+        execution = made("ExecOp", meta=meta, mounts=(mount, tmpfs), network=1, security=1)
+        data = definition(made("Op", exec=execution) + [(10, [(1, b"arm64")]), (11, [(1, b"filter")])])
+        names = ["Platform", "Constraints", "User", "Proxy", "Hosts", "Hostname", "Limits", "CgroupParent", "Network"]
+        self.assertEqual(self.notes(data), [f"note 0 {name}" for name in [*names, "Security", "TmpfsSize mount 1"]])
+
+    def test_ignore_cache_of_the_metadata_is_noted(self):
+        data = definition(source())
+        entry = messages.encoded(source())
+        metadata = messages.encoded([(2, [(1, base.digest(entry).encode()), (2, [(1, 1)])])])
+        self.assertEqual(self.notes(data + metadata), ["note 0 IgnoreCache"])
+
+    def test_strict_makes_findings_of_notes(self):
+        data = definition(source(**FILTERS))
+        self.assertEqual(len(self.notes(data)), 3)
+        self.assertEqual(len(self.notes(data, "--strict", status=1)), 3)
+        self.assertEqual(self.notes(definition(source()), "--strict"), [])
+
+    def test_notes_come_after_faults(self):
+        data = definition(made("Op", source=made("SourceOp", identifier="git://x"), platform=0) + [(10, [(1, b"arm")])])
+        self.assertEqual(self.notes(data, status=1), ["fault 88 0 Source", "note 0 Platform"])
+
+
+class Deaths(Folder):
+    """What BuildKit's daemon dies of."""
+
+    def notes(self, data):
+        """Returns the words of the notes of `lint --like-buildkit`, without those of owners."""
+        lines = run("lint", "--like-buildkit", text=data).stdout.decode().splitlines()
+        return [line.removeprefix("note ") for line in lines if not line.endswith("LocalOwner")]
+
+    def setUp(self):
+        super().setUp()
+        self.one = messages.encoded(source())
+        self.edge = messages.edge(self.one)
+
+    def test_a_source_with_an_input(self):
+        two = messages.encoded(made("Op", inputs=(self.edge,), source=made("SourceOp", identifier="local://q")))
+        data = base.ending(self.one, two)
+        self.assertEqual(self.notes(data), ["1 SourceInputs"])
+        done = run("adopt", "--like-buildkit", text=data)
+        self.assertIn(b"entry 1: the inputs of a source are dropped\n", done.stderr)
+        self.assertEqual(self.notes(done.stdout), [])
+
+    def test_a_merge_that_lists_less_than_its_op_has(self):
+        merge = made("MergeOp", inputs=(made("MergeInput", input=1),))
+        data = base.ending(self.one, messages.encoded(made("Op", inputs=(self.edge, self.edge), merge=merge)))
+        self.assertEqual(self.notes(data), ["1 ShortMerge", "1 MergeInputs"])
+        self.assertEqual(self.notes(run("adopt", "--like-buildkit", text=data).stdout), [])
+
+    def test_an_input_of_no_entry_that_is_not_reached(self):
+        none = made("Input", digest="sha256:none")
+        lost = messages.encoded(made("Op", inputs=(none,), merge=made("MergeOp")))
+        data = messages.definition_of([lost, self.one, messages.encoded(made("Op", inputs=(self.edge, none)))])
+        self.assertEqual(self.notes(data), ["0 UnknownInput input 0", "2 UnknownInput input 1"])
+        adopted = run("adopt", "--like-buildkit", text=data).stdout
+        self.assertEqual(self.notes(adopted), ["0 UnknownInput input 0"])
+
+    def test_adopting_leaves_no_input_without_its_entry(self):
+        member = made("FileActionMkDir", path="/a", mode=-1)
+        mkdir = made("FileAction", input=-1, secondaryInput=-1, output=0, mkdir=member)
+        changed = messages.encoded(made("Op", file=made("FileOp", actions=(mkdir,))))
+        lost = messages.encoded(made("Op", inputs=(messages.edge(changed),), merge=made("MergeOp")))
+        last = messages.encoded(made("Op", inputs=(messages.edge(changed),)))
+        data = messages.definition_of([changed, lost, last])
+        done = run("adopt", "--like-buildkit", text=data)
+        self.assertIn(b"entry 0: action 0: mode 7777 is 0777\n", done.stderr)
+        self.assertIn(b"entry 1: its inputs have new digests\n", done.stderr)
+        self.assertEqual(self.notes(done.stdout), [])
+
+    def test_an_rm_above_the_root(self):
+        for path, expected in [("..", True), ("a/../..", True), ("/..", False), ("../a", False)]:
+            rm = made("FileAction", input=0, secondaryInput=-1, output=0, rm=made("FileActionRm", path=path))
+            op = made("Op", inputs=(self.edge,), file=made("FileOp", actions=(rm,)))
+            data = base.ending(self.one, messages.encoded(op))
+            self.assertEqual("1 RmAboveRoot action 0" in self.notes(data), expected, path)
+
+
+class AsBuildkit(Folder):
+    """The tool `as-buildkit`."""
+
+    def setUp(self):
+        super().setUp()
+        if base.llbm is None:
+            raise unittest.SkipTest("the program llbm is needed (--llbm PROGRAM)")
+
+    def compare(self, one, *options):
+        """Runs the tool on an example."""
+        words = [f"{name}={self.tree(name, tree)}" for name, tree in one.sources.items()]
+        return run("as-buildkit", *options, "--llbm", base.llbm, "-", *words, text=one.data)
+
+    def tree(self, name, tree):
+        """Writes the text of a tree, and returns its path."""
+        return self.file(name.encode(), b"".join(files.lines_of(tree))).decode()
+
+    def test_it_names_the_path_what_is_there_and_the_rule(self):
+        for shows, lines in [
+            ("mkfile over a file", ["vertex 1 action 0: /f has mode 0604 (here 0755): MkfileOver"]),
+            ("copy to a dest that ends in `/.`", [
+                "vertex 2 action 0: /n is a directory (here a file): DestDot",
+                "vertex 2 action 0: /n/f is a file (here missing): DestDot",
+            ]),
+            ("merge of a tree and of one from which something was removed", [
+                "vertex 2: /a is missing (here a file): MergeLayers",
+            ]),
+        ]:  # fmt: skip
+            done = self.compare(example(shows))
+            *found, last = done.stdout.decode().splitlines()
+            self.assertEqual((done.returncode, found, done.stderr), (1, lines, b""), shows)
+            self.assertRegex(last, "^the results differ at [12] paths?$")
+
+    def test_it_says_which_of_both_fails_and_why(self):
+        for shows, line, last in [
+            ("rm below a file with allowNotFound", "vertex 1 action 0: fails: /f/g is below a file: RmBelowFile",
+             "BuildKit fails, here is a result"),
+            ("mkdir without makeParents where a file is",
+             "vertex 1 action 0: does not fail (here: /f is a file): MkdirOver", "BuildKit has a result, here is none"),
+            ("mkfile whose second input is its own result",
+             "vertex 0 action 0: fails: the second input depends on the action: SecondInput",
+             "BuildKit fails, here is a result"),
+            ("an action that fails and that no output needs",
+             "vertex 1 action 0: is not done (here it fails): UnusedAction", "BuildKit has a result, here is none"),
+            ("merge of the empty tree alone", "vertex 0: fails: there is nothing to merge: MergeNothing",
+             "BuildKit fails, here is a result"),
+        ]:  # fmt: skip
+            done = self.compare(example(shows))
+            self.assertEqual((done.returncode, done.stderr), (1, b""), shows)
+            self.assertEqual(done.stdout.decode().splitlines(), [line, last], shows)
+
+    def test_it_prints_buildkits_tree(self):
+        for one in examples():
+            done = self.compare(one, "--tree")
+            if one.buildkit is None:
+                self.assertEqual((done.returncode, done.stdout), (1, b""), one.shows)
+            else:
+                lines = done.stdout.decode().splitlines()[1:]
+                self.assertEqual((done.returncode, lines, done.stderr), (0, one.buildkit, b""), one.shows)
+
+    def test_fields_without_an_effect_are_noted_and_results_agree(self):
+        place = self.file(b"p", b"d 0755 0 0 /\n").decode()
+        done = run("as-buildkit", "--llbm", base.llbm, "-", f"p={place}", text=definition(source(**FILTERS)))
+        names = ["FollowPaths", "IncludePatterns", "ExcludePatterns"]
+        lines = [*(f"note 0 {name}" for name in names), "the results agree"]
+        self.check_run(done, 0, "".join(f"{line}\n" for line in lines).encode())
+
+    def test_an_execution_is_run_on_the_trees_of_buildkit(self):
+        copies = messages.encoded(made("Op", file=made("FileOp", actions=(
+            made("FileAction", input=-1, secondaryInput=-1, output=0,
+                 mkfile=made("FileActionMkFile", path="/f", mode=0o1644, data=b"x", timestamp=-1)),
+        ))))  # fmt: skip
+        meta = made("Meta", args=("cp", "/f", "/g"))
+        mount = made("Mount", input=0, dest="/", output=0)
+        op = made("Op", inputs=(messages.edge(copies),), exec=made("ExecOp", meta=meta, mounts=(mount,)))
+        done = run("as-buildkit", "--tree", "--llbm", base.llbm, "-", text=base.ending(copies, messages.encoded(op)))
+        self.check_run(done, 0, b"d 0755 0 0 /\nf 0644 0 0 78 /f\nf 0644 0 0 78 /g\n")
+
+    def test_explain_run_has_the_same_lines_at_their_step(self):
+        for shows in ["mkfile over a file", "mkdir without makeParents where a file is", "a local source with owners"]:
+            one = example(shows)
+            words = [f"{name}={self.tree(name, tree)}" for name, tree in one.sources.items()]
+            lines = run("explain-run", "--llbm", base.llbm, "-", *words, text=one.data).stdout.decode().splitlines()
+            there = [line.removeprefix("    BuildKit: ") for line in lines if line.startswith("    BuildKit: ")]
+            *found, _ = self.compare(one).stdout.decode().splitlines()
+            self.assertEqual(there, [line.partition(": ")[2] for line in found][: len(there)], shows)
+            self.assertTrue(there, shows)
+            step = "settle" if shows.startswith("a local") else "action 0"
+            before = lines[lines.index(f"    BuildKit: {there[0]}") - 1]
+            self.assertTrue(step == "settle" or "action 0" in before or "result 0" in before, before)
+
+    def test_a_session_that_goes_back_and_on_has_the_same_lines(self):
+        one = example("merge of a tree and of one from which something was removed")
+        launched = self.launched(one)
+        watch = happened.Watch(launched.session, launched.graph)
+        seen = []
+        for _ in range(2):
+            while launched.session.event("next"):
+                seen.append(watch.last().otherwise)
+            while launched.session.record:
+                launched.session.back()
+            watch.last()
+        half = len(seen) // 2
+        self.assertEqual(seen[:half], seen[half:])
+        lines = [line for lines in seen[:half] for line in lines]
+        self.assertEqual(lines, ["/a is missing (here a file): MergeLayers"])
+
+    def launched(self, one):
+        """Starts a session of an example."""
+        trees = {name: self.tree(name, tree) for name, tree in one.sources.items()}
+        place = self.file(b"definition", one.data).decode()
+        given = {"definition": place, "sources": trees, "workers": 1, "llbm": str(base.llbm)}
+        launched = launching.launch(given, lambda _: None)
+        self.addCleanup(launched.session.end)
+        return launched
+
+    def test_definitions_and_words_are_refused(self):
+        for words, data in [
+            (["-"], b"\x0a"), (["-", "p"], b""), (["-"], definition(source())), (["--paths", "x", "-"], b""),
+        ]:  # fmt: skip
+            done = run("as-buildkit", "--llbm", base.llbm, *words, text=data)
+            self.assertEqual((done.returncode, done.stdout), (2, b""), words)

@@ -1,0 +1,84 @@
+"""Tests of `library` and `bindings`: what they refuse, the blocks of the page, and what is skipped."""
+
+import contextlib
+import io
+import os
+import pathlib
+from unittest import mock
+
+from llbm_tools.compiling import bindings, library
+from llbm_tools.streams import Refused
+from tests.base import ROOT, Folder, run
+
+
+class Library(Folder):
+    """The tool `library`."""
+
+    def test_the_libraries_of_the_crate_are_read(self):
+        place = pathlib.Path(os.fsdecode(self.folder), "crates.txt")
+        place.write_text("llb_wire: sha2\nllb_embed staticlib: core llb_wire sha2\n")
+        self.assertEqual(library.libraries_of(place), ["core", "llb_wire", "sha2"])
+        place.write_text("llb_wire: sha2\n")
+        with self.assertRaisesRegex(Refused, "no crate llb_embed"):
+            library.libraries_of(place)
+
+    def test_a_crate_without_its_library_is_refused(self):
+        top = pathlib.Path(os.fsdecode(self.folder))
+        (top / "crates" / "llb_wire").mkdir(parents=True)
+        (top / "crates.txt").write_text("llb_embed staticlib: llb_wire\n")
+        with self.assertRaisesRegex(Refused, "^there is no such library: .*/llb_wire.rlib; "):
+            library.words_for(top, top)
+
+    def test_command_lines_are_refused(self):
+        for words in [("a",), ("--nosuch",), ("--jobs", "x")]:
+            done = run("library", *words)
+            self.assertEqual((done.returncode, done.stdout), (2, b""), words)
+
+
+class Bindings(Folder):
+    """The tool `bindings`."""
+
+    def test_the_blocks_of_the_page_are_in_their_files(self):
+        bindings.check_page(ROOT)
+
+    def page(self, block):
+        """Writes a page with a block of a file, and the file."""
+        top = pathlib.Path(os.fsdecode(self.folder))
+        for name, text in [("docs/EMBEDDING.md", block), ("bindings/a.c", "one\n  two\n\n  three\n")]:
+            (top / name).parent.mkdir(exist_ok=True)
+            (top / name).write_text(text)
+        return top
+
+    def test_a_block_is_compared_line_by_line(self):
+        bindings.check_page(self.page("`bindings/a.c`:\n\n    two\n    three\n"))
+        for block in ["`bindings/a.c`:\n\n    one\n    three\n", "`bindings/a.c`:\n\n    four\n", "no block\n"]:
+            with self.assertRaises(bindings.Wrong):
+                bindings.check_page(self.page(block))
+
+    def test_results_are_counted(self):
+        def fail(top):
+            raise bindings.Wrong("it is wrong")
+
+        trials = [
+            bindings.Trial("a", [], lambda top: None),
+            bindings.Trial("b", ["/none/command"], fail),
+            bindings.Trial("c", [], fail),
+        ]
+        archive = pathlib.Path(os.fsdecode(self.folder), "libllbm.a")
+        archive.write_bytes(b"")
+        with mock.patch.object(bindings, "TRIALS", trials), contextlib.redirect_stdout(io.StringIO()) as out:
+            status = bindings.try_all(archive, [])
+        self.assertEqual(status, 1)
+        lines = ["a: passed", "b: skipped, there is no /none/command", "c: failed: it is wrong"]
+        self.assertEqual(out.getvalue().splitlines(), [*lines, "1 passed, 1 failed, 1 skipped"])
+
+    def test_a_command_that_fails_is_wrong(self):
+        top = pathlib.Path(os.fsdecode(self.folder))
+        self.assertEqual(bindings.call(["cat"], top, b"text"), b"text")
+        with self.assertRaisesRegex(bindings.Wrong, "status 1"):
+            bindings.call(["false"], top)
+
+    def test_command_lines_are_refused(self):
+        for words in [("/none",), ("--only", "cobol"), ("a", "b")]:
+            done = run("bindings", *words)
+            self.assertEqual((done.returncode, done.stdout), (2, b""), words)

@@ -1,0 +1,1 @@
+"""Tests of the package `definitions` of the tools."""

@@ -1,0 +1,1 @@
+"""Tests of the package `installing` of the tools."""

@@ -1,0 +1,290 @@
+"""Tests of `install` and `dist`, with a small program in place of llbm."""
+
+import hashlib
+import io
+import json
+import os
+import pathlib
+import subprocess
+import sys
+import tarfile
+import zipfile
+from unittest import mock
+from xml.etree import ElementTree
+
+from llbm_tools import common
+from llbm_tools.installing import installation as made
+from tests import base
+from tests.base import ROOT, TOOLS, Folder, run
+from tests.debugging import protocol
+
+VERSION = f"1.0, proved with {common.PROVER}"
+PROGRAM = f"#!/bin/sh\nprintf 'fault 183\\nllbm {VERSION}\\n' >&2\nexit 2\n"
+COMMANDS = {"llbm", "llbm-build", "llbm-lint", "llbm-adopt", "llbm-explain", "llbm-debug-adapter", "llbm-tree-of-tar"}
+OTHERS = {
+    "lib/llbm/docs/FAULTS.md", "lib/llbm/examples/tour.definition", "lib/llbm/installed", "lib/llbm/program",
+    "share/bash-completion/completions/llbm", "share/zsh/site-functions/_llbm",
+    "share/fish/vendor_completions.d/llbm.fish", "share/man/man1/llbm.1",
+}
+
+
+def below(folder):
+    """Returns the paths below a folder of all that is no directory, relative to it."""
+    return {str(place.relative_to(folder)) for place in folder.rglob("*") if place.is_symlink() or not place.is_dir()}
+
+
+class WithFake(Folder):
+    """A test with a small program in place of llbm."""
+
+    def setUp(self):
+        super().setUp()
+        self.at = pathlib.Path(os.fsdecode(self.folder))
+        self.llbm = self.at / "llbm"
+        self.llbm.write_text(PROGRAM)
+        self.llbm.chmod(0o755)
+
+
+class Install(WithFake):
+    """The tool `install`."""
+
+    def setUp(self):
+        super().setUp()
+        self.prefix = self.at / "prefix"
+
+    def install(self, *words, status=0):
+        """Installs the small program, and returns the lines that are printed, or those on standard error."""
+        done = run("install", "--llbm", str(self.llbm), *words, str(self.prefix))
+        self.assertEqual(done.returncode, status, done.stderr)
+        return (done.stderr if status else done.stdout).decode().splitlines()
+
+    def listed(self):
+        """Returns the list of the installation."""
+        return (self.prefix / "lib" / "llbm" / "installed").read_text().splitlines()
+
+    def test_all_files_are_below_the_prefix_and_listed(self):
+        before = below(self.at)
+        lines = self.install()
+        found = below(self.prefix)
+        self.assertEqual(lines, [f"{len(found)} files are in {self.prefix}; the program is not proved"])
+        self.assertEqual(below(self.at) - before, {f"prefix/{path}" for path in found})
+        self.assertEqual(self.listed(), sorted(found))
+        self.assertLessEqual({f"bin/{name}" for name in COMMANDS} | OTHERS, found)
+        self.assertEqual((self.prefix / "bin" / "llbm").read_text(), PROGRAM)
+        self.assertFalse([path for path in found if "__pycache__" in path or "/tests/" in path])
+
+    def test_each_tool_but_those_of_the_repository_has_a_command(self):
+        self.install()
+        tools = {place.name for place in TOOLS.iterdir() if place.is_file() and not place.suffix}
+        commands = {name.removeprefix("llbm-") for name in os.listdir(self.prefix / "bin")} - {"llbm"}
+        self.assertEqual(commands, tools - made.OF_THE_REPOSITORY)
+        self.assertLessEqual(made.OF_THE_REPOSITORY, {place.name for place in TOOLS.iterdir()})
+        self.assertIn("run", commands)
+        for name in sorted(commands):
+            done = subprocess.run([sys.executable, self.prefix / "bin" / f"llbm-{name}", "--help"], capture_output=True)
+            self.assertEqual((done.returncode, done.stderr), (0, b""), name)
+
+    def test_each_command_has_completions_and_a_page_of_the_manual(self):
+        self.install()
+        for name in os.listdir(self.prefix / "bin"):
+            for path in (
+                f"bash-completion/completions/{name}", f"zsh/site-functions/_{name}",
+                f"fish/vendor_completions.d/{name}.fish", f"man/man1/{name}.1",
+            ):  # fmt: skip
+                text = (self.prefix / "share" / path).read_text()
+                self.assertIn(name, text.replace("\\-", "-"), path)
+
+    def test_tools_take_the_program_and_the_pages_of_the_installation(self):
+        self.install()
+        command = [sys.executable, self.prefix / "bin" / "llbm-explain", "fault", "12"]
+        done = subprocess.run(command, capture_output=True, text=True)
+        self.assertEqual((done.returncode, done.stderr), (0, ""))
+        self.assertTrue(done.stdout.startswith("12: the bytes of a string are not UTF-8."), done.stdout)
+        definition = self.file(b"definition", base.ending(base.source("local://a")))
+        (self.prefix / "bin" / "llbm").write_text(base.FAKE_SHELL + "echo 'd 0755 0 0 /'\n")
+        command = [sys.executable, self.prefix / "bin" / "llbm-build", definition, self.at / "result"]
+        done = subprocess.run(command, capture_output=True, text=True)
+        self.assertEqual(done.returncode, 0, done.stderr)
+        self.assertTrue((self.at / "result").is_dir())
+
+    def test_an_installation_may_be_moved(self):
+        self.install()
+        moved = self.at / "moved"
+        self.prefix.rename(moved)
+        for path in ("bin/llbm-lint", "bin/llbm-explain", "share/doc/llbm/FAULTS.md"):
+            self.assertTrue((moved / path).is_file(), path)
+        done = subprocess.run([sys.executable, moved / "bin" / "llbm-explain", "fault", "12"], capture_output=True)
+        self.assertEqual((done.returncode, done.stderr), (0, b""))
+
+    def test_a_dry_run_prints_the_paths_and_writes_nothing(self):
+        lines = self.install("--dry-run")
+        self.assertFalse(self.prefix.exists())
+        self.install()
+        self.assertEqual(lines, [f"{self.prefix}/{path}" for path in self.listed()])
+
+    def test_an_installation_is_replaced(self):
+        self.install()
+        old = self.prefix / "lib" / "llbm" / "tools" / "old"
+        old.write_text("")
+        with open(self.prefix / "lib" / "llbm" / "installed", "a") as file:
+            file.write("lib/llbm/tools/old\n")
+        self.llbm.write_text(PROGRAM + "# new\n")
+        self.install()
+        self.assertEqual((self.prefix / "bin" / "llbm").read_text(), PROGRAM + "# new\n")
+        self.assertFalse(old.exists())
+        self.assertEqual(self.listed(), sorted(below(self.prefix)))
+
+    def test_a_file_in_the_way_is_refused_before_anything_is_written(self):
+        place = self.prefix / "share" / "man" / "man1" / "llbm.1"
+        place.parent.mkdir(parents=True)
+        place.write_text("mine")
+        self.assertEqual(self.install(status=2), [f"this is in the way: {place}"])
+        self.assertEqual(below(self.prefix), {"share/man/man1/llbm.1"})
+        self.assertEqual(place.read_text(), "mine")
+
+    def test_what_is_installed_can_be_removed(self):
+        self.install()
+        mine = self.prefix / "bin" / "mine"
+        mine.write_text("")
+        self.assertEqual(len(self.install("--uninstall", "--dry-run")), len(self.listed()))
+        self.install("--uninstall")
+        self.assertEqual([str(place.relative_to(self.prefix)) for place in self.prefix.rglob("*")], ["bin", "bin/mine"])
+        there = [f"there is no installation: {self.prefix}/lib/llbm/installed"]
+        self.assertEqual(self.install("--uninstall", status=2), there)
+
+    def test_a_list_that_leads_out_of_the_prefix_is_refused(self):
+        self.install()
+        for path in ("../llbm", str(self.llbm)):
+            (self.prefix / "lib" / "llbm" / "installed").write_text(f"bin/llbm\n{path}\n")
+            self.install("--uninstall", status=2)
+            self.assertTrue(self.llbm.exists())
+            self.assertTrue((self.prefix / "bin" / "llbm").exists())
+
+    def test_programs_and_command_lines_are_refused(self):
+        for words in [("--llbm", "/none"), ("--llbm", "/bin/true"), ("--nosuch",), ("more",)]:
+            done = run("install", *words, str(self.prefix))
+            self.assertEqual((done.returncode, done.stdout), (2, b""), words)
+        self.assertFalse(self.prefix.exists())
+
+
+class Proof(WithFake):
+    """Which program is called proved."""
+
+    def state(self, receipt):
+        """Returns whether the small program is proved, where the gate has left this."""
+        place = self.at / "gate-passed"
+        place.write_text(receipt)
+        with mock.patch.object(made, "RECEIPT", place):
+            return made.program_at(str(self.llbm)).is_proved
+
+    def test_only_a_program_on_which_the_gate_passed_is_proved(self):
+        content = PROGRAM.encode()
+        self.assertTrue(self.state(made.receipt_of(content)))
+        self.assertIn(hashlib.sha256(content).hexdigest(), made.receipt_of(content))
+        for receipt in ("", made.receipt_of(content + b"\n"), made.receipt_of(content).replace("logic", "other")):
+            self.assertFalse(self.state(receipt))
+        with mock.patch.object(made, "RECEIPT", self.at / "none"):
+            self.assertFalse(made.program_at(str(self.llbm)).is_proved)
+
+    def test_a_program_that_says_that_it_is_not_proved_is_not(self):
+        text = PROGRAM.replace("proved with", "not proved, compiled with")
+        self.llbm.write_text(text)
+        self.assertFalse(self.state(made.receipt_of(text.encode())))
+
+
+class Dist(WithFake):
+    """The tool `dist`."""
+
+    name = "llbm-1.0-unproved-x86_64-linux"
+
+    def pack(self, folder):
+        """Packs the small program into a new folder, and returns the archive and the digests."""
+        done = run("dist", "--llbm", str(self.llbm), "-o", str(self.at / folder))
+        places = [self.at / folder / f"{self.name}.tar.gz{ending}" for ending in ("", ".sha256")]
+        self.check_success(done, "".join(f"{place}\n" for place in places).encode())
+        return places
+
+    def test_the_same_files_make_the_same_archive(self):
+        one, other = self.pack("one"), self.pack("other")
+        for mine, its in zip(one, other):
+            self.assertEqual(mine.read_bytes(), its.read_bytes())
+        with tarfile.open(one[0]) as archive:
+            members = archive.getmembers()
+        self.assertEqual({(member.uid, member.gid, member.mtime, member.uname) for member in members}, {(0, 0, 0, "")})
+        self.assertEqual([member.name for member in members], sorted(member.name for member in members))
+
+    def test_the_digests_are_those_of_the_files(self):
+        archive, digests = self.pack("one")
+        subprocess.run(["tar", "-xf", archive], cwd=self.at / "one", check=True)
+        command = ["sha256sum", "--check", "--quiet", digests.name]
+        done = subprocess.run(command, cwd=self.at / "one", capture_output=True)
+        self.assertEqual((done.returncode, done.stdout), (0, b""))
+        found = below(self.at / "one" / self.name)
+        links = {path for path in found if (self.at / "one" / self.name / path).is_symlink()}
+        named = {line[66:] for line in digests.read_text().splitlines()}
+        self.assertEqual(named, {f"{self.name}.tar.gz", *(f"{self.name}/{path}" for path in found - links)})
+
+    def test_the_archive_has_what_is_installed(self):
+        archive, _ = self.pack("one")
+        run("install", "--llbm", str(self.llbm), str(self.at / "prefix"))
+        subprocess.run(["tar", "-xf", archive], cwd=self.at / "one", check=True)
+        packed = self.at / "one" / self.name
+        self.assertEqual(below(packed), below(self.at / "prefix"))
+        for path in below(packed):
+            mine, its = packed / path, self.at / "prefix" / path
+            self.assertEqual((mine.read_bytes() if mine.is_file() else b"", mine.lstat().st_mode & 0o777),
+                             (its.read_bytes() if its.is_file() else b"", its.lstat().st_mode & 0o777), path)
+
+    def test_programs_and_command_lines_are_refused(self):
+        for words in [("--llbm", "/none"), ("--nosuch",), ("more",)]:
+            done = run("dist", *words, cwd=self.at)
+            self.assertEqual((done.returncode, done.stdout), (2, b""), words)
+        self.assertEqual(os.listdir(self.at), ["llbm"])
+
+
+class Extension(WithFake):
+    """The extension for VS Code, as an installation has it."""
+
+    def extension(self):
+        """Returns the archive of the extension."""
+        program = made.Program(self.llbm.read_bytes(), VERSION, False)
+        (item,) = [item for item in made.items_of(program) if item.path == "lib/llbm/llbm.vsix"]
+        return item.content
+
+    def test_it_has_a_description_and_what_the_adapter_needs(self):
+        with zipfile.ZipFile(io.BytesIO(self.extension())) as archive:
+            names = archive.namelist()
+            package = json.loads(archive.read("extension/package.json"))
+            manifest = ElementTree.fromstring(archive.read("extension.vsixmanifest"))
+            types = ElementTree.fromstring(archive.read("[Content_Types].xml"))
+        self.assertEqual(names, sorted(names))
+        self.assertLessEqual({"extension/tools/debug-adapter", "extension/docs/FAULTS.md"}, set(names))
+        identity = next(one for one in manifest.iter() if one.tag.endswith("}Identity"))
+        wanted = (package["name"], "1.0.0", package["publisher"])
+        self.assertEqual(tuple(identity.get(name) for name in ("Id", "Version", "Publisher")), wanted)
+        self.assertEqual(package["version"], "1.0.0")
+        self.assertEqual(package["contributes"]["languages"][0]["extensions"], [".llbtext"])
+        endings = {one.get("Extension") for one in types} | {one.get("PartName") for one in types}
+        for name in set(names) - {"[Content_Types].xml"}:
+            self.assertTrue({name.rpartition(".")[2], f"/{name}"} & endings, name)
+
+    def test_the_same_files_make_the_same_bytes(self):
+        self.assertEqual(self.extension(), self.extension())
+
+    def test_the_adapter_inside_of_it_runs_a_definition(self):
+        if base.llbm is None:
+            self.skipTest("the program llbm is needed (--llbm PROGRAM)")
+        with zipfile.ZipFile(io.BytesIO(self.extension())) as archive:
+            archive.extractall(self.at)
+        extension = self.at / "extension"
+        known = json.loads((extension / "package.json").read_text())["contributes"]["debuggers"][0]
+        client = protocol.Client([sys.executable, "-S", extension / known["program"]], cwd=self.at)
+        self.addCleanup(client.close)
+        client.ask("initialize", adapterID="llbm")
+        examples = ROOT / "examples"
+        client.ask(
+            "launch", llbm=base.llbm, definition=str(examples / "tour.definition"),
+            sources={"source": str(examples / "tour.tree")}, stopAtEnd=True,
+        )
+        client.until("initialized")
+        client.ask("configurationDone")
+        self.assertEqual(client.stopped()["reason"], "end")

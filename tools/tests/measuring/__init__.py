@@ -1,0 +1,1 @@
+"""Tests of the package `measuring` of the tools."""

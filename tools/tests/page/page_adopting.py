@@ -1,0 +1,132 @@
+"""Tests that the page finds and adopts as `lint` and `adopt` do: the same findings, the same bytes and words."""
+
+import base64
+import json
+import pathlib
+import random
+import shutil
+import subprocess
+import unittest
+from unittest import mock
+
+from llbm_tools.definitions import adopting
+from llbm_tools.fuzzing import changed
+from llbm_tools.llb import findings, wire
+from llbm_tools.page import assets, foreign
+from tests.base import ROOT, Folder
+from tests.definitions import adopting as adopt_tests
+
+PAGE = ROOT / "page"
+CHANGED = 400
+SEED = 7
+
+SCRIPT = """
+import fs from 'node:fs';
+const [page, tables] = process.argv.slice(1);
+const from = (name) => import(`${page}/${name}`);
+(await from('tables.mjs')).fill(JSON.parse(fs.readFileSync(tables)));
+const { findingsOf } = await from('findings.mjs');
+const { adopted } = await from('adopting.mjs');
+const base64 = (bytes) => Buffer.from(bytes).toString('base64');
+function adoption(data) {
+  try {
+    const { data: made, changes, sources, left } = adopted(data);
+    const told = sources.map(({ name, identifier }) => [name, identifier]);
+    return [base64(made), changes.map(({ row, words }) => [row, words]), told, left.map(({ line }) => line)];
+  } catch (fault) {
+    if (fault.number === undefined && !/cycle/.test(fault.message)) throw fault;
+    return null;
+  }
+}
+for (const line of fs.readFileSync(0, 'utf8').split('\\n').filter(Boolean)) {
+  const data = new Uint8Array(Buffer.from(line, 'base64'));
+  console.log(JSON.stringify([findingsOf(data).map((one) => one.line), adoption(data)]));
+}
+"""
+
+
+def lines_of(found):
+    """Returns the lines of findings."""
+    return [f"fault {one.words()}" for one in found]
+
+
+def adoption_of(data):
+    """Returns what `adopt --all` makes of a definition, or None if it refuses to read it."""
+    try:
+        made = adopting.adopt(data, foreign.ALL)
+    except wire.Unreadable:
+        return None
+    told = [list(one) for one in made.sources]
+    return [base64.b64encode(made.data).decode(), [list(one) for one in made.changes], told, lines_of(made.left)]
+
+
+def examples():
+    """Returns the definitions of the examples, and the foreign one."""
+    files = [*assets.EXAMPLES.glob("**/definition"), *assets.EXAMPLES.glob("*.definition")]
+    return [file.read_bytes() for file in [*sorted(files), assets.EXAMPLES / "foreign.llb"]]
+
+
+def changed_definitions():
+    """Returns definitions that are examples with random changes."""
+    dice = random.Random(SEED)
+    found, made = examples(), []
+    for _ in range(CHANGED):
+        data = dice.choice(found)
+        for _ in range(dice.randint(1, 4)):
+            data = changed.changed_definition(dice, data)
+        made.append(data)
+    return made
+
+
+class Recorder:
+    """Runs a tool as the tests of `adopt` do, and keeps the definitions that they give to it."""
+
+    def __init__(self, run):
+        self.run = run
+        self.given = []
+
+    def __call__(self, tool, *words, text=b"", **settings):
+        """Runs the tool."""
+        if tool == "adopt":
+            files = [pathlib.Path(word) for word in map(self.name, words) if not word.startswith("-")]
+            self.given += [file.read_bytes() for file in files if file.is_file() and file.stat().st_size < 1 << 20]
+            self.given += [text] if isinstance(text, bytes) and text else []
+        return self.run(tool, *words, text=text, **settings)
+
+    @staticmethod
+    def name(word):
+        """Returns a word as a text."""
+        return word.decode("utf-8", "surrogateescape") if isinstance(word, bytes) else str(word)
+
+
+@unittest.skipUnless(shutil.which("node"), "Node is not installed")
+class LikeTheTools(Folder):
+    """The page's rules beside those of the tools."""
+
+    def check_all(self, definitions):
+        """Compares findings and adoptions of definitions."""
+        tables = self.file(b"tables.json", assets.tables())
+        given = "".join(base64.b64encode(data).decode() + "\n" for data in definitions if data)
+        words = ["node", "--input-type=module", "-e", SCRIPT, PAGE.as_uri(), tables]
+        done = subprocess.run(words, input=given.encode(), capture_output=True, timeout=300)
+        self.assertEqual((done.returncode, done.stderr), (0, b""))
+        for data, line in zip(filter(None, definitions), done.stdout.splitlines(), strict=True):
+            found, made = json.loads(line)
+            self.assertEqual(found, lines_of(findings.findings_of(data)))
+            self.assertEqual(made, adoption_of(data))
+
+    def test_the_examples(self):
+        self.check_all(examples())
+
+    def test_random_definitions(self):
+        made = changed_definitions()
+        self.assertGreater(sum(bool(findings.findings_of(data)) for data in made), CHANGED // 2)
+        self.check_all(made)
+
+    def test_the_definitions_of_the_tests_of_adopt(self):
+        recorder = Recorder(adopt_tests.run)
+        with mock.patch.object(adopt_tests, "run", recorder):
+            suite = unittest.defaultTestLoader.loadTestsFromModule(adopt_tests)
+            suite.run(unittest.TestResult())
+        self.assertGreater(len(recorder.given), 30)
+        self.check_all(recorder.given)

@@ -1,0 +1,1 @@
+"""Tests of the package `repository` of the tools."""

@@ -1,0 +1,184 @@
+"""Tests of `gate`."""
+
+import contextlib
+import importlib.util
+import io
+import os
+import pathlib
+import signal
+import subprocess
+import sys
+import tempfile
+import unittest
+from unittest import mock
+
+from llbm_tools.installing import tool_parsers
+from tests import base
+from tests.base import ROOT
+
+
+def loaded(name):
+    """Loads a tool's module anew, so that a test can change it."""
+    spec = importlib.util.find_spec(tool_parsers.module_of(name))
+    module = importlib.util.module_from_spec(spec)
+    spec.loader.exec_module(module)
+    return module
+
+
+TESTS = "tests, 7 runs of the tools, as root"
+LATE = [
+    "test chain::a_chain_of_65535_vertices_is_evaluated_run_and_walked ... FAILED",
+    "    checked: no-answer: the program did not end within the time limit",
+]
+OTHER = ["test crew::a_worker_is_stopped ... FAILED", "    checked: fault: index out of bounds"]
+RESULT = "test result: {}. {} passed; {} failed; {} ignored; 0 filtered out"
+
+
+class Gate(base.WithPrograms):
+    """The counts of the gate."""
+
+    def test_the_last_line_with_counts_counts(self):
+        counts_in = loaded("gate").counts_in
+        for lines, status, *counts in [
+            ([], 0, 1, 0), ([], 1, 0, 1), (["190 passed, 0 failed"], 0, 190, 0),
+            (["3 passed, 2 failed"], 1, 3, 2), (["3 passed, 0 failed"], 1, 3, 1),
+            (["5 passed, 0 failed"], 0, 5, 0), (["190 passed, 0 failed (162 edits refused)"], 0, 190, 0),
+            (["1 passed, 1 failed", "2 passed, 0 failed"], 0, 2, 0), (["6 passed, 0 failed, 1 skipped"], 0, 6, 0, 1),
+            (["FAILED (failures=2, errors=1, skipped=4)", f"90 {TESTS}: some failed"], 1, 87, 3),
+            (["OK", f"90 {TESTS}: all passed"], 0, 90, 0),
+            ([f"90 {TESTS}: all passed", "3 of them skipped: a", "4 of them skipped: b"], 0, 83, 0, 7),
+            (["9 cases in 1 seconds with seed 3: 0 failed"], 0, 1, 0),
+            (["9 cases in 1 seconds with seed 3: 2 failed"], 1, 0, 2),
+            ([RESULT.format("ok", 71, 0, 2), "run=ended status=0 proved=no"], 0, 71, 0, 2),
+            ([RESULT.format("FAILED", 70, 1, 0), "run=ended status=101 proved=no"], 101, 70, 1, 0),
+            (["run=none proved=no"], 6, 0, 1),
+            ([*LATE, RESULT.format("FAILED", 60, 1, 0), "run=no-answer proved=no"], 6, 60, 0, 1),
+            ([*LATE, *OTHER, RESULT.format("FAILED", 59, 2, 0), "run=no-answer proved=no"], 6, 59, 1, 1),
+            ([LATE[0], OTHER[1], RESULT.format("FAILED", 60, 1, 0)], 4, 60, 1),
+        ]:
+            self.assertEqual(counts_in(lines, status), (*counts, *[0] * (3 - len(counts))), lines)
+
+    def test_parts_run_on_one_program_or_on_both(self):
+        gate = loaded("gate")
+        for given, programs in [("/p", ["/p"]), (None, list(map(str, gate.PROGRAMS)))]:
+            after = given is not None
+            words = gate.argparse.Namespace(llbm=given, after=after, fuzz=7, seed="3")
+            commands = [part.command for part in gate.parts(words)]
+            self.assertEqual(["rt", "ci"] in commands, given is None)
+            for name in ("refuse", "library", "bindings"):
+                self.assertIn(gate.tool(name).command, commands)
+            for program in programs:
+                self.assertIn(gate.tool("transcripts", "--llbm", program, *gate.TRANSCRIPTS).command, commands)
+            self.assertIn(gate.tool("transcripts", "--llbm", programs[0], *gate.PAGES).command, commands)
+            self.assertEqual(commands[-1][2:], ["7", "--llbm", programs[0], "--seed", "3"])
+            daemon = gate.tool("daemon-tests", "--llbm", programs[0]).command
+            beside = gate.tool("against-buildkit", "--start", "--seconds", "40", "--llbm", programs[0]).command
+            test = gate.tool("test", "--llbm", programs[0]).command
+            self.assertEqual(sorted([daemon, beside, test], key=commands.index), [daemon, beside, test])
+
+    def checks(self, processors, free, group=()):
+        """Returns how many checks run at a time with so many processors, kB of free memory, and files of a group."""
+        gate = loaded("gate")
+        folder = pathlib.Path(tempfile.mkdtemp(dir=os.fsdecode(self.folder)))
+        gate.MEMORY, gate.GROUPS = folder / "meminfo", folder
+        for name, text in [("meminfo", f"MemFree: 1 kB\nMemAvailable: {free} kB"), *group]:
+            (folder / name).parent.mkdir(exist_ok=True)
+            (folder / name).write_text(f"{text}\n")
+        with mock.patch("os.sched_getaffinity", return_value=set(range(processors))):
+            return gate.checks_at_once()
+
+    def test_a_check_gets_a_processor_and_its_memory(self):
+        for processors, free, jobs in [(4, 24, 4), (2, 24, 2), (8, 24, 4), (4, 11, 2), (4, 3, 1), (1, 24, 1)]:
+            self.assertEqual(self.checks(processors, 1_000_000 * free), jobs, (processors, free))
+        gate = loaded("gate")
+        gate.MEMORY = gate.GROUPS = pathlib.Path("/none")
+        self.assertEqual(gate.checks_at_once(), len(os.sched_getaffinity(0)))
+
+    def test_a_control_group_limits_the_checks(self):
+        period = ("cpu/cpu.cfs_period_us", "100000")
+        for group, jobs in [
+            ([("cpu.max", "max 100000")], 8), ([("cpu.max", "250000 100000")], 2), ([("cpu.max", "50000 100000")], 1),
+            ([("cpu/cpu.cfs_quota_us", "-1"), period], 8), ([("cpu/cpu.cfs_quota_us", "300000"), period], 3),
+            ([("memory.max", "max"), ("memory.stat", "anon 7")], 8),
+            ([("memory.max", "16000000000"), ("memory.stat", "file 9\nanon 500000000")], 3),
+            ([("memory/memory.limit_in_bytes", "11000000000"), ("memory/memory.stat", "total_rss 5")], 2),
+        ]:
+            self.assertEqual(self.checks(8, 100_000_000, group), jobs, group)
+
+    def test_rt_ci_is_told_how_many_checks_to_run_unless_it_was(self):
+        gate = loaded("gate")
+        gate.checks_at_once = lambda: 3
+        gate.PROOFS = [self.program("echo $RT_JOBS passed, 0 failed")]
+        for known, jobs in [({}, 3), ({"RT_JOBS": "7"}, 7)]:
+            with mock.patch.dict(os.environ), contextlib.redirect_stdout(io.StringIO()):
+                os.environ.pop("RT_JOBS", None)
+                os.environ.update(known)
+                self.assertEqual(gate.run_part(gate.Part(gate.PROOFS)).passed, jobs)
+
+    def test_the_quick_parts_compile_and_do_not_prove(self):
+        gate = loaded("gate")
+        one, *others = gate.quick_parts()
+        self.assertEqual(one, gate.tool("unproved-program"))
+        self.assertEqual({tuple(part.command) for part in others}, {("rt", "try", "--test")})
+        crates = [part.folder.name for part in others]
+        self.assertEqual(sorted(crates), ["llb_examples", "llb_refusals", "llb_stories", "llbm"])
+        self.assertTrue(all(part.folder.is_dir() for part in others))
+
+    def test_parts_that_run_together_are_all_counted(self):
+        gate = loaded("gate")
+        says = [gate.Part([self.program(f"echo '{number} passed, 0 failed'")]) for number in (3, 4, 5)]
+        parts = [*says, gate.Part([self.program("sleep 0.2", "exit 7")]), gate.Part(["/none"])]
+        with contextlib.redirect_stdout(io.StringIO()) as out:
+            counts = list(gate.run_together(parts, 2))
+        self.assertEqual(sorted(counts), [(0, 1, 0), (0, 1, 0), (3, 0, 0), (4, 0, 0), (5, 0, 0)])
+        lines = out.getvalue().splitlines()
+        self.assertEqual(len([line for line in lines if line.startswith("== ")]), 4)
+        self.assertIn("there is no such file or directory: /none", lines)
+
+    def run_main(self, *words, quick=(), whole=()):
+        """Runs the gate with these counts in place of its parts; returns its status, its lines, and its receipts."""
+        gate, receipts = loaded("gate"), []
+        gate.run_quick = lambda options: [gate.Counts(*counts) for counts in quick]
+        gate.parts = lambda options: whole
+        gate.run_part = lambda counts: gate.Counts(*counts)
+        gate.keep_receipt = lambda: receipts.append("receipt")
+        handler = signal.getsignal(signal.SIGTERM)
+        with mock.patch.object(sys, "argv", ["gate", *words]), contextlib.redirect_stdout(io.StringIO()) as out:
+            status = gate.main()
+        signal.signal(signal.SIGTERM, handler)
+        return status, out.getvalue().splitlines(), receipts
+
+    def test_the_last_line_has_the_sums(self):
+        self.assertEqual(self.run_main(whole=[(2, 0), (3, 0)]), (0, ["5 passed, 0 failed"], ["receipt"]))
+        self.assertEqual(self.run_main(whole=[(2, 1), (3, 0)]), (1, ["5 passed, 1 failed"], []))
+        self.assertEqual(self.run_main(whole=[(2, 0, 1)])[1], ["2 passed, 0 failed, 1 skipped"])
+        self.assertEqual(self.run_main("--after", whole=[(2, 0)]), (0, ["2 passed, 0 failed"], []))
+        self.assertEqual(self.run_main("--llbm", "/p", whole=[(2, 0)]), (0, ["2 passed, 0 failed"], []))
+
+    def test_the_quick_gate_says_what_it_did_not_do(self):
+        status, lines, receipts = self.run_main("--quick", quick=[(2, 0, 1), (3, 0, 0)])
+        self.assertEqual((status, lines[1:], receipts), (0, ["5 passed, 0 failed, 1 skipped"], []))
+        self.assertTrue(lines[0].startswith("not done: proofs, "))
+        status, lines, _ = self.run_main("--quick", quick=[(2, 1, 0)])
+        self.assertEqual((status, lines[1:]), (1, ["2 passed, 1 failed, 0 skipped"]))
+
+    def test_command_lines_are_refused(self):
+        for words in [("--nosuch",), ("--quick", "--after"), ("--quick", "--llbm", "/p")]:
+            done = subprocess.run([ROOT / "gate", *words], capture_output=True, timeout=60)
+            self.assertEqual((done.returncode, done.stdout), (2, b""), words)
+
+
+class Scripts(unittest.TestCase):
+    """The scripts at the top of the repository."""
+
+    def test_the_gate_can_be_run(self):
+        self.assertTrue(os.access(pathlib.Path(ROOT, "gate"), os.X_OK))
+
+    def test_the_gate_is_found_by_a_link_and_from_any_folder(self):
+        with tempfile.TemporaryDirectory() as folder:
+            link = pathlib.Path(folder, "link")
+            link.symlink_to(ROOT / "gate")
+            for place in (link, ROOT / "gate", ROOT / "tools" / "gate"):
+                done = subprocess.run([place, "--help"], cwd=folder, capture_output=True, text=True, timeout=60)
+                self.assertEqual((done.returncode, done.stderr), (0, ""), place)
+                self.assertTrue(done.stdout.startswith("usage: gate "), done.stdout)

@@ -1,0 +1,177 @@
+"""Tests of `minutes`, with shell programs in place of `rt` and of the prover, and of how the gate prints its table."""
+
+import contextlib
+import io
+import os
+import re
+import signal
+import subprocess
+import sys
+import time
+import unittest
+from unittest import mock
+
+from llbm_tools.repository import minutes
+from tests import base
+from tests.base import ROOT, Folder, run
+from tests.repository.gating import loaded
+
+# What uses the processor for a while, as Python under the name of the prover runs it.
+SPINS = b"""import time
+end = time.process_time() + 1.2
+while time.process_time() < end:
+    pass
+"""
+RT = """#!/bin/sh
+cd "$(dirname "$0")"
+./rattle spins check --crate-name one src/lib.rt &
+./rattle spins check --crate-name one src/lib.rt --test &
+(cd held/rt-edit-7 && ../../rattle ../../spins check --crate-name two src/lib.rt) &
+wait
+echo "rt: all proved"
+echo "5 passed, {failed} failed"
+exit {status}
+"""
+LAST = re.compile(r"([0-9.]+) processor minutes, ([0-9.]+) on the clock with ([0-9]+) processors")
+
+
+class Lines(unittest.TestCase):
+    """What is read of a process, and how the table is printed."""
+
+    def test_a_process_is_read_by_its_line(self):
+        words = ["7", "(a) b (c)", "S", "3", *["0"] * 9, "250", "150", *["0"] * 6, "99", "0"]
+        self.assertEqual(minutes.process_in(" ".join(words)), (3, "99", 400 / minutes.TICKS))
+
+    def test_a_process_of_the_prover_works_on_a_crate(self):
+        words = ["/kit/bin/rattle", "check", "--crate-name", "llb_tree", "src/lib.rt"]
+        for given, folder, part in [
+            (words, "/r/crates/llb_tree", ("llb_tree", "proof")),
+            ([*words, "--test"], "/r/crates/llb_tree", ("llb_tree", "tests")),
+            ([*words, "--test"], "/tmp/rt-edit-3/crates/llb_tree", ("llb_tree", "edits")),
+            (["/bin/sh", *words], "/r", ("(other)", "proof")), (words[:3], "/r", ("(other)", "proof")),
+            ([], "/r", ("(other)", "proof")), (["rt", "ci"], "/r", ("(other)", "proof")),
+        ]:
+            self.assertEqual(minutes.part_of(given, folder), part)
+
+    def test_all_processes_below_one_are_found(self):
+        known = {number: minutes.Process(parent, "0", 0) for number, parent in [(1, 0), (5, 1), (6, 5), (7, 6), (8, 1)]}
+        self.assertEqual(sorted(minutes.below([5], known)), [5, 6, 7])
+        self.assertEqual(sorted(minutes.below([5, 6, 9], known)), [5, 6, 7])
+        self.assertEqual(list(minutes.below([9], known)), [])
+
+    def test_the_dearest_crate_is_the_first(self):
+        row = dict.fromkeys(minutes.KINDS, 0.0)
+        table = {"(other)": {**row, "proof": 0.25}, "a": {**row, "proof": 1.5, "edits": 2.0}}
+        table["b"] = {**row, "tests": 4.0}
+        with mock.patch("os.sched_getaffinity", return_value={0, 1}):
+            lines = minutes.lines_of(table, 6.5)
+        self.assertEqual(lines, [
+            "crate            proof   tests   edits     sum   processor minutes",
+            "b                  0.0     4.0     0.0     4.0",
+            "a                  1.5     0.0     2.0     3.5",
+            "(other)            0.2     0.0     0.0     0.2",
+            "all                1.8     4.0     2.0     7.8",
+            "7.8 processor minutes, 6.5 on the clock with 2 processors",
+        ])
+
+
+class Minutes(Folder):
+    """The tool with programs."""
+
+    def fake(self, status=0, failed=0):
+        """Writes the programs, and returns the one in place of `rt`."""
+        os.makedirs(self.place(b"held", b"rt-edit-7"), exist_ok=True)
+        self.file(b"spins", SPINS)
+        if not os.path.lexists(self.place(b"rattle")):
+            os.symlink(os.path.realpath(sys.executable), self.place(b"rattle"))
+        place = self.file(b"rt", RT.format(status=status, failed=failed).encode())
+        os.chmod(place, 0o755)
+        return os.fsdecode(place)
+
+    def check_table(self, lines):
+        """Checks that the table has a line for each crate with the kinds that took time, and the last line."""
+        self.assertEqual(lines[0].split(), ["crate", "proof", "tests", "edits", "sum", "processor", "minutes"])
+        rows = {line.split()[0]: list(map(float, line.split()[1:])) for line in lines[1:-1]}
+        self.assertEqual({"one", "two", "all"} - set(rows), set())
+        self.assertGreater(rows["all"][3], 0)
+        found = LAST.fullmatch(lines[-1])
+        self.assertEqual(float(found[1]), rows["all"][3])
+
+    def watched(self, program):
+        """Watches a run of a program, and returns the seconds by crate and kind."""
+        with subprocess.Popen([program, "ci"], stdout=subprocess.DEVNULL) as child:
+            with minutes.watched(child.pid, 0.05) as watch:
+                child.wait()
+        return {(crate, kind): row[kind] * 60 for crate, row in watch.table().items() for kind in minutes.KINDS}
+
+    def test_proofs_tests_and_edits_are_told_apart(self):
+        seconds = self.watched(self.fake())
+        for crate, kind, takes in [
+            ("one", "proof", True), ("one", "tests", True), ("two", "edits", True), ("one", "edits", False),
+            ("two", "proof", False), ("two", "tests", False),
+        ]:
+            self.assertEqual(seconds[crate, kind] > 0.5, takes, (crate, kind, seconds))
+            self.assertLess(seconds[crate, kind], 3)
+
+    def test_the_table_follows_on_the_output(self):
+        for status in (0, 5):
+            done = run("minutes", "--pause", "0.1", self.fake(status=status), "ci")
+            self.assertEqual((done.returncode, done.stderr), (status, b""))
+            proved, counts, *lines = done.stdout.decode().splitlines()
+            self.assertEqual((proved, counts), ("rt: all proved", "5 passed, 0 failed"))
+            self.check_table(lines)
+
+    def test_a_command_that_a_signal_ends_or_that_is_missing(self):
+        ends = self.file(b"ends", b"#!/bin/sh\nkill -9 $$\n")
+        os.chmod(ends, 0o755)
+        self.assertEqual(run("minutes", ends).returncode, 128 + signal.SIGKILL)
+        self.check_run(run("minutes", "/none"), 2, b"", b"there is no such file or directory: /none\n")
+        self.assertEqual(run("minutes", "--pause", "x", "/bin/true").returncode, 2)
+
+    def test_an_interrupt_ends_the_command(self):
+        child = subprocess.Popen(
+            base.command("minutes", "sleep", "60"), stdout=subprocess.DEVNULL, stderr=subprocess.DEVNULL
+        )
+        for _ in range(200):
+            if any(process.parent == child.pid for process in minutes.processes().values()):
+                break
+            time.sleep(0.1)
+        child.send_signal(signal.SIGTERM)
+        self.assertEqual(child.wait(60), 130)
+
+    def gate(self, part, *changes):
+        """Runs a part of the gate in which `rt ci` is another command; returns the counts and the lines."""
+        gate = loaded("gate")
+        gate.PROOFS = [part, "ci"]
+        with contextlib.ExitStack() as stack:
+            for change in changes:
+                stack.enter_context(change)
+            out = stack.enter_context(contextlib.redirect_stdout(io.StringIO()))
+            counts = gate.run_part(gate.Part([part, "ci"]))
+        return counts, out.getvalue().splitlines()
+
+    def test_the_gate_prints_the_table_after_the_proofs(self):
+        counts, lines = self.gate(self.fake(status=1, failed=2))
+        self.assertEqual(counts, (5, 2, 0))
+        self.assertEqual(lines[1:3], ["rt: all proved", "5 passed, 2 failed"])
+        self.assertTrue(lines[-1].endswith(": 5 passed, 2 failed"), lines)
+        self.assertEqual(lines[3].split()[:2], ["crate", "proof"])
+        self.assertTrue(LAST.fullmatch(lines[-2]), lines)
+
+    def test_a_table_that_fails_does_not_fail_the_gate(self):
+        for change in [
+            mock.patch.object(minutes.Watch, "lines", side_effect=ValueError),
+            mock.patch("threading.Thread.start", side_effect=RuntimeError),
+            mock.patch.object(minutes, "processes", side_effect=OSError),
+        ]:
+            counts, lines = self.gate(self.fake(), change)
+            self.assertEqual(counts, (5, 0, 0))
+            self.assertTrue(lines[-1].endswith(": 5 passed, 0 failed"), lines)
+
+    def test_other_parts_of_the_gate_have_no_table(self):
+        gate = loaded("gate")
+        with contextlib.redirect_stdout(io.StringIO()) as out:
+            gate.run_part(gate.Part([self.fake(), "ci"]))
+        self.assertNotIn("processor minutes", out.getvalue())
+        self.assertEqual(gate.PROOFS, ["rt", "ci"])
+        self.assertTrue((ROOT / "tools" / "minutes").exists())

@@ -1,0 +1,1 @@
+"""Tests of the package `sessions` of the tools."""

@@ -1,0 +1,1 @@
+"""Tests of the package `trees` of the tools."""
