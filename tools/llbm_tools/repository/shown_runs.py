@@ -1,5 +1,6 @@
 """Runs a command that a page shows, and compares its run with what the page shows."""
 
+import contextlib
 import os
 import select
 import signal
@@ -96,9 +97,16 @@ class Dialog:
         return differing(f"{about}prints", text_of(found + self.printed(PIECE, PAUSE)), want)
 
     def type(self, line: str) -> None:
-        """Types a line."""
-        self.input.write(f"{line}\n".encode())
-        self.input.flush()
+        """Types a line; the reply of a command that has ended by then is empty."""
+        with contextlib.suppress(BrokenPipeError):
+            self.input.write(f"{line}\n".encode())
+            self.input.flush()
+
+    def close(self) -> None:
+        """Closes both ends; what a command that has ended did not read is dropped."""
+        with contextlib.suppress(BrokenPipeError):
+            self.input.close()
+        self.output.close()
 
     def difference(self, shown: Shown) -> str | None:
         """Types all lines but the last one's reply; returns how a reply differs, or None."""
@@ -121,11 +129,9 @@ def run_dialog(shown: Shown, place: Place) -> Ended | str:
             if cause:
                 return cause
             output, _ = child.communicate(timeout=PATIENCE)
-        except BrokenPipeError:
-            return f"ends before all lines are typed; standard error: {content(errors)!r}"
         finally:
             stop(child)
-            dialog.output.close()
+            dialog.close()
         return Ended(child.returncode, text_of(output), content(errors))
 
 

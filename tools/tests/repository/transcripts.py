@@ -171,7 +171,9 @@ class Transcripts(base.WithPrograms):
             ("    $ cat > input <<'END' && llbm bad\n    END\n", "status 1, not 0"),
             (f"    {asked.format(3)}", "to '1' it prints '1 and 2?\\n', not '1 and 3?\\n'"),
             (f"    {asked.format(2)}    > no more\n    ! asked\n    status 5\n", "prints 'ended\\n', not ''"),
-            ("    $ llbm two\n    two\n    > 1\n    2\n", "ends before all lines are typed; standard error: ''"),
+            ("    $ llbm two\n    two\n    > 1\n    2\n", "to '1' it prints '', not '2\\n'"),
+            ("    $ llbm both\n    output\n    > 1\n    > 2\n    ! errors\n",
+             "prints on standard error 'errors\\n\\nmore\\n', not 'errors\\n'"),
         ], "tests")
 
     def test_files_of_tests_begin_in_empty_folders(self):
