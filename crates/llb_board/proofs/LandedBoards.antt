@@ -47,7 +47,7 @@ use Rattle.llb_model.proofs.BridgeRowWrites.{written_each}
 use Rattle.llb_board.specs.BoardValue.{BoardValue, Replays, seen, opening_with, kept_next, kept_along, after_event, recorded}
 use Rattle.llb_board.specs.BoardInvariant.{IsBoard}
 use Rattle.llb_board.specs.History.{Space}
-use Rattle.llb_board.specs.Rules.{settle_of}
+use Rattle.llb_board.specs.EventResults.{settle_of}
 use Rattle.llb_board.specs.Landing.{CanLand, IsThrough, Lands}
 use Rattle.llb_board.proofs.RulesGrantedByTable.{settle_done}
 use Rattle.llb_board.proofs.InvariantPreservation.{kept_more}

@@ -1,4 +1,4 @@
--- Read Headline first (the promise of the whole machine for a board), then BoardValue (what contracts see of a board), Rules (what the call for an event
+-- Read Headline first (the promise of the whole machine for a board), then BoardValue (what contracts see of a board), EventResults (what the call for an event
 -- returns), Opening (of a board), Landing (of an outcome), PlainVertexJobs (which outcomes land without a comparison) and WalkAndUndo (`Board::walk` does an
 -- event, `Board::undo` takes it back). Laws has what else holds of every board; BoardInvariant has the invariant of a board, and History its record and the
 -- room for more events.
@@ -25,7 +25,7 @@ pub mod Vertices
 pub mod Workers
 pub mod DisplacedWorkers
 pub mod BoardValue
-pub mod Rules
+pub mod EventResults
 pub mod History
 pub mod BoardInvariant
 pub mod Laws

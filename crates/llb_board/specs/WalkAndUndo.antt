@@ -22,7 +22,7 @@ use Rattle.llb_board.specs.declared.fault.WalkFault.{WalkFault}
 use Rattle.llb_board.specs.declared.fault.WalkFault.TheVariants as walk
 use Rattle.llb_board.specs.BoardValue.{BoardValue, Replays}
 use Rattle.llb_board.specs.History.{front}
-use Rattle.llb_board.specs.Rules.{claim_of, step_of, settle_of, cancel_of}
+use Rattle.llb_board.specs.EventResults.{claim_of, step_of, settle_of, cancel_of}
 use Rattle.llb_board.specs.declared.board.walk.Reply.{Reply}
 use Rattle.llb_board.specs.declared.board.walk.Reply.TheVariants as reply
 

@@ -26,7 +26,7 @@ ghost use Rattle.llb_board.specs.Vertices.{all_waiting, status_of};
 ghost use Rattle.llb_board.specs.BoardValue.{BoardValue, Replays, opened, replies_in};
 ghost use Rattle.llb_board.specs.declared.fault.OpenFault.TheVariants as opening;
 ghost use Rattle.llb_board.specs.Opening.{may_work, open_memory, GivesOpen, open_of, open_with, returned, may_want_memory};
-ghost use Rattle.llb_board.specs.Rules.{claim_of, step_of, settle_of, cancel_of};
+ghost use Rattle.llb_board.specs.EventResults.{claim_of, step_of, settle_of, cancel_of};
 
 mod choice;
 mod copying;

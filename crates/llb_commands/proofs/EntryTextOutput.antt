@@ -7,7 +7,7 @@ use Rattle.std.specs.Io.KnownBytes.{Keeps}
 use Rattle.llb_ops.specs.Definition.{definition_of}
 use Rattle.llb_asm.specs.DisassembledText.{Formed, AreFormed, plain_text}
 use Rattle.llb_commands.specs.Assembly.{IsDisassembled, IsOut, IsPartOut}
-use Rattle.llb_commands.specs.Io.{Stream, IsPartWritten, IsWritten}
+use Rattle.llb_commands.specs.CallStreams.{Stream, IsPartWritten, IsWritten}
 use Rattle.llb_commands.proofs.RunOutput.{some_map, stream}
 
 module _ (left : Option (List ℕ)) (entries : List (List ℕ)) (read : IfSome left (λ bytes. definition_of bytes

@@ -26,7 +26,7 @@ use Rattle.llb_commands.specs.ProgramOutput.{build_of, result_in, Yields, Yields
 use Rattle.llb_commands.specs.ProgramOutput.{failed_lines}
 use Rattle.llb_commands.specs.ProgramOutput.{Runs}
 use Rattle.llb_commands.specs.Faults.{Tells, TellsWhy, status_of}
-use Rattle.llb_commands.specs.Io.{Stream, IsKept, IsPartWritten, IsWritten}
+use Rattle.llb_commands.specs.CallStreams.{Stream, IsKept, IsPartWritten, IsWritten}
 use Rattle.llb_commands.proofs.DriverRunEnds.{result_fails, tree_fails_none, plain_tree}
 use Rattle.llb_commands.specs.Running.{passed_on, unread_as, IsRefusal, TellsRefusal, IsFinished, IsWhole, Finishes, Opens, Shows, YieldsNoneOn, Answers, Ends}
 use Rattle.llb_commands.specs.declared.run.Ended.{Ended}

@@ -19,7 +19,7 @@ use Rattle.llb_session.specs.declared.fault.SessionFault.{SessionFault}
 use Rattle.llb_session.specs.declared.fault.SessionFault.TheVariants as session
 use Rattle.llb_commands.specs.ProgramOutput.{build_of, IsNotRun}
 use Rattle.llb_commands.specs.Faults.{Tells, TellsWhy, status_of, fault_line, program_text}
-use Rattle.llb_commands.specs.Io.{Io, Stream, IsKept, IsWritten}
+use Rattle.llb_commands.specs.CallStreams.{Io, Stream, IsKept, IsWritten}
 use Rattle.llb_commands.specs.Sources.{limit, most_reads}
 use Rattle.llb_commands.specs.Stepping.{begun, session_fault, IsSession, IsBroken, StepsIn, Steps}
 use Rattle.llb_commands.specs.declared.fault.ProgramFault.{ProgramFault}

@@ -15,7 +15,7 @@ use Rattle.llb_loader.specs.declared.fault.LoadFault.TheVariants.{Definition}
 use Rattle.llb_commands.specs.declared.fault.ProgramFault.{ProgramFault}
 use Rattle.llb_commands.specs.declared.fault.ProgramFault.TheVariants as fault
 use Rattle.llb_commands.specs.Faults.{TellsWhy}
-use Rattle.llb_commands.specs.Io.{Io, Stream, IsKept, IsPartWritten, IsWritten}
+use Rattle.llb_commands.specs.CallStreams.{Io, Stream, IsKept, IsPartWritten, IsWritten}
 use Rattle.llb_commands.specs.Sources.{limit}
 
 -- the definition that a text is assembled to: the bytes that `llb_ops` writes for the entries that the text is read as

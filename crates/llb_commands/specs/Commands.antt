@@ -7,7 +7,7 @@ use Rattle.llb_session.specs.declared.request.Looks.{Looks}
 use Rattle.llb_commands.specs.ProgramOutput.{Runs, Draws}
 use Rattle.llb_commands.specs.Assembly.{Assembles, Disassembles}
 use Rattle.llb_commands.specs.CommandLine.{llbm_app, named_local_words, IsByWords, Says, TellsWords}
-use Rattle.llb_commands.specs.Io.{Io, IsKept}
+use Rattle.llb_commands.specs.CallStreams.{Io, IsKept}
 use Rattle.llb_commands.specs.HelpPages.{HasPage, TellsWithPage}
 use Rattle.llb_commands.specs.Sources.{Gathers, TellsSource}
 use Rattle.llb_commands.specs.Stepping.{Steps}

@@ -6,7 +6,7 @@ use Rattle.llb_asm.specs.Faults.{asm_text}
 use Rattle.llb_treetext.specs.CallResults.{reading_text, printing_text}
 use Rattle.llb_loader.specs.Faults.{load_text}
 use Rattle.llb_work.specs.Faults.{run_text}
-use Rattle.llb_commands.specs.Io.{Stream, IsWritten}
+use Rattle.llb_commands.specs.CallStreams.{Stream, IsWritten}
 use Rattle.llb_commands.specs.declared.fault.OutputFault.{OutputFault}
 use Rattle.llb_commands.specs.declared.fault.OutputFault.TheVariants as output
 use Rattle.llb_commands.specs.declared.fault.ProgramFault.{ProgramFault}

@@ -26,7 +26,7 @@ use Rattle.llb_work.specs.SingleThreadDriver.{EndsInClaimOrder}
 use Rattle.llb_commands.specs.declared.fault.ProgramFault.{ProgramFault}
 use Rattle.llb_commands.specs.declared.fault.ProgramFault.TheVariants as fault
 use Rattle.llb_commands.specs.Faults.{TellsWhy}
-use Rattle.llb_commands.specs.Io.{Io, Stream, IsKept, IsPartWritten, IsWritten}
+use Rattle.llb_commands.specs.CallStreams.{Io, Stream, IsKept, IsPartWritten, IsWritten}
 use Rattle.llb_commands.specs.GraphText.{graph_text}
 
 -- the build of a run: a graph and the local trees

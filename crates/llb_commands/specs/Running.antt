@@ -11,7 +11,7 @@ use Rattle.llb_work.specs.declared.end.RunFault.{RunFault}
 use Rattle.llb_commands.specs.ProgramOutput.{build_of, IsEnd, YieldsNone, YieldsAll, YieldsPart, IsRefused, IsNotRun, DrawsAll, DrawsPart}
 use Rattle.llb_commands.specs.ProgramOutput.{failed_lines}
 use Rattle.llb_commands.specs.Faults.{Tells}
-use Rattle.llb_commands.specs.Io.{Stream, IsKept, IsPartWritten, IsWritten}
+use Rattle.llb_commands.specs.CallStreams.{Stream, IsKept, IsPartWritten, IsWritten}
 use Rattle.llb_commands.specs.declared.fault.ProgramFault.{ProgramFault}
 use Rattle.llb_commands.specs.declared.fault.ProgramFault.TheVariants.{Refused, MissingLocal, Workers, Loading, Read, Memory, Unread, Assembling, TooLong}
 use Rattle.llb_commands.specs.declared.bounded.ReadFault.{ReadFault}

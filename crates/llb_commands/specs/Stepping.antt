@@ -10,7 +10,7 @@ use Rattle.llb_session.specs.declared.session.Session.{Session}
 use Rattle.llb_session.specs.declared.fault.SessionFault.{SessionFault}
 use Rattle.llb_session.specs.declared.fault.SessionFault.TheVariants as session
 use Rattle.llb_commands.specs.ProgramOutput.{build_of, IsNotRun}
-use Rattle.llb_commands.specs.Io.{Io, Stream, IsKept, IsWritten}
+use Rattle.llb_commands.specs.CallStreams.{Io, Stream, IsKept, IsWritten}
 use Rattle.llb_commands.specs.Running.{TellsRefusal}
 use Rattle.llb_commands.specs.Faults.{TellsWhy, fault_line, program_text}
 use Rattle.llb_commands.specs.Sources.{limit, most_reads}

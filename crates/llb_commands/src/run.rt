@@ -8,7 +8,7 @@ ghost use Rattle.llb_model.specs.State.{ending_at};
 ghost use Rattle.llb_treetext.specs.TreeText.{tree_text};
 ghost use Rattle.llb_commands.specs.ProgramOutput.{Runs, failed_line, failed_lines};
 ghost use Rattle.llb_commands.specs.WrittenPrefix.{PrintsOut};
-ghost use Rattle.llb_commands.specs.Io.{Stream};
+ghost use Rattle.llb_commands.specs.CallStreams.{Stream};
 ghost use Rattle.llb_commands.specs.Running.{Answers, Ends, Finishes, IsWhole, Opens, Shows};
 
 use crate::fault::{ProgramFault, refusal};

@@ -13,7 +13,7 @@ use Rattle.llb_session.specs.Texts.{fault_line}
 use Rattle.llb_commands.specs.declared.fault.ProgramFault.TheVariants as problem
 use Rattle.llb_commands.specs.declared.sources.SourceFault.{SourceFault}
 use Rattle.llb_commands.specs.declared.words.WordsFault.TheVariants.{Words}
-use Rattle.llb_commands.specs.Io.{Io, Stream}
+use Rattle.llb_commands.specs.CallStreams.{Io, Stream}
 use Rattle.llb_commands.specs.ProgramOutput.{Runs, Draws, IsNotRun}
 use Rattle.llb_commands.specs.Assembly.{Assembles, Disassembles}
 use Rattle.llb_commands.specs.CommandLine.{TellsWords}

@@ -1,9 +1,8 @@
 //! Why a graph is not evaluated. A fault prints its number, and then its argument. The operator `?` turns each error for
 //! refused memory into `Memory`.
 
-use llb_tree::TreeFault;
 use llb_wire::Text;
-use std::alloc::{AllocError, AllocFailed};
+use std::alloc::AllocFailed;
 use thiserror::Error;
 
 /// Why a graph is not evaluated: the first of these causes that applies.
@@ -18,17 +17,6 @@ pub enum PlainFault {
     /// 103: memory was refused.
     #[error("103")]
     Memory,
-}
-
-impl From<AllocError> for PlainFault {
-    ghost use Rattle.std.specs.Prelude.{◌≡◌};
-    ghost use Rattle.llb_plain.specs.declared.fault.PlainFault.TheVariants as plain;
-
-    ghost from_gives = { λ _ e. e ≡ plain.Memory };
-
-    fn from(_: AllocError) -> PlainFault {
-        PlainFault::Memory
-    }
 }
 
 impl<T: Drop> From<AllocFailed<T>> for PlainFault {
@@ -49,18 +37,6 @@ impl From<llb_wire::Memory> for PlainFault {
     ghost from_gives = { λ _ e. e ≡ plain.Memory };
 
     fn from(_: llb_wire::Memory) -> PlainFault {
-        PlainFault::Memory
-    }
-}
-
-/// Converts a fault of llb_tree. The calls whose faults are converted here fail only for want of memory.
-impl From<TreeFault> for PlainFault {
-    ghost use Rattle.std.specs.Prelude.{◌≡◌};
-    ghost use Rattle.llb_plain.specs.declared.fault.PlainFault.TheVariants as plain;
-
-    ghost from_gives = { λ _ e. e ≡ plain.Memory };
-
-    fn from(_: TreeFault) -> PlainFault {
         PlainFault::Memory
     }
 }

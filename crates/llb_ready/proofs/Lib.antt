@@ -1,5 +1,5 @@
-pub mod Sums
-pub mod Weights
+pub mod ListSums
+pub mod PassWeights
 pub mod PassParts
 pub mod PutAndTake
 pub mod PassSplitAndJoin

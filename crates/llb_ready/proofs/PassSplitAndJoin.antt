@@ -10,8 +10,8 @@ use Rattle.crossbeam_queue.proofs.Lists.{at_set}
 use Rattle.llb_ready.specs.declared.hand.Hand.{Hand}
 use Rattle.llb_ready.specs.PassKnowledge.{HasAll, first_hand, widened, halved, other_half, together, spent}
 use Rattle.llb_ready.specs.QueueInvariant.{IsPart, IsBalanced}
-use Rattle.llb_ready.proofs.Sums.{sum_at, within}
-use Rattle.llb_ready.proofs.Weights.{doubled, sum-doubled, length-doubled, get_or-doubled, get_or_first, get_or_last}
+use Rattle.llb_ready.proofs.ListSums.{sum_at, within}
+use Rattle.llb_ready.proofs.PassWeights.{doubled, sum-doubled, length-doubled, get_or-doubled, get_or_first, get_or_last}
 use Rattle.llb_ready.proofs.PassParts.{AreParts, at_end, part_spent, part_none, part_widened, part_doubled, part_halved, part_joined}
 use Rattle.llb_ready.proofs.PutAndTake.{others_idle}
 

@@ -11,8 +11,8 @@ use Rattle.llb_ready.specs.declared.hand.Hand.{Hand}
 use Rattle.llb_ready.specs.PassKnowledge.{HasAll, first_hand, with_put, with_taken}
 use Rattle.llb_ready.specs.Conservation.{Knows, IsConserved, GainsPut, GainsTaken, HasLeft}
 use Rattle.llb_ready.specs.QueueInvariant.{IsPart, IsBalanced}
-use Rattle.llb_ready.proofs.Sums.{sum_at, sum_only, sum_ones}
-use Rattle.llb_ready.proofs.Weights.{others_none}
+use Rattle.llb_ready.proofs.ListSums.{sum_at, sum_only, sum_ones}
+use Rattle.llb_ready.proofs.PassWeights.{others_none}
 use Rattle.llb_ready.proofs.PassParts.{part_stays, parts_set, no_product, cancel}
 
 -- a new queue holds nothing, and its pass is whole

@@ -28,7 +28,7 @@ pub struct ReadyPass {
 }
 
 impl ReadyQueue {
-    ghost use Rattle.llb_ready.specs.Passes.{hand_of, IsReadyPassOf, capacity_of, IsWhole};
+    ghost use Rattle.llb_ready.specs.QueuePasses.{hand_of, IsReadyPassOf, capacity_of, IsWhole};
 
     /// Makes a queue with room for `n` numbers, 1 to 65,536, and its whole pass (fraction 1/1), which has put and taken nothing.
     /// Fails with 145 `Memory` alone.

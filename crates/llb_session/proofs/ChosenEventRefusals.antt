@@ -10,7 +10,7 @@ use Rattle.llb_board.specs.BoardValue.{BoardValue}
 use Rattle.llb_board.specs.WalkAndUndo.{walk_of}
 use Rattle.llb_board.specs.declared.board.walk.Reply as short
 use Rattle.llb_board.specs.declared.fault.WalkFault.{WalkFault}
-use Rattle.llb_stepper.specs.Rules.{ChosenIsDone, done_by, done_of, may_want, stepper_memory}
+use Rattle.llb_stepper.specs.StepperResults.{ChosenIsDone, done_by, done_of, may_want, stepper_memory}
 use Rattle.llb_stepper.specs.declared.fault.StepperFault.{StepperFault}
 use Rattle.llb_stepper.specs.Stepping.{Stepping}
 use Rattle.llb_session.specs.declared.session.Session.{Session}

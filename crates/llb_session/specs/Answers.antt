@@ -11,7 +11,7 @@ use Rattle.llb_board.specs.WorkedOnAndCachedTrees.{worked_on, cached_at}
 use Rattle.llb_stepper.specs.declared.stop.Stop.{Stop}
 use Rattle.llb_stepper.specs.declared.fault.StepperFault.{StepperFault}
 use Rattle.llb_stepper.specs.declared.fault.StepperFault.TheVariants.{NothingBefore, BadCommand, Memory}
-use Rattle.llb_stepper.specs.Rules.{done_of, may_want, stepper_memory}
+use Rattle.llb_stepper.specs.StepperResults.{done_of, may_want, stepper_memory}
 use Rattle.llb_stepper.specs.Stepping.{Stepping, GoesBack, IsGo}
 use Rattle.llb_session.specs.declared.session.Session.{Session}
 use Rattle.llb_session.specs.declared.request.Look.{Look}

@@ -18,7 +18,7 @@ use Rattle.llb_board.specs.declared.fault.WalkFault.{WalkFault}
 use Rattle.llb_board.specs.declared.board.walk.Reply as short
 use Rattle.llb_stepper.specs.declared.fault.StepperFault.{StepperFault}
 use Rattle.llb_stepper.specs.declared.fault.StepperFault.TheVariants as fault
-use Rattle.llb_stepper.specs.Rules.{IsRefusedAt, MeetsOn, done_by, done_of, stepper_memory}
+use Rattle.llb_stepper.specs.StepperResults.{IsRefusedAt, MeetsOn, done_by, done_of, stepper_memory}
 use Rattle.llb_stepper.specs.Stepping.{Stepping, GoesBack, IsStop, IsGo, PastIsTheRecords, AreChosen, ChosenThen, answered, timeline, meets}
 use Rattle.llb_stepper.specs.Stepping.{meets_by, meets_any, meets_at, meets_from, run_on, then_on}
 use Rattle.llb_stepper.proofs.BoardAfterEvent.{went}

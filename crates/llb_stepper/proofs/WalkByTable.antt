@@ -22,7 +22,7 @@ use Rattle.llb_board.specs.declared.board.walk.Walked.{Walked}
 use Rattle.llb_stepper.specs.declared.stop.Break.{Break}
 use Rattle.llb_stepper.specs.declared.stop.Break.TheVariants as stop
 use Rattle.llb_stepper.specs.declared.fault.StepperFault.{StepperFault}
-use Rattle.llb_stepper.specs.Rules.{MeetsOn, done_by, done_of, stepper_memory}
+use Rattle.llb_stepper.specs.StepperResults.{MeetsOn, done_by, done_of, stepper_memory}
 use Rattle.llb_stepper.specs.Stepping.{Stepping, GoesBack, answered, onward, meets}
 use Rattle.llb_stepper.specs.WalkReplies.{meets_told}
 use Rattle.llb_stepper.specs.StepperInvariant.{past_of, stepping, Follows, AreWalked}

@@ -4,7 +4,7 @@ use Rattle.llb_model.specs.Table.{Reply}
 use Rattle.llb_model.specs.Landing.{landing}
 use Rattle.llb_model.specs.Run.{run}
 use Rattle.llb_board.specs.BoardValue.{BoardValue, replies_in}
-use Rattle.llb_board.specs.Rules.{claim_of, step_of, settle_of, cancel_of}
+use Rattle.llb_board.specs.EventResults.{claim_of, step_of, settle_of, cancel_of}
 
 -- What a call on board b adds at the end of the list of replies to the record's events; board t is the board after the call. A call that does one event adds
 -- the reply that the call returns. A call that lands an outcome adds the replies to the events that it appends to the record: n steps of worker w, and the

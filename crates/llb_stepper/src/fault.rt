@@ -4,7 +4,7 @@ ghost use Rattle.std.specs.Prelude.{Some};
 ghost use Rattle.llb_stepper.specs.Faults.{stepper_text};
 
 use llb_board::WalkFault;
-use std::alloc::{AllocError, AllocFailed};
+use std::alloc::AllocError;
 use std::{error, fmt};
 
 /// Why a stepper does not do what it is asked for.
@@ -42,17 +42,6 @@ impl From<AllocError> for StepperFault {
     ghost from_gives = { λ _ e. e ≡ Memory };
 
     fn from(_: AllocError) -> StepperFault {
-        StepperFault::Memory
-    }
-}
-
-impl<T: Drop> From<AllocFailed<T>> for StepperFault {
-    ghost use Rattle.std.specs.Prelude.{◌≡◌};
-    ghost use Rattle.llb_stepper.specs.declared.fault.StepperFault.TheVariants.{Memory};
-
-    ghost from_gives = { λ _ e. e ≡ Memory };
-
-    fn from(_: AllocFailed<T>) -> StepperFault {
         StepperFault::Memory
     }
 }

@@ -3,7 +3,7 @@
 ghost use Rattle.std.specs.Prelude.{◌≡◌, ◌≤◌, ◌+◌, ◌++◌, ◌∷◌, [], length, drop, Bool, true, map, option_map, false, IfOk, IfErr};
 ghost use Rattle.std.specs.Prelude.{OnOk, OnErr, Some, string_bytes};
 ghost use Rattle.llb_model.specs.Run.{chosen};
-ghost use Rattle.llb_stepper.specs.Rules.{GivesEvent, done_of, may_want, stepper_memory, IsRefusedAt, MeetsOn, ChosenIsDone, ThereAndBack};
+ghost use Rattle.llb_stepper.specs.StepperResults.{GivesEvent, done_of, may_want, stepper_memory, IsRefusedAt, MeetsOn, ChosenIsDone, ThereAndBack};
 ghost use Rattle.llb_stepper.specs.Stepping.{GoesBack, IsStop, IsGo, IsReplayed, PastIsTheRecords, timeline, lesser};
 ghost use Rattle.llb_stepper.specs.Records.{record_at, record_text, RecordIsTheRun, ReplaysOnAStepper};
 ghost use Rattle.llb_stepper.specs.Replies.{RepliesAreRecorded};

@@ -1,7 +1,7 @@
 //! Tests of a ready queue with room for one number or two, on one thread: what the queue returns, and what the queue's faults print.
 
 ghost use Rattle.llb_ready.specs.PassKnowledge.{SamePart};
-ghost use Rattle.llb_ready.specs.Passes.{IsReadyPassOf, hand_of};
+ghost use Rattle.llb_ready.specs.QueuePasses.{IsReadyPassOf, hand_of};
 
 use super::checks::{is_same, is_so};
 use llb_ready::{Full, ReadyFault, ReadyPass, ReadyQueue};

@@ -21,7 +21,7 @@ use Rattle.llb_model.specs.EventBounds.{still_to_come}
 use Rattle.llb_model.proofs.ChosenEventRuns.{Ascends, alone_step, chosen_comes_nearer}
 use Rattle.llb_board.specs.BoardValue.{BoardValue, after_event, recorded}
 use Rattle.llb_board.specs.Laws.{ChosenIsGranted}
-use Rattle.llb_board.specs.Rules.{claim_of, step_of, settle_of, cancel_of}
+use Rattle.llb_board.specs.EventResults.{claim_of, step_of, settle_of, cancel_of}
 use Rattle.llb_events.specs.Faults.{GivesStep, GivesSettle, GivesCancel}
 use Rattle.llb_events.specs.Faults.{GivesClaim}
 use Rattle.llb_events.specs.declared.event.Stepped.{Stepped}

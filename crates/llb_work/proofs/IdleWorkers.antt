@@ -16,7 +16,7 @@ use Rattle.llb_model.specs.Run.{is_complete}
 use Rattle.llb_model.proofs.RunCompletion.{complete_rests}
 use Rattle.llb_model.proofs.Lists.{inside, get_past, length_set}
 use Rattle.llb_board.specs.BoardValue.{BoardValue}
-use Rattle.llb_board.specs.Rules.{cancel_of}
+use Rattle.llb_board.specs.EventResults.{cancel_of}
 use Rattle.llb_work.specs.SingleThreadDriver.{Takes, IsLeft}
 use Rattle.llb_work.specs.LockSharingWorkers.{AreIdle}
 use Rattle.llb_work.proofs.DriverEvents.{cancel_takes, cancel_left}

@@ -22,7 +22,7 @@ use Rattle.llb_execution.specs.Jobs.{OutcomeValue}
 use Rattle.llb_board.specs.BoardValue.{BoardValue, after_event, recorded}
 use Rattle.llb_board.specs.PlainVertexJobs.{ClaimsArePlain}
 use Rattle.llb_board.specs.Landing.{Lands}
-use Rattle.llb_board.specs.Rules.{claim_of, step_of, settle_of, cancel_of}
+use Rattle.llb_board.specs.EventResults.{claim_of, step_of, settle_of, cancel_of}
 use Rattle.llb_board.specs.declared.fault.LandFault.{LandFault}
 use Rattle.llb_work.specs.LockSharingWorkers.{GoesOn, CancelsNothing, is_cancel}
 use Rattle.llb_work.specs.SingleThreadDriver.{Takes}

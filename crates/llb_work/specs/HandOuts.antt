@@ -1,7 +1,7 @@
 -- What is handed out to the workers before their threads start, and what they give back. A pass is the right to use the queue (llb_ready).
 use Rattle.std.specs.Prelude.{◌≡◌, ℕ, ◌≤◌, sum, vec_len, vec_capacity}
 use Rattle.llb_ready.specs.declared.queue.ReadyQueue.{ReadyQueue}
-use Rattle.llb_ready.specs.Passes.{IsReadyPassOf, IsWhole}
+use Rattle.llb_ready.specs.QueuePasses.{IsReadyPassOf, IsWhole}
 use Rattle.llb_work.specs.declared.hand_out.HandOut.{HandOut}
 use Rattle.llb_work.specs.declared.hand_out.GivenBack.{GivenBack}
 use Rattle.llb_work.specs.WorkerPasses.{IsUncut}

@@ -2,7 +2,7 @@
 use Rattle.std.specs.Prelude.{◌≡◌, ℕ, ◌+◌, ◌^◌}
 use Rattle.llb_ready.specs.declared.queue.ReadyQueue.{ReadyQueue}
 use Rattle.llb_ready.specs.declared.queue.ReadyPass.{ReadyPass}
-use Rattle.llb_ready.specs.Passes.{hand_of, IsReadyPassOf}
+use Rattle.llb_ready.specs.QueuePasses.{hand_of, IsReadyPassOf}
 
 -- p is the whole pass of this queue
 abbrev pub IsUncut : ReadyQueue → ReadyPass → Type 0

@@ -2,7 +2,7 @@
 //! events, and a list for the numbers of vertices.
 
 ghost use Rattle.std.specs.Prelude.{◌≡◌, ◌≤◌, ◌^◌, vec_len};
-ghost use Rattle.llb_ready.specs.Passes.{hand_of, IsReadyPassOf};
+ghost use Rattle.llb_ready.specs.QueuePasses.{hand_of, IsReadyPassOf};
 ghost use Rattle.llb_work.specs.HandOuts.{IsHandedOut, IsGivenBack};
 ghost use Rattle.llb_work.specs.WorkerPasses.{IsPassFor};
 ghost use Rattle.llb_work.specs.RunEnds.{AllowsStops};

@@ -4,7 +4,7 @@ use Rattle.llb_model.specs.Table.{cancel_reply}
 use Rattle.llb_events.specs.declared.event.Event.TheVariants.{Cancel}
 use Rattle.llb_board.specs.WorkerRules.{given_up_at}
 use Rattle.llb_board.specs.BoardValue.{BoardValue, seen}
-use Rattle.llb_board.specs.Rules.{cancel_of}
+use Rattle.llb_board.specs.EventResults.{cancel_of}
 use Rattle.llb_board.proofs.InvariantPreservation.{recorded_as, left_count, waits_whole}
 use Rattle.llb_board.proofs.SettlesAndCancels.{gives, low_status, low_count, few_counts, room_left, rows_kept, cancel_keeps}
 use Rattle.llb_board.proofs.board.Board.cancel.Goals as goal

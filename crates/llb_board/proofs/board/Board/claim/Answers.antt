@@ -6,7 +6,7 @@ use Rattle.llb_model.specs.Table.{claim_grant}
 use Rattle.llb_events.specs.Faults.{claim_memory, claim_may_want}
 use Rattle.llb_board.specs.Workers.{state_in}
 use Rattle.llb_board.specs.BoardValue.{BoardValue, seen}
-use Rattle.llb_board.specs.Rules.{claim_of}
+use Rattle.llb_board.specs.EventResults.{claim_of}
 use Rattle.llb_board.proofs.ClaimCorrectness.{refused_as, wants_as, granted_wants, released, granted_at, rows_at, low, room, keeps}
 use Rattle.llb_board.proofs.InvariantPreservation.{recorded_as, runs_whole}
 use Rattle.llb_board.proofs.board.Board.claim.Goals as goal

@@ -8,7 +8,7 @@ use Rattle.llb_events.specs.declared.event.Event.TheVariants.{Settle}
 use Rattle.llb_board.specs.WorkerRules.{left_at}
 use Rattle.llb_board.specs.Vertices.{status_of}
 use Rattle.llb_board.specs.BoardValue.{BoardValue, seen}
-use Rattle.llb_board.specs.Rules.{settle_of}
+use Rattle.llb_board.specs.EventResults.{settle_of}
 use Rattle.llb_board.proofs.InvariantPreservation.{recorded_as, left_count}
 use Rattle.llb_board.proofs.SettlesAndCancels.{reply_is, ends, grants, low, room, rows_stay, keeps}
 use Rattle.llb_board.proofs.board.Board.settle.Goals as goal

@@ -1,6 +1,6 @@
 use Rattle.std.proofs.Common.{◌≡◌, ◌-◌, ◌∙◌, None, length, sym, ap, subst}
 use Rattle.llb_model.specs.Run.{chosen}
-use Rattle.llb_stepper.specs.Rules.{MeetsOn}
+use Rattle.llb_stepper.specs.StepperResults.{MeetsOn}
 use Rattle.llb_stepper.specs.Stepping.{Stepping}
 use Rattle.llb_stepper.proofs.EventSequences.{nearer, none_chosen, one_chosen, stops_chosen, ends_chosen, done_since, since, chosen_as}
 use Rattle.llb_stepper.proofs.WalkByTable.{memory_alone, chosen_granted}

@@ -1,7 +1,7 @@
 use Rattle.std.proofs.Common.{◌-◌, get_or, subst, arith}
 use Rattle.std.proofs.lemmas.Option.{slice_get-get_or}
 use Rattle.llb_events.specs.declared.event.Event.TheVariants as event
-use Rattle.llb_stepper.specs.Rules.{MeetsOn}
+use Rattle.llb_stepper.specs.StepperResults.{MeetsOn}
 use Rattle.llb_stepper.proofs.EventSequences.{begun, one_more, stops, ends_all, done_since, since, refused_at}
 use Rattle.llb_stepper.proofs.stepper.Stepper.replay.Goals as goal
 

@@ -1,7 +1,7 @@
 use Rattle.std.proofs.Common.{◌≡◌, ◌+◌, ◌≤◌, ◌^◌, vec_len}
 use Rattle.std.specs.Prelude.{vec_capacity}
 use Rattle.std.specs.Vec.Iter.{into_iter_len}
-use Rattle.llb_ready.specs.Passes.{hand_of, IsReadyPassOf}
+use Rattle.llb_ready.specs.QueuePasses.{hand_of, IsReadyPassOf}
 use Rattle.llb_work.specs.Threads.{AllKeep}
 use Rattle.llb_work.proofs.crew.Crew.all_serve.Given as goal
 

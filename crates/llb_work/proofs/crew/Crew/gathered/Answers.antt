@@ -1,7 +1,7 @@
 use Rattle.std.proofs.Common.{◌≡◌, ◌<◌, length, refl, ◌∙◌, arith, rules, length-set}
 use Rattle.std.proofs.lemmas.Grind.{common_steps}
 use Rattle.std.specs.Vec.Iter.{into_iter_items}
-use Rattle.llb_ready.specs.Passes.{hand_of}
+use Rattle.llb_ready.specs.QueuePasses.{hand_of}
 use Rattle.llb_work.proofs.WorkerTallies.{zeros, sum_more, rest_more}
 use Rattle.llb_work.proofs.ThreadLists.{keeps_next, keeps_same}
 use Rattle.llb_work.proofs.PassFractions.{pow_pos, joined_none, joined_more, joined_all, den_more}

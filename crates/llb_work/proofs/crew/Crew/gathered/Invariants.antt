@@ -1,7 +1,7 @@
 use Rattle.std.proofs.Common.{◌≡◌, ◌+◌, ◌*◌, ◌≤◌, ◌<◌, ◌^◌, ℕ, get_or, length}
 use Rattle.std.specs.Prelude.{sum}
 use Rattle.std.specs.Vec.Iter.{into_iter_len, into_iter_items}
-use Rattle.llb_ready.specs.Passes.{hand_of, IsReadyPassOf}
+use Rattle.llb_ready.specs.QueuePasses.{hand_of, IsReadyPassOf}
 use Rattle.llb_work.specs.Threads.{AllKeep}
 use Rattle.llb_work.proofs.crew.Crew.gathered.Given as goal
 
