@@ -1,11 +1,14 @@
-//! Tests the texts that faults print. In a refusal of the program, the word `fault` is before such a text. The faults of
-//! records and messages, the loader's other refusals, each feature and each rule are tested elsewhere: in the module `loader`, and by whole commands
-//! in the files of `tests/definitions`, `tests/executions` and `tests/caches`.
+//! Tests the texts of faults that the program does not print, or not so. In a refusal of the program, the word `fault` is before such a text. All other faults
+//! are tested elsewhere: in the module `loader`, and by commands and sessions in the repository's folder `tests`.
 
+use super::graphs::IN_A_ROW;
 use super::printed::prints;
+use super::written::graph_from;
 use llb_applet::ScriptFault;
+use llb_board::{ClaimFault, OpenFault, StepFault};
+use llb_cache::Caches;
 use llb_glob::PatternFault;
-use llb_loader::LoadFault;
+use llb_loader::{Graph, LoadFault, Locals};
 use llb_ops::OpFault;
 use llb_tree::TreeFault;
 use llb_wire::{Memory, Text};
@@ -62,4 +65,17 @@ fn faults_of_scripts(rt: HostRuntime) {
     prints(&rt, alloc, &ScriptFault::ShellSyntax(12), "73 12");
     prints(&rt, alloc, &ScriptFault::Memory, "74");
     prints(&rt, alloc, &llb_applet::Memory, "75");
+}
+
+fn opening_fault(alloc: Global, graph: Graph) -> OpenFault {
+    OpenFault::Memory(graph, Locals::new(alloc), Caches::new(alloc))
+}
+
+#[test]
+fn want_of_memory_prints_the_number_of_its_call(rt: HostRuntime) {
+    let alloc = rt.alloc();
+    prints(&rt, alloc, &ClaimFault::Memory, "141");
+    prints(&rt, alloc, &StepFault::Memory, "141");
+    let fault = opening_fault(alloc, graph_from(&rt, alloc, IN_A_ROW));
+    prints(&rt, alloc, &fault, "123");
 }

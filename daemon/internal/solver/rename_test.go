@@ -14,7 +14,7 @@ import (
 )
 
 // The tests of the proved library, which have definitions before and after their local sources were renamed.
-const stories = "../../../crates/llb_stories/src/sharing.rt"
+const stories = "../../../crates/llb_examples/src/two_definitions.rt"
 
 // definitionIn returns the definition that a constant of the stories has as hexadecimal digits.
 func definitionIn(t *testing.T, text, name string) *pb.Definition {

@@ -55,7 +55,7 @@ from llbm_tools.repository import minutes
 PROGRAMS = [ROOT / "crates" / "llbm" / "out" / name for name in ("llbm", "llbm.by-rattle")]
 PAGES = ("README.md", "docs/ARCHITECTURE.md", "docs/BUILDKIT.md", "docs/FORMATS.md", "docs/TOOLS.md")
 TRANSCRIPTS = ("tests", "examples/README.md", "examples/from-buildkit/README.md")
-TESTED = ("llb_refusals", "llb_stories", "llb_examples", "llbm")
+TESTED = ("llb_refusals", "llb_examples", "llbm")
 # Tests that need more than the 60 seconds that `rt try` gives each.
 TOO_LONG = {"chain::a_chain_of_65535_vertices_is_evaluated_run_and_walked"}
 MINUTE = 60
@@ -96,7 +96,7 @@ LEFT_OUT = ("rt ci", "tools/refuse", "tools/library", "tools/bindings")
 NOT_DONE = (
     "not done: proofs, wrong bodies and the second compiler's program (rt ci), refused memory (tools/refuse), "
     "the static library and its bindings (tools/library, tools/bindings), "
-    "and the test of 65,535 vertices (llb_stories), if it did not end in 60 seconds"
+    "and the test of 65,535 vertices (llb_examples), if it did not end in 60 seconds"
 )
 
 

@@ -34,7 +34,7 @@ from llbm_tools.compiling.library import kit, libraries_of
 from llbm_tools.paths import ROOT, TOOLS
 from llbm_tools.streams import Refused, exit_status
 
-OF_TESTS = ("llb_samples", "llb_examples", "llb_stories", "llb_refusals", "llbm")
+OF_TESTS = ("llb_samples", "llb_examples", "llb_refusals", "llbm")
 PARTS = ("src", "specs", "proofs")
 KEPT = pathlib.Path("out", "plants")
 COUNTS = re.compile(r"^plants crate=\w+ (.*)$", re.M)

@@ -24,7 +24,7 @@ from llbm_tools.common import check_open
 from llbm_tools.paths import ROOT
 from llbm_tools.streams import exit_status
 
-OUTSIDE = {"llb_samples", "llb_examples", "llb_stories", "llb_refusals"}
+OUTSIDE = {"llb_samples", "llb_examples", "llb_refusals"}
 # The calls that need no clause, each with the reason.
 WITHOUT = {"Many::allocator": "contracts see a list by its items alone, and not where its memory comes from"}
 COLUMNS = 156

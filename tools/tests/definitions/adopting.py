@@ -297,7 +297,7 @@ class Adopt(Folder):
         self.check_adopted(given, wanted, changes, sources=lines)
 
     def test_a_renamed_source_is_that_of_the_stories(self):
-        text = (paths.ROOT / "crates" / "llb_stories" / "src" / "sharing.rt").read_text("utf-8")
+        text = (paths.ROOT / "crates" / "llb_examples" / "src" / "two_definitions.rt").read_text("utf-8")
         given, wanted = (definition_in(text, name) for name in ("BEFORE_RENAMING", "RENAMED_BY_ADOPT"))
         changes = ["entry 0: source local://a=b is local://a-b"]
         changes += [f"entry {row}: its inputs have new digests" for row in (2, 3)]

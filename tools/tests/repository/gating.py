@@ -121,7 +121,7 @@ class Gate(base.WithPrograms):
         self.assertEqual(one, gate.tool("unproved-program"))
         self.assertEqual({tuple(part.command) for part in others}, {("rt", "try", "--test")})
         crates = [part.folder.name for part in others]
-        self.assertEqual(sorted(crates), ["llb_examples", "llb_refusals", "llb_stories", "llbm"])
+        self.assertEqual(sorted(crates), ["llb_examples", "llb_refusals", "llbm"])
         self.assertTrue(all(part.folder.is_dir() for part in others))
 
     def test_parts_that_run_together_are_all_counted(self):

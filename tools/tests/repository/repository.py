@@ -314,7 +314,7 @@ class Callers(unittest.TestCase):
 
     def test_every_caller_is_in_the_sources(self):
         page = (ROOT / "docs" / "CALLING.md").read_text("utf-8").partition("## Callers of single crates")[2]
-        source = (CRATES / "llb_stories" / "src" / "calling.rt").read_text("utf-8").split("\n")
+        source = (CRATES / "llb_examples" / "src" / "calling.rt").read_text("utf-8").split("\n")
         for line in page.split("\n"):
             if line.startswith("    "):
                 self.assertIn(line[4:], source)

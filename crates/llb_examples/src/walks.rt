@@ -3,8 +3,9 @@
 ghost use Rattle.std.specs.Prelude.{◌≡◌};
 
 use super::calls::{are_done, are_same, breaks_at, copy_of, goes_back, is_event_done, replayed};
-use super::checks::{is_answered, is_so, row_holds};
+use super::checks::is_answered;
 use super::graphs::{FAILS_FIRST, IN_A_ROW, TWO_FILES, WRITES_AND_FAILS};
+use super::printed::{is_so, row_holds};
 use super::written::board_of;
 use llb_board::{Board, Event, Status, WorkerStatus};
 use llb_stepper::{Break, Stepper, Stop};

@@ -1,7 +1,7 @@
 //! Tries all orders in which two workers can do their events.
 
-use super::checks::is_so;
 use super::graphs::TWO_FILES;
+use super::printed::is_so;
 use super::sessions::{is_transcript, looking};
 use super::written::board_of;
 use llb_board::Event;

@@ -1,7 +1,8 @@
 //! Tests of boards on tokens. Each row has the entries of a definition, local trees with tokens, the local trees for which they stand, the list of contents,
 //! and whether the first stand for the others. If they do, the run on the tokens is done to its end, and its result is in the row too.
 
-use super::checks::{row_holds, say_tree};
+use super::checks::say_tree;
+use super::printed::row_holds;
 use super::walks::finish;
 use super::written::{graph_from, locals_of};
 use llb_board::Board;

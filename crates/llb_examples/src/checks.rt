@@ -6,6 +6,7 @@
 
 use super::calls::{event_in, is_event_done};
 use super::instances::{K_LOCKED, K_PRIVATE, K_SEEDED, K_SHARED};
+use super::printed::say;
 use super::sessions::wanted;
 use super::written::{CacheRow, key_of};
 use llb_board::laws::headline;
@@ -13,12 +14,7 @@ use llb_board::{Board, Event, Job, WorkerStatus};
 use llb_samples::text_of_tree;
 use llb_tree::Tree;
 use std::alloc::Global;
-use std::fmt::Display;
 use std::process::Abort;
-
-fn say(rt: &impl Abort, text: &mut String, more: &str) {
-    text.push_str(more).expect(rt, "memory");
-}
 
 fn say_number(rt: &impl Abort, text: &mut String, number: u32) {
     write!(text, "{number}\n").expect(rt, "memory");
@@ -128,28 +124,6 @@ fn transcript(rt: &impl Abort, alloc: Global, board: &mut Board, story: &str) ->
         say_line(rt, &mut text, board, line.trim());
     }
     text
-}
-
-// Ends the test unless `holds` is true.
-pub(crate) fn is_so(rt: &impl Abort, holds: bool) {
-    assert!(rt; holds);
-}
-
-// Ends the test if `is_so` is false; the failure shows the number `row`.
-pub(crate) fn row_holds(rt: &impl Abort, row: usize, is_so: bool) {
-    assert!(rt; is_so, "row {row}");
-}
-
-// Ends the test if a text is not the expected one; the failure shows both texts.
-pub(crate) fn is_same(rt: &impl Abort, printed: &str, wanted: &str) {
-    assert_eq!(rt; printed, wanted);
-}
-
-// Ends the test if a fault does not print the text `wanted`.
-pub(crate) fn prints<E: Display>(rt: &impl Abort, alloc: Global, fault: &E, wanted: &str) {
-    let mut text = String::new(alloc);
-    write!(text, "{fault}").expect(rt, "memory");
-    is_same(rt, text.as_str(), wanted);
 }
 
 // Makes the calls of a story on a board. Returns whether each call has the result that the story has below it.

@@ -2,7 +2,8 @@
 //! entries of the definition. If the evaluation is refused, the line below has the refusal. Otherwise the lines below have, for each vertex, how the vertex
 //! ended and, if the vertex is done, the trees of its outputs.
 
-use super::checks::{is_so, prints, say_tree};
+use super::checks::say_tree;
+use super::printed::{is_so, prints};
 use super::sessions::{StoryKind, are_stories, wanted};
 use super::written::{graph_from, locals_of};
 use llb_contents::laws::contents_are_handed_on;

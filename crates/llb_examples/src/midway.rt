@@ -1,9 +1,9 @@
 //! Runs of boards on which workers already run vertices. Each worker first ends the vertex that it runs.
 
 use super::calls::is_event_done;
-use super::checks::{is_so, row_holds};
 use super::farm::{counts, have_one_tree};
 use super::gates::Open;
+use super::printed::{is_so, row_holds};
 use super::written::board_of;
 use llb_board::{Board, Event};
 use llb_work::{RunEnd, run_alone, run_workers};

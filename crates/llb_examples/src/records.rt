@@ -2,9 +2,9 @@
 //! order of the record's claims leaves the same trees.
 
 use super::calls::{are_same, is_event_done, replayed};
-use super::checks::row_holds;
 use super::farm::{have_one_tree, merge_on};
 use super::gates::Open;
+use super::printed::row_holds;
 use llb_board::{Board, Event, WorkerStatus};
 use llb_stepper::{Stepper, Stop};
 use llb_work::run_workers;

@@ -1,8 +1,8 @@
 //! Tests sessions: the bounds on a session's input, and that each line gets its reply before the next line is read. The stepper's board has one worker, and one
 //! vertex, which makes a file.
 
-use super::checks::{is_so, row_holds};
 use super::graphs::ONE_FILE;
+use super::printed::{is_so, row_holds};
 use super::sessions::{LIMIT, READS};
 use super::written::board_of;
 use llb_session::{Looks, Session, SessionFault, converse};

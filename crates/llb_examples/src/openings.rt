@@ -2,9 +2,10 @@
 //! board. That a local tree is missing is tested where the program prints the tree's name (`tests/sources`).
 
 use super::calls::{are_done, opened};
-use super::checks::{is_answered, is_so, row_holds};
+use super::checks::is_answered;
 use super::graphs::D_ON_SECOND;
 use super::instances::{K_LOCKED, K_SHARED};
+use super::printed::{is_so, row_holds};
 use super::written::{CacheRow, board_of, graph_from, needs_of};
 use llb_board::{Board, OpenFault};
 use llb_cache::{Caches, Many};

@@ -1,8 +1,9 @@
 //! Work on jobs away from the board: the outcome of the work, gates that stop the work, and the boards on which the outcome lands.
 
 use super::calls::{are_done, claimed, copy_of, landed, opened, say_events, worked, worked_out};
-use super::checks::{is_answered, is_same, is_so, row_holds};
+use super::checks::is_answered;
 use super::graphs::TWO_FILES;
+use super::printed::{is_same, is_so, row_holds};
 use super::written::{board_of, graph_from};
 use llb_board::{Board, Event, Gate, OpenFault, Outcome, Status, Stopped};
 use llb_cache::Caches;

@@ -1,6 +1,6 @@
 //! The callers that docs/CALLING.md shows, word for word, and a test of each.
 
-use super::checks::{is_same, is_so};
+use super::printed::{is_same, is_so};
 use super::written::{board_of, graph_from};
 use llb_asm::assemble;
 use llb_board::{Board, Gate, Settled, Stopped};

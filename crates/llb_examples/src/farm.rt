@@ -1,9 +1,10 @@
 //! Runs of many workers, each in a thread of its own. The workers take their vertices from one queue.
 
 use super::calls::{are_same, replayed};
-use super::checks::{is_answered, is_so, row_holds};
+use super::checks::is_answered;
 use super::gates::{Counting, Open};
 use super::graphs::TWO_FILES;
+use super::printed::{is_so, row_holds};
 use super::written::{board_from, board_of, push_entries};
 use llb_board::{Board, Gate, Stopped};
 use llb_stepper::Stepper;

@@ -6,7 +6,7 @@
 use super::checks::is_answered;
 use super::keeping::is_kept;
 use super::plain::are_outcomes;
-use super::sharing::{are_matchings, are_parts, are_renamings, are_shared};
+use super::two_definitions::{are_matchings, are_parts, are_renamings, are_shared};
 use super::written::board_in;
 use llb_session::{Looks, Session, converse};
 use llb_stepper::Stepper;

@@ -1,8 +1,8 @@
 //! Runs of two workers, each in a thread of its own, with a gate that holds a worker until the other worker has arrived.
 
 use super::calls::{breaks_at, goes_back, replayed};
-use super::checks::{is_so, row_holds};
 use super::graphs::TWO_FILES;
+use super::printed::{is_so, row_holds};
 use super::written::board_of;
 use llb_board::{Board, Event, Gate, Status, Stopped, WorkerStatus};
 use llb_stepper::{Break, Stepper, Stop};

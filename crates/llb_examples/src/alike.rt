@@ -1,8 +1,8 @@
 //! Tests which boards are equal by value. Boards with the same events are compared, boards that differ in one thing, and boards with their copies.
 
 use super::calls::{are_done, are_same, copy_of};
-use super::checks::row_holds;
 use super::graphs::{IN_A_ROW, TWO_FILES};
+use super::printed::row_holds;
 use super::written::board_of;
 use llb_board::Board;
 use std::alloc::Global;

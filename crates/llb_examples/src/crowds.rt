@@ -2,8 +2,8 @@
 //! some begin on a board that already has events.
 
 use super::calls::{are_same, is_event_done, replayed};
-use super::checks::row_holds;
 use super::farm::{counts, have_one_tree, push_merge};
+use super::printed::row_holds;
 use super::written::board_from;
 use llb_board::{Board, Event, Gate, Status, Stopped, WorkerStatus};
 use llb_stepper::Stepper;
