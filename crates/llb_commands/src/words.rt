@@ -67,6 +67,17 @@ impl fmt::Display for WordsFault<'_> {
     }
 }
 
+impl From<AllocError> for WordsFault<'_> {
+    ghost use Rattle.std.specs.Prelude.{◌≡◌};
+    ghost use Rattle.llb_commands.specs.declared.words.WordsFault.TheVariants.{Memory};
+
+    ghost from_gives = { λ _ e. e ≡ Memory };
+
+    fn from(_: AllocError) -> Self {
+        WordsFault::Memory
+    }
+}
+
 impl<T: Drop> From<AllocFailed<T>> for WordsFault<'_> {
     ghost use Rattle.std.specs.Prelude.{◌≡◌};
     ghost use Rattle.llb_commands.specs.declared.words.WordsFault.TheVariants.{Memory};
