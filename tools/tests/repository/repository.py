@@ -165,6 +165,15 @@ class Page(unittest.TestCase):
             wanted = [(one.name.split("::")[1], one.sentence) for one in declared]
             self.assertEqual([(name, row.sentence) for name, row in self.page.names[number].items()], wanted)
 
+    def test_each_fault_that_an_input_can_cause_is_in_a_transcript(self):
+        words = set()
+        for path in (ROOT / "tests").glob("**/*.md"):
+            printed = re.findall(r"^    (?:! )?(?:fault|failed) (.*)", path.read_text("utf-8"), re.MULTILINE)
+            words |= {word for line in printed for word in line.split()}
+        wanted = {number for number, cause in self.rows() if cause.status in "012" and "Memory" not in cause.name}
+        # Two entries with one digest, and an entry that names itself, need a collision of SHA-256.
+        self.assertEqual({number for number in wanted if str(number) not in words}, {84, 87})
+
     def test_the_failures_agree_with_the_code(self):
         forms = {one.name: one.forms[0] for one in self.declarations if one.owner == "VertexFault"}
         self.assertEqual([row.name for row in self.page.failures], list(forms))
