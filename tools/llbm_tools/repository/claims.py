@@ -85,7 +85,7 @@ def table_of(head: list[str], rows: list[list[str]]) -> list[str]:
 
 
 def reading(library: Library) -> list[str]:
-    """Returns the table of crates to read, with how many lines of each."""
+    """Returns the table of what to read: how many definitions, files and lines, and how many lines of each crate."""
     cones = {name: resting(library, name) for name in STATEMENTS}
     lines: dict[str, dict[str, int]] = {}
     for name, (definitions, _) in cones.items():
@@ -95,7 +95,8 @@ def reading(library: Library) -> list[str]:
     sums = [
         ["definitions", *(str(len(them)) for them, _ in cones.values())],
         ["files", *(str(len(counted(them))) for them, _ in cones.values())],
-        ["lines", *(str(sum(counted(them).values())) for them, _ in cones.values())],
+        ["lines of code", *(str(sum(len(it.lines) - it.comments() for it in them)) for them, _ in cones.values())],
+        ["lines of comments", *(str(sum(it.comments() for it in them)) for them, _ in cones.values())],
         ["types of `src/`", *(str(len(types)) for _, types in cones.values())],
     ]
     whole = sum(len(it.read_text("utf-8").splitlines()) for it in library.root.glob("crates/*/specs/**/*.antt"))

@@ -41,6 +41,10 @@ class Definition:
     def __eq__(self, other: object) -> bool:
         return hash(self) == hash(other)
 
+    def comments(self) -> int:
+        """Returns how many of the lines are comments."""
+        return sum(line.lstrip().startswith("--") for line in self.lines)
+
     def text(self) -> str:
         """Returns the lines without comments."""
         return "\n".join(line.split("-- ")[0] for line in self.lines if not line.lstrip().startswith("--"))
