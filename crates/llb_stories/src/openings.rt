@@ -8,7 +8,7 @@ use super::instances::{K_LOCKED, K_SHARED};
 use super::written::{CacheRow, board_of, graph_from, needs_of};
 use llb_board::{Board, OpenFault};
 use llb_cache::{Caches, Many};
-use llb_contents::names::caches_have_names;
+use llb_laws::names::caches_have_names;
 use llb_loader::Locals;
 use llb_samples::OLD_AND_F;
 use std::alloc::Global;

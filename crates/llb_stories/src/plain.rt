@@ -5,8 +5,8 @@
 use super::checks::{is_so, prints, say_tree};
 use super::sessions::{StoryKind, are_stories, wanted};
 use super::written::{graph_from, locals_of};
-use llb_contents::laws::contents_are_handed_on;
-use llb_contents::names::locals_have_names;
+use llb_laws::contents::contents_are_handed_on;
+use llb_laws::names::locals_have_names;
 use llb_loader::{Graph, Locals};
 use llb_plain::{Outcome, Outcomes, PlainFault, evaluate};
 use llb_samples::locals_named;
