@@ -1,6 +1,6 @@
 -- Trees that stand for others, entry by entry; and what local trees with tokens are to the laws.
 use Rattle.std.proofs.Common.{◌≡◌, ℕ, Bool, true, false, not, ◌↔◌, List, [], ◌∷◌, drop, get_or, Option, Some, None, refl, sym, ap, subst, ◌∙◌}
-use Rattle.std.specs.Prelude.{slice_get, unwrap_or, is_some, option_map, if◌then◌else◌}
+use Rattle.std.specs.Prelude.{slice_get, unwrap_or, is_some, option_map}
 use Rattle.std.specs.FinMap as finite
 use Rattle.llb_tree.specs.Path.{path_cmp}
 use Rattle.llb_tree.specs.Tree.{TreeMap, Entry, Dir, File}
