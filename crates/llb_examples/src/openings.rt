@@ -9,7 +9,7 @@ use super::printed::{is_so, row_holds};
 use super::written::{CacheRow, board_of, graph_from, needs_of};
 use llb_board::{Board, OpenFault};
 use llb_cache::{Caches, Many};
-use llb_contents::names::caches_have_names;
+use llb_laws::names::caches_have_names;
 use llb_loader::Locals;
 use llb_samples::OLD_AND_F;
 use std::alloc::Global;

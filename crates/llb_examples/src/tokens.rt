@@ -6,7 +6,7 @@ use super::printed::row_holds;
 use super::walks::finish;
 use super::written::{graph_from, locals_of};
 use llb_board::Board;
-use llb_contents::on_tokens::{have_tokens, open_on_tokens, stands_for_contents};
+use llb_laws::on_tokens::{have_tokens, open_on_tokens, stands_for_contents};
 use llb_wire::Bytes;
 use std::alloc::Global;
 use std::process::Abort;

@@ -5,8 +5,8 @@
 
 use super::sessions::{StoryKind, are_stories, wanted};
 use super::written::definition_from;
+use llb_laws::{load_both, load_matched, load_part, load_renamed};
 use llb_loader::{Graph, LoadFault, Vertex};
-use llb_sharing::{load_both, load_matched, load_part, load_renamed};
 use llb_wire::{Bytes, Text, read_hex};
 use std::alloc::Global;
 use std::process::Abort;

@@ -26,7 +26,7 @@ d 0755 0 0 /sub
 f 0644 0 0 6869 /sub/f
 ";
 
-// The trees of `EMPTY_AND_SUB`, but the content of `/sub/f` is a token, which the laws of `llb_contents` use in place of a content: the
+// The trees of `EMPTY_AND_SUB`, but the content of `/sub/f` is a token, which the laws of `llb_laws` use in place of a content: the
 // byte 255, and the number 1 in four bytes.
 const SUB_BY_A_TOKEN: &str = "== p
 d 0755 0 0 /

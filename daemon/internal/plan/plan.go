@@ -4,7 +4,7 @@
 // for a token. So the sources at or before an exec that calls `sha256` are given by value, and all sources where a mkfile
 // writes the byte 255. Execs that mount caches may see each other's contents without an edge between them: beside an exec
 // that calls `sha256` all of them are treated like it. This is the plan of tools/build (by_value.py); tests compare both with
-// the definition of the law. That it is enough is the law `boards_stand_for_contents` of crates/llb_contents.
+// the definition of the law. That it is enough is the law `boards_stand_for_contents` of crates/llb_laws.
 package plan
 
 import (

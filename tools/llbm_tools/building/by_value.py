@@ -4,7 +4,7 @@ The program hands contents on without looking at them, except for `sha256`, and 
 mistaken for a token. So the sources at or before an exec that calls `sha256` are given by value, and all sources where
 a mkfile writes the byte 255. Execs that mount caches may see each other's contents without an edge between them: if any
 exec calls `sha256`, the sources at or before each exec that mounts a cache are given by value too. That this is enough
-is the law `boards_stand_for_contents` of crates/llb_contents: its premises `IsByValue` and `WritesNoMarkAtAll` are the
+is the law `boards_stand_for_contents` of crates/llb_laws: its premises `IsByValue` and `WritesNoMarkAtAll` are the
 rule of this file (the words of commands, and the names that `listing` writes, are UTF-8, which never has the byte 255).
 """
 

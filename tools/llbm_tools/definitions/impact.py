@@ -24,7 +24,7 @@ each with its name and its place in its source after a tab, if NEW or OLD has th
 the same but for the digests of inputs, and their inputs match, one by one; two local sources, if their trees are the
 same, whatever their names are. So a source whose name changed is no change, if --before and --after have its tree under
 the old and the new name. A line of counts follows, with the number of vertices of OLD that NEW does not have, and a
-line for each of the words that occurs. The laws are those of the crate `llb_sharing`. Their premise, that no two
+line for each of the words that occurs. The laws are those of the crate `llb_laws`. Their premise, that no two
 unequal entries have one digest, is checked. With --json the output is one object: `vertices`, an array of objects with
 `number`, `kind`, `digest`, `name`, `impact` (the word), `old` (the vertex of OLD that matches or else has the digest,
 or null), `changed` (the changed sources at or before it) and `cached`; `result`, with `vertex`, `output`, `impact` (a

@@ -1,6 +1,6 @@
 """Finds for each vertex of a definition whether its outcome can differ from the one in an older definition.
 
-Both definitions have to be ones that the program accepts. The laws are those of the crate `llb_sharing`: vertices that
+Both definitions have to be ones that the program accepts. The laws are those of the crate `llb_laws`: vertices that
 do the same on inputs that match have one plain outcome, whatever their digests and the names of sources are, and an
 outcome depends on no other sources than those at or before the vertex. That no two unequal entries have one digest is
 checked here.

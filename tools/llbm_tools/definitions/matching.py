@@ -1,6 +1,6 @@
 """Finds vertices of two graphs that do the same on inputs that match, whatever their digests are.
 
-By the law `matched_vertices_end_alike` of the crate `llb_sharing`, such vertices have the same plain outcome. The name
+By the law `matched_vertices_end_alike` of the crate `llb_laws`, such vertices have the same plain outcome. The name
 of a local source does not matter, only its tree.
 """
 

@@ -1,6 +1,6 @@
 """Tests that the sources which `build` gives by value are those of the law, in all graphs of up to four vertices.
 
-`is_by_value` is the definition `IsByValue` of crates/llb_contents/specs/TokenRuns.antt, read word for word.
+`is_by_value` is the definition `IsByValue` of crates/llb_laws/specs/TokenRuns.antt, read word for word.
 """
 
 import itertools

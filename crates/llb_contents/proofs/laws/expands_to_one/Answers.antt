@@ -1,5 +1,0 @@
-use Rattle.llb_contents.proofs.Tokens.{expands_to_one}
-use Rattle.llb_contents.proofs.laws.expands_to_one.Goals as goal
-
-pub returns : goal.returns
-returns c = λ expand u w h k. expands_to_one expand c.args.tree.now u w h k

@@ -1,0 +1,73 @@
+//! Laws of digests and of contents: what no result depends on. Vertices with the same digest, or that do the same on equal inputs, have the same outcome, also
+//! in two graphs; so work that was done in one run can be used in another. And if the local trees of two runs differ only in the contents of files, and these
+//! contents are related by a relation that appending keeps, then the outcomes differ only in related contents. `tools/build` relies on the laws of contents: it
+//! gives the program a short token in place of each content. Besides the laws the crate has calls that test or prove their premises, and some functions that
+//! use them. The crate is built on `llb_stepper`, for the lines that are printed.
+//!
+//! Types: `KeptFault`, why `open_on_kept` opens no board. `specs/AlikeTrees.antt` has the relation on trees, views and outcomes, `specs/AlikeStates.antt` that
+//! on states and replies.
+//! Promise: `graphs::one_digest_one_outcome`: in two definitions in which entries with the same digest are equal, vertices with the same digest have the same
+//! plain outcome, if the sources at or before them have the same trees. `graphs::one_digest_one_job`: such vertices have the same job, except for the numbers
+//! of worker and vertex.
+//! `graphs::outcome_by_sources`: the outcome of a vertex depends only on the local trees of the sources at or before the vertex.
+//! `graphs::matched_vertices_end_alike`, `graphs::renamed_sources_end_alike` and `graphs::kept_results_stand_in`: vertices that do the same on inputs that
+//! match have the same plain outcome, whatever their digests are. `graphs::part_has_same_result` and `graphs::rewritten_has_same_result`: the same of whole
+//! definitions.
+//! `graphs::parts_are_not_refused`: a part of a loaded definition that has what its result reaches is refused for no cause. `load_renamed`: whether a
+//! definition is another one with local sources renamed. `load_matched`: which vertices of two definitions do the same on inputs that match, and that no more
+//! do. `open_on_kept`: a board that goes on from outputs of an earlier board, which local sources replace.
+//! `contents::contents_are_handed_on` (`tokens`, `contents`): if the sources have tokens in place of contents, the outcome of a vertex has tokens that expand
+//! to the contents that the outcome has if the sources have the contents themselves. The premises: at or before the vertex, no op writes the byte 255; the
+//! sources at or before each exec that makes a digest have no tokens; and the paths in sources consist of names, as they do in each tree of the code.
+//! `contents::boards_settle_alike`: the outputs of a vertex that two boards have settled differ only in related contents. `contents::records_are_handed_on` and
+//! `contents::boards_stand_for_contents`: the same of whole runs, caches included, for any order of events. `plan::by_value`, `marks::writes_no_mark` and
+//! `on_tokens::have_tokens` say exactly whether the premises on tokens hold, for a run without caches at the opening; `on_tokens::open_on_tokens` opens a board
+//! if they do, and `on_tokens::stands_for_contents` says it of a board on which anything has happened.
+//!
+//! A caller:
+//!
+//!     fn loader(alloc: Global, bytes: &[u8], other: &[u8]) -> Option<usize> {
+//!         let (first, second) = load_both(alloc, bytes, other).ok()?;
+//!         one_digest_one_outcome(bytes, &first, other, &second);
+//!         outcome_by_sources(&first);
+//!         Some(first.vertices().len())
+//!     }
+//!
+//!     fn runner(alloc: Global, graph: Graph, contents: &[Bytes], tokens: Locals, locals: &Locals) -> Option<Board> {
+//!         open_on_tokens(alloc, graph, contents, tokens, locals, 1).ok()?
+//!     }
+//!
+//!     fn opener(graph: &Graph, locals: &Locals, caches: &Caches) {
+//!         locals_have_names(graph, locals);
+//!         caches_have_names(caches);
+//!     }
+//!
+//!     fn reader(board: &Board, other: &Board) {
+//!         contents_are_handed_on(board.graph());
+//!         boards_settle_alike(board, other);
+//!         boards_stand_for_contents(board);
+//!     }
+#![tactic(auto)]
+
+mod comparing;
+pub mod contents;
+mod fault;
+pub mod graphs;
+mod keeping;
+mod loading;
+pub mod marks;
+mod matching;
+pub mod names;
+pub mod on_tokens;
+mod parts;
+mod plain;
+pub mod plan;
+mod renaming;
+mod spelling;
+
+pub use fault::KeptFault;
+pub use keeping::open_on_kept;
+pub use loading::load_both;
+pub use matching::load_matched;
+pub use parts::load_part;
+pub use renaming::load_renamed;

@@ -1,6 +1,0 @@
-use Rattle.std.proofs.Common.{ℕ, ◌<◌}
-use Rattle.llb_sharing.specs.MatchingMarks.{HaveOneMark, edge_at}
-use Rattle.llb_sharing.proofs.matching.is_like.Given as goal
-
-abbrev pub invariant-loop-i : goal.invariant-loop-i
-invariant-loop-i l = (k : ℕ) → k < l.i → HaveOneMark l.marks l.others (edge_at l.vertex k) (edge_at l.other k)

@@ -1,5 +1,0 @@
-use Rattle.llb_sharing.proofs.Marks.{MarkedTo}
-use Rattle.llb_sharing.proofs.matching.marks_of.Given as goal
-
-abbrev pub invariant-loop-v : goal.invariant-loop-v
-invariant-loop-v l = MarkedTo l.vertices l.v l.marks.items

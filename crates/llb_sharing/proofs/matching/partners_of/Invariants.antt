@@ -1,5 +1,0 @@
-use Rattle.llb_sharing.proofs.Marks.{PartneredTo}
-use Rattle.llb_sharing.proofs.matching.partners_of.Given as goal
-
-abbrev pub invariant-loop-w : goal.invariant-loop-w
-invariant-loop-w l = PartneredTo l.vertices l.marks l.others l.w l.partners.items
