@@ -72,17 +72,6 @@ pub(crate) fn are_done(board: &mut Board, events: &str) -> bool {
     true
 }
 
-// Does the events of a text, which are written as in a session. Appends a line for each event: `done`, or what the event's refusal prints.
-pub(crate) fn say_events(rt: &impl Abort, text: &mut String, board: &mut Board, events: &str) {
-    for line in events.lines() {
-        let event = event_in(line).expect(rt, "an event");
-        match board.walk(event) {
-            Ok(_) => text.push_str("done\n").expect(rt, "memory"),
-            Err(fault) => write!(text, "{fault}\n").expect(rt, "memory"),
-        }
-    }
-}
-
 pub(crate) fn are_same(one: &Board, other: &Board) -> bool {
     one.same(other)
 }
@@ -91,17 +80,8 @@ pub(crate) fn copy_of(board: &Board) -> Option<Board> {
     board.copy().ok()
 }
 
-pub(crate) fn claimed(board: &mut Board, w: u32, v: u32) -> Option<Job> {
+fn claimed(board: &mut Board, w: u32, v: u32) -> Option<Job> {
     board.claim(w, v).ok()
-}
-
-// Works on a job, with a gate that may stop the work. Returns the outcome, or the number of the fault.
-pub(crate) fn worked_out<G: Gate>(alloc: Global, job: Job, gate: &G) -> Result<Outcome, u32> {
-    match work(alloc, job, gate) {
-        Ok(outcome) => Ok(outcome),
-        Err(WorkFault::Stopped) => Err(143),
-        Err(WorkFault::Memory) => Err(142),
-    }
 }
 
 // Claims vertex `v` for worker `w`, and works on the job, with a gate that may stop the work. Returns the outcome, or the number of the fault: 0 if the claim
@@ -113,9 +93,13 @@ pub(crate) fn worked<G: Gate>(
     v: u32,
     gate: &G,
 ) -> Result<Outcome, u32> {
-    match claimed(board, w, v) {
-        Some(job) => worked_out(alloc, job, gate),
-        None => Err(0),
+    let Some(job) = claimed(board, w, v) else {
+        return Err(0);
+    };
+    match work(alloc, job, gate) {
+        Ok(outcome) => Ok(outcome),
+        Err(WorkFault::Stopped) => Err(143),
+        Err(WorkFault::Memory) => Err(142),
     }
 }
 

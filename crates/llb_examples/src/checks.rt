@@ -72,7 +72,7 @@ fn say_begun(rt: &impl Abort, text: &mut String, board: &mut Board, w: u32, v: u
     }
 }
 
-fn cache_of(mode: &str) -> CacheRow {
+fn cache_of(mode: &str) -> CacheRow<'static> {
     match mode {
         "shared" => K_SHARED,
         "private" => K_PRIVATE,

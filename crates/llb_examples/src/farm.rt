@@ -4,19 +4,17 @@ use super::calls::{are_same, replayed};
 use super::checks::is_answered;
 use super::gates::{Counting, Open};
 use super::graphs::TWO_FILES;
-use super::printed::{is_so, row_holds};
+use super::printed::is_so;
 use super::written::{board_from, board_of, push_entries};
 use llb_board::{Board, Gate, Stopped};
 use llb_stepper::Stepper;
 use llb_wire::Same;
-use llb_work::{RunEnd, run_alone, run_workers};
+use llb_work::{RunEnd, run_workers};
 use std::alloc::Global;
 use std::fmt::Write;
 use std::process::Abort;
-use std::sync::Wait;
 use std::sync::atomic::{AtomicU64, Ordering};
 use std::thread;
-use std::thread::Threads;
 
 // A gate that holds a worker at a vertex whose number is below `count` until `count` workers have arrived. The gate stops a worker that has yielded to other
 // threads 1,000,000 times while it waited.
@@ -126,31 +124,6 @@ pub(crate) fn have_one_tree(one: &Board, other: &Board, v: u32) -> bool {
     match (one.output(v, 0), other.output(v, 0)) {
         (Some(tree), Some(wanted)) => tree.same(wanted),
         _ => false,
-    }
-}
-
-// Runs two files and their merge by `workers` workers. Returns the number of events; `None` if the run fails, or if its result is not the same tree as on the
-// board `wanted`.
-fn made_by<R: Abort + Threads + Wait + Sync>(
-    rt: &R,
-    alloc: Global,
-    wanted: &Board,
-    workers: u32,
-) -> Option<u64> {
-    let board = board_of(rt, alloc, TWO_FILES, "", workers);
-    let end = run_workers(rt, alloc, board, &Open);
-    match counts(&end, 64) {
-        Some((all, _)) if have_one_tree(&end.board, wanted, 2) => Some(all),
-        _ => None,
-    }
-}
-
-#[test]
-fn any_number_of_workers_leaves_one_tree(rt: HostRuntime) {
-    let alone = run_alone(board_of(&rt, rt.alloc(), TWO_FILES, "", 1));
-    for workers in [1, 2, 3, 64] {
-        let made = made_by(&rt, rt.alloc(), &alone.board, workers);
-        row_holds(&rt, workers as usize, made == Some(10));
     }
 }
 

@@ -2,6 +2,7 @@
 
 use super::leases::{Row, key_of};
 use super::printed::{prints, row_holds};
+use super::written::DIGEST_OF_A;
 use llb_cache::{Key, KeyRef, LeaseFault, Memory, Mode};
 use std::alloc::Global;
 use std::process::Abort;
@@ -18,7 +19,7 @@ const S: Row<'static> = ("s", Mode::Shared, None, "");
 fn again(rt: &impl Abort, alloc: Global, row: &Row<'_>) -> Key {
     let (id, mode, index, _) = *row;
     let seed = match index {
-        Some(index) => Some(("sha256:00", index)),
+        Some(index) => Some((DIGEST_OF_A, index)),
         None => None,
     };
     let key = KeyRef::new(id, seed, mode);

@@ -1,28 +1,13 @@
 //! Work on jobs away from the board: the outcome of the work, gates that stop the work, and the boards on which the outcome lands.
 
-use super::calls::{are_done, claimed, copy_of, landed, opened, say_events, worked, worked_out};
-use super::checks::is_answered;
+use super::calls::{are_done, are_same, copy_of, landed, worked};
+use super::gates::Open;
 use super::graphs::TWO_FILES;
-use super::printed::{is_same, is_so, row_holds};
-use super::written::{board_of, graph_from};
-use llb_board::{Board, Event, Gate, OpenFault, Outcome, Status, Stopped};
-use llb_cache::Caches;
-use llb_loader::Locals;
+use super::printed::{is_so, row_holds};
+use super::written::board_of;
+use llb_board::{Board, Event, Gate, Outcome, Status, Stopped};
 use std::alloc::Global;
 use std::process::Abort;
-
-// A gate that stops no worker.
-struct Passes;
-
-impl Gate for Passes {
-    ghost use Rattle.std.specs.Prelude.{false};
-
-    ghost may_stop = { λ w v. false };
-
-    fn pass(&self, _: u32, _: u32) -> Result<(), Stopped> {
-        Ok(())
-    }
-}
 
 // A gate that stops every worker but worker 1.
 struct Stops;
@@ -85,7 +70,7 @@ const COUNTS: &[(&str, (u32, bool))] = &[
 #[test]
 fn an_outcome_counts_what_was_left_up_to_a_fault(rt: HostRuntime) {
     for (at, (definition, wanted)) in COUNTS.iter().enumerate() {
-        let counted = counted(&rt, rt.alloc(), definition, 0, &Passes);
+        let counted = counted(&rt, rt.alloc(), definition, 0, &Open);
         row_holds(&rt, at, counted == Ok(*wanted));
     }
 }
@@ -137,12 +122,16 @@ const LANDINGS: &[Landing] = &[
     (ON_A_SHARED_CACHE, ON_A_SHARED_CACHE, CLAIMED, 0, 140),
 ];
 
+// Lands the outcome of a row. Returns the number of the fault, or 0. Ends the test if the board has changed although the outcome does not land.
 fn brought(rt: &impl Abort, alloc: Global, row: &Landing) -> u32 {
-    let outcome = outcome_from(rt, alloc, row.0, 0, &Passes);
+    let outcome = outcome_from(rt, alloc, row.0, 0, &Open);
     let mut board = board_of(rt, alloc, row.1, "", 2);
     assert!(rt; are_done(&mut board, row.2));
     assert!(rt; board.has_shared(row.3) == (row.4 == 140));
-    landed(&mut board, row.3, outcome.ok().expect(rt, "an outcome"))
+    let before = copy_of(&board).expect(rt, "memory");
+    let fault = landed(&mut board, row.3, outcome.ok().expect(rt, "an outcome"));
+    assert!(rt; fault == 0 || are_same(&board, &before));
+    fault
 }
 
 #[test]
@@ -163,119 +152,10 @@ fn is_a_block(board: &mut Board, outcome: Outcome) -> [bool; 3] {
     ]
 }
 
-// Does a step on the vertex of an outcome. Returns whether the outcome then does not land, and whether the vertex's worker can still settle the vertex.
-fn is_late(board: &mut Board, outcome: Outcome) -> [bool; 3] {
-    let stepped = are_done(board, "step 0");
-    let refused = landed(board, 0, outcome) == 139;
-    let settled = are_done(board, "settle 0");
-    [stepped && settled, refused, board.events().len() == 3]
-}
-
 #[test]
 fn a_landing_is_the_steps_that_are_left_and_the_settle(rt: HostRuntime) {
     let mut board = board_of(&rt, rt.alloc(), TWO_FILES, "", 2);
-    let outcome = worked(rt.alloc(), &mut board, 0, 0, &Passes);
+    let outcome = worked(rt.alloc(), &mut board, 0, 0, &Open);
     let outcome = outcome.ok().expect(&rt, "an outcome");
     is_so(&rt, is_a_block(&mut board, outcome) == [true; 3]);
-}
-
-#[test]
-fn an_outcome_does_not_land_once_a_step_was_done(rt: HostRuntime) {
-    let mut board = board_of(&rt, rt.alloc(), TWO_FILES, "", 2);
-    let outcome = worked(rt.alloc(), &mut board, 0, 0, &Passes);
-    let outcome = outcome.ok().expect(&rt, "an outcome");
-    is_so(&rt, is_late(&mut board, outcome) == [true; 3]);
-}
-
-// Events, a line each as in a session, and the lines that `say_events` appends for them.
-type Expected = (&'static str, &'static str);
-
-const IDLE: Expected = (
-    "claim 5 0\nclaim 0 9\nclaim 0 2\nstep 0",
-    "131\n133\n134\n136\n",
-);
-
-const RUNNING: Expected = ("claim 0 1\nsettle 0", "132\n138\n");
-
-const STEPPED: Expected = ("step 0\nstep 0", "done\n137\n");
-
-const SETTLED: Expected = ("settle 0", "done\n");
-
-fn are_expected(rt: &impl Abort, alloc: Global, board: &mut Board, expected: Expected) {
-    let mut text = String::new(alloc);
-    say_events(rt, &mut text, board, expected.0);
-    is_same(rt, text.as_str(), expected.1);
-}
-
-// Returns whether a board with this number of workers can't be opened.
-fn are_refused(rt: &impl Abort, alloc: Global, workers: u32) -> bool {
-    let graph = graph_from(rt, alloc, TWO_FILES);
-    let board = opened(
-        rt,
-        alloc,
-        graph,
-        Locals::new(alloc),
-        Caches::new(alloc),
-        workers,
-    );
-    matches!(board, Err(OpenFault::Workers(..)))
-}
-
-// Returns whether no event was done on a board yet.
-fn is_opening(board: &Board) -> bool {
-    board.status(0) == Some(Status::Ready) && board.events().is_empty()
-}
-
-// Takes a board for two workers from its opening to its first settle, and makes on the way the calls that the board then refuses. A copy that is made before
-// the claim does not change. The outcome `other` is from a board on which the first vertex makes another file.
-#[test]
-fn a_vertex_is_claimed_worked_on_and_settled_with_each_refusal_on_the_way(rt: HostRuntime) {
-    let alloc = rt.alloc();
-    for workers in [0, 65] {
-        is_so(&rt, are_refused(&rt, alloc, workers));
-    }
-    let other = outcome_from(&rt, alloc, OTHER_FILES, 0, &Passes);
-    let other = other.ok().expect(&rt, "an outcome");
-    let mut board = board_of(&rt, alloc, TWO_FILES, "", 2);
-    are_expected(&rt, alloc, &mut board, IDLE);
-    let mut copy = copy_of(&board).expect(&rt, "memory");
-    let job = claimed(&mut board, 0, 0).expect(&rt, "a job");
-    are_expected(&rt, alloc, &mut board, RUNNING);
-    let outcome = worked_out(alloc, job, &Passes);
-    let outcome = outcome.ok().expect(&rt, "an outcome");
-    is_so(&rt, landed(&mut board, 0, other) == 139);
-    are_expected(&rt, alloc, &mut board, STEPPED);
-    is_so(&rt, landed(&mut board, 0, outcome) == 139);
-    are_expected(&rt, alloc, &mut board, SETTLED);
-    is_so(&rt, is_opening(&copy));
-    is_so(
-        &rt,
-        worked(alloc, &mut copy, 0, 0, &Stops).err() == Some(143),
-    );
-}
-
-// Worker 0 does a step and gives its vertex up, and worker 1 claims the vertex. The outcome of worker 0's job does not land for worker 1: the job was handed
-// out to worker 0, and the step has changed the cache.
-const GIVEN_UP: Expected = (
-    "step 0\ncancel 0\ncancel 0\ncancel 9\nclaim 1 0",
-    "done\ndone\n136\n131\ndone\n",
-);
-
-const BEGUN_ANEW: Expected = ("step 1\nstep 1\nsettle 1", "done\ndone\ndone\n");
-
-const WRITTEN: &str =
-    "> instance locked 0\nd 0755 0 0 /\nf 0644 0 0 610a610a620a /l\n> leases\n0\n";
-
-#[test]
-fn the_outcome_of_a_job_that_was_given_up_does_not_land(rt: HostRuntime) {
-    let alloc = rt.alloc();
-    let mut board = board_of(&rt, alloc, APPENDS, "", 2);
-    let job = claimed(&mut board, 0, 0).expect(&rt, "a job");
-    let outcome = worked_out(alloc, job, &Passes);
-    let outcome = outcome.ok().expect(&rt, "an outcome");
-    are_expected(&rt, alloc, &mut board, GIVEN_UP);
-    is_so(&rt, landed(&mut board, 1, outcome) == 139);
-    are_expected(&rt, alloc, &mut board, BEGUN_ANEW);
-    is_so(&rt, is_answered(&rt, alloc, &mut board, WRITTEN));
-    is_so(&rt, board.events().len() == 7);
 }

@@ -13,8 +13,9 @@
 
 use super::printed::{file, made, row_holds, say, say_fault, say_number};
 use super::trees::word_and_rest;
-use llb_cache::{Caches, Found, Growth, Key, Lease, LeaseFault, Many, Mode, Need, Seed};
-use llb_tree::{Path, Text, Tree};
+use super::written;
+use llb_cache::{Caches, Found, Growth, Key, Lease, LeaseFault, Many, Mode, Need};
+use llb_tree::{Path, Tree};
 use std::alloc::Global;
 use std::process::Abort;
 
@@ -56,19 +57,9 @@ fn marked(rt: &impl Abort, alloc: Global, name: &str) -> Tree {
     made(rt, alloc, &[file(name, "")])
 }
 
-fn seed_of(rt: &impl Abort, alloc: Global, index: u32) -> Seed {
-    let digest = Text::from_str(alloc, "sha256:00").expect(rt, "memory");
-    Seed { digest, index }
-}
-
 pub(crate) fn key_of(rt: &impl Abort, alloc: Global, row: &Row<'_>) -> Key {
     let (id, mode, index, _) = *row;
-    let id = Text::from_str(alloc, id).expect(rt, "memory");
-    let seed = match index {
-        Some(index) => Some(seed_of(rt, alloc, index)),
-        None => None,
-    };
-    Key { id, seed, mode }
+    written::key_of(rt, alloc, &(id, mode, index))
 }
 
 fn needs_of(rt: &impl Abort, alloc: Global, words: &str) -> Vec<Need> {

@@ -2,17 +2,11 @@
 //! is tested by whole commands (`tests/merges`).
 
 use super::overlay::lent;
-use super::printed::{Row, is_same, made, prints, tree_text};
+use super::printed::{is_same, prints, sample, tree_text};
 use llb_merge::{Memory, at_each_path, over_itself, over_the_empty_tree, under_the_empty_tree};
 use llb_tree::Tree;
 use std::alloc::Global;
 use std::process::Abort;
-
-const Q: &[Row<'static>] = &[("/p", 0o755, 0, 0, None), ("/p/q", 0o644, 0, 0, Some("1"))];
-
-const FILE: &[Row<'static>] = &[("/p", 0o644, 0, 0, Some("2"))];
-
-const R: &[Row<'static>] = &[("/p", 0o755, 0, 0, None), ("/p/r", 0o644, 0, 0, Some("3"))];
 
 fn laws(lower: &Tree, upper: &Tree) {
     at_each_path(lower, upper);
@@ -26,23 +20,22 @@ fn over(rt: &impl Abort, alloc: Global, lower: &Tree, upper: &Tree) -> Tree {
     lent(rt, alloc, lower, upper)
 }
 
-// Returns the tree `lower` with the tree of these rows laid over it.
-fn over_rows(rt: &impl Abort, alloc: Global, lower: &Tree, rows: &[Row<'_>]) -> Tree {
-    let upper = made(rt, alloc, rows);
-    over(rt, alloc, lower, &upper)
+// Returns the tree `lower` with the tree of this name laid over it.
+fn over_by(rt: &impl Abort, alloc: Global, lower: &Tree, name: &str) -> Tree {
+    over(rt, alloc, lower, &sample(rt, alloc, name))
 }
 
 // Lays the third tree over the second, and the result over the first. Returns the last result.
 fn upper_two_first(rt: &impl Abort, alloc: Global) -> Tree {
-    let second = made(rt, alloc, FILE);
-    let both = over_rows(rt, alloc, &second, R);
-    let first = made(rt, alloc, Q);
+    let second = sample(rt, alloc, "P");
+    let both = over_by(rt, alloc, &second, "PR");
+    let first = sample(rt, alloc, "PQ");
     over(rt, alloc, &first, &both)
 }
 
 fn lower_two_first(rt: &impl Abort, alloc: Global) -> Tree {
-    let first = made(rt, alloc, Q);
-    over_rows(rt, alloc, &over_rows(rt, alloc, &first, FILE), R)
+    let first = sample(rt, alloc, "PQ");
+    over_by(rt, alloc, &over_by(rt, alloc, &first, "P"), "PR")
 }
 
 #[test]

@@ -1,22 +1,11 @@
 //! Tests the nodes of a tree, walks through a tree, and how many names a path may have so that a given tree fits below the
 //! path.
 
-use super::printed::{Row, is_same, made, row_holds, say, say_node, say_path, say_tree};
+use super::printed::{is_same, row_holds, sample, say, say_node, say_path, say_tree};
 use super::tree::{deep_tree, path_with};
 use llb_tree::{Node, Path, Tree, TreeFault, Walk};
 use std::alloc::Global;
 use std::process::Abort;
-
-const NESTED: &[Row<'static>] = &[
-    ("/a", 0o700, 1, 1, None),
-    ("/a/b", 0o644, 2, 2, Some("x")),
-    ("/a-", 0o755, 3, 3, None),
-    ("/a-/c", 0o711, 0, 0, None),
-    ("/a-/c/d", 0o600, 0, 0, Some("y")),
-    ("/b", 0o644, 0, 0, Some("z")),
-];
-
-const TWO: &[Row<'static>] = &[("/e", 0o755, 0, 0, None), ("/f", 0o644, 0, 0, Some("x"))];
 
 // Returns the text of a path with one more name.
 fn path_below(rt: &impl Abort, alloc: Global, names: &str, name: &str) -> String {
@@ -57,10 +46,10 @@ fn say_nodes(rt: &impl Abort, alloc: Global, text: &mut String, root: &Node) {
     }
 }
 
-// Returns the entries of a tree as text: first as the tree's nodes have them and, after a bar, as a walk through the tree
+// Returns the entries of the tree with this name as text: first as the tree's nodes have them and, after a bar, as a walk through the tree
 // returns them.
-fn printed(rt: &impl Abort, alloc: Global, rows: &[Row<'_>]) -> String {
-    let tree = made(rt, alloc, rows);
+fn printed(rt: &impl Abort, alloc: Global, name: &str) -> String {
+    let tree = sample(rt, alloc, name);
     let mut text = String::new(alloc);
     say_nodes(rt, alloc, &mut text, tree.root());
     say(rt, &mut text, "|");
@@ -68,12 +57,12 @@ fn printed(rt: &impl Abort, alloc: Global, rows: &[Row<'_>]) -> String {
     text
 }
 
-// Trees, and what `printed` returns for them.
-const TOLD: &[(&[Row<'static>], &str)] = &[
-    (&[], " d| d"),
-    (TWO, " d d/e f/f=x| d d/e f/f=x"),
+// Names of trees, and what `printed` returns for them.
+const TOLD: &[(&str, &str)] = &[
+    ("EMPTY", " d| d"),
+    ("TWO", " d d/e f/f=x| d d/e f/f=x"),
     (
-        NESTED,
+        "NESTED",
         " d d/a(700 1:1) f/a/b(644 2:2)=x d/a-(755 3:3) d/a-/c(711 0:0) f/a-/c/d(600 0:0)=y f/b=z|\
         \x20d d/a(700 1:1) f/a/b(644 2:2)=x d/a-(755 3:3) d/a-/c(711 0:0) f/a-/c/d(600 0:0)=y f/b=z",
     ),
@@ -81,8 +70,8 @@ const TOLD: &[(&[Row<'static>], &str)] = &[
 
 #[test]
 fn nodes_and_a_walk_tell_the_same_entries(rt: HostRuntime) {
-    for (rows, wanted) in TOLD {
-        is_same(&rt, printed(&rt, rt.alloc(), rows).as_str(), wanted);
+    for (name, wanted) in TOLD {
+        is_same(&rt, printed(&rt, rt.alloc(), name).as_str(), wanted);
     }
 }
 
@@ -104,9 +93,9 @@ fn go(rt: &impl Abort, walk: &mut Walk<'_>, step: char) {
 }
 
 // Returns the paths at which a walk is: at its beginning, and after each step.
-fn walked(rt: &impl Abort, alloc: Global, rows: &[Row<'_>], steps: &str) -> String {
+fn walked(rt: &impl Abort, alloc: Global, name: &str, steps: &str) -> String {
     let mut text = String::new(alloc);
-    let tree = made(rt, alloc, rows);
+    let tree = sample(rt, alloc, name);
     let mut walk = tree.walk();
     say_place(rt, &mut text, &walk);
     for step in steps.chars() {
@@ -116,27 +105,27 @@ fn walked(rt: &impl Abort, alloc: Global, rows: &[Row<'_>], steps: &str) -> Stri
     text
 }
 
-// Trees, the steps of a walk, and the paths at which the walk is, at its beginning and after each step.
-const WALKED: &[(&[Row<'static>], &str, &str)] = &[
-    (&[], "aa", "|end|end|"),
-    (&[], "ss", "|end|end|"),
-    (TWO, "aaa", "|/e|/f|end|"),
-    (TWO, "asssa", "|/e|/f|end|end|end|"),
+// Names of trees, the steps of a walk, and the paths at which the walk is, at its beginning and after each step.
+const WALKED: &[(&str, &str, &str)] = &[
+    ("EMPTY", "aa", "|end|end|"),
+    ("EMPTY", "ss", "|end|end|"),
+    ("TWO", "aaa", "|/e|/f|end|"),
+    ("TWO", "asssa", "|/e|/f|end|end|end|"),
     (
-        NESTED,
+        "NESTED",
         "aaaaaaaas",
         "|/a|/a/b|/a-|/a-/c|/a-/c/d|/b|end|end|end|",
     ),
-    (NESTED, "sas", "|end|end|end|"),
-    (NESTED, "asss", "|/a|/a-|/b|end|"),
-    (NESTED, "aasas", "|/a|/a/b|/a-|/a-/c|/b|"),
-    (NESTED, "aaaaasa", "|/a|/a/b|/a-|/a-/c|/a-/c/d|/b|end|"),
+    ("NESTED", "sas", "|end|end|end|"),
+    ("NESTED", "asss", "|/a|/a-|/b|end|"),
+    ("NESTED", "aasas", "|/a|/a/b|/a-|/a-/c|/b|"),
+    ("NESTED", "aaaaasa", "|/a|/a/b|/a-|/a-/c|/a-/c/d|/b|end|"),
 ];
 
 #[test]
 fn a_walk_goes_on_and_skips_and_stays_at_its_end(rt: HostRuntime) {
-    for (rows, steps, wanted) in WALKED {
-        is_same(&rt, walked(&rt, rt.alloc(), rows, steps).as_str(), wanted);
+    for (name, steps, wanted) in WALKED {
+        is_same(&rt, walked(&rt, rt.alloc(), name, steps).as_str(), wanted);
     }
 }
 

@@ -86,7 +86,7 @@ fn left(rt: &impl Abort, alloc: Global, definition: &str, events: &str) -> Cache
 }
 
 // Returns caches with an empty instance of each key, in the order of the rows.
-fn in_order(rt: &impl Abort, alloc: Global, rows: &[CacheRow]) -> Caches {
+fn in_order(rt: &impl Abort, alloc: Global, rows: &[CacheRow<'_>]) -> Caches {
     let needs = needs_of(rt, alloc, rows);
     let mut caches = Caches::new(alloc);
     if caches.can_lease(&needs) {

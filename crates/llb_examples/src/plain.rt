@@ -52,7 +52,7 @@ const EVALUATED: &str = "
     d 0755 0 0 /sub
     f 0644 0 0 6869 /sub/f
 
-    # A token in the place of a content comes out in its places.
+    # An exec gives the whole trees of its mounts, and a token in the place of a content comes out in its places.
     @ SUB_BY_A_TOKEN: SOURCE_P; SOURCE_Q; COPIES_BY_A_TMPFS; RESULT_2
     0 done
     d 0755 0 0 /
@@ -66,22 +66,6 @@ const EVALUATED: &str = "
     d 0755 0 0 /
     d 0755 0 0 /sub
     f 0644 0 0 ff00000001 /sub/f
-    f 0644 0 0 6b0a /sub/g
-
-    # An exec gives the whole trees of its mounts.
-    @ EMPTY_AND_SUB: SOURCE_P; SOURCE_Q; COPIES_BY_A_TMPFS; RESULT_2
-    0 done
-    d 0755 0 0 /
-    1 done
-    d 0755 0 0 /
-    d 0755 0 0 /sub
-    f 0644 0 0 6869 /sub/f
-    2 done
-    d 0755 0 0 /
-    f 0644 0 0 6869 /y
-    d 0755 0 0 /
-    d 0755 0 0 /sub
-    f 0644 0 0 6869 /sub/f
     f 0644 0 0 6b0a /sub/g
 
     # Outputs of mounts come in the order of their numbers.
@@ -105,14 +89,6 @@ const EVALUATED: &str = "
     0 done
     d 0755 0 0 /
     f 0644 0 0 610a /x
-    @ NONE: sh: true || write /x a && write /y b; RESULT_0
-    0 done
-    d 0755 0 0 /
-    f 0644 0 0 620a /y
-    @ NONE: sh: false && true && true; RESULT_0
-    0 failed command 0 status 1
-    @ NONE: sh: true \\x3b false; RESULT_0
-    0 failed command 1 status 1
     @ NONE: sh: false || false && true; RESULT_0
     0 failed command 1 status 1
 

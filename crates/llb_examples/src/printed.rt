@@ -1,7 +1,7 @@
-//! Makes trees from rows, and writes a tree on one line. An entry is written as `d` or `f` and its path, and for a file `=` and the content. After the path
-//! the mode and the owner follow in parentheses, if they are not those of a new entry.
+//! Makes trees from rows or by their names, and writes a tree on one line. An entry is written as `d` or `f` and its path, and for a file `=` and the content.
+//! After the path the mode and the owner follow in parentheses, if they are not those of a new entry.
 
-use llb_samples::push_path;
+use llb_samples::{push_path, tree_named};
 use llb_tree::{Bytes, Entry, Meta, Name, Node, Path, Tree, TreeFault};
 use std::alloc::Global;
 use std::fmt::Display;
@@ -45,6 +45,12 @@ pub(crate) fn tree_of(alloc: Global, rows: &[Row<'_>]) -> Result<Tree, TreeFault
 // Returns the tree of these rows, which are in path order.
 pub(crate) fn made(rt: &impl Abort, alloc: Global, rows: &[Row<'_>]) -> Tree {
     tree_of(alloc, rows).expect(rt, "memory")
+}
+
+// Returns the tree with this name in `llb_samples`, or the empty tree if the name is empty.
+pub(crate) fn sample(rt: &impl Abort, alloc: Global, name: &str) -> Tree {
+    let name = if name.is_empty() { "EMPTY" } else { name };
+    tree_named(alloc, name).expect(rt, "a tree")
 }
 
 // Ends the test if a text is not the expected one; the failure shows both texts.

@@ -1,27 +1,17 @@
 //! Trees that share memory: an edit of one tree, done or refused, does not change the other tree.
 
-use super::printed::{Row, is_so, tree_of};
+use super::printed::is_so;
 use super::stage::are_transcripts;
 use super::trees::edit;
-use llb_tree::TreeFault;
+use llb_samples::tree_named;
+use llb_tree::{Tree, TreeFault};
 use llb_wire::Same;
 use std::alloc::Global;
 
-const SHARED: &[Row<'_>] = &[
-    ("/a", 0o755, 0, 0, None),
-    ("/a/b", 0o644, 0, 0, Some("x")),
-    ("/a/c", 0o755, 0, 0, None),
-    ("/a/c/d", 0o644, 0, 0, Some("y")),
-];
-
-// Each story begins with the same tree, and makes a second tree that shares memory with the first.
+// Each story makes a second tree that shares memory with the first.
 const TAKEN_IS_EDITED: &str = "
     # A file of a copy is replaced and a directory goes.
-    > new
-    > dir /a 755 0:0
-    > file /a/b 644 0:0 x
-    > dir /a/c 755 0:0
-    > file /a/c/d 644 0:0 y
+    > new SHARED
     > copy
     > swap
     > file /a/b 600 0:0 new
@@ -34,11 +24,7 @@ const TAKEN_IS_EDITED: &str = "
     d d/a f/a/b(600 0:0)=new
 
     # What was grafted in a copy is edited there.
-    > new
-    > dir /a 755 0:0
-    > file /a/b 644 0:0 x
-    > dir /a/c 755 0:0
-    > file /a/c/d 644 0:0 y
+    > new SHARED
     > copy
     > swap
     > graft /a /z
@@ -52,11 +38,7 @@ const TAKEN_IS_EDITED: &str = "
     d d/a f/a/b=x d/z f/z/b(600 0:0)=new d/z/c f/z/c/d=y
 
     # A subtree is edited.
-    > new
-    > dir /a 755 0:0
-    > file /a/b 644 0:0 x
-    > dir /a/c 755 0:0
-    > file /a/c/d 644 0:0 y
+    > new SHARED
     > subtree /a
     > swap
     > file /b 600 0:0 new
@@ -70,11 +52,7 @@ const TAKEN_IS_EDITED: &str = "
     d(700 3:3) f/b(600 0:0)=new d/c
 
     # What holds a graft of the whole is edited.
-    > new
-    > dir /a 755 0:0
-    > file /a/b 644 0:0 x
-    > dir /a/c 755 0:0
-    > file /a/c/d 644 0:0 y
+    > new SHARED
     > below /z
     > swap
     > file /z/a/c/d 600 0:0 new
@@ -89,11 +67,7 @@ const TAKEN_IS_EDITED: &str = "
 
 const TREE_IS_EDITED: &str = "
     # A directory of the tree goes, and its copy stays.
-    > new
-    > dir /a 755 0:0
-    > file /a/b 644 0:0 x
-    > dir /a/c 755 0:0
-    > file /a/c/d 644 0:0 y
+    > new SHARED
     > copy
     > remove /a
     > tree
@@ -103,11 +77,7 @@ const TREE_IS_EDITED: &str = "
     d d/a f/a/b=x d/a/c f/a/c/d=y
 
     # Entries of the tree are replaced, and its copy stays.
-    > new
-    > dir /a 755 0:0
-    > file /a/b 644 0:0 x
-    > dir /a/c 755 0:0
-    > file /a/c/d 644 0:0 y
+    > new SHARED
     > copy
     > file /a/b 600 7:8 new
     > dir /a 0 7:8
@@ -118,11 +88,7 @@ const TREE_IS_EDITED: &str = "
     d d/a f/a/b=x d/a/c f/a/c/d=y
 
     # The tree is edited, and its subtree stays.
-    > new
-    > dir /a 755 0:0
-    > file /a/b 644 0:0 x
-    > dir /a/c 755 0:0
-    > file /a/c/d 644 0:0 y
+    > new SHARED
     > subtree /a
     > remove /a/c
     > file /a/b 600 0:0 new
@@ -155,11 +121,7 @@ const TREE_IS_EDITED: &str = "
     d d/a f/a/b=y f/c(600 1:2)=x
 
     # The tree is edited, and what holds a graft of it stays.
-    > new
-    > dir /a 755 0:0
-    > file /a/b 644 0:0 x
-    > dir /a/c 755 0:0
-    > file /a/c/d 644 0:0 y
+    > new SHARED
     > below /z
     > remove /a/c/d
     > dir /a 700 0:0
@@ -180,11 +142,15 @@ fn the_tree_is_edited_and_what_was_taken_stays(rt: HostRuntime) {
     are_transcripts(&rt, rt.alloc(), TREE_IS_EDITED);
 }
 
+fn shared(alloc: Global) -> Result<Tree, TreeFault> {
+    tree_named(alloc, "SHARED").ok_or(TreeFault::Memory)
+}
+
 // Copies a tree, and edits the tree. Returns whether the copy equals the tree before the edit, and is unchanged by the edit;
 // and whether the edit changes the tree or, if memory is refused to the edit, leaves the tree unchanged.
 fn is_whole(alloc: Global, call: &str) -> Result<bool, TreeFault> {
-    let fresh = tree_of(alloc, SHARED)?;
-    let mut tree = tree_of(alloc, SHARED)?;
+    let fresh = shared(alloc)?;
+    let mut tree = shared(alloc)?;
     let copied = tree.copy()?;
     let is_same = tree.same(&copied);
     let kept = match edit(alloc, &mut tree, call) {

@@ -1,16 +1,19 @@
 //! Transcripts of calls of libraries. A line that begins with `> ` is a call, and the lines below it are the call's result or fault; a line that begins with
-//! `# ` describes the calls below it. The calls work on two trees (module `trees`), which are empty after the call `new`.
+//! `# ` describes the calls below it. The calls work on two trees (module `trees`), which are empty after the call `new`. After
+//! `new NAME` this tree, and after `new NAME OTHER` also the other tree, is the one with this name in `llb_samples`.
 
-use super::printed::{is_same, is_so, say, say_fault};
-use super::trees::{Trees, answer};
-use llb_tree::Tree;
+use super::printed::{is_same, is_so, sample, say, say_fault};
+use super::trees::{Trees, answer, word_and_rest};
 use std::alloc::Global;
 use std::process::Abort;
 
-fn empty_trees(rt: &impl Abort, alloc: Global) -> Trees {
-    let this = Tree::empty(alloc).expect(rt, "memory");
-    let other = Tree::empty(alloc).expect(rt, "memory");
-    Trees { this, other }
+// Returns the trees with the names that a text has, with a space between them.
+fn trees_of(rt: &impl Abort, alloc: Global, names: &str) -> Trees {
+    let (this, other) = word_and_rest(names);
+    Trees {
+        this: sample(rt, alloc, this),
+        other: sample(rt, alloc, other),
+    }
 }
 
 fn say_on_trees(rt: &impl Abort, alloc: Global, text: &mut String, trees: &mut Trees, call: &str) {
@@ -20,10 +23,9 @@ fn say_on_trees(rt: &impl Abort, alloc: Global, text: &mut String, trees: &mut T
 }
 
 fn say_call(rt: &impl Abort, alloc: Global, text: &mut String, trees: &mut Trees, call: &str) {
-    if call == "new" {
-        *trees = empty_trees(rt, alloc);
-    } else {
-        say_on_trees(rt, alloc, text, trees, call);
+    match word_and_rest(call) {
+        ("new", names) => *trees = trees_of(rt, alloc, names),
+        _ => say_on_trees(rt, alloc, text, trees, call),
     }
 }
 
@@ -38,7 +40,7 @@ fn say_line(rt: &impl Abort, alloc: Global, text: &mut String, trees: &mut Trees
 
 fn transcript(rt: &impl Abort, alloc: Global, story: &str) -> String {
     let mut text = String::new(alloc);
-    let mut trees = empty_trees(rt, alloc);
+    let mut trees = trees_of(rt, alloc, "");
     for line in story.lines() {
         say_line(rt, alloc, &mut text, &mut trees, line.trim());
     }

@@ -262,16 +262,8 @@ const STORIES: &str = "
 
     # A tree is put elsewhere and goes.
     > new
-    > file /a/b 644 0:0
-    21
     > dir /a 755 0:0
     > file /a/b 644 0:0
-    > file /a 644 0:0
-    23
-    > dir /a/b 755 0:0
-    24
-    > file /a/b/c 644 0:0
-    22
     > remove /
     25
     > graft /a /z

@@ -1,14 +1,13 @@
-//! Runs that go to their ends and are then taken back event by event, until the board is as before the run; and records that are replayed.
+//! Runs that go to their ends and are then taken back event by event, until the board is as before the run.
 
 ghost use Rattle.std.specs.Prelude.{◌≡◌};
 
-use super::calls::{are_done, are_same, breaks_at, copy_of, goes_back, is_event_done, replayed};
+use super::calls::{are_done, are_same, copy_of, is_event_done};
 use super::checks::is_answered;
-use super::graphs::{FAILS_FIRST, IN_A_ROW, TWO_FILES, WRITES_AND_FAILS};
+use super::graphs::{FAILS_FIRST, IN_A_ROW, WRITES_AND_FAILS};
 use super::printed::{is_so, row_holds};
 use super::written::board_of;
-use llb_board::{Board, Event, Status, WorkerStatus};
-use llb_stepper::{Break, Stepper, Stop};
+use llb_board::{Board, Event};
 use std::alloc::Global;
 use std::process::Abort;
 
@@ -103,49 +102,5 @@ fn a_walk_is_refused_as_the_event_is(rt: HostRuntime) {
     is_so(
         &rt,
         is_refused(rt.alloc(), &mut board, Event::Claim(0, 1), "132"),
-    );
-}
-
-// The record of two workers on two files and the merge of both.
-const OF_TWO_WORKERS: [Event; 10] = [
-    Event::Claim(0, 0),
-    Event::Claim(1, 1),
-    Event::Step(0),
-    Event::Step(1),
-    Event::Settle(0),
-    Event::Settle(1),
-    Event::Claim(0, 2),
-    Event::Step(0),
-    Event::Step(0),
-    Event::Settle(0),
-];
-
-// Returns whether the first five events of the record are done: vertex 0 is done, and worker 1 has finished vertex 1 but has not settled it.
-fn is_two_before(board: &Board) -> bool {
-    board.events().len() == 5
-        && board.status(0) == Some(Status::Done)
-        && board.status(1) == Some(Status::Running(1))
-        && board.worker(1) == Some(WorkerStatus::Runs(1, 1, true))
-}
-
-// Replays the record of two workers up to a breakpoint at a claim of the merge, and takes two events back. Returns whether the breakpoint is added, whether
-// the replay stops there, and whether the first five events are then left.
-fn is_replayed(stepper: &mut Stepper) -> [bool; 3] {
-    let broken = breaks_at(stepper, Break::Claims(2));
-    let wanted = Stop {
-        events: 7,
-        at_break: true,
-    };
-    let stopped = replayed(stepper, &OF_TWO_WORKERS) == Some(wanted);
-    let back = goes_back(stepper) && goes_back(stepper);
-    [broken, stopped, back && is_two_before(stepper.board())]
-}
-
-#[test]
-fn a_record_is_replayed_up_to_a_breakpoint(rt: HostRuntime) {
-    let board = board_of(&rt, rt.alloc(), TWO_FILES, "", 2);
-    is_so(
-        &rt,
-        is_replayed(&mut Stepper::new(rt.alloc(), board)) == [true; 3],
     );
 }

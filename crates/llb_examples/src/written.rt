@@ -11,7 +11,7 @@ use std::alloc::Global;
 use std::process::Abort;
 
 // The key of a cache: the key's ID, the key's mode and, if the key has a seed, which output of the first entry is the seed.
-pub(crate) type CacheRow = (&'static str, Mode, Option<u32>);
+pub(crate) type CacheRow<'a> = (&'a str, Mode, Option<u32>);
 
 /// Appends the assembler's text of the entries that are in `entries`, in short form (`llb_samples`) with `; ` between them.
 pub(crate) fn push_entries(rt: &impl Abort, text: &mut String, entries: &str) {
@@ -65,14 +65,15 @@ pub(crate) fn board_in(rt: &impl Abort, alloc: Global, head: &str) -> Board {
 }
 
 // The digest of the entry that makes `/a`. In each definition with a cache that has a seed, this entry is the first one.
-const DIGEST_OF_A: &str = "sha256:17d299b0a332287e9d0f57a4a7f23e97dbf1203cd154f7157e30471c769cda1b";
+pub(crate) const DIGEST_OF_A: &str =
+    "sha256:17d299b0a332287e9d0f57a4a7f23e97dbf1203cd154f7157e30471c769cda1b";
 
 fn seed_of(rt: &impl Abort, alloc: Global, index: u32) -> Seed {
     let digest = Text::from_str(alloc, DIGEST_OF_A).expect(rt, "memory");
     Seed { digest, index }
 }
 
-pub(crate) fn key_of(rt: &impl Abort, alloc: Global, row: &CacheRow) -> Key {
+pub(crate) fn key_of(rt: &impl Abort, alloc: Global, row: &CacheRow<'_>) -> Key {
     let (id, mode, index) = *row;
     let id = Text::from_str(alloc, id).expect(rt, "memory");
     let seed = match index {
@@ -83,7 +84,7 @@ pub(crate) fn key_of(rt: &impl Abort, alloc: Global, row: &CacheRow) -> Key {
 }
 
 // Returns a `Need` for the key of each row. By each `Need`, a new instance of its key begins with the empty tree.
-pub(crate) fn needs_of(rt: &impl Abort, alloc: Global, rows: &[CacheRow]) -> Vec<Need> {
+pub(crate) fn needs_of(rt: &impl Abort, alloc: Global, rows: &[CacheRow<'_>]) -> Vec<Need> {
     let mut needs = Vec::new(alloc);
     for row in rows {
         let key = key_of(rt, alloc, row);
