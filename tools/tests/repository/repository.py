@@ -171,8 +171,8 @@ class Page(unittest.TestCase):
             printed = re.findall(r"^    (?:! )?(?:fault|failed) (.*)", path.read_text("utf-8"), re.MULTILINE)
             words |= {word for line in printed for word in line.split()}
         wanted = {number for number, cause in self.rows() if cause.status in "012" and "Memory" not in cause.name}
-        # Two entries with one digest, and an entry that names itself, need a collision of SHA-256; 185 needs 64 MiB, and
-        # is tested with the program (program.py).
+        # Two entries with one digest, and an entry that names itself, need a collision of SHA-256; 185 needs 64 MiB,
+        # and program.py tests it.
         self.assertEqual({number for number in wanted if str(number) not in words}, {84, 87, 185})
 
     def test_the_failures_agree_with_the_code(self):
