@@ -3,13 +3,11 @@ package main
 
 import (
 	"context"
-	"errors"
 	"flag"
 	"fmt"
 	"log"
 	"os"
 	"os/signal"
-	"path/filepath"
 	"runtime"
 	"syscall"
 	"time"
@@ -34,25 +32,12 @@ func main() {
 	}
 }
 
-// fields is the table of notes in a repository, from out/.
-const fields = "../tools/llbm_tools/buildkit/fields.json"
-
-// noted reads the table of fields without an effect. Without a file it is that of the repository in whose out/ this program
-// is; if there is none, there are no notes.
+// noted reads the table of fields without an effect: that in a file, or the one that is built in.
 func noted(path string) (*notes.Table, error) {
 	if path != "" {
 		return notes.Read(path)
 	}
-	self, err := os.Executable()
-	if err != nil {
-		return nil, err
-	}
-	table, err := notes.Read(filepath.Join(filepath.Dir(self), fields))
-	if errors.Is(err, os.ErrNotExist) {
-		log.Printf("llbmd: without -notes there are no warnings of fields that have no effect")
-		return nil, nil
-	}
-	return table, err
+	return notes.BuiltIn()
 }
 
 func run() error {

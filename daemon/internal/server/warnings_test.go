@@ -11,6 +11,8 @@ import (
 	"github.com/moby/buildkit/client"
 	"github.com/moby/buildkit/client/llb"
 	"github.com/moby/buildkit/solver/pb"
+	digest "github.com/opencontainers/go-digest"
+	"google.golang.org/protobuf/encoding/protowire"
 	"llbm/daemon/internal/graph"
 	"llbm/daemon/internal/notes"
 )
@@ -53,7 +55,7 @@ func (d *daemon) warned(t *testing.T, def *llb.Definition, o client.SolveOpt) ([
 const anExecution = "runs a process of the root mount (here runs applets, of which `rm`, `cp`, `envfile`, `listing` differ from programs): Execution"
 
 func TestFieldsWithoutAnEffectAreWarnings(t *testing.T) {
-	table, err := notes.Read("../notes/testdata/fields.json")
+	table, err := notes.BuiltIn()
 	if err != nil {
 		t.Fatal(err)
 	}
@@ -62,6 +64,46 @@ func TestFieldsWithoutAnEffectAreWarnings(t *testing.T) {
 	want := "User has no effect: the user of the process\nNetwork has no effect: the network of the process\n" + anExecution
 	if got, err := d.warnings(t, run.Root(), client.SolveOpt{}); got != want || err != nil {
 		t.Errorf("%q %v", got, err)
+	}
+}
+
+// The client's library lacks these fields and this attribute, as newer ones have them: their bytes are put after the op's.
+func TestFieldsOfNewerVersionsAreWarnings(t *testing.T) {
+	table, err := notes.BuiltIn()
+	if err != nil {
+		t.Fatal(err)
+	}
+	run := llb.Scratch().Run(llb.Args([]string{"true"}), llb.Dir("/"))
+	run.AddMount("/in", llb.Local("src"), llb.Readonly)
+	sent := marshal(t, run.Root(), llb.LinuxAmd64)
+	def, err := graph.Rewrite(&pb.Definition{Def: sent.Def}, func(_ int, op *pb.Op) (bool, error) {
+		source := op.GetSource()
+		if source != nil {
+			source.Attrs["local.metadatatransfer"] = "true"
+		}
+		return source != nil, nil
+	})
+	if err != nil {
+		t.Fatal(err)
+	}
+	exec := len(def.Def) - 2
+	meta := protowire.AppendBytes(protowire.AppendTag(nil, 12, protowire.BytesType), []byte{3})
+	more := protowire.AppendBytes(protowire.AppendTag(nil, 1, protowire.BytesType), meta)
+	more = protowire.AppendBytes(protowire.AppendTag(more, 6, protowire.BytesType), []byte("\x0a\x01d"))
+	entry := protowire.AppendBytes(protowire.AppendTag(def.Def[exec], 2, protowire.BytesType), more)
+	last, err := (&pb.Op{Inputs: []*pb.Input{{Digest: digest.FromBytes(entry)}}}).Marshal()
+	if err != nil {
+		t.Fatal(err)
+	}
+	given := &llb.Definition{Def: append(def.Def[:exec:exec], entry, last)}
+	d := started(t, func(o *Options) { o.Notes = table })
+	got, err := d.warningsOf(t, given, client.SolveOpt{LocalDirs: map[string]string{"src": t.TempDir()}})
+	for _, want := range []string{
+		"Attribute local.metadatatransfer has no effect: ", "ExitCodes has no effect: which statuses", "Devices has no effect: devices of the process",
+	} {
+		if err != nil || !strings.Contains(got, want) {
+			t.Errorf("%q, without %q %v", got, want, err)
+		}
 	}
 }
 
@@ -169,6 +211,23 @@ func TestWhatBuildKitRefusesIsAWarningAlsoWhereItIsRewritten(t *testing.T) {
 			if !strings.Contains(got, want) || (err != nil) != (want == "") {
 				t.Errorf("%s, literal %t: %q, not %q %v", name, literal, got, want, err)
 			}
+		}
+	}
+}
+
+func TestAnInputThatNamesNothingAndIsNotNeededIsAWarning(t *testing.T) {
+	state := llb.Scratch().File(llb.Mkfile("/m", 0o1644, nil))
+	def := changed(t, state, func(op *pb.Op) bool {
+		if op.Op == nil {
+			op.Inputs = append(op.Inputs, &pb.Input{Digest: digest.FromString("none")})
+		}
+		return op.Op == nil
+	})
+	for _, literal := range []bool{false, true} {
+		d := started(t, func(o *Options) { o.Literal = literal })
+		got, err := d.warningsOf(t, def, client.SolveOpt{})
+		if want := "entry 1 input 1: its daemon dies (here takes it): UnknownInput"; err != nil || !strings.Contains(got, want) {
+			t.Errorf("literal %t: %q %v", literal, got, err)
 		}
 	}
 }
