@@ -34,6 +34,9 @@ import (
 	"llbm/daemon/internal/sources"
 )
 
+// MostWorkers is how many workers a build can have.
+const MostWorkers = 64
+
 // Bounds that have no option.
 const (
 	mostMessage  = 64<<20 + 1<<20
@@ -68,8 +71,8 @@ type Daemon struct {
 
 // New makes a daemon that does not listen yet.
 func New(ctx context.Context, o Options) (*Daemon, error) {
-	if o.Workers < 1 || o.Workers > 64 {
-		return nil, fmt.Errorf("%d workers: a build has 1 to 64", o.Workers)
+	if o.Workers < 1 || o.Workers > MostWorkers {
+		return nil, fmt.Errorf("%d workers: a build has 1 to %d", o.Workers, MostWorkers)
 	}
 	if o.AtOnce < 1 {
 		return nil, fmt.Errorf("%d builds at once", o.AtOnce)
