@@ -102,8 +102,12 @@ func TestWhatTheResultDoesNotNeedMayNameAnything(t *testing.T) {
 	if err != nil {
 		t.Fatal(err)
 	}
-	if g, err := Load(rewritten, def); err != nil || g.Vertices[0].Op.GetSource().Identifier != "local://b" || g.Vertices[0].Sent.GetSource().Identifier != "local://a" {
-		t.Error(g, err)
+	g, err := Load(rewritten, def)
+	if err != nil {
+		t.Fatal(err)
+	}
+	if v := g.Vertices[0]; v.Op.GetSource().Identifier != "local://b" || v.Sent.GetSource().Identifier != "local://a" {
+		t.Error(v.Op, v.Sent)
 	}
 }
 
