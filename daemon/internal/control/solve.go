@@ -16,6 +16,7 @@ import (
 	"llbm/daemon/internal/exports"
 	"llbm/daemon/internal/fields"
 	"llbm/daemon/internal/gateway"
+	"llbm/daemon/internal/messages"
 	"llbm/daemon/internal/solver"
 )
 
@@ -147,7 +148,7 @@ func (c *Control) export(ctx context.Context, b *builds.Build, e *exports.Export
 	show := func(completed *time.Time, err error) {
 		v := vertex
 		if v.Completed = completed; err != nil {
-			v.Error = err.Error()
+			v.Error = messages.Of(err)
 		}
 		b.Events.Add(&controlapi.StatusResponse{Vertexes: []*controlapi.Vertex{&v}})
 	}

@@ -22,6 +22,7 @@ type Given interface {
 // A Step is a step of a vertex that ends otherwise: an action of a file op, or -1.
 type Step struct {
 	Vertex, Action int
+	AsSent         bool // whether the action is one of the op as it was sent, and not as it was rewritten
 	Lines          []Line
 	More           int // how many lines there are besides these
 }
@@ -134,6 +135,11 @@ func (r *Run) do(ctx context.Context, v int, given Given, found func(Step)) erro
 	case op.GetSource() != nil:
 		return r.source(v, given)
 	case op.GetFile() != nil:
+		if here != nil && there != nil {
+			if step, ok := hidden(v, r.vertices[v].Sent.GetFile(), op.GetFile(), there); ok {
+				found(step)
+			}
+		}
 		both := &sideBySide{ctx: ctx, v: v, op: op.GetFile(), here: here, there: there}
 		if err := both.compare(found); err != nil {
 			return err

@@ -15,11 +15,12 @@ func otherLine(name string) Line {
 	return Line{Words: fmt.Sprintf("%s (here %s)", text.BuildKit, text.LLBM), Texts: []Text{text}}
 }
 
-// Static returns what can be said of a vertex without its trees: that it is an execution, and what BuildKit's daemon dies of.
+// Static returns what can be said of a vertex without its trees, by its op as it was sent: that it is an execution, and what
+// BuildKit's daemon dies of.
 func Static(v int, op *pb.Op) []Step {
 	var out []Step
 	add := func(action int, name string) {
-		out = append(out, Step{Vertex: v, Action: action, Lines: []Line{otherLine(name)}})
+		out = append(out, Step{Vertex: v, Action: action, AsSent: true, Lines: []Line{otherLine(name)}})
 	}
 	switch {
 	case op.GetExec() != nil:
@@ -29,8 +30,9 @@ func Static(v int, op *pb.Op) []Step {
 	case op.GetMerge() != nil && len(op.GetMerge().Inputs) < len(op.Inputs):
 		add(-1, "ShortMerge")
 	}
-	for number, action := range op.GetFile().GetActions() {
-		if rm := action.GetRm(); rm != nil && leavesTree(rm) {
+	actions := op.GetFile().GetActions()
+	for _, number := range needed(actions, len(op.Inputs), all) {
+		if rm := actions[number].GetRm(); rm != nil && leavesTree(rm) {
 			add(number, "RmAboveRoot")
 		}
 	}

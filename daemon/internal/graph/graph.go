@@ -18,6 +18,7 @@ import (
 // A Vertex is a line of `llbm show`, with the entry that it is.
 type Vertex struct {
 	Op     *pb.Op
+	Sent   *pb.Op // the op as the client sent it: the same one, unless it was rewritten
 	Row    int
 	Inputs []int // the vertices that the op's inputs name
 	// Digest, Needs and Name are what clients know of the vertex: of the entry as the client sent it.
@@ -114,7 +115,10 @@ func Load(def, sent *pb.Definition) (*Graph, error) {
 	}
 	g := &Graph{Canonical: canonical, sent: sent}
 	for _, k := range order {
-		v := Vertex{Op: r.ops[k], Row: k, Digest: digest.FromBytes(sent.Def[k])}
+		v := Vertex{Op: r.ops[k], Sent: r.ops[k], Row: k, Digest: digest.FromBytes(sent.Def[k])}
+		if !bytes.Equal(sent.Def[k], def.Def[k]) {
+			v.Sent = sentOp(sent.Def[k], v.Op)
+		}
 		inputs, err := r.inputs(k)
 		if err != nil {
 			return nil, err
@@ -124,15 +128,14 @@ func Load(def, sent *pb.Definition) (*Graph, error) {
 			v.Needs = append(v.Needs, g.Vertices[number[row]].Digest)
 		}
 		metadata := sent.Metadata[v.Digest]
-		v.Name, v.Group = Describe(metadata, sentOp(sent.Def[k], v.Op)), metadata.ProgressGroup
+		v.Name, v.Group = Describe(metadata, v.Sent), metadata.ProgressGroup
 		g.Vertices = append(g.Vertices, v)
 	}
-	last := len(r.ops) - 1
-	terminal, err := r.inputs(last)
+	result, output, err := r.result()
 	if err != nil {
 		return nil, err
 	}
-	g.Result, g.Output = number[terminal[0]], int(r.ops[last].Inputs[0].Index)
+	g.Result, g.Output = number[result], output
 	return g, nil
 }
 
@@ -145,13 +148,27 @@ func sentOp(entry []byte, op *pb.Op) *pb.Op {
 	return op
 }
 
+// result returns the row and the output that the first input of the terminal names. Like llbm, it does not look at further ones.
+func (r *rows) result() (row, output int, err error) {
+	last := len(r.ops) - 1
+	if len(r.ops[last].Inputs) == 0 {
+		return 0, 0, fmt.Errorf("entry %d: the terminal has no input", last)
+	}
+	first := r.ops[last].Inputs[0]
+	row, ok := r.first[first.Digest]
+	if !ok {
+		return 0, 0, fmt.Errorf("entry %d: no entry has the digest %s", last, first.Digest)
+	}
+	return row, int(first.Index), nil
+}
+
 // order returns the rows that the result depends on, in the order of their vertex numbers.
 func (r *rows) order() ([]int, error) {
-	terminal, err := r.inputs(len(r.ops) - 1)
-	if err != nil || len(terminal) == 0 {
-		return nil, fmt.Errorf("no result: %w", err)
+	result, _, err := r.result()
+	if err != nil {
+		return nil, err
 	}
-	reached, todo := map[int]bool{}, []int{terminal[0]}
+	reached, todo := map[int]bool{}, []int{result}
 	users, waits, ready := map[int][]int{}, map[int]int{}, &least{}
 	for len(todo) > 0 {
 		k := todo[len(todo)-1]

@@ -78,6 +78,50 @@ func TestVerticesAreNumberedAsLlbmShowsThem(t *testing.T) {
 	}
 }
 
+// Inputs that llbm does not look at may name anything: those of entries that the result does not need, and further ones of the
+// terminal.
+func TestWhatTheResultDoesNotNeedMayNameAnything(t *testing.T) {
+	b := &builder{}
+	a := b.add(t, source("a"))
+	none := &pb.Input{Digest: digest.FromString("none")}
+	unused := merge(1)
+	unused.Inputs = []*pb.Input{none}
+	b.add(t, unused)
+	b.add(t, &pb.Op{Inputs: []*pb.Input{{Digest: digest.FromBytes(b.def.Def[a])}, none}})
+	def := &b.def
+	if g, err := read(def, def, "0 source steps 1 outputs 1 inputs -\nresult 0.0\n"); err != nil || g.Result != 0 || len(g.Vertices) != 1 {
+		t.Error(g, err)
+	}
+	rewritten, err := Rewrite(def, func(_ int, op *pb.Op) (bool, error) {
+		changed := op.GetSource() != nil
+		if changed {
+			op.GetSource().Identifier = "local://b"
+		}
+		return changed, nil
+	})
+	if err != nil {
+		t.Fatal(err)
+	}
+	g, err := Load(rewritten, def)
+	if err != nil {
+		t.Fatal(err)
+	}
+	if v := g.Vertices[0]; v.Op.GetSource().Identifier != "local://b" || v.Sent.GetSource().Identifier != "local://a" {
+		t.Error(v.Op, v.Sent)
+	}
+}
+
+func TestATerminalWithoutAResultIsRefused(t *testing.T) {
+	for name, inputs := range map[string][]*pb.Input{"no input": nil, "an unknown one": {{Digest: digest.FromString("none")}}} {
+		b := &builder{}
+		b.add(t, source("a"))
+		b.add(t, &pb.Op{Inputs: inputs})
+		if _, err := Load(&b.def, &b.def); err == nil {
+			t.Error(name)
+		}
+	}
+}
+
 func TestAnotherGraphIsRefused(t *testing.T) {
 	def := diamond(t)
 	turned, beyond := strings.Replace(shown, "2.0 3.0", "3.0 2.0", 1), strings.Replace(shown, "result 4.0", "result 5.0", 1)

@@ -11,6 +11,7 @@ import (
 	"github.com/moby/buildkit/util/grpcerrors"
 	"google.golang.org/grpc/codes"
 	"google.golang.org/grpc/status"
+	"llbm/daemon/internal/messages"
 )
 
 // mostPending bounds the events that wait for a listener; one that is slower is given up.
@@ -67,8 +68,7 @@ func (h *History) End(user uint32, r *controlapi.BuildHistoryRecord, response ma
 	done.CompletedAt, done.ExporterResponse, done.NumTotalSteps, done.NumCompletedSteps = &now, response, int32(steps), int32(steps)
 	done.Generation++
 	if err != nil {
-		st, _ := status.FromError(grpcerrors.ToGRPC(context.Background(), err))
-		done.Error = &spb.Status{Code: int32(st.Code()), Message: st.Message()}
+		done.Error = &spb.Status{Code: int32(grpcerrors.Code(err)), Message: messages.Of(err)}
 	}
 	for _, one := range h.records {
 		if one.BuildHistoryRecord == r {

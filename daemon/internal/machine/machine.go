@@ -66,7 +66,10 @@ func Find(ctx context.Context, path string, limits Limits) (*Program, error) {
 			return &Program{Path: path, Version: line, Proved: !strings.Contains(line, "not proved"), Limits: limits}, nil
 		}
 	}
-	return nil, fmt.Errorf("%s --version prints no version of llbm: %.80q: %w", path, said, err)
+	if err != nil {
+		return nil, fmt.Errorf("%s --version prints no version of llbm: %.80q: %w", path, said, err)
+	}
+	return nil, fmt.Errorf("%s --version prints no version of llbm: %.80q", path, said)
 }
 
 // A process is one run of the program, bounded.

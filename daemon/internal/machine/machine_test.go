@@ -1,6 +1,7 @@
 package machine
 
 import (
+	"context"
 	"os"
 	"path/filepath"
 	"strconv"
@@ -30,6 +31,15 @@ func TestFaultsBecomeStatuses(t *testing.T) {
 	} {
 		if st := status.Convert(Fault(line)); st.Code() != want.code || st.Message() != want.text {
 			t.Errorf("%q: %v %q", line, st.Code(), st.Message())
+		}
+	}
+}
+
+func TestAProgramThatIsNotLlbmIsRefusedInPlainWords(t *testing.T) {
+	for path, end := range map[string]string{"/bin/true": `"`, "/bin/false": `": exit status 1`} {
+		_, err := Find(context.Background(), path, Limits{})
+		if err == nil || !strings.HasPrefix(err.Error(), path+" --version prints no version of llbm: \"") || !strings.HasSuffix(err.Error(), end) {
+			t.Errorf("%s: %v", path, err)
 		}
 	}
 }

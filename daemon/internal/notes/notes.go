@@ -1,22 +1,33 @@
-// Package notes finds the fields of an op that have an effect in BuildKit and none in llbm, by the table that tools/lint has
-// (tools/llbm_tools/buildkit/fields.json). Attributes of sources and metadata are not among them: the daemon heeds those
-// that have an effect. Nor is whether links are followed: no source has one, since links are refused, or left out with a
-// warning of their own.
+// Package notes finds the fields of an op that have an effect in BuildKit and none in llbm, by the table that tools/lint has, in the
+// records of its entry: BuildKit's library drops the fields that newer versions have. The notes are those of tools/lint, but for what
+// the daemon heeds: attributes of sources in the table, the metadata, and a platform that is the worker's. Nor is it a note whether
+// links are followed: no source has one, since links are refused, or left out with a warning of their own.
 package notes
 
 import (
+	_ "embed" // the table
 	"encoding/json"
 	"fmt"
 	"os"
 	"slices"
+	"strconv"
 
 	"github.com/moby/buildkit/solver/pb"
 	"google.golang.org/protobuf/encoding/protowire"
 )
 
+// builtIn is the table of the repository's tools; a test compares both.
+//
+//go:generate cp ../../../tools/llbm_tools/buildkit/fields.json fields.json
+//go:embed fields.json
+var builtIn []byte
+
 // A Table has the fields. The nil table has none.
 type Table struct {
-	Fields []Row `json:"fields"`
+	Fields         []Row       `json:"fields"`
+	Attributes     []Attribute `json:"attributes"`
+	OtherAttribute Attribute   `json:"other_attribute"`
+	WithoutEffect  []string    `json:"attributes_without_effect"`
 }
 
 // A Row is a field. Numbers lead to it: a number is a field of the message before it, and a list of one number is a repeated
@@ -30,23 +41,37 @@ type Row struct {
 	path    []step
 }
 
+// An Attribute is one of sources, with its key.
+type Attribute struct{ Name, Key, Effect string }
+
 type step struct {
 	number   protowire.Number
 	repeated bool
 }
 
-// A Note is a field that is set, with the part of the op in which it is, if it is in one.
-type Note struct{ Name, Part, Effect string }
+// A Note is a field or an attribute that is set, with the part of the op in which it is, if it is in one, or the attribute's key.
+type Note struct{ Name, Part, Key, Effect string }
 
 func (n Note) String() string {
-	if n.Part != "" {
+	switch {
+	case n.Part != "":
 		return fmt.Sprintf("%s of %s has no effect: %s", n.Name, n.Part, n.Effect)
+	case n.Key != "":
+		quoted := strconv.Quote(n.Key)
+		return fmt.Sprintf("%s %s has no effect: %s", n.Name, quoted[1:len(quoted)-1], n.Effect)
 	}
 	return fmt.Sprintf("%s has no effect: %s", n.Name, n.Effect)
 }
 
-// ofLinks is the note of fields by which links are followed.
-const ofLinks = "FollowSymlink"
+const (
+	// ofLinks is the note of fields by which links are followed.
+	ofLinks = "FollowSymlink"
+	// ofPlatform is the note of the platform.
+	ofPlatform = "Platform"
+)
+
+// BuiltIn returns the table that the daemon is built with.
+func BuiltIn() (*Table, error) { return parse("the built-in table", builtIn) }
 
 // Read reads the table from a file.
 func Read(path string) (*Table, error) {
@@ -54,86 +79,107 @@ func Read(path string) (*Table, error) {
 	if err != nil {
 		return nil, err
 	}
+	return parse(path, data)
+}
+
+func parse(name string, data []byte) (*Table, error) {
 	var t Table
 	if err := json.Unmarshal(data, &t); err != nil {
-		return nil, fmt.Errorf("%s: %w", path, err)
+		return nil, fmt.Errorf("%s: %w", name, err)
 	}
 	t.Fields = slices.DeleteFunc(t.Fields, func(row Row) bool { return row.Name == ofLinks })
 	for i := range t.Fields {
-		row := &t.Fields[i]
-		if row.Unset == nil {
-			row.Unset = []int64{0}
-		}
-		for _, text := range row.Numbers {
-			one, list := protowire.Number(0), []protowire.Number{}
-			if json.Unmarshal(text, &one) == nil {
-				row.path = append(row.path, step{one, false})
-			} else if json.Unmarshal(text, &list) == nil && len(list) == 1 {
-				row.path = append(row.path, step{list[0], true})
-			} else {
-				return nil, fmt.Errorf("%s: %s: %s is no step to a field", path, row.Name, text)
-			}
+		if err := t.Fields[i].parse(); err != nil {
+			return nil, fmt.Errorf("%s: %w", name, err)
 		}
 	}
 	return &t, nil
 }
 
-// Of returns the notes of an op. A platform that is the worker's own is no note.
-func (t *Table) Of(op *pb.Op, own pb.Platform) []Note {
+// parse reads the numbers that lead to the field.
+func (row *Row) parse() error {
+	if row.Unset == nil {
+		row.Unset = []int64{0}
+	}
+	for _, text := range row.Numbers {
+		one, list := protowire.Number(0), []protowire.Number{}
+		if json.Unmarshal(text, &one) == nil {
+			row.path = append(row.path, step{one, false})
+		} else if json.Unmarshal(text, &list) == nil && len(list) == 1 {
+			row.path = append(row.path, step{list[0], true})
+		} else {
+			return fmt.Errorf("%s: %s is no step to a field", row.Name, text)
+		}
+	}
+	return nil
+}
+
+// Of returns the notes of an entry. A platform that is the worker's own is no note.
+func (t *Table) Of(entry []byte, own pb.Platform) []Note {
 	if t == nil {
 		return nil
 	}
-	plain := *op
-	if p := plain.Platform; p != nil && p.OS == own.OS && p.Architecture == own.Architecture && p.Variant == own.Variant {
-		plain.Platform = nil
-	}
-	entry, err := plain.Marshal()
-	if err != nil {
-		return nil
-	}
+	op := recordsOf(entry)
 	var out []Note
 	for _, row := range t.Fields {
-		row.find(entry, row.path, "", func(part string) { out = append(out, Note{row.Name, part, row.Effect}) })
+		if row.Name == ofPlatform && isPlatform(op, own) {
+			continue
+		}
+		row.find(op, kindsOfOp, row.path, "", func(part string) { out = append(out, Note{Name: row.Name, Part: part, Effect: row.Effect}) })
+	}
+	return append(out, t.ofAttributes(op)...)
+}
+
+// isPlatform is whether an op's platform is a given one.
+func isPlatform(op []record, own pb.Platform) bool {
+	var p pb.Platform
+	return p.Unmarshal(joined(counted(op, nil, platform))) == nil && p.OS == own.OS && p.Architecture == own.Architecture && p.Variant == own.Variant
+}
+
+// ofAttributes returns a note for each attribute of a source that is not in the table, in their order.
+func (t *Table) ofAttributes(op []record) []Note {
+	var out []Note
+	seen := map[string]bool{}
+	for _, one := range counted(recordsOf(joined(counted(op, kindsOfOp, sourceOp))), nil, sourceAttributes) {
+		key := ""
+		for _, record := range counted(recordsOf(one.held), nil, keyOfEntry) {
+			key = string(record.held)
+		}
+		known := slices.Contains(t.WithoutEffect, key) || slices.ContainsFunc(t.Attributes, func(a Attribute) bool { return a.Key == key })
+		if !known && !seen[key] {
+			out = append(out, Note{Name: t.OtherAttribute.Name, Key: key, Effect: t.OtherAttribute.Effect})
+		}
+		seen[key] = true
 	}
 	return out
 }
 
-// find calls a function for each place of the field in a message that has one record of each singular field.
-func (row *Row) find(message []byte, path []step, part string, found func(part string)) {
-	index := -1
-	for len(message) > 0 {
-		number, kind, n := protowire.ConsumeTag(message)
-		if n < 0 {
-			return
+// find calls a function for each place of the field in a message, of which only one of some fields counts: its kind.
+func (row *Row) find(message []record, kinds []protowire.Number, path []step, part string, found func(part string)) {
+	given := counted(message, kinds, path[0].number)
+	switch {
+	case path[0].repeated:
+		inner := []protowire.Number(nil)
+		if row.Part == partAction {
+			inner = kindsOfAction
 		}
-		value := message[n:]
-		size := protowire.ConsumeFieldValue(number, kind, value)
-		if size < 0 {
-			return
+		for index, one := range given {
+			row.find(recordsOf(one.held), inner, path[1:], fmt.Sprintf("%s %d", row.Part, index), found)
 		}
-		message = value[size:]
-		if number != path[0].number {
-			continue
-		}
-		at := part
-		if index++; path[0].repeated {
-			at = fmt.Sprintf("%s %d", row.Part, index)
-		}
-		held, _ := protowire.ConsumeBytes(value)
-		switch {
-		case len(path) > 1 && kind == protowire.BytesType:
-			row.find(held, path[1:], at, found)
-		case len(path) == 1 && row.isSet(kind, value, held):
-			found(at)
-			return
-		}
+	case len(path) > 1:
+		row.find(recordsOf(joined(given)), nil, path[1:], part, found)
+	case row.isSet(given):
+		found(part)
 	}
 }
 
-func (row *Row) isSet(kind protowire.Type, value, held []byte) bool {
-	if kind == protowire.BytesType {
-		return len(held) > 0
+// isSet is whether the records of a field give it a value that has an effect: the last one, or any that has bytes.
+func (row *Row) isSet(given []record) bool {
+	if len(given) == 0 {
+		return false
 	}
-	number, n := protowire.ConsumeVarint(value)
-	return kind == protowire.VarintType && n > 0 && !slices.Contains(row.Unset, int64(number))
+	if last := given[len(given)-1]; last.kind == protowire.VarintType {
+		return !slices.Contains(row.Unset, int64(last.number))
+	}
+	return len(joined(given)) > 0
 }

@@ -71,6 +71,27 @@ func TestALocalSourceGoesThroughWithoutItsContentsBeingRead(t *testing.T) {
 	}
 }
 
+func TestACommandThatCanNotReadAFileSaysWhich(t *testing.T) {
+	d := started(t, nil)
+	dirs := map[string]string{"src": directory(t, map[string]string{"sub/a": "x"})}
+	base := llb.Scratch().File(llb.Mkfile("/f", 0o644, nil))
+	for script, want := range map[string]string{
+		"cp /missing /y":                       "command 0 status 1: cp /missing /y: there is no file /missing",
+		"cp ../in/missing /y":                  "command 0 status 1: cp ../in/missing /y: there is no file /in/missing",
+		"concat /y /f /in/b":                   "command 0 status 1: concat /y /f /in/b: there is no file /in/b",
+		"write /x x && sha256 /in /y":          "command 1 status 1: sha256 /in /y: /in is a directory",
+		"write /x x && cp /in/sub/a /no/where": "command 1 status 1: cp /in/sub/a /no/where",
+		"rm /f && cp /f /y":                    "command 1 status 1: cp /f /y", // the root mount has changed
+	} {
+		run := base.Run(llb.Args([]string{"/bin/sh", "-c", script}), llb.Dir("/dir"))
+		run.AddMount("/in", llb.Local("src"), llb.Readonly)
+		_, err := d.solved(t, run.Root(), client.SolveOpt{LocalDirs: dirs})
+		if err == nil || !strings.HasSuffix(err.Error(), want) {
+			t.Errorf("%q: %v", script, err)
+		}
+	}
+}
+
 func TestASourceThatIsHashedIsGivenByValue(t *testing.T) {
 	d := started(t, nil)
 	dirs := map[string]string{"hashed": directory(t, map[string]string{"a": "\xffabc"}), "other": directory(t, map[string]string{"b": "\xff\x00"})}

@@ -11,6 +11,7 @@ import (
 
 	"github.com/moby/buildkit/client"
 	"github.com/moby/buildkit/client/llb"
+	"github.com/moby/buildkit/client/llb/sourceresolver"
 	gwclient "github.com/moby/buildkit/frontend/gateway/client"
 	"github.com/moby/buildkit/frontend/gateway/grpcclient"
 	"github.com/moby/buildkit/util/appcontext"
@@ -52,6 +53,9 @@ func ask(ctx context.Context, c gwclient.Client) (*gwclient.Result, error) {
 		interfaces, _ := net.Interfaces()
 		state, _ := os.ReadFile("/proc/self/status")
 		text = fmt.Sprintf("%d %d %v", os.Getuid(), len(interfaces), strings.Contains(string(state), "NoNewPrivs:\t1"))
+	case "image":
+		_, _, _, err := c.ResolveImageConfig(ctx, "alpine", sourceresolver.Opt{})
+		return nil, fmt.Errorf("alpine: %w", err)
 	case "again":
 		return c.Solve(ctx, gwclient.SolveRequest{Frontend: "test.v0", FrontendOpt: map[string]string{"do": "again"}})
 	default:
@@ -104,6 +108,15 @@ func TestAFrontendIsAChild(t *testing.T) {
 		t.Error(err)
 	}
 	eventually(t, "no child runs", func() bool { return len(children(t)) == 0 })
+}
+
+func TestARefusalThatCameThroughAFrontendHasItsCodeOnce(t *testing.T) {
+	d := withFrontend(t)
+	_, err := said(t, d, context.Background(), "image")
+	want := "failed to solve: Unimplemented: alpine: llbm: fault 88 Source: alpine is an image, and llbm has no registries"
+	if err == nil || err.Error() != want {
+		t.Errorf("%v, not %s", err, want)
+	}
 }
 
 func TestAFrontendHasNoRights(t *testing.T) {

@@ -26,12 +26,16 @@ import (
 	"llbm/daemon/internal/history"
 	"llbm/daemon/internal/kept"
 	"llbm/daemon/internal/machine"
+	"llbm/daemon/internal/messages"
 	"llbm/daemon/internal/notes"
 	"llbm/daemon/internal/peers"
 	"llbm/daemon/internal/sessions"
 	"llbm/daemon/internal/solver"
 	"llbm/daemon/internal/sources"
 )
+
+// MostWorkers is how many workers a build can have.
+const MostWorkers = 64
 
 // Bounds that have no option.
 const (
@@ -67,8 +71,8 @@ type Daemon struct {
 
 // New makes a daemon that does not listen yet.
 func New(ctx context.Context, o Options) (*Daemon, error) {
-	if o.Workers < 1 || o.Workers > 64 {
-		return nil, fmt.Errorf("%d workers: a build has 1 to 64", o.Workers)
+	if o.Workers < 1 || o.Workers > MostWorkers {
+		return nil, fmt.Errorf("%d workers: a build has 1 to %d", o.Workers, MostWorkers)
 	}
 	if o.AtOnce < 1 {
 		return nil, fmt.Errorf("%d builds at once", o.AtOnce)
@@ -105,13 +109,24 @@ func New(ctx context.Context, o Options) (*Daemon, error) {
 
 func serverOptions(c credentials.TransportCredentials) []grpc.ServerOption {
 	options := []grpc.ServerOption{
-		grpc.ChainUnaryInterceptor(grpcerrors.UnaryServerInterceptor, guard), grpc.ChainStreamInterceptor(grpcerrors.StreamServerInterceptor, guardStream),
+		grpc.ChainUnaryInterceptor(speak, grpcerrors.UnaryServerInterceptor, guard),
+		grpc.ChainStreamInterceptor(speakOfStream, grpcerrors.StreamServerInterceptor, guardStream),
 		grpc.MaxRecvMsgSize(mostMessage), grpc.MaxSendMsgSize(mostMessage), grpc.MaxConcurrentStreams(mostStreams),
 	}
 	if c != nil {
 		options = append(options, grpc.Creds(c))
 	}
 	return options
+}
+
+// speak makes the error of a call plain: it may have come through frontends and through the daemon before.
+func speak(ctx context.Context, req any, _ *grpc.UnaryServerInfo, handler grpc.UnaryHandler) (any, error) {
+	resp, err := handler(ctx, req)
+	return resp, messages.Plain(err)
+}
+
+func speakOfStream(srv any, stream grpc.ServerStream, _ *grpc.StreamServerInfo, handler grpc.StreamHandler) error {
+	return messages.Plain(handler(srv, stream))
 }
 
 // guard turns a panic of one call into that call's error.

@@ -10,22 +10,32 @@ import (
 
 	"github.com/moby/buildkit/client"
 	"github.com/moby/buildkit/client/llb"
+	"github.com/moby/buildkit/solver/pb"
+	digest "github.com/opencontainers/go-digest"
+	"google.golang.org/protobuf/encoding/protowire"
+	"llbm/daemon/internal/graph"
 	"llbm/daemon/internal/notes"
 )
 
 // warnings builds a state, and returns the short texts of the warnings, and the error of the build.
 func (d *daemon) warnings(t *testing.T, state llb.State, o client.SolveOpt) (string, error) {
 	t.Helper()
+	return d.warningsOf(t, marshal(t, state, llb.LinuxAmd64), o)
+}
+
+// warningsOf does that with a definition.
+func (d *daemon) warningsOf(t *testing.T, def *llb.Definition, o client.SolveOpt) (string, error) {
+	t.Helper()
 	var shorts []string
-	all, err := d.warned(t, state, o)
+	all, err := d.warned(t, def, o)
 	for _, w := range all {
 		shorts = append(shorts, string(w.Short))
 	}
 	return strings.Join(shorts, "\n"), err
 }
 
-// warned builds a state, and returns the warnings, and the error of the build.
-func (d *daemon) warned(t *testing.T, state llb.State, o client.SolveOpt) ([]*client.VertexWarning, error) {
+// warned builds a definition, and returns the warnings, and the error of the build.
+func (d *daemon) warned(t *testing.T, def *llb.Definition, o client.SolveOpt) ([]*client.VertexWarning, error) {
 	t.Helper()
 	ch := make(chan *client.SolveStatus)
 	var all []*client.VertexWarning
@@ -37,7 +47,7 @@ func (d *daemon) warned(t *testing.T, state llb.State, o client.SolveOpt) ([]*cl
 			all = append(all, event.Warnings...)
 		}
 	}()
-	_, err := d.Solve(context.Background(), marshal(t, state, llb.LinuxAmd64), o, ch)
+	_, err := d.Solve(context.Background(), def, o, ch)
 	done.Wait()
 	return all, err
 }
@@ -45,7 +55,7 @@ func (d *daemon) warned(t *testing.T, state llb.State, o client.SolveOpt) ([]*cl
 const anExecution = "runs a process of the root mount (here runs applets, of which `rm`, `cp`, `envfile`, `listing` differ from programs): Execution"
 
 func TestFieldsWithoutAnEffectAreWarnings(t *testing.T) {
-	table, err := notes.Read("../notes/testdata/fields.json")
+	table, err := notes.BuiltIn()
 	if err != nil {
 		t.Fatal(err)
 	}
@@ -54,6 +64,46 @@ func TestFieldsWithoutAnEffectAreWarnings(t *testing.T) {
 	want := "User has no effect: the user of the process\nNetwork has no effect: the network of the process\n" + anExecution
 	if got, err := d.warnings(t, run.Root(), client.SolveOpt{}); got != want || err != nil {
 		t.Errorf("%q %v", got, err)
+	}
+}
+
+// The client's library lacks these fields and this attribute, as newer ones have them: their bytes are put after the op's.
+func TestFieldsOfNewerVersionsAreWarnings(t *testing.T) {
+	table, err := notes.BuiltIn()
+	if err != nil {
+		t.Fatal(err)
+	}
+	run := llb.Scratch().Run(llb.Args([]string{"true"}), llb.Dir("/"))
+	run.AddMount("/in", llb.Local("src"), llb.Readonly)
+	sent := marshal(t, run.Root(), llb.LinuxAmd64)
+	def, err := graph.Rewrite(&pb.Definition{Def: sent.Def}, func(_ int, op *pb.Op) (bool, error) {
+		source := op.GetSource()
+		if source != nil {
+			source.Attrs["local.metadatatransfer"] = "true"
+		}
+		return source != nil, nil
+	})
+	if err != nil {
+		t.Fatal(err)
+	}
+	exec := len(def.Def) - 2
+	meta := protowire.AppendBytes(protowire.AppendTag(nil, 12, protowire.BytesType), []byte{3})
+	more := protowire.AppendBytes(protowire.AppendTag(nil, 1, protowire.BytesType), meta)
+	more = protowire.AppendBytes(protowire.AppendTag(more, 6, protowire.BytesType), []byte("\x0a\x01d"))
+	entry := protowire.AppendBytes(protowire.AppendTag(def.Def[exec], 2, protowire.BytesType), more)
+	last, err := (&pb.Op{Inputs: []*pb.Input{{Digest: digest.FromBytes(entry)}}}).Marshal()
+	if err != nil {
+		t.Fatal(err)
+	}
+	given := &llb.Definition{Def: append(def.Def[:exec:exec], entry, last)}
+	d := started(t, func(o *Options) { o.Notes = table })
+	got, err := d.warningsOf(t, given, client.SolveOpt{LocalDirs: map[string]string{"src": t.TempDir()}})
+	for _, want := range []string{
+		"Attribute local.metadatatransfer has no effect: ", "ExitCodes has no effect: which statuses", "Devices has no effect: devices of the process",
+	} {
+		if err != nil || !strings.Contains(got, want) {
+			t.Errorf("%q, without %q %v", got, want, err)
+		}
 	}
 }
 
@@ -102,6 +152,86 @@ func TestAFailureThatBuildKitDoesNotHaveIsAWarning(t *testing.T) {
 	}
 }
 
+// changed returns the definition of a state in which a function changed some ops.
+func changed(t *testing.T, state llb.State, change func(*pb.Op) bool) *llb.Definition {
+	t.Helper()
+	def := marshal(t, state, llb.LinuxAmd64)
+	out, err := graph.Rewrite(&pb.Definition{Def: def.Def}, func(_ int, op *pb.Op) (bool, error) { return change(op), nil })
+	if err != nil {
+		t.Fatal(err)
+	}
+	return &llb.Definition{Def: out.Def}
+}
+
+// llbmd rewrites these ops to ones that BuildKit takes, and it dies of them or refuses them as they are.
+func TestWhatBuildKitRefusesIsAWarningAlsoWhereItIsRewritten(t *testing.T) {
+	file := llb.Scratch().File(llb.Mkfile("/a", 0o644, nil))
+	other := llb.Scratch().File(llb.Mkfile("/b", 0o644, nil))
+	merged := llb.Merge([]llb.State{file, other, llb.Scratch().File(llb.Mkfile("/c", 0o644, nil))})
+	second := changed(t, llb.Scratch().File(llb.Mkfile("/m", 0o644, nil)), func(op *pb.Op) bool {
+		for _, action := range op.GetFile().GetActions() {
+			action.SecondaryInput = 0
+		}
+		return op.GetFile() != nil
+	})
+	selected := changed(t, file.File(llb.Rm("/a").Copy(other, "/b", "/b").Copy(other, "/missing", "/n")), func(op *pb.Op) bool {
+		actions := op.GetFile().GetActions()
+		if len(actions) < 3 {
+			return false
+		}
+		actions[0].Output, actions[1].Input, actions[1].Output, actions[2].Output = -1, 0, 0, -1
+		return true
+	})
+	short := changed(t, merged, func(op *pb.Op) bool {
+		if op.GetMerge() != nil {
+			op.GetMerge().Inputs = op.GetMerge().Inputs[:2]
+		}
+		return op.GetMerge() != nil
+	})
+	for name, one := range map[string]struct {
+		def                  *llb.Definition
+		want, wantsLiterally string
+	}{
+		"the action itself as its second input": {
+			second, "action 0: fails: the second input depends on the action: SecondInput",
+			"action 0: fails: the second input depends on the action: SecondInput",
+		},
+		"a copy of what is missing that is not done": {selected, "action 2: fails: /missing is missing: Selected", ""},
+		"a merge that lists too few": {
+			short, "its daemon dies (here lays what is listed): ShortMerge", "its daemon dies (here lays what is listed): ShortMerge",
+		},
+	} {
+		for _, literal := range []bool{false, true} {
+			d := started(t, func(o *Options) { o.Literal = literal })
+			want := one.want
+			if literal {
+				want = one.wantsLiterally
+			}
+			got, err := d.warningsOf(t, one.def, client.SolveOpt{})
+			if !strings.Contains(got, want) || (err != nil) != (want == "") {
+				t.Errorf("%s, literal %t: %q, not %q %v", name, literal, got, want, err)
+			}
+		}
+	}
+}
+
+func TestAnInputThatNamesNothingAndIsNotNeededIsAWarning(t *testing.T) {
+	state := llb.Scratch().File(llb.Mkfile("/m", 0o1644, nil))
+	def := changed(t, state, func(op *pb.Op) bool {
+		if op.Op == nil {
+			op.Inputs = append(op.Inputs, &pb.Input{Digest: digest.FromString("none")})
+		}
+		return op.Op == nil
+	})
+	for _, literal := range []bool{false, true} {
+		d := started(t, func(o *Options) { o.Literal = literal })
+		got, err := d.warningsOf(t, def, client.SolveOpt{})
+		if want := "entry 1 input 1: its daemon dies (here takes it): UnknownInput"; err != nil || !strings.Contains(got, want) {
+			t.Errorf("literal %t: %q %v", literal, got, err)
+		}
+	}
+}
+
 func TestAnExecutionOfWhatDiffersIsAWarning(t *testing.T) {
 	d := started(t, nil)
 	state := llb.Scratch().File(llb.Mkfile("/a", 0o604, nil)).File(llb.Mkfile("/a", 0o755, nil))
@@ -126,7 +256,7 @@ func TestPathsWithOneCauseAreOneWarning(t *testing.T) {
 	}
 	source := llb.Local("src")
 	state := source.File(llb.Copy(source, "/d", "/", &llb.CopyInfo{Mode: modeOf(0o711)}))
-	all, err := d.warned(t, state, client.SolveOpt{LocalDirs: map[string]string{"src": root}})
+	all, err := d.warned(t, marshal(t, state), client.SolveOpt{LocalDirs: map[string]string{"src": root}})
 	if err != nil || len(all) != 1 {
 		t.Fatal(all, err)
 	}

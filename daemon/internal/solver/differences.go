@@ -56,7 +56,7 @@ func compare(ctx context.Context, def *pb.Definition, g *graph.Graph, in *inputs
 // say shows what does not depend on trees.
 func (c *comparison) say(def *pb.Definition) {
 	for v := range c.g.Vertices {
-		for _, step := range differences.Static(v, c.g.Vertices[v].Op) {
+		for _, step := range differences.Static(v, c.g.Vertices[v].Sent) {
 			c.show(step)
 		}
 	}
@@ -115,7 +115,11 @@ func (c *comparison) show(s differences.Step) {
 func (p *progress) differs(s differences.Step, lines []differences.Line) {
 	place := ""
 	if s.Action >= 0 {
-		place = fmt.Sprintf("action %d: ", p.action(s.Vertex, s.Action))
+		number := s.Action
+		if !s.AsSent {
+			number = p.action(s.Vertex, number)
+		}
+		place = fmt.Sprintf("action %d: ", number)
 	}
 	var details []string
 	for _, text := range lines[0].Texts {

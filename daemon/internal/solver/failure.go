@@ -12,6 +12,7 @@ import (
 	"llbm/daemon/internal/graph"
 	"llbm/daemon/internal/machine"
 	"llbm/daemon/internal/plan"
+	"llbm/daemon/internal/tree"
 )
 
 // failure returns why a vertex failed: `V failed action A fault N` or `V failed command C status S` as llbm prints it,
@@ -40,6 +41,9 @@ func (s *Solver) failure(run *machine.Run, p *progress, v int) error {
 	if n, _ := fmt.Sscanf(line, "%d failed command %d status %d", &number, &place, &code); n == 3 {
 		if calls := plan.Calls(op); place < len(calls) {
 			text += ": " + strings.Join(calls[place], " ")
+			if why := notRead(run, g, v, place, calls[place]); why != "" {
+				text += ": " + why
+			}
 		}
 	}
 	return failed(op, nil, status.Error(codes.Unknown, text))
@@ -79,19 +83,21 @@ func reason(run *machine.Run, g *graph.Graph, v, place, fault int) string {
 	return causes[fault]
 }
 
-// lacks returns whether the tree that a copy copies from lacks a path, and whether this is known: it is of a tree that is
-// empty or another vertex' output.
+// lacks returns whether the tree that a copy copies from lacks a path, and whether this is known.
 func lacks(run *machine.Run, g *graph.Graph, v, input int, path string) (missing, known bool) {
+	t, known := inputTree(run, g, v, input)
+	return known && t.Find(path) == nil, known
+}
+
+// inputTree returns the tree of an input of a vertex, if it is known: it is that of the empty tree or another vertex' output.
+func inputTree(run *machine.Run, g *graph.Graph, v, input int) (tree.Tree, bool) {
 	inputs := g.Vertices[v].Op.Inputs
 	switch {
 	case input < 0:
-		return strings.Trim(path, "/.") != "", true
+		return tree.Empty(), true
 	case input >= len(inputs):
-		return false, false
+		return nil, false
 	}
 	t, err := run.TreeOf(g.Vertices[v].Inputs[input], int(inputs[input].Index), len(g.Vertices))
-	if err != nil || t == nil {
-		return false, false
-	}
-	return t.Find(path) == nil, true
+	return t, err == nil && t != nil
 }

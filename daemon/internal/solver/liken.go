@@ -6,10 +6,10 @@ import (
 	"llbm/daemon/internal/graph"
 )
 
-// note shows a warning for each field that has an effect in BuildKit alone.
-func (s *Solver) note(g *graph.Graph, p *progress) {
+// note shows a warning for each field of the entries that were sent which has an effect in BuildKit alone.
+func (s *Solver) note(sent *pb.Definition, g *graph.Graph, p *progress) {
 	for v := range g.Vertices {
-		for _, note := range s.Notes.Of(g.Vertices[v].Op, s.Platform) {
+		for _, note := range s.Notes.Of(sent.Def[g.Vertices[v].Row], s.Platform) {
 			p.note(v, note.String(), nil)
 		}
 	}

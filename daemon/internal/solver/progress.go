@@ -11,6 +11,7 @@ import (
 	"llbm/daemon/internal/builds"
 	"llbm/daemon/internal/graph"
 	"llbm/daemon/internal/machine"
+	"llbm/daemon/internal/messages"
 	"llbm/daemon/internal/plan"
 )
 
@@ -162,7 +163,7 @@ func (p *progress) failed(v int, err error) error {
 	defer p.mu.Unlock()
 	p.start(v)
 	now, it := time.Now(), p.vertex(v)
-	it.Completed, it.Error = &now, err.Error()
+	it.Completed, it.Error = &now, messages.Of(err)
 	p.b.Events.Add(&controlapi.StatusResponse{Vertexes: []*controlapi.Vertex{it}})
 	return p.g.Wrap(v, err)
 }

@@ -96,7 +96,7 @@ func (s *Solver) work(c *checks, b *builds.Build, def, sent *pb.Definition) (*Re
 	}
 	b.AddSteps(len(g.Vertices))
 	p := newProgress(b, g)
-	s.note(g, p)
+	s.note(sent, g, p)
 	if !s.Literal {
 		if def, g, err = s.liken(c, def, sent, g, p); err != nil {
 			return nil, err

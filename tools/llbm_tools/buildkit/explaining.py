@@ -13,7 +13,7 @@ NOTE = re.compile(r"note (\d+) (\S+)(?: (.*))?")
 STEP = re.compile(r"(?:vertex (\d+)(?: action (\d+))?|action (\d+)): (.*)")
 MORE = re.compile(r"and [0-9,]+ more paths?")
 COUNTED = re.compile(r", and [0-9]+ more$")
-FIELD = re.compile(r"(\w+)(?: of (action|mount) (\d+))? has no effect: .*")
+FIELD = re.compile(r"(\w+)(?: of (action|mount) (\d+)| (.*))? has no effect: .*")
 ATTRIBUTE = "Attribute"
 INHERITED = "the step before made this difference; see the first line with this path, and its rule"
 VERDICTS = {
@@ -66,12 +66,15 @@ def texts_of(name: str) -> list[str]:
 
 def note(row: str, name: str, part: str | None) -> Explained:
     """Explains a note of `lint`."""
-    texts = texts_of(name)
-    if name == ATTRIBUTE and part:
-        texts = [f"{text} (KEY = {part})" for text in texts]
     kind, _, number = (part or "").partition(" ")
     action = int(number) if kind == "action" and number.isdecimal() else None
-    return Explained(texts, row=int(row), action=action)
+    return Explained(texts_of_field(name, part), row=int(row), action=action)
+
+
+def texts_of_field(name: str, key: str | None) -> list[str]:
+    """Returns what is said of a field, or of an attribute with its key."""
+    texts = texts_of(name)
+    return [f"{text} (KEY = {key})" for text in texts] if name == ATTRIBUTE and key else texts
 
 
 def step(vertex: str | None, action: str | None, words: str) -> Explained:
@@ -105,5 +108,6 @@ def explained(line: str) -> Explained | None:
     if line in VERDICTS:
         return Explained([f"{VERDICTS[line]}"])
     if field := FIELD.fullmatch(line):
-        return Explained(texts_of(field[1]), action=int(field[3]) if field[2] == "action" else None)
+        action = int(field[3]) if field[2] == "action" else None
+        return Explained(texts_of_field(field[1], field[4]), action=action)
     return None

@@ -94,8 +94,7 @@ class WithDaemon(unittest.TestCase):
         known = {**os.environ, "TMPDIR": str(store), "HOME": str(store)}
         with subprocess.Popen(line, env=known, stderr=subprocess.PIPE, text=True, **self.who) as child:
             try:
-                # Away from the repository it says first that it has no table of notes.
-                self.assertTrue(any("listening" in line for line in iter(child.stderr.readline, "")))
+                self.assertIn("listening", child.stderr.readline())
                 self.process = child.pid
                 yield
                 self.wait_until(lambda: not children_of(child.pid))

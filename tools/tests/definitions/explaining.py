@@ -377,6 +377,8 @@ class Notes(Folder):
             ("vertex 1 action 0: /a is missing: its inputs differ", [f"its inputs differ: {explaining.INHERITED}"]),
             ("action 1: /a has mode 0604 (here 0755): Mode, Owner, and 29 more", known["Mode"] + known["Owner"]),
             ("Network has no effect: the network of the process", known["Network"]),
+            ("Attribute local.x has no effect: what it does", [f"{known['Attribute'][0]} (KEY = local.x)"]),
+            ("Timestamp of action 2 has no effect: the time of the file", known["Timestamp"]),
             ("note 0 Attribute local.x\tname (Dockerfile:1)", [f"{known['Attribute'][0]} (KEY = local.x)"]),
         ]:
             self.assertEqual(explaining.explained(line).texts, texts)
