@@ -116,7 +116,8 @@ class Eyes:
         found = [plain(one.name, one.summary())]
         found += [self.change(one.name, change) for change in one.changes]
         more = sum(one.counts.values()) - len(one.changes)
-        limit = f"{more:,} more paths changed; the first {happened.MOST_CHANGES:,} are shown"
+        counted = trees.counted(more, "more path", "more paths")
+        limit = f"{counted} changed; the first {happened.MOST_CHANGES:,} are shown"
         return [*found, plain(f"{one.name}: more", limit)] if more else found
 
     def change(self, tree: str, change: Change) -> Variable:

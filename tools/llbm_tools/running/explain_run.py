@@ -22,6 +22,7 @@ import tempfile
 from collections.abc import Iterator
 
 from llbm_tools import common, inputs
+from llbm_tools.buildkit import differing
 from llbm_tools.debugging import launching
 from llbm_tools.debugging.changes import Change, Compared
 from llbm_tools.debugging.happened import Happened, Watch
@@ -48,7 +49,7 @@ def compared_lines(compared: Compared, most: int) -> Iterator[str]:
         yield f"{compared.name}: {change_line(change)}"
     more = sum(compared.counts.values()) - len(compared.changes[:most])
     if more > 0:
-        yield f"{compared.name}: and {more:,} more paths"
+        yield f"{compared.name}: {differing.more_paths(more)}"
 
 
 def step_lines(happened: Happened, most: int) -> Iterator[str]:

@@ -178,6 +178,13 @@ class AsBuildkit(Folder):
             self.assertEqual((done.returncode, found, done.stderr), (1, lines, b""), shows)
             self.assertRegex(last, "^the results differ at [12] paths?$")
 
+    def test_it_counts_the_paths_that_are_not_shown(self):
+        for shows, line in [
+            ("mkfile over a file", "vertex 1 action 0: and 1 more path"),
+            ("copy to a dest that ends in `/.`", "vertex 2 action 0: and 2 more paths"),
+        ]:
+            self.assertEqual(self.compare(example(shows), "--paths", "0").stdout.decode().splitlines()[0], line)
+
     def test_it_says_which_of_both_fails_and_why(self):
         for shows, line, last in [
             ("rm below a file with allowNotFound", "vertex 1 action 0: fails: /f/g is below a file: RmBelowFile",
