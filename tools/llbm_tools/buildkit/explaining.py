@@ -18,7 +18,14 @@ ATTRIBUTE = "Attribute"
 INHERITED = "the step before made this difference; see the first line with this path, and its rule"
 VERDICTS = {
     "the results agree": "BuildKit's result has the same paths, modes, owners and contents, but for what notes name",
+    "the results agree, but for what executions do": "if executions make there what they make here, BuildKit's result has"
+    " the same paths, modes, owners and contents, but for what notes name",
     "both fail": "neither BuildKit nor llbm has a result",
+    "both fail, but for what executions do": "if executions make there what they make here, neither BuildKit nor llbm has"
+    " a result",
+    "the results differ: BuildKit's daemon breaks, here is a result": "a line above says what breaks BuildKit's daemon",
+    "the results differ: BuildKit's daemon breaks, here is none": "a line above says what breaks BuildKit's daemon; llbm"
+    " has no result either",
     "BuildKit has a result, here is none": "a line above says where llbm fails and BuildKit does not",
     "BuildKit fails, here is a result": "a line above says where BuildKit fails and llbm does not",
 }

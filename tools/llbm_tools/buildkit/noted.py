@@ -1,6 +1,6 @@
-"""What ends otherwise in BuildKit whatever the trees are, as lines of `as-buildkit`: what breaks its daemon."""
+"""What ends otherwise in BuildKit whatever the trees are, as lines of `as-buildkit`: executions, and what breaks its daemon."""
 
-from llbm_tools.buildkit import file_ops, notes, rules
+from llbm_tools.buildkit import file_ops, notes, rules, static
 from llbm_tools.buildkit.beside import Beside, StepLines
 from llbm_tools.buildkit.fields import Note
 from llbm_tools.buildkit.notes import RowNote
@@ -11,10 +11,11 @@ WHOLE = -1
 
 
 class Noted:
-    """The notes of a definition that the program accepts. `breaking` has by vertex what breaks BuildKit's daemon,
+    """The notes of a definition that the program accepts. `executions` has its executions, `breaking` has by vertex what breaks BuildKit's daemon,
     `outside` what does so in entries that are no vertices, and `lost` the vertices that the daemon never ends."""
 
     def __init__(self, data: bytes, graph: Graph) -> None:
+        self.executions = {vertex for vertex, op in enumerate(graph.ops) if op.exec}
         self.breaking: dict[int, list[Note]] = {}
         self.outside: list[RowNote] = []
         vertices = {row: vertex for vertex, row in enumerate(graph.rows)}
@@ -35,7 +36,8 @@ class Noted:
 
     def lines_of_whole(self, vertex: int) -> list[str]:
         """Returns all lines about a vertex as a whole."""
-        return self.lines_of_breaking(vertex, WHOLE)
+        executed = [line_of(static.EXECUTION)] if vertex in self.executions else []
+        return [*executed, *self.lines_of_breaking(vertex, WHOLE)]
 
 
 def line_of(note: Note) -> str:

@@ -10,7 +10,7 @@ line `note ..` names each field that has an effect in BuildKit and none here: wh
 last line says whether the results agree. Their roots are not compared. They differ if something breaks BuildKit's
 daemon: a line `vertex ..` or, for an entry that is no vertex, `entry ..` says what. With --tree the tree that BuildKit
 would make is printed instead, or on standard error why there is none. What an execution makes is taken from the run
-here: BuildKit runs a process instead.
+here: BuildKit runs a process instead, as a line of its vertex and the last line say.
 
 Exit status: 0 the results agree, or the tree is printed; 1 they differ, or there is no tree in BuildKit; 2 something is
 refused: standard error says what; 3 a read or a write failed, or the program ended by itself.
@@ -31,6 +31,9 @@ from llbm_tools.llb import definition, names
 from llbm_tools.running import explain_run
 from llbm_tools.sessions.session import Refusal, SessionFailed
 from llbm_tools.streams import FAILED, Refused, exit_status
+
+
+BUT_EXECUTIONS = ", but for what executions do"
 
 
 class Comparison:
@@ -84,13 +87,14 @@ class Comparison:
         there, here = self.tree(), self.here
         if self.breaking:
             return f"the results differ: BuildKit's daemon breaks, here is {'a result' if here else 'none'}", False
+        but = BUT_EXECUTIONS if self.noted.executions else ""
         if there is None and here is None:
-            return "both fail", True
+            return f"both fail{but}", True
         if there is None or here is None:
             return "BuildKit has a result, here is none" if there else "BuildKit fails, here is a result", False
         count = len(differing.differences(there, here))
         if not count:
-            return "the results agree", True
+            return f"the results agree{but}", True
         return f"the results differ at {count:,} path{'' if count == 1 else 's'}", False
 
 

@@ -274,6 +274,25 @@ class Breaking(WithProgram):
         self.assertEqual(shown, [("claim", 1, self.SHORT)])
 
 
+class Executions(WithProgram):
+    """Executions, which are processes in BuildKit, in `as-buildkit` and `explain-run`."""
+
+    LINE = (
+        "runs a process of the root mount (here runs applets, of which `rm`, `cp`, `envfile`, `listing` differ from"
+        " programs): Execution"
+    )
+
+    def test_each_has_a_line_and_the_results_agree_but_for_them(self):
+        data = base.ending(base.exec_op("write", "/a", "1"))
+        lines = self.lines("as-buildkit", data)
+        self.assertEqual(lines, [f"vertex 0: {self.LINE}", "the results agree, but for what executions do"])
+        self.assertEqual(self.explained(data), [("vertex 0 exec: write /a 1", self.LINE)])
+
+    def test_both_may_fail_but_for_them(self):
+        lines = self.lines("as-buildkit", base.ending(base.exec_op("rm", "/none")))
+        self.assertEqual(lines, [f"vertex 0: {self.LINE}", "both fail, but for what executions do"])
+
+
 class AsBuildkit(WithProgram):
     """The tool `as-buildkit`."""
 
