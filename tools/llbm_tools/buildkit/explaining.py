@@ -16,18 +16,19 @@ COUNTED = re.compile(r", and [0-9]+ more$")
 FIELD = re.compile(r"(\w+)(?: of (action|mount) (\d+))? has no effect: .*")
 ATTRIBUTE = "Attribute"
 INHERITED = "the step before made this difference; see the first line with this path, and its rule"
+AGREE = "BuildKit's result has the same paths, modes, owners and contents, but for what notes name"
+FAIL = "neither BuildKit nor llbm has a result"
+IF_ALIKE = "if executions make there what they make here"
+BREAKS = "a line above says what breaks BuildKit's daemon"
 VERDICTS = {
-    "the results agree": "BuildKit's result has the same paths, modes, owners and contents, but for what notes name",
-    "the results agree, but for what executions do": "if executions make there what they make here, BuildKit's result has"
-    " the same paths, modes, owners and contents, but for what notes name",
-    "both fail": "neither BuildKit nor llbm has a result",
-    "both fail, but for what executions do": "if executions make there what they make here, neither BuildKit nor llbm has"
-    " a result",
-    "the results differ: BuildKit's daemon breaks, here is a result": "a line above says what breaks BuildKit's daemon",
-    "the results differ: BuildKit's daemon breaks, here is none": "a line above says what breaks BuildKit's daemon; llbm"
-    " has no result either",
+    "the results agree": AGREE,
+    "the results agree, but for what executions do": f"{IF_ALIKE}, {AGREE}",
+    "both fail": FAIL,
+    "both fail, but for what executions do": f"{IF_ALIKE}, {FAIL}",
     "BuildKit has a result, here is none": "a line above says where llbm fails and BuildKit does not",
     "BuildKit fails, here is a result": "a line above says where BuildKit fails and llbm does not",
+    "the results differ: BuildKit's daemon breaks, here is a result": f"{BREAKS}, while llbm makes a result",
+    "the results differ: BuildKit's daemon breaks, here is none": f"{BREAKS}; llbm makes no result either",
 }
 DIFFER = re.compile(r"the results differ at [0-9,]+ paths?")
 

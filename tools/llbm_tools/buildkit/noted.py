@@ -1,4 +1,6 @@
-"""What ends otherwise in BuildKit whatever the trees are, as lines of `as-buildkit`: executions, and what breaks its daemon."""
+"""What ends otherwise in BuildKit whatever the trees are, as lines of `as-buildkit`: fields without an effect here,
+executions, and what breaks BuildKit's daemon.
+"""
 
 from llbm_tools.buildkit import file_ops, notes, rules, static
 from llbm_tools.buildkit.beside import Beside, StepLines
@@ -11,20 +13,30 @@ WHOLE = -1
 
 
 class Noted:
-    """The notes of a definition that the program accepts. `executions` has its executions, `breaking` has by vertex what breaks BuildKit's daemon,
-    `outside` what does so in entries that are no vertices, and `lost` the vertices that the daemon never ends."""
+    """The notes of a definition that the program accepts. `fields` has those of fields without an effect, `executions`
+    the vertices that are one, `breaking` by vertex what breaks BuildKit's daemon, `outside` what does so in entries
+    that are no vertices, and `lost` the vertices that the daemon never ends."""
 
     def __init__(self, data: bytes, graph: Graph) -> None:
+        found = notes.Notes(data)
+        self.fields = found.of_fields()
+        self.fields_of: dict[int, list[RowNote]] = {}
         self.executions = {vertex for vertex, op in enumerate(graph.ops) if op.exec}
         self.breaking: dict[int, list[Note]] = {}
         self.outside: list[RowNote] = []
         vertices = {row: vertex for vertex, row in enumerate(graph.rows)}
-        for one in notes.Notes(data).of_deaths():
+        for one in self.fields:
+            self.fields_of.setdefault(vertices[one.row], []).append(one)
+        for one in found.of_deaths():
             if one.row in vertices:
                 self.breaking.setdefault(vertices[one.row], []).append(one.note)
             else:
                 self.outside.append(one)
         self.lost = lost_in(graph, {vertex for vertex in self.breaking if self.lines_of_breaking(vertex, WHOLE)})
+
+    def lines_of_fields(self, vertex: int, step: int) -> list[str]:
+        """Returns the notes of fields of an action or of WHOLE, as `lint` prints them."""
+        return [f"note {one.words()}" for one in self.fields_of.get(vertex, []) if step_of(one.note) == step]
 
     def lines_outside(self) -> list[str]:
         """Returns a line for each input by which an entry that is no vertex breaks BuildKit's daemon."""

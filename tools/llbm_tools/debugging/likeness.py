@@ -5,7 +5,7 @@ Trees whose texts are too long are not compared, and nothing is known after an e
 
 from llbm_tools.buildkit import solving
 from llbm_tools.buildkit.beside import Beside
-from llbm_tools.buildkit.noted import Noted, Otherwise
+from llbm_tools.buildkit.noted import WHOLE, Noted, Otherwise
 from llbm_tools.debugging.places import Graph
 from llbm_tools.sessions.session import Event, Session, TooLarge
 
@@ -48,12 +48,16 @@ class Likeness:
             self.otherwise = self.begin()
         self.count = count
         if event.kind == "claim":
-            return self.noted.lines_of_whole(event.vertex)
+            return [*self.noted.lines_of_fields(event.vertex, WHOLE), *self.noted.lines_of_whole(event.vertex)]
         op = self.graph.ops[event.vertex]
         if event.kind != ("settle" if op.source else "step"):
             return []
         step = event.before.steps if event.before and not op.source else 0
+        return [*self.noted.lines_of_fields(event.vertex, step), *self.of_step(event.vertex, step)]
+
+    def of_step(self, vertex: int, step: int) -> list[str]:
+        """Returns the lines about the trees of a step, or why there are none."""
         try:
-            return self.otherwise.lines(event.vertex).get(step, [])
+            return self.otherwise.lines(vertex).get(step, [])
         except TooLarge as fault:
             return [f"not compared: {fault}"]

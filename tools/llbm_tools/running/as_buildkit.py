@@ -22,7 +22,7 @@ import tempfile
 from collections.abc import Iterator
 
 from llbm_tools import common, inputs
-from llbm_tools.buildkit import differing, files, notes, solving
+from llbm_tools.buildkit import differing, files, solving
 from llbm_tools.buildkit.beside import Beside, StepLines, Unequal
 from llbm_tools.buildkit.executing import Program
 from llbm_tools.buildkit.noted import WHOLE, Noted, Otherwise
@@ -78,7 +78,7 @@ class Comparison:
 
     def notes(self) -> list[str]:
         """Returns lines for fields without an effect here."""
-        found = notes.notes_of(self.data, [], False)
+        found = self.noted.fields
         shown = [name.shown() for name in names.names_of(self.data)] if found else []
         return ["\t".join(filter(None, [f"note {one.words()}", shown[one.row]])) for one in found]
 

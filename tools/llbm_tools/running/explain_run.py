@@ -6,12 +6,12 @@ else its out/llbm-unproved, which is named on standard error as not proved.
 
 Out: on standard output the run by one worker, vertex by vertex: a line with its number, its kind and its name or what
 it does; below it a line for each micro-step, with the paths that it added, removed or changed, or why it failed, and a
-line `BuildKit: ..` for each path that ends otherwise there (docs/BUILDKIT.md); and at its end `done` or `failed`. Such
-lines about a vertex as a whole are below its first one, and those about entries that are no vertices come first. At
-most --paths N changes of one tree are shown for each step, 20 by default; a line says how many more there are. The
-trees are those that a session of `llbm step` shows. With --summary a micro-step has one line, which counts the paths
-that it changed and the bytes by which their files grew; and each output of a vertex has a line with its numbers of
-directories, files and bytes.
+line `BuildKit: ..` for each path that ends otherwise there, and for each field without an effect here
+(docs/BUILDKIT.md); and at its end `done` or `failed`. Such lines about a vertex as a whole are below its first one, and
+those about entries that are no vertices come first. At most --paths N changes of one tree are shown for each step, 20
+by default; a line says how many more there are. The trees are those that a session of `llbm step` shows. With --summary
+a micro-step has one line, which counts the paths that it changed and the bytes by which their files grew; and each
+output of a vertex has a line with its numbers of directories, files and bytes.
 
 Exit status: 0 the run is complete; 1 a vertex failed; 2 something is refused: standard error says what; 3 a read or a
 write failed, or the program ended by itself.

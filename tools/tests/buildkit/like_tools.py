@@ -155,8 +155,8 @@ class WithProgram(Folder):
 
     def lines(self, tool, data, *words, status=0):
         """Returns the lines that a tool prints of a definition, with options before the sources."""
-        options = [word for word in words if word.startswith("--")]
-        done = run(tool, "--llbm", base.llbm, *options, "-", *words[len(options) :], text=data)
+        sources = [word for word in words if "=" in word]
+        done = run(tool, "--llbm", base.llbm, *words[: len(words) - len(sources)], "-", *sources, text=data)
         self.assertEqual((done.returncode, done.stderr), (status, b""))
         return done.stdout.decode().splitlines()
 
@@ -272,6 +272,39 @@ class Breaking(WithProgram):
             eyes.close()
             shown += [(event.kind, event.vertex, one["value"]) for one in eyes.changed() if one["name"] == "BuildKit"]
         self.assertEqual(shown, [("claim", 1, self.SHORT)])
+
+
+class NotedFields(WithProgram):
+    """Fields without an effect, in `explain-run` and the debugger."""
+
+    def test_those_of_an_action_are_below_it_and_others_below_the_vertex(self):
+        actions = tuple(
+            made("FileAction", input=number - 1, secondaryInput=-1, output=number - 1, mkdir=member)
+            for number, member in enumerate([
+                made("FileActionMkDir", path="/a", timestamp=-1), made("FileActionMkDir", path="/b", timestamp=7),
+            ])
+        )  # fmt: skip
+        data = definition(made("Op", file=made("FileOp", actions=actions)) + [(10, [(1, b"arm64")])])
+        found = self.lines("explain-run", data, "--paths", "0")
+        self.assertEqual(found[:7], [
+            "vertex 0 file: mkdir /a; mkdir /b", "    BuildKit: note 0 Platform",
+            "  action 0: mkdir /a", "    result 0: and 1 more path",
+            "  action 1: mkdir /b", "    result 1: and 1 more path", "    BuildKit: note 0 Timestamp action 1",
+        ])
+        self.assertEqual(self.lines("as-buildkit", data), [
+            "note 0 Platform", "note 0 Timestamp action 1", "the results agree",
+        ])
+
+    def test_those_of_an_execution_and_of_a_source_are_below_them(self):
+        meta = made("Meta", args=("true",))
+        execution = made("Op", exec=made("ExecOp", meta=meta, mounts=(made("Mount", input=-1, dest="/"),), network=1))
+        self.assertEqual(self.explained(definition(execution))[0], ("vertex 0 exec: true", "note 0 Network"))
+        data = definition(source(**{"local.includepattern": '["a"]', "action 0": "b"}))
+        place = self.file(b"p", b"d 0755 0 0 /\n").decode()
+        title = "vertex 0 source: local://p"
+        self.assertEqual(self.explained(data, f"p={place}"), [
+            (title, "note 0 IncludePatterns"), (title, "note 0 Attribute action 0"),
+        ])
 
 
 class Executions(WithProgram):
