@@ -1,8 +1,8 @@
 """Tests of the model of BuildKit's file actions against BuildKit's own file backend, where Go and its packages are.
 
-The backend is the package `solver/llbsolver/file` of github.com/moby/buildkit: of Debian's packages in the cache folder,
-with their Go, or else of GOPATH (as environment variable, or /usr/share/gocode) with the Go that is installed. It is
-compiled with one file more, by an overlay, and changes owners.
+The backend is the package `solver/llbsolver/file` of github.com/moby/buildkit: of Debian's packages in the cache
+folder, with their Go, or else of GOPATH (as environment variable, or /usr/share/gocode) with the Go that is installed.
+It is compiled with one file more, by an overlay, and changes owners.
 """
 
 import json
