@@ -63,7 +63,7 @@ export class ChangesView {
     return make('section', { class: 'compared' },
       make('h4', {}, name, make('span', { class: 'note', text: ` ${shown}` })), summaryElement(summary),
       ...changes.map((change) => this.change(change, part)),
-      ...(more > 0 ? [make('p', { class: 'note', text: `and ${more.toLocaleString('en')} more paths` })] : []));
+      ...(more > 0 ? [make('p', { class: 'note', text: `and ${more.toLocaleString('en')} more ${more === 1 ? 'path' : 'paths'}` })] : []));
   }
 
   change({ path, kind, words, hasContent }, part) {

@@ -163,7 +163,9 @@ func lines(t *testing.T, one given) []string {
 		for _, line := range s.Lines[:min(len(s.Lines), mostShown)] {
 			out = append(out, place+": "+line.String())
 		}
-		if more := len(s.Lines) + s.More - mostShown; more > 0 {
+		if more := len(s.Lines) + s.More - mostShown; more == 1 {
+			out = append(out, place+": and 1 more path")
+		} else if more > 0 {
 			out = append(out, fmt.Sprintf("%s: and %d more paths", place, more))
 		}
 	})

@@ -102,7 +102,7 @@ class Beside:
         """Returns lines for differences, and one that counts the others."""
         lines = [f"{one.words()}: {cause(one)}" for one in found[: self.most]]
         more = len(found) - self.most
-        return [*lines, f"and {more:,} more paths"] if more > 0 else lines
+        return [*lines, differing.more_paths(more)] if more > 0 else lines
 
     def lines_of_source(self, vertex: int) -> StepLines:
         """Returns the lines of a source: what is not sent, and owners."""

@@ -84,6 +84,11 @@ class Causes:
         return found or [rule for rule, tree in self.alone.items() if tree is not None and tree.get(path) != here]
 
 
+def more_paths(count: int) -> str:
+    """Returns how many paths are not shown, in words."""
+    return f"and {count:,} more path{'' if count == 1 else 's'}"
+
+
 def named(found: list[Rule]) -> str:
     """Returns the names of rules, or that none of them is the cause."""
     return ", ".join(found) or INHERITED

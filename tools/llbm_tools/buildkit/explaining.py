@@ -1,4 +1,5 @@
-"""Explains lines about BuildKit: the notes of `lint`, the lines of `as-buildkit`, and the warnings of the daemon.
+"""Explains lines about BuildKit: the notes of `lint`, the lines of `as-buildkit` and of `explain-run`, and the warnings
+of the daemon, as its clients show them.
 
 Such a line names fields, rules or other notes; `fields.json` and `rules.json` have what is said of each.
 """
@@ -9,29 +10,57 @@ from typing import NamedTuple
 
 from llbm_tools.buildkit import differing, fields, page, rules
 
+# What is before a line in the output of `explain-run`, of buildctl and of docker-buildx.
+LEAD = re.compile(r"\s*(?:BuildKit: |(?:=> )*(?:#\d+ )?WARN: |- )?")
 NOTE = re.compile(r"note (\d+) (\S+)(?: (.*))?")
-STEP = re.compile(r"(?:vertex (\d+)(?: action (\d+))?|action (\d+)): (.*)")
+STEP = re.compile(r"(?:vertex (\d+)(?: action (\d+))?|action (\d+)|entry (\d+) input (\d+)): (.*)")
 MORE = re.compile(r"and [0-9,]+ more paths?")
 COUNTED = re.compile(r", and [0-9]+ more$")
 FIELD = re.compile(r"(\w+)(?: of (action|mount) (\d+)| (.*))? has no effect: .*")
-ATTRIBUTE = "Attribute"
+SENTENCE = re.compile(r"(\w+): .*\. In BuildKit: .*")
 INHERITED = "the step before made this difference; see the first line with this path, and its rule"
+AGREE = "BuildKit's result has the same paths, modes, owners and contents, but for what notes name"
+FAIL = "neither BuildKit nor llbm has a result"
+IF_ALIKE = "if executions make there what they make here"
+BREAKS = "a line above says what breaks BuildKit's daemon"
 VERDICTS = {
-    "the results agree": "BuildKit's result has the same paths, modes, owners and contents, but for what notes name",
-    "both fail": "neither BuildKit nor llbm has a result",
+    "the results agree": AGREE,
+    "the results agree, but for what executions do": f"{IF_ALIKE}, {AGREE}",
+    "both fail": FAIL,
+    "both fail, but for what executions do": f"{IF_ALIKE}, {FAIL}",
     "BuildKit has a result, here is none": "a line above says where llbm fails and BuildKit does not",
     "BuildKit fails, here is a result": "a line above says where BuildKit fails and llbm does not",
+    "the results differ: BuildKit's daemon breaks, here is a result": f"{BREAKS}, while llbm makes a result",
+    "the results differ: BuildKit's daemon breaks, here is none": f"{BREAKS}; llbm makes no result either",
 }
+# What a comparison says of itself, and what is said of it.
+OTHERS = [
+    (re.compile(r"not compared: .*"), "a tree of this step is too long to be compared; `as-buildkit` compares it"),
+    (
+        re.compile(r"not all was compared with what BuildKit would make: .*"),
+        "llbmd gave the comparison up; the result is whole. `as-buildkit` compares a build that is kept (`-keep`)",
+    ),
+    (
+        re.compile(r"the definition has bytes that BuildKit's library would not write, .*"),
+        "llbmd did not rewrite ops so that both agree, since their digests depend on these bytes",
+    ),
+    (
+        re.compile(r"local source .*: \d+ entries are left out, .*"),
+        "the client's directory has links, devices, pipes or sockets, which llbmd leaves out (`-leave-out`)",
+    ),
+]
 DIFFER = re.compile(r"the results differ at [0-9,]+ paths?")
 
 
 class Explained(NamedTuple):
-    """What is said of a line, and the part of a definition that it names: a row, or a vertex and an action."""
+    """What is said of a line, and the part of a definition that it names: a row and an input, or a vertex and an
+    action."""
 
     texts: list[str]
     row: int | None = None
     vertex: int | None = None
     action: int | None = None
+    input: int | None = None
 
 
 class Unknown(Exception):
@@ -66,21 +95,22 @@ def texts_of(name: str) -> list[str]:
 
 def note(row: str, name: str, part: str | None) -> Explained:
     """Explains a note of `lint`."""
-    kind, _, number = (part or "").partition(" ")
-    action = int(number) if kind == "action" and number.isdecimal() else None
-    return Explained(texts_of_field(name, part), row=int(row), action=action)
+    kind, _, word = (part or "").partition(" ")
+    number = int(word) if word.isdecimal() else None
+    numbers = {kind: number} if kind in ("action", "input") else {}
+    return Explained(texts_of_field(name, part), int(row), None, numbers.get("action"), numbers.get("input"))
 
 
 def texts_of_field(name: str, key: str | None) -> list[str]:
     """Returns what is said of a field, or of an attribute with its key."""
     texts = texts_of(name)
-    return [f"{text} (KEY = {key})" for text in texts] if name == ATTRIBUTE and key else texts
+    return [f"{text} (KEY = {key})" for text in texts] if name == fields.ATTRIBUTE and key else texts
 
 
-def step(vertex: str | None, action: str | None, words: str) -> Explained:
-    """Explains a line about a step."""
-    numbers = [None if one is None else int(one) for one in (vertex, action)]
-    return Explained(texts_of_step(words), None, *numbers)
+def step(words: str, *given: str | None) -> Explained:
+    """Explains the words of a line about a step, given the numbers before them."""
+    vertex, of_vertex, alone, row, number = [None if one is None else int(one) for one in given]
+    return Explained(texts_of_step(words), row, vertex, alone if of_vertex is None else of_vertex, number)
 
 
 def texts_of_step(words: str) -> list[str]:
@@ -95,19 +125,33 @@ def texts_of_step(words: str) -> list[str]:
     return [text for name in names.split(", ") for text in texts_of(name)]
 
 
+def texts_alone(words: str) -> list[str] | None:
+    """Returns what is said of words without a place, or None if they are of no known form."""
+    if DIFFER.fullmatch(words):
+        return ["BuildKit's result has these paths otherwise; the lines above say where each begins"]
+    if words in VERDICTS:
+        return [VERDICTS[words]]
+    for form, text in OTHERS:
+        if form.fullmatch(words):
+            return [text]
+    if found := SENTENCE.fullmatch(words):
+        return texts_of(found[1])
+    try:
+        return texts_of_step(words)
+    except Unknown:
+        return None
+
+
 def explained(line: str) -> Explained | None:
-    """Explains a line, or returns None if it is of none of these forms; a name after a tab is skipped."""
-    line = line.partition("\t")[0]
-    if found := NOTE.fullmatch(line):
+    """Explains a line, or returns None if it is of none of these forms. A note's name of the entry, after a tab, is
+    skipped, and so is what clients put before a warning."""
+    words = LEAD.sub("", line, count=1)
+    if found := NOTE.fullmatch(words.partition("\t")[0]):
         return note(*found.groups())
-    if found := STEP.fullmatch(line):
-        vertex, action, alone, words = found.groups()
-        return step(vertex, action or alone, words)
-    if DIFFER.fullmatch(line):
-        return Explained(["BuildKit's result has these paths otherwise; the lines above say where each begins"])
-    if line in VERDICTS:
-        return Explained([f"{VERDICTS[line]}"])
-    if field := FIELD.fullmatch(line):
-        action = int(field[3]) if field[2] == "action" else None
-        return Explained(texts_of_field(field[1], field[4]), action=action)
-    return None
+    if found := STEP.fullmatch(words):
+        *numbers, rest = found.groups()
+        return step(rest, *numbers)
+    if found := FIELD.fullmatch(words):
+        return Explained(texts_of_field(found[1], found[4]), action=int(found[3]) if found[2] == "action" else None)
+    texts = texts_alone(words)
+    return None if texts is None else Explained(texts)

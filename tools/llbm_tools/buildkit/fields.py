@@ -15,6 +15,8 @@ MEMBERS = {
     for message in (Op, FileAction)
 }
 NO_MEMBERS: frozenset[int] = frozenset()
+# The note of an attribute that is not known; its part is the key.
+ATTRIBUTE = "Attribute"
 SIGNS = 1 << 63
 
 
@@ -27,6 +29,12 @@ class Note(NamedTuple):
     def words(self) -> str:
         """Returns the name and the part."""
         return " ".join(filter(None, [self.name, self.part]))
+
+    def action(self) -> int | None:
+        """Returns the number of the action that the note is about, or None."""
+        kind, _, number = self.part.partition(" ")
+        is_key = self.name == ATTRIBUTE
+        return int(number) if kind == "action" and number.isdecimal() and not is_key else None
 
 
 @functools.cache
@@ -92,7 +100,7 @@ def notes_of_attributes(op: Op) -> Iterator[Note]:
             continue
         row = rows.get(one.key)
         if row is None:
-            yield Note("Attribute", one.key)
+            yield Note(ATTRIBUTE, one.key)
         elif one.value not in row["unset"]:
             yield Note(row["name"])
 

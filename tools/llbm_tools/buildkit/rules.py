@@ -5,6 +5,7 @@ A set of rules says how an action is done: with ALL as BuildKit does it, with NO
 """
 
 import enum
+import functools
 import json
 import pathlib
 from typing import NamedTuple
@@ -71,8 +72,18 @@ class Row(NamedTuple):
         advice = self.advice or f"`tools/adopt --like-buildkit` {self.tools}."
         return f"{self.name}: {self.case}. In BuildKit: {self.buildkit}. In llbm: {self.llbm}. What to do: {advice}"
 
+    def line(self) -> str:
+        """Returns the row as the words of a line about a step."""
+        return f"{self.buildkit} (here {self.llbm}): {self.name}"
+
 
 def rows(name: str = "rules") -> list[Row]:
     """Returns the table, in order, or that of the other notes (`others`)."""
     given = json.loads((FOLDER / "rules.json").read_text("utf-8"))
     return [Row(**row) for row in given[name]]
+
+
+@functools.cache
+def other(name: str) -> Row:
+    """Returns the row of a note that has no rule."""
+    return {row.name: row for row in rows("others")}[name]

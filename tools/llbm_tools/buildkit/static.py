@@ -16,6 +16,7 @@ from llbm_tools.llb.ops import ChownOpt, FileAction, FileActionCopy, FileActionM
 
 MOST_KNOWN_DEPTH = 32
 MOST_KNOWN_ENTRIES = 1_000
+EXECUTION = Note("Execution")
 
 
 class Value(NamedTuple):
@@ -305,7 +306,7 @@ def look_at(op: Op, inputs: list[Value], outputs: int) -> tuple[list[Value], lis
     if op.file:
         actions = Actions(op, inputs)
         return actions.look_at_all(), actions.notes
-    return [Value(None, True, True, True)] * outputs, [Note("Execution")]
+    return [Value(None, True, True, True)] * outputs, [EXECUTION]
 
 
 def deaths(op: Op) -> list[Note]:

@@ -42,11 +42,11 @@ def plain(name: str, value: str) -> Variable:
 class Eyes:
     """The variables for trees that are not outputs. References and nodes are those of the views."""
 
-    def __init__(self, session: Session, graph: Graph, views: Host) -> None:
+    def __init__(self, session: Session, graph: Graph, data: bytes, views: Host) -> None:
         self.session = session
         self.graph = graph
         self.views = views
-        self.watch = Watch(session, graph)
+        self.watch = Watch(session, graph, data)
         self.seen: Happened | None = None
 
     def close(self) -> None:
@@ -99,7 +99,8 @@ class Eyes:
         """Returns the variables for what the last event changed."""
         self.seen = self.seen or self.watch.last()
         if self.seen is None:
-            return [plain("event", "none: the run is at its beginning")]
+            outside = [plain("BuildKit", line) for line in self.watch.outside()]
+            return [plain("event", "none: the run is at its beginning"), *outside]
         found = [plain("event", self.session.record[-1].line), plain("what", self.seen.text)]
         for one in self.seen.compared:
             found += self.compared(one)
@@ -116,7 +117,8 @@ class Eyes:
         found = [plain(one.name, one.summary())]
         found += [self.change(one.name, change) for change in one.changes]
         more = sum(one.counts.values()) - len(one.changes)
-        limit = f"{more:,} more paths changed; the first {happened.MOST_CHANGES:,} are shown"
+        counted = trees.counted(more, "more path", "more paths")
+        limit = f"{counted} changed; the first {happened.MOST_CHANGES:,} are shown"
         return [*found, plain(f"{one.name}: more", limit)] if more else found
 
     def change(self, tree: str, change: Change) -> Variable:

@@ -83,12 +83,16 @@ def compared(name: str, before: Flat, after: Flat, most: int) -> Compared:
 
 
 class Watch:
-    """Says what events of a session changed."""
+    """Says what events of a session of a definition changed."""
 
-    def __init__(self, session: Session, graph: Graph) -> None:
+    def __init__(self, session: Session, graph: Graph, data: bytes) -> None:
         self.session = session
         self.graph = graph
-        self.likeness = Likeness(session, graph)
+        self.likeness = Likeness(session, graph, data)
+
+    def outside(self) -> list[str]:
+        """Returns what ends otherwise in BuildKit by entries that are no vertices."""
+        return self.likeness.noted.lines_outside()
 
     def last(self, most: int = MOST_CHANGES) -> Happened | None:
         """Returns what the last event did, or None at the beginning of the run."""
@@ -108,7 +112,8 @@ class Watch:
         """Returns what a claim did: the trees that the vertex begins with."""
         parts = looks.parts_of(self.session, event.worker)
         held = [Tree(part.name, f"work {event.worker} {part.number}") for part in parts]
-        return Happened(f"worker {event.worker} takes vertex {event.vertex}", [], held, [])
+        text = f"worker {event.worker} takes vertex {event.vertex}"
+        return Happened(text, [], held, self.likeness.of_event(event))
 
     def settled(self, event: Event, vertex: Vertex) -> Happened:
         """Returns what a settle did: the outputs of the vertex, or why it failed."""

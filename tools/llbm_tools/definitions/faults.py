@@ -29,6 +29,13 @@ NUMBER = r"(0|[1-9][0-9]{0,19})"
 ACTION = re.compile(rf"failed {NUMBER} action {NUMBER}(?: fault)? {NUMBER}")
 COMMAND = re.compile(rf"failed {NUMBER} command {NUMBER}(?: status)? {NUMBER}")
 
+# A refusal as the daemon's clients show it: the program's line after `llbm: `, with more at its end.
+REFUSAL = re.compile(r"(?:.* )?llbm: ((?:fault|failed) .*)")
+# A finding of `lint`, with the name of its entry.
+NAMED = re.compile(r"(fault (?:8[1-9]|90)(?: [^\t]*)?)\t.*")
+FAILED = re.compile(rf"failed {NUMBER} (?:action {NUMBER} fault|command {NUMBER} status) {NUMBER}")
+ROWLESS = re.compile(r"fault (88) (\w+): .*")
+
 MOST_FAULTS = 8
 MOST_ACTIONS = 16
 BAD_NAME = 26
@@ -277,11 +284,39 @@ def answer_about_buildkit(line: str) -> Answer:
         raise NoLine(str(fault)) from fault
     if found is None:
         raise NoLine("neither a fault, a failure nor a note")
-    return Answer(found.texts, Place(row=found.row, vertex=found.vertex, action=found.action))
+    return Answer(found.texts, Place(found.row, found.input, found.vertex, found.action))
+
+
+def named_alone(page: Page, number: str, name: str) -> Answer:
+    """Explains a refusal of the daemon that names no row."""
+    row = page.names[int(number)].get(name)
+    if row is None:
+        raise NoLine(f"{name!r} is not a name after {number}")
+    return Answer([f"{name}: {row.sentence} {row.advice}"], Place())
+
+
+def as_printed(page: Page, line: str) -> str:
+    """Returns a refusal of the daemon as the program prints it: without what is before it, the name of its fault, and
+    words and an entry after it; and a finding of `lint` without the name of its entry. Others stay as they are."""
+    if finding := NAMED.fullmatch(line):
+        return finding[1]
+    refusal = REFUSAL.fullmatch(line)
+    if not refusal:
+        return line
+    line = refusal[1]
+    if failed := FAILED.match(line):
+        return failed[0]
+    number = line.split(" ")[1]
+    causes = page.causes.get(int(number), []) if number.isdecimal() else []
+    called = "|".join(re.escape(cause.name.rpartition("::")[2]) for cause in causes)
+    found = re.fullmatch(rf"(.*?) (?:{called})(?:: .*)?(?: \(.*\))?", line) if called else None
+    return found[1] if found else re.sub(r" \(.*\)$", "", line)
 
 
 def answer_to(page: Page, line: str) -> Answer:
-    """Explains a line of the program."""
+    """Explains a line of the program, or one about BuildKit."""
+    if alone := ROWLESS.fullmatch(line):
+        return named_alone(page, *alone.groups())
     action, command = ACTION.fullmatch(line), COMMAND.fullmatch(line)
     if action:
         return answer_to_action(page, *action.groups())
@@ -416,6 +451,7 @@ class Explainer:
 
     def explain(self, line: str) -> tuple[list[str], str]:
         """Explains a line, with what the definition says about it, and returns why that says nothing; empty if not."""
+        line = as_printed(self.page, line)
         answer = answer_to(self.page, line)
         if self.entries is None:
             return answer.texts, self.cause

@@ -7,8 +7,10 @@ else its out/llbm-unproved, which is named on standard error as not proved.
 Out: on standard output a line for each action, merge or source that ends otherwise, with the path, what BuildKit has
 there, what is there here, and the rule, as docs/BUILDKIT.md lists them; at most --paths N for each, 20 by default. A
 line `note ..` names each field that has an effect in BuildKit and none here: what it would change is not known. The
-last line says whether the results agree. Their roots are not compared. With --tree the tree that BuildKit would make is
-printed instead. What an execution makes is taken from the run here: BuildKit runs a process instead.
+last line says whether the results agree. Their roots are not compared. They differ if something breaks BuildKit's
+daemon: a line `vertex ..` or, for an entry that is no vertex, `entry ..` says what. With --tree the tree that BuildKit
+would make is printed instead, or on standard error why there is none. What an execution makes is taken from the run
+here: BuildKit runs a process instead, as a line of its vertex and the last line say.
 
 Exit status: 0 the results agree, or the tree is printed; 1 they differ, or there is no tree in BuildKit; 2 something is
 refused: standard error says what; 3 a read or a write failed, or the program ended by itself.
@@ -20,14 +22,18 @@ import tempfile
 from collections.abc import Iterator
 
 from llbm_tools import common, inputs
-from llbm_tools.buildkit import differing, files, notes, solving
-from llbm_tools.buildkit.beside import Beside, Unequal
+from llbm_tools.buildkit import differing, files, solving
+from llbm_tools.buildkit.beside import Beside, StepLines, Unequal
 from llbm_tools.buildkit.executing import Program
+from llbm_tools.buildkit.noted import WHOLE, Noted, Otherwise
 from llbm_tools.debugging import launching
 from llbm_tools.llb import definition, names
 from llbm_tools.running import explain_run
 from llbm_tools.sessions.session import Refusal, SessionFailed
 from llbm_tools.streams import FAILED, Refused, exit_status
+
+
+BUT_EXECUTIONS = ", but for what executions do"
 
 
 class Comparison:
@@ -39,42 +45,56 @@ class Comparison:
         self.graph = solving.graph_of(data)
         runner = Program(program, self.graph, definition.entries_of(data))
         self.beside = Beside(self.session, self.graph, runner.run, most)
+        self.noted = Noted(data, self.graph)
         self.steps: list[str] = []
+        self.breaking: list[str] = self.noted.lines_outside()
         self.here: files.Tree | None = None
 
     def run(self) -> None:
         """Does all events of the run, and goes through all vertices."""
         while self.session.event("next"):
             pass
+        otherwise = Otherwise(self.noted, self.beside)
         for vertex in range(len(self.graph.ops)):
-            for step, lines in sorted(self.beside.lines(vertex).items()):
-                place = f"vertex {vertex} action {step}" if self.graph.ops[vertex].file else f"vertex {vertex}"
-                self.steps += [f"{place}: {line}" for line in lines]
+            self.steps += self.placed(vertex, otherwise.lines(vertex))
+            self.breaking += self.placed(vertex, otherwise.breaking(vertex))
             self.beside.check(vertex)
         vertex, output = self.graph.result
         outputs = self.beside.outputs_here(vertex)
         self.here = outputs[output] if outputs else None
 
+    def placed(self, vertex: int, lines: StepLines) -> list[str]:
+        """Returns lines with the vertex and the action that they are about."""
+        found = []
+        for step, words in sorted(lines.items()):
+            is_action = self.graph.ops[vertex].file and step != WHOLE
+            place = f"vertex {vertex} action {step}" if is_action else f"vertex {vertex}"
+            found += [f"{place}: {one}" for one in words]
+        return found
+
     def tree(self) -> files.Tree | None:
         """Returns BuildKit's result, or None if there is none."""
-        return self.beside.there.result()
+        return None if self.breaking else self.beside.there.result()
 
     def notes(self) -> list[str]:
         """Returns lines for fields without an effect here."""
-        found = notes.notes_of(self.data, [], False)
+        found = self.noted.fields
         shown = [name.shown() for name in names.names_of(self.data)] if found else []
         return ["\t".join(filter(None, [f"note {one.words()}", shown[one.row]])) for one in found]
 
     def verdict(self) -> tuple[str, bool]:
         """Returns whether the results agree, in words."""
         there, here = self.tree(), self.here
+        if self.breaking:
+            return f"the results differ: BuildKit's daemon breaks, here is {'a result' if here else 'none'}", False
+        but = BUT_EXECUTIONS if self.noted.executions else ""
         if there is None and here is None:
-            return "both fail", True
+            return f"both fail{but}", True
         if there is None or here is None:
             return "BuildKit has a result, here is none" if there else "BuildKit fails, here is a result", False
         count = len(differing.differences(there, here))
         if not count:
-            return "the results agree", True
+            return f"the results agree{but}", True
         return f"the results differ at {count:,} path{'' if count == 1 else 's'}", False
 
 
@@ -86,12 +106,16 @@ def printable(line: str) -> str:
 def lines_of(comparison: Comparison) -> Iterator[str]:
     """Yields all lines but the last one."""
     yield from comparison.notes()
+    yield from comparison.noted.lines_outside()
     yield from comparison.steps
 
 
 def print_tree(comparison: Comparison) -> int:
     """Prints BuildKit's tree, and returns the exit status."""
     tree = comparison.tree()
+    if comparison.breaking:
+        common.say(comparison.breaking[0])
+        return 1
     if tree is None:
         for vertex, fault in comparison.beside.there.failed.items():
             common.say(f"vertex {vertex}: {fault}")

@@ -6,11 +6,12 @@ else its out/llbm-unproved, which is named on standard error as not proved.
 
 Out: on standard output the run by one worker, vertex by vertex: a line with its number, its kind and its name or what
 it does; below it a line for each micro-step, with the paths that it added, removed or changed, or why it failed, and a
-line `BuildKit: ..` for each path that ends otherwise there (docs/BUILDKIT.md); and at its end `done` or `failed`. At
-most --paths N changes of one tree are shown for each step, 20 by default; a line says how many more there are. The
-trees are those that a session of `llbm step` shows. With --summary a micro-step has one line, which counts the paths
-that it changed and the bytes by which their files grew; and each output of a vertex has a line with its numbers of
-directories, files and bytes.
+line `BuildKit: ..` for each path that ends otherwise there, and for each field without an effect here
+(docs/BUILDKIT.md); and at its end `done` or `failed`. Such lines about a vertex as a whole are below its first one, and
+those about entries that are no vertices come first. At most --paths N changes of one tree are shown for each step, 20
+by default; a line says how many more there are. The trees are those that a session of `llbm step` shows. With --summary
+a micro-step has one line, which counts the paths that it changed and the bytes by which their files grew; and each
+output of a vertex has a line with its numbers of directories, files and bytes.
 
 Exit status: 0 the run is complete; 1 a vertex failed; 2 something is refused: standard error says what; 3 a read or a
 write failed, or the program ended by itself.
@@ -22,6 +23,7 @@ import tempfile
 from collections.abc import Iterator
 
 from llbm_tools import common, inputs
+from llbm_tools.buildkit import differing
 from llbm_tools.debugging import launching
 from llbm_tools.debugging.changes import Change, Compared
 from llbm_tools.debugging.happened import Happened, Watch
@@ -48,7 +50,7 @@ def compared_lines(compared: Compared, most: int) -> Iterator[str]:
         yield f"{compared.name}: {change_line(change)}"
     more = sum(compared.counts.values()) - len(compared.changes[:most])
     if more > 0:
-        yield f"{compared.name}: and {more:,} more paths"
+        yield f"{compared.name}: {differing.more_paths(more)}"
 
 
 def step_lines(happened: Happened, most: int) -> Iterator[str]:
@@ -69,6 +71,7 @@ def event_lines(event: Event, watch: Watch, views: Views, options: argparse.Name
     if event.kind == "claim":
         place = views.place_of(event.vertex)
         yield f"vertex {views.title(event.vertex)}" + (f" ({place})" if place else "")
+        yield from [] if options.summary else otherwise_lines(watch.last())
     elif event.kind == "settle":
         if options.summary and not event.fails():
             outputs = watch.graph.vertices[event.vertex].outputs
@@ -89,7 +92,9 @@ def blocked_lines(session: Session, views: Views) -> Iterator[str]:
 def run_lines(launched: launching.Launched, options: argparse.Namespace) -> Iterator[str]:
     """Yields the lines of a whole run."""
     session, views = launched.session, Views(launched)
-    watch = Watch(session, launched.graph)
+    watch = Watch(session, launched.graph, launched.entries.data)
+    if not options.summary:
+        yield from (f"BuildKit: {line}" for line in watch.outside())
     while event := session.event("next"):
         yield from event_lines(event, watch, views, options)
     yield from blocked_lines(session, views)

@@ -1,7 +1,8 @@
 """Tests of the model of BuildKit's file actions against BuildKit's own file backend, where Go and its packages are.
 
-The backend is the package `solver/llbsolver/file` of github.com/moby/buildkit, from GOPATH (as environment variable, or
-/usr/share/gocode, where Debian's packages are). It is compiled with one file more, by an overlay, and changes owners.
+The backend is the package `solver/llbsolver/file` of github.com/moby/buildkit: of Debian's packages in the cache
+folder, with their Go, or else of GOPATH (as environment variable, or /usr/share/gocode) with the Go that is installed.
+It is compiled with one file more, by an overlay, and changes owners.
 """
 
 import json
@@ -14,48 +15,74 @@ import tempfile
 import unittest
 
 from llbm_tools.buildkit import file_ops, files, filters, random_definitions, rules
-from llbm_tools.daemon import runs
+from llbm_tools.daemon import debian_packages, go_building, runs
+from llbm_tools.daemon.go_building import BUILDKIT, Go
 from llbm_tools.llb import messages, op_reading
 from llbm_tools.llb.messages import made
 from llbm_tools.llb.ops import FileAction
+from tests.base import Folder
 
-PACKAGE = "github.com/moby/buildkit/solver/llbsolver/file"
-DEBIAN = "/usr/share/gocode"
+PACKAGE = f"{BUILDKIT}/solver/llbsolver/file"
+DEBIAN = pathlib.Path("/", go_building.CODE)
 ADDED = rules.FOLDER / "go" / "actions_test.go"
 WALKER = rules.FOLDER / "go" / "filters" / "main.go"
 COUNT = 1_500
 MOST_SECONDS = 900
 
 
-def go_path():
-    """Returns the folder of Go's packages that has the backend, or why there is none."""
-    for place in filter(None, [*os.environ.get("GOPATH", "").split(":"), DEBIAN]):
-        if pathlib.Path(place, "src", PACKAGE, "backend.go").is_file():
-            return place
-    raise unittest.SkipTest(f"the package {PACKAGE} is needed in GOPATH (Debian: golang-github-docker-docker-dev)")
+def unpacked(folder):
+    """Returns Go of Debian's packages in a folder, or None if they are not all there."""
+    names = debian_packages.names_in(debian_packages.NAMES.read_text("utf-8"))
+    return go_building.with_packages(folder) if debian_packages.are_there(folder, names) else None
 
 
-def go(folder, *words):
-    """Runs go, with the folder of its packages and a cache in a folder."""
-    if shutil.which("go") is None:
-        raise unittest.SkipTest("the command go is needed (Debian: golang-go)")
-    settings = {"GO111MODULE": "off", "GOPATH": go_path(), "GOTOOLCHAIN": "local", "CGO_ENABLED": "0"}
-    settings["GOCACHE"] = os.environ.get("GOCACHE") or os.path.join(folder, "cache")
-    done = subprocess.run(
-        ["go", *words], env={**os.environ, **settings}, capture_output=True, text=True, timeout=MOST_SECONDS
-    )
-    if done.returncode:
-        raise unittest.SkipTest(f"it is not compiled: {done.stderr.strip().splitlines()[-1]}")
+def installed():
+    """Returns the Go that is installed, with an entry of GOPATH that has the backend, or says why there is none."""
+    command = shutil.which("go")
+    if command is None:
+        raise unittest.SkipTest("the command go is needed (tools/daemon fetches one, or Debian: golang-go)")
+    settings = {"GO111MODULE": "off", "GOTOOLCHAIN": "local", "CGO_ENABLED": "0"}
+    settings["GOCACHE"] = os.environ.get("GOCACHE", str(go_building.CACHE))
+    given = [pathlib.Path(one) for one in os.environ.get("GOPATH", "").split(":") if one]
+    for place in [*given, DEBIAN]:
+        if (place / "src" / PACKAGE / "backend.go").is_file():
+            return Go(command, {**os.environ, **settings, "GOPATH": str(place)}, place / "src")
+    raise unittest.SkipTest(f"the package {PACKAGE} is needed (tools/daemon fetches it, or GOPATH)")
 
 
-def compiled(folder):
-    """Compiles the backend with the file that does the actions, and returns the program."""
-    overlay = pathlib.Path(folder, "overlay.json")
-    replaced = {str(pathlib.Path(go_path(), "src", PACKAGE, ADDED.name)): str(ADDED)}
-    overlay.write_text(json.dumps({"Replace": replaced}))
-    program = pathlib.Path(folder, "backend.test")
-    go(folder, "test", "-c", "-vet=off", f"-overlay={overlay}", "-o", program, PACKAGE)
+def compiled_by_installed(*words):
+    """Compiles by the Go that is installed, which can be too old or too new for the package."""
+    try:
+        installed().call(*words, seconds=MOST_SECONDS)
+    except go_building.NotBuilt as fault:
+        raise unittest.SkipTest(f"it is not compiled: {str(fault).splitlines()[-1]}") from fault
+
+
+def compiled(folder, *words):
+    """Compiles a program of these words of Go, with the file that does the actions, and returns it."""
+    go = unpacked(debian_packages.FOLDER)
+    code = (go or installed()).code
+    overlay, program = pathlib.Path(folder, "overlay.json"), pathlib.Path(folder, "program")
+    overlay.write_text(json.dumps({"Replace": {str(code / PACKAGE / ADDED.name): str(ADDED)}}))
+    command, *others = words
+    whole = [command, f"-overlay={overlay}", "-o", str(program), *others]
+    if go:
+        go.call(*whole, seconds=MOST_SECONDS)
+    else:
+        compiled_by_installed(*whole)
     return program
+
+
+class Places(Folder):
+    """Where Go and the packages are looked for."""
+
+    def test_packages_that_are_unpacked_are_taken_with_their_go(self):
+        folder = pathlib.Path(os.fsdecode(self.folder))
+        self.assertIsNone(unpacked(folder))
+        (folder / debian_packages.STAMP).write_text(debian_packages.NAMES.read_text("utf-8"), "utf-8")
+        go = unpacked(folder)
+        self.assertEqual(go.command, str(folder / "usr" / "lib" / "go-1.24" / "bin" / "go"))
+        self.assertEqual(go.code, folder / "usr" / "share" / "gocode" / "src")
 
 
 class Case:
@@ -91,7 +118,7 @@ class Backend(unittest.TestCase):
             raise unittest.SkipTest("only root can change owners")
         cases = [Case(seed, kind) for seed in range(COUNT) for kind in ("plain", "wild")]
         with tempfile.TemporaryDirectory(prefix="llbm-backend-") as folder:
-            results = self.results(compiled(folder), folder, cases)
+            results = self.results(compiled(folder, "test", "-c", "-vet=off", PACKAGE), folder, cases)
         for case, result in zip(cases, results, strict=True):
             tree = None if "error" in result else sorted(result.get("tree", "").splitlines(keepends=True))
             self.assertEqual(case.made(), tree, (case.given(), result.get("error")))
@@ -155,8 +182,7 @@ class Walker(unittest.TestCase):
     def test_the_model_sends_of_random_trees_what_the_library_does(self):
         made = Filtered("filters")
         with tempfile.TemporaryDirectory(prefix="llbm-filters-") as folder:
-            program = pathlib.Path(folder, "walker")
-            go(folder, "build", "-o", program, WALKER)
+            program = compiled(folder, "build", str(WALKER))
             places = {}
             for number in range(40):
                 place = os.path.join(folder, str(number))

@@ -1,6 +1,7 @@
 """Tests of BuildKit's rules: the table, its least examples, and the tools' notes and changes for each."""
 
 import os
+import re
 import subprocess
 import unittest
 
@@ -9,7 +10,7 @@ from llbm_tools.buildkit.rules import ALL, NONE, Rule
 from llbm_tools.definitions import adopting
 from llbm_tools.llb import findings
 from tests import base
-from tests.base import Folder
+from tests.base import ROOT, Folder
 
 LIKE = adopting.Settings(like_buildkit=True)
 
@@ -37,6 +38,11 @@ class Table(unittest.TestCase):
 
     def test_each_rule_but_the_length_of_a_path_has_an_example(self):
         self.assertEqual({one.rule for one in examples.examples()}, set(map(str, Rule)) - {"Length"})
+
+    def test_the_page_of_formats_names_each_where_llbm_has_its_own_rule(self):
+        text = (ROOT / "docs" / "FORMATS.md").read_text("utf-8")
+        named = {name for names in re.findall(r"\[([A-Z]\w+(?:, [A-Z]\w+)*)\]", text) for name in names.split(", ")}
+        self.assertEqual(named, set(map(str, Rule)))
 
     def test_the_page_has_these_tables(self):
         self.assertEqual(page.PAGE.read_text("utf-8"), page.page())

@@ -4,7 +4,7 @@ import unittest
 
 from llbm_tools.buildkit import files
 from llbm_tools.buildkit.examples import examples
-from llbm_tools.debugging import happened, launching
+from llbm_tools.debugging import happened, launching, views
 from llbm_tools.llb import messages
 from llbm_tools.llb.messages import made
 from tests import base
@@ -145,13 +145,189 @@ class Deaths(Folder):
             self.assertEqual("1 RmAboveRoot action 0" in self.notes(data), expected, path)
 
 
-class AsBuildkit(Folder):
-    """The tool `as-buildkit`."""
+class WithProgram(Folder):
+    """A test that runs tools with the program."""
 
     def setUp(self):
         super().setUp()
         if base.llbm is None:
             raise unittest.SkipTest("the program llbm is needed (--llbm PROGRAM)")
+
+    def lines(self, tool, data, *words, status=0):
+        """Returns the lines that a tool prints of a definition, with options before the sources."""
+        sources = [word for word in words if "=" in word]
+        done = run(tool, "--llbm", base.llbm, *words[: len(words) - len(sources)], "-", *sources, text=data)
+        self.assertEqual((done.returncode, done.stderr), (status, b""))
+        return done.stdout.decode().splitlines()
+
+    def explained(self, data, *words, status=0):
+        """Returns the lines `BuildKit: ..` of `explain-run`, each with the last line before that is none."""
+        found, before = [], ""
+        for line in self.lines("explain-run", data, *words, status=status):
+            if line.lstrip().startswith("BuildKit: "):
+                found.append((before, line.lstrip().removeprefix("BuildKit: ")))
+            else:
+                before = line.strip()
+        return found
+
+
+class Breaking(WithProgram):
+    """What breaks BuildKit's daemon, in `as-buildkit` and `explain-run`."""
+
+    DIES = "its daemon dies (here takes it)"
+    SHORT = "its daemon dies (here lays what is listed): ShortMerge"
+    ABOVE = "removes the directory of its snapshots (here fails (25)): RmAboveRoot"
+    RESULT = "the results differ: BuildKit's daemon breaks, here is a result"
+    NONE = "the results differ: BuildKit's daemon breaks, here is none"
+
+    def setUp(self):
+        super().setUp()
+        self.one = messages.encoded(source())
+        self.edge = messages.edge(self.one)
+        self.tree = self.file(b"p", b"d 0755 0 0 /\n").decode()
+        self.given = f"p={self.tree}"
+
+    def check(self, data, line, step, verdict=RESULT, place=""):
+        """Checks what both tools print of a definition of which one step breaks BuildKit's daemon."""
+        words = [self.given] if self.one in data else []
+        self.assertEqual(self.compared(data, *words), [f"{place}{line}", verdict])
+        done = run("as-buildkit", "--tree", "--llbm", base.llbm, "-", *words, text=data)
+        self.check_run(done, 1, b"", f"{place}{line}\n".encode())
+        status = 1 if verdict == self.NONE else 0
+        self.assertEqual(self.explained(data, *words, status=status), [(step, line)])
+        summary = self.lines("explain-run", data, "--summary", *words, status=status)
+        self.assertNotIn("BuildKit", "".join(summary))
+
+    def compared(self, data, *words, status=1):
+        """Returns the lines of `as-buildkit`."""
+        return self.lines("as-buildkit", data, *words, status=status)
+
+    def file_op(self, *actions, inputs=()):
+        """Returns an op of actions in a row, of which the last one is the output."""
+        given = []
+        for number, one in enumerate(actions):
+            output = 0 if number == len(actions) - 1 else -1
+            start = len(inputs) + number - 1 if inputs or number else -1
+            given.append(made("FileAction", input=start, secondaryInput=-1, output=output, **one))
+        return messages.encoded(made("Op", inputs=tuple(inputs), file=made("FileOp", actions=tuple(given))))
+
+    def merge(self, *inputs, count=2):
+        """Returns a merge that lists inputs of an op with so many."""
+        listed = tuple(made("MergeInput", input=number) for number in inputs)
+        return messages.encoded(made("Op", inputs=(self.edge,) * count, merge=made("MergeOp", inputs=listed)))
+
+    def test_a_source_with_an_input(self):
+        two = messages.encoded(made("Op", inputs=(self.edge,), source=made("SourceOp", identifier="local://p")))
+        step, line = "vertex 1 source: local://p", f"{self.DIES}: SourceInputs"
+        self.check(base.ending(self.one, two), line, step, place="vertex 1: ")
+
+    def test_a_merge_that_lists_less_than_its_op_has(self):
+        for merge in (self.merge(1), self.merge(-1)):
+            self.check(base.ending(self.one, merge), self.SHORT, "vertex 1 merge", place="vertex 1: ")
+
+    def test_what_needs_it_is_not_compared(self):
+        mkfile = {"mkfile": made("FileActionMkFile", path="/f", mode=0o1644, timestamp=-1)}
+        short = self.merge(1)
+        data = base.ending(self.one, short, self.file_op(mkfile, inputs=[messages.edge(short)]))
+        lines = self.compared(data, self.given)
+        self.assertEqual(lines, [f"vertex 1: {self.SHORT}", self.RESULT])
+
+    def test_an_input_of_no_entry_that_is_not_reached(self):
+        none = made("Input", digest="sha256:none")
+        lost = messages.encoded(made("Op", inputs=(none,), merge=made("MergeOp")))
+        last = messages.encoded(made("Op", inputs=(self.edge, none)))
+        line = f"{self.DIES}: UnknownInput"
+        data = messages.definition_of([lost, self.one, messages.encoded(made("Op", inputs=(self.edge,)))])
+        self.check(data, f"entry 0 input 0: {line}", "")
+        self.check(messages.definition_of([self.one, last]), f"entry 1 input 1: {line}", "")
+        lines = self.compared(messages.definition_of([lost, self.one, last]), self.given)
+        self.assertEqual(lines, [f"entry 0 input 0: {line}", f"entry 2 input 1: {line}", self.RESULT])
+
+    def test_an_rm_above_the_root(self):
+        mkdir = {"mkdir": made("FileActionMkDir", path="/a", timestamp=-1, mode=0o755)}
+        rm = {"rm": made("FileActionRm", path="a/../..")}
+        step = "action 1 (rm a/../..) failed: this cannot be done at the root"
+        data = base.ending(self.file_op(mkdir, rm))
+        self.check(data, self.ABOVE, step, self.NONE, "vertex 0 action 1: ")
+
+    def test_an_rm_that_is_not_done_breaks_nothing(self):
+        rm = {"rm": made("FileActionRm", path="..")}
+        lines = self.compared(base.ending(self.file_op({"rm": made("FileActionRm", path="/none")}, rm)), status=0)
+        self.assertEqual(lines, ["both fail"])
+        member = made("FileActionMkDir", path="/a", timestamp=-1)
+        mkdir = made("FileAction", input=-1, secondaryInput=-1, output=0, mkdir=member)
+        unused = made("FileAction", input=-1, secondaryInput=-1, output=-1, **rm)
+        data = definition(made("Op", file=made("FileOp", actions=(mkdir, unused))))
+        self.assertEqual(self.compared(data), [
+            "vertex 0 action 1: is not done (here it fails): UnusedAction", "BuildKit has a result, here is none",
+        ])
+
+    def test_an_editor_shows_it_at_its_step(self):
+        place = self.file(b"definition", base.ending(self.one, self.merge(1))).decode()
+        given = {"definition": place, "sources": {"p": self.tree}, "workers": 1, "llbm": str(base.llbm)}
+        launched = launching.launch(given, lambda _: None)
+        self.addCleanup(launched.session.end)
+        eyes, shown = views.Views(launched).eyes, []
+        while event := launched.session.event("next"):
+            eyes.close()
+            shown += [(event.kind, event.vertex, one["value"]) for one in eyes.changed() if one["name"] == "BuildKit"]
+        self.assertEqual(shown, [("claim", 1, self.SHORT)])
+
+
+class NotedFields(WithProgram):
+    """Fields without an effect, in `explain-run` and the debugger."""
+
+    def test_those_of_an_action_are_below_it_and_others_below_the_vertex(self):
+        actions = tuple(
+            made("FileAction", input=number - 1, secondaryInput=-1, output=number - 1, mkdir=member)
+            for number, member in enumerate([
+                made("FileActionMkDir", path="/a", timestamp=-1), made("FileActionMkDir", path="/b", timestamp=7),
+            ])
+        )  # fmt: skip
+        data = definition(made("Op", file=made("FileOp", actions=actions)) + [(10, [(1, b"arm64")])])
+        found = self.lines("explain-run", data, "--paths", "0")
+        self.assertEqual(found[:7], [
+            "vertex 0 file: mkdir /a; mkdir /b", "    BuildKit: note 0 Platform",
+            "  action 0: mkdir /a", "    result 0: and 1 more path",
+            "  action 1: mkdir /b", "    result 1: and 1 more path", "    BuildKit: note 0 Timestamp action 1",
+        ])
+        self.assertEqual(self.lines("as-buildkit", data), [
+            "note 0 Platform", "note 0 Timestamp action 1", "the results agree",
+        ])
+
+    def test_those_of_an_execution_and_of_a_source_are_below_them(self):
+        meta = made("Meta", args=("true",))
+        execution = made("Op", exec=made("ExecOp", meta=meta, mounts=(made("Mount", input=-1, dest="/"),), network=1))
+        self.assertEqual(self.explained(definition(execution))[0], ("vertex 0 exec: true", "note 0 Network"))
+        data = definition(source(**{"local.includepattern": '["a"]', "action 0": "b"}))
+        place = self.file(b"p", b"d 0755 0 0 /\n").decode()
+        title = "vertex 0 source: local://p"
+        self.assertEqual(self.explained(data, f"p={place}"), [
+            (title, "note 0 IncludePatterns"), (title, "note 0 Attribute action 0"),
+        ])
+
+
+class Executions(WithProgram):
+    """Executions, which are processes in BuildKit, in `as-buildkit` and `explain-run`."""
+
+    LINE = (
+        "runs a process of the root mount (here runs applets, of which `rm`, `cp`, `envfile`, `listing` differ from"
+        " programs): Execution"
+    )
+
+    def test_each_has_a_line_and_the_results_agree_but_for_them(self):
+        data = base.ending(base.exec_op("write", "/a", "1"))
+        lines = self.lines("as-buildkit", data)
+        self.assertEqual(lines, [f"vertex 0: {self.LINE}", "the results agree, but for what executions do"])
+        self.assertEqual(self.explained(data), [("vertex 0 exec: write /a 1", self.LINE)])
+
+    def test_both_may_fail_but_for_them(self):
+        lines = self.lines("as-buildkit", base.ending(base.exec_op("rm", "/none")))
+        self.assertEqual(lines, [f"vertex 0: {self.LINE}", "both fail, but for what executions do"])
+
+
+class AsBuildkit(WithProgram):
+    """The tool `as-buildkit`."""
 
     def compare(self, one, *options):
         """Runs the tool on an example."""
@@ -177,6 +353,13 @@ class AsBuildkit(Folder):
             *found, last = done.stdout.decode().splitlines()
             self.assertEqual((done.returncode, found, done.stderr), (1, lines, b""), shows)
             self.assertRegex(last, "^the results differ at [12] paths?$")
+
+    def test_it_counts_the_paths_that_are_not_shown(self):
+        for shows, line in [
+            ("mkfile over a file", "vertex 1 action 0: and 1 more path"),
+            ("copy to a dest that ends in `/.`", "vertex 2 action 0: and 2 more paths"),
+        ]:
+            self.assertEqual(self.compare(example(shows), "--paths", "0").stdout.decode().splitlines()[0], line)
 
     def test_it_says_which_of_both_fails_and_why(self):
         for shows, line, last in [
@@ -239,7 +422,7 @@ class AsBuildkit(Folder):
     def test_a_session_that_goes_back_and_on_has_the_same_lines(self):
         one = example("merge of a tree and of one from which something was removed")
         launched = self.launched(one)
-        watch = happened.Watch(launched.session, launched.graph)
+        watch = happened.Watch(launched.session, launched.graph, one.data)
         seen = []
         for _ in range(2):
             while launched.session.event("next"):

@@ -188,7 +188,7 @@ class Changes(Eyes):
         session.event("step 0")
         most, looks.MOST_COMPARED = looks.MOST_COMPARED, 20
         try:
-            one, = happened.Watch(session, graph).last().compared
+            one, = happened.Watch(session, graph, data).last().compared
         finally:
             looks.MOST_COMPARED = most
         self.assertEqual(one.summary(), "not compared: its text has more than 20 bytes")

@@ -8,11 +8,12 @@ import unittest
 
 from llbm_tools.buildkit import examples, explaining, fields, files, rules
 from llbm_tools.definitions import faults
-from llbm_tools.llb import definition, op_reading, wire
+from llbm_tools.llb import definition, messages, op_reading, wire
+from llbm_tools.llb.messages import made
 from llbm_tools.llb.ops import Input
 from llbm_tools.llb.wire import Unreadable
 from tests import base
-from tests.base import TOOLS, Folder, run, run_closed, run_into
+from tests.base import ROOT, TOOLS, Folder, run, run_closed, run_into
 
 ORDINARY = {"k": "3", "i": "1", "N": "12", "V": "7", "C": "0", "P": "5", "WORD": "a b", "NAME": "src", "ID": "my  id"}
 
@@ -383,6 +384,68 @@ class Notes(Folder):
         ]:
             self.assertEqual(explaining.explained(line).texts, texts)
 
+    def test_lines_are_explained_as_tools_and_clients_print_them(self):
+        known = explaining.notes()
+        runs = "runs a process of the root mount (here runs applets, of which `rm` differ from programs): Execution"
+        for line, texts in [
+            ("    BuildKit: /f has mode 0604 (here 0755): MkfileOver", known["MkfileOver"]),
+            ("    BuildKit: and 1 more path", ["more paths of this step differ; --paths N shows up to N"]),
+            ("    BuildKit: note 1 Network", known["Network"]),
+            ("WARN: action 0: /f has mode 0604 (here 0755): MkfileOver", known["MkfileOver"]),
+            ("#5 WARN: /f is missing (here a file): MergeLayers, and 2 more", known["MergeLayers"]),
+            (" => => WARN: Network has no effect: the network of the process", known["Network"]),
+            (" - TmpfsSize of mount 1 has no effect: the size of a tmpfs", known["TmpfsSize"]),
+            ("/f is missing (here a file): MergeLayers", known["MergeLayers"]),
+            ("/f is missing (here a file): its inputs differ", [f"its inputs differ: {explaining.INHERITED}"]),
+            (runs, known["Execution"]),
+            (f"vertex 0: {runs}", known["Execution"]),
+            ("its inputs differ, so what it makes in BuildKit is not known: Execution", known["Execution"]),
+            ("entry 1 input 2: its daemon dies (here takes it): UnknownInput", known["UnknownInput"]),
+            ("Mode: mkdir: a mode. In BuildKit: sets 9 bits. In llbm: sets 12.", known["Mode"]),
+        ]:
+            self.assertEqual(explaining.explained(line).texts, texts, line)
+        for line in [
+            *explaining.VERDICTS, "the results differ at 1 path", "    BuildKit: not compared: its text has 9 bytes",
+            "WARN: not all was compared with what BuildKit would make: it takes more than 30s longer than the build",
+            "the definition has bytes that BuildKit's library would not write, so it runs by the rules of llbm alone",
+            "local source a b: 3 entries are left out, as llbm has only directories and files",
+        ]:
+            self.assertEqual(len(explaining.explained(line).texts), 1, line)
+
+    def test_the_warning_that_the_page_of_the_daemon_shows_is_explained(self):
+        lines = (ROOT / "docs" / "DAEMON.md").read_text("utf-8").splitlines()
+        shown = [line for line in lines if line.startswith("    WARN: ")]
+        self.assertEqual(len(shown), 1)
+        for line in (shown[0], shown[0].strip()):
+            self.assertEqual(self.explained(line)[1:], [f"  {explaining.notes()['MkfileOver'][0]}"])
+
+    def test_refusals_of_the_daemon_are_explained_as_the_lines_of_the_program(self):
+        for line, printed in [
+            ("llbm: fault 88 1 DiffOp (diff)", "fault 88 1 DiffOp"),
+            ("error: failed to solve: llbm: fault 88 1 Source ([1/3] FROM a (Dockerfile:1))", "fault 88 1 Source"),
+            ("llbm: fault 89 0 Script 71 make (RUN make)", "fault 89 0 Script 71 make"),
+            ("rpc error: code = Unknown desc = llbm: fault 81 1 Definition", "fault 81 1"),
+            ("llbm: fault 86 1 0 UnknownDigest (diff)", "fault 86 1 0"),
+            ("llbm: fault 121 context MissingLocal", "fault 121 context"),
+            ("llbm: fault 121 context (the client's session offers no local sources)", "fault 121 context"),
+            ("llbm: fault 171 141 Board: memory was refused", "fault 171 141"),
+            ("llbm: fault 185 TooLong: the text of local source context", "fault 185"),
+            ("llbm: failed 0 action 0 fault 21 NotFound: /a/b: no such file", "failed 0 action 0 fault 21"),
+            ("llbm: failed 0 command 1 status 1: mkdir a", "failed 0 command 1 status 1"),
+            ("fault 89 1 Script 71 apk\t[2/3] RUN apk add git (Dockerfile:2)", "fault 89 1 Script 71 apk"),
+        ]:
+            self.assertEqual(self.explained(line)[1:], self.explained(printed)[1:], line)
+        words = self.explained("llbm: fault 88 Source: a is an image, and llbm has no registries")[1:]
+        self.assertEqual(words, self.explained("fault 88 0 Source")[2:])
+
+    def test_an_input_of_an_entry_is_shown(self):
+        none = messages.encoded(made("Op", inputs=(made("Input", digest="sha256:none"),), merge=made("MergeOp")))
+        source = base.source("local://a")
+        data = self.file(b"definition", base.definition(none, source, base.inputs(source)))
+        for line in ("entry 0 input 0: its daemon dies (here takes it): UnknownInput", "note 0 UnknownInput input 0"):
+            lines = self.explained(line, "--definition", data)
+            self.assertTrue(lines[3].startswith("  input 0: "), lines)
+
     def test_a_note_names_its_entry(self):
         source = base.source("local://a")
         file = base.file_op(base.rm("/a")) + base.inputs(source)
@@ -391,5 +454,8 @@ class Notes(Folder):
         self.assertEqual(lines[2].split(", ")[-1:] + lines[3:], ["file", "  action 0: rm /a"])
 
     def test_what_is_no_note_is_refused(self):
-        for line in ("note 3 Other", "note x Mode", "vertex 3: what: Other", "vertex 3: what", "the results"):
+        for line in (
+            "note 3 Other", "note x Mode", "vertex 3: what: Other", "vertex 3: what", "the results", "WARN: what",
+            "what: Other", "entry 1 input 0: what", "llbm: what", "llbm: fault 88 Other: what",
+        ):  # fmt: skip
             self.assertEqual(self.explained(line, status=2), [line])

@@ -205,6 +205,11 @@ class Explained(Folder):
         shown = [line.split(": ")[1] for line in lines]
         self.assertEqual(shown, ["added /to", "added /to/0", "added /to/1", "and 7 more paths"])
 
+    def test_one_path_that_is_not_shown_is_counted_as_one(self):
+        place = self.file(b"definition", base.ending(base.file_op(base.number(1, -1) + base.mkdir("/a"))))
+        lines = self.explain(place, "--paths", "0").stdout.decode().splitlines()
+        self.assertIn("    result 0: and 1 more path", lines)
+
     def test_what_is_refused_is_named(self):
         for words, cause in [
             (["/nowhere/x"], b"there is no such file or directory: /nowhere/x\n"),
