@@ -132,6 +132,23 @@ class Replacing(Builds):
             self.assertEqual(self.replace("--mtime", str(len(data))).returncode, 0)
             self.assertTrue((self.at / "kept").read_bytes().startswith(kept_builds.FORM))
 
+    def test_a_result_is_written_though_nothing_could_be_kept(self):
+        os.mkdir(self.at / "folder")
+        words = ["--replace", "--keep", "folder/kept", "definition", "out", "src=in"]
+        self.set_behavior(COPIES + "os.rmdir('folder')\n")
+        cause = "there is no such directory to keep it in: folder/kept"
+        lines = ["writing out", "out is written", f"what is kept could not be stored: {cause}", "out is written"]
+        done = self.build(*words)
+        self.assertEqual((done.returncode, done.stderr.decode().splitlines()[-4:]), (3, lines))
+        self.assertEqual((self.at / "out/a/x").read_bytes(), b"a/x")
+        self.set_behavior(COPIES + "open('folder/kept', 'w').write('mine')\n")
+        shutil.rmtree(self.at / "out")
+        os.mkdir(self.at / "folder")
+        cause = "--keep replaces only what a build has kept: folder/kept"
+        done = self.build(*words)
+        self.assertEqual((done.returncode, done.stderr.decode().splitlines()[-2:-1]), (3, [f"{lines[2][:33]} {cause}"]))
+        self.assertEqual((self.at / "folder/kept").read_text(), "mine")
+
     def test_a_result_stays_if_its_keep_was_replaced_meanwhile(self):
         self.replace()
         self.make(b"new", b"new")
