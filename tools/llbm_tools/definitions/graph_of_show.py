@@ -25,7 +25,7 @@ import sys
 
 from llbm_tools import common
 from llbm_tools.definitions import dot, inspected_graph, inspection
-from llbm_tools.inputs import check_inputs, data_at
+from llbm_tools.inputs import check_inputs, data_at, input_lines
 from llbm_tools.llb import definition, names
 from llbm_tools.llb.ops import Op
 from llbm_tools.llb.wire import Unreadable
@@ -124,8 +124,7 @@ def drawn(options: argparse.Namespace) -> str:
         return inspected_graph.digraph(inspection.inspected(data_at(options.file)))
     if options.definition is not None:
         check_inputs(None, options.definition)
-    common.check_open(sys.stdin, "standard input")
-    show = show_of(sys.stdin.buffer.read().decode("ascii", "backslashreplace"))
+    show = show_of(b"".join(input_lines()).decode("ascii", "backslashreplace"))
     return digraph(show, labels_of(show, options.definition), colors_of(show, options.impact))
 
 
