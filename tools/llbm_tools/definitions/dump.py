@@ -165,7 +165,7 @@ def lines_of(inspected: Inspected, metadata: dict[str, bytes]) -> Iterator[str]:
 def dump(options: argparse.Namespace) -> int:
     """Prints what is asked for, and returns the exit status."""
     data = data_at(options.definition)
-    inspected, metadata = inspection.inspected(data), metadata_at(data)
+    inspected, metadata = inspection.inspected(data, options.definition), metadata_at(data)
     found = found_by(options, inspected)
     entries = inspected.entries if found is None else found
     if options.json:

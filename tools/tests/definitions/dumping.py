@@ -91,7 +91,8 @@ class Dump(Folder):
         self.assertTrue(self.dumped(base.definition(IMAGE, b""))[-1].startswith("refused: fault 85: "))
 
     def test_bytes_that_are_no_definition_are_refused(self):
-        self.check_run(run("dump", text=b"\x0a\x05"), 2, b"", b"the definition: the bytes end inside a record\n")
+        cause = b"not a definition: the bytes end inside a record: standard input\n"
+        self.check_run(run("dump", text=b"\x0a\x05"), 2, b"", cause)
 
     def test_names_and_metadata_are_shown(self):
         lines = self.dumped(FOREIGN.read_bytes())
