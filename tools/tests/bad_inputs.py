@@ -174,6 +174,11 @@ class Table(Folder):
             b"bytes": (b"\x00\xff\xfe" * 700, b"the program does not start: "),
             b"empty": (b"", b"the program does not start: "),
             b"other": (b"#!/bin/sh\necho other 1.0 >&2\n", b"this is not the program llbm: "),
+            b"failing": (
+                b"#!/bin/sh\necho >&2\necho no memory >&2\necho more >&2\nexit 1\n",
+                b"the program does not start: it ends with status 1 and prints no memory: ",
+            ),
+            b"killed": (b"#!/bin/sh\nkill -ABRT $$\n", b"the program does not start: it ends with signal 6: "),
         }
         for name, (data, begin) in given.items():
             place = self.file(name, data)
