@@ -5,6 +5,7 @@ import os
 import re
 import shutil
 import sys
+from typing import NamedTuple
 
 from llbm_tools import paths
 
@@ -13,6 +14,9 @@ PROVER = f"Rattle {LOGIC}"
 NOT_PROVED = "not proved, compiled with"
 VERSION = re.compile(r"^llbm \d+\.\d+, ", re.MULTILINE)
 MOST_SECONDS = 60
+MOST_OF_A_LINE = 200
+# The status of a program that shows its version: that of llbm, and that of most others.
+STATUSES = (2, 0)
 
 MOST_BYTES = 67_108_864
 MOST_NAMES = 128
@@ -57,8 +61,26 @@ def discard_output() -> None:
     os.dup2(os.open(os.devnull, os.O_WRONLY), 1)
 
 
-def said_by(program: str | os.PathLike[str]) -> str:
-    """Returns what a program prints on standard error for `--version`; nothing if it does not end in time."""
+class Answer(NamedTuple):
+    """What a program prints on standard error for `--version`, and its status; that is None if it did not end in time.
+
+    The status is that of a process, or the number of the signal that ended it, below 0.
+    """
+
+    text: str
+    status: int | None
+
+    def ending(self) -> str:
+        """Returns how the program ended, and the first line that it printed."""
+        if self.status is None:
+            return f"it does not end within {MOST_SECONDS} seconds"
+        ended = f"status {self.status}" if self.status >= 0 else f"signal {-self.status}"
+        first = next(filter(None, map(str.strip, self.text.splitlines())), "")
+        return f"it ends with {ended}" + (f" and prints {shortened(first, MOST_OF_A_LINE)}" if first else "")
+
+
+def answer_of(program: str | os.PathLike[str]) -> Answer:
+    """Asks a program for its version."""
     # Most tools start no program: without this module they start sooner.
     import subprocess
 
@@ -67,8 +89,13 @@ def said_by(program: str | os.PathLike[str]) -> str:
             [program, "--version"], stdin=subprocess.DEVNULL, capture_output=True, timeout=MOST_SECONDS
         )
     except subprocess.TimeoutExpired:
-        return ""
-    return done.stderr.decode("utf-8", "replace")
+        return Answer("", None)
+    return Answer(done.stderr.decode("utf-8", "replace"), done.returncode)
+
+
+def said_by(program: str | os.PathLike[str]) -> str:
+    """Returns what a program prints on standard error for `--version`; nothing if it does not end in time."""
+    return answer_of(program).text
 
 
 def is_unproved(program: str | os.PathLike[str]) -> bool:
@@ -81,9 +108,13 @@ def is_unproved(program: str | os.PathLike[str]) -> bool:
 def not_llbm(program: str) -> str:
     """Returns why a program can't be used as llbm: it does not start, or its version is not one of llbm; or nothing."""
     try:
-        return "" if VERSION.search(said_by(program)) else "this is not the program llbm"
+        answer = answer_of(program)
     except OSError as fault:
         return f"the program does not start: {fault.strerror}"
+    if VERSION.search(answer.text):
+        return ""
+    is_other = answer.status in STATUSES
+    return "this is not the program llbm" if is_other else f"the program does not start: {answer.ending()}"
 
 
 def program_place(word: str | None) -> str:

@@ -1,8 +1,8 @@
 """Reads everything that a tool is given: once, and in one way for all tools.
 
 A place is a path; `-`, /dev/stdin or no word is standard input. A place that can't be opened, or that is a directory
-where a file is read, is refused; a read that fails, and a standard input that is closed, is a failure. A file that is
-changed while it is read is refused.
+where a file is read, is refused, and so is a device, which may never end, unless it is a terminal or /dev/null; a read
+that fails, and a standard input that is closed, is a failure. A file that is changed while it is read is refused.
 """
 
 import contextlib
@@ -42,10 +42,20 @@ def check_inputs(*places: str | None) -> None:
         raise Refused("only one input can come from standard input")
 
 
+def is_device(file: BinaryIO) -> bool:
+    """Returns whether an open file is a device that may never end: neither a terminal nor /dev/null."""
+    found = os.fstat(file.fileno())
+    if not stat.S_ISCHR(found.st_mode) and not stat.S_ISBLK(found.st_mode):
+        return False
+    return not file.isatty() and found.st_rdev != os.stat(os.devnull).st_rdev
+
+
 def standard_input() -> BinaryIO:
     """Returns standard input, if it is open."""
     if sys.stdin is None:
         raise Failed("standard input is closed")
+    if is_device(sys.stdin.buffer):
+        raise Refused(f"is a device: {STANDARD_INPUT}")
     return sys.stdin.buffer
 
 
@@ -77,6 +87,8 @@ def opened_file(place: str) -> Iterator[BinaryIO]:
     with reading(place):
         file = open(place, "rb")
     with file:
+        if is_device(file):
+            raise Refused(f"is a device: {place}")
         yield file
 
 

@@ -5,7 +5,7 @@ import os
 import shutil
 import sys
 import tempfile
-from collections.abc import Callable, Iterator
+from collections.abc import Callable, Iterable, Iterator
 from typing import BinaryIO, cast
 
 from llbm_tools.common import discard_output, not_llbm, program_named, say
@@ -120,12 +120,12 @@ def mode_of_new_files() -> int:
     return 0o666 & ~mask
 
 
-def write_and_rename(stored: BinaryIO, place: str) -> None:
-    """Writes a temporary file under a temporary name beside a path, and renames it when it is complete."""
+def write_and_rename(pieces: Iterable[bytes], place: str) -> None:
+    """Writes pieces to a file under a temporary name beside a path, and renames it when it is complete."""
     descriptor, beside = tempfile.mkstemp(prefix=".llbm-", dir=os.path.dirname(place) or ".")
     try:
         with open(descriptor, "wb") as file:
-            shutil.copyfileobj(stored, file, PIECE)
+            file.writelines(pieces)
             os.fchmod(file.fileno(), mode_of_new_files())
         os.rename(beside, place)
     except BaseException:
@@ -140,6 +140,6 @@ def write_new_file(stored: BinaryIO, place: str) -> None:
         raise Refused(f"this exists already: {place}")
     stored.seek(0)
     try:
-        write_and_rename(stored, place)
+        write_and_rename(iter(lambda: stored.read(PIECE), b""), place)
     except OSError as fault:
         raise of_place(fault, place) from fault

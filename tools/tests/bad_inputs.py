@@ -174,6 +174,11 @@ class Table(Folder):
             b"bytes": (b"\x00\xff\xfe" * 700, b"the program does not start: "),
             b"empty": (b"", b"the program does not start: "),
             b"other": (b"#!/bin/sh\necho other 1.0 >&2\n", b"this is not the program llbm: "),
+            b"failing": (
+                b"#!/bin/sh\necho >&2\necho no memory >&2\necho more >&2\nexit 1\n",
+                b"the program does not start: it ends with status 1 and prints no memory: ",
+            ),
+            b"killed": (b"#!/bin/sh\nkill -ABRT $$\n", b"the program does not start: it ends with signal 6: "),
         }
         for name, (data, begin) in given.items():
             place = self.file(name, data)
@@ -185,10 +190,36 @@ class Table(Folder):
                     self.assertTrue(done.stderr.startswith(begin), (tool, done.stderr))
 
     def test_a_device_that_never_ends(self):
-        for tool, kind, words in self.inputs():
-            if kind in (FILE, PROGRAM):
-                done = run(tool, *self.words(words, b"/dev/zero"), text=SHOWN)
-                self.check_refused(done, 2, [tool])
+        os.symlink("/dev/zero", self.place(b"zero.tar"))
+        for place in [b"/dev/zero", self.place(b"zero.tar")]:
+            for tool, kind, words in self.inputs():
+                done = run(tool, *self.words(words, place), text=SHOWN)
+                self.check(done, 2, [tool])
+                is_by_program = kind == ANY_TREE and tool in ("explain-run", "as-buildkit")
+                if kind in (FILE, TEXT, ANY_TREE, FINDINGS) and not is_by_program:
+                    self.assertTrue(done.stderr.startswith(b"is a device: " + place), (tool, done.stderr))
+
+    def test_a_standard_input_that_is_a_device(self):
+        for tool, words in TOOLS_ON_STANDARD_INPUT.items():
+            if tool == "explain":
+                # It answers each line as it comes.
+                continue
+            with open("/dev/zero", "rb") as device:
+                done = subprocess.run(
+                    command(tool, *self.words(words)), stdin=device, capture_output=True, timeout=120
+                )
+            self.check(done, 2, [tool])
+            self.assertTrue(done.stderr.startswith(b"is a device: standard input\n"), (tool, done.stderr))
+
+    def test_what_ends_is_no_device(self):
+        text = TREE.read_bytes()
+        for place in [b"/dev/stdin", b"/dev/fd/0", b"-"]:
+            self.check_success(run("diff-of-trees", place, TREE, text=text))
+            with open(TREE, "rb") as file:
+                done = subprocess.run(command("diff-of-trees", place, TREE), stdin=file, capture_output=True)
+            self.check_success(done)
+        done = run("diff-of-trees", "/dev/null", TREE)
+        self.check_run(done, 2, b"", b"not the text of a tree: the text is empty: /dev/null, line 1\n")
 
     def test_a_standard_input_that_is_closed(self):
         for tool, words in TOOLS_ON_STANDARD_INPUT.items():

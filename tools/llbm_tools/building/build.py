@@ -30,7 +30,9 @@ on standard output before the archive is complete.
 --keep FILE keeps what was read of each source, and the text of the result. If the definition, the options, the program
 and the sources are those of FILE, and the result is the one that was made then, nothing is done, and a line says so. If
 only contents of files have changed that are given by reference, these files are written into the result without a run;
-else the program runs, and the entries that differ are written. FILE is removed while the result changes.
+else the program runs, and the entries that differ are written. FILE is removed while the result changes. It is a new
+file in a directory that exists, an empty one, or one that a build has kept; anything else is refused, and so is an
+input.
 
 With --progress there is also a line for each vertex as it settles, `[n/m] vertex V KIND done`, or `failed`, followed by
 its name if the definition's metadata has one (`llb.customname`). The vertices then run one after another, in a session
@@ -40,8 +42,9 @@ may see each other's writes in another order than with several workers.
 Exit status: that of the program. Before the program runs: 2 the command line is refused, DEFINITION, a source, the
 parent of RESULT or the program does not exist, a source is refused, RESULT already exists or can't be replaced or
 packed; 3 a source can't be read completely, or a write failed. After the program has run: 2 its output is not a tree, a
-source has changed, the result is too large, or RESULT was created meanwhile; 3 RESULT could not be written, or a
-session ended too early. 128 plus the number of a signal that interrupted the build or ended the program.
+source has changed, the result is too large, or RESULT was created meanwhile; 3 RESULT could not be written, a session
+ended too early, or RESULT is written, as the last line says, but FILE could not be. 128 plus the number of a signal
+that interrupted the build or ended the program.
 """
 
 import argparse
@@ -85,9 +88,9 @@ class Work:
         changes = changes_since(memory, self.request) if memory else None
         if memory and changes and not changes.numbers():
             renewed = changes.renewed(memory.began)
+            say(f"nothing to do: {self.request.result} has this definition, these options and these sources")
             if renewed:
                 memory.store(renewed)
-            say(f"nothing to do: {self.request.result} has this definition, these options and these sources")
             return
         # What a build does not need it does not import.
         if memory and changes and not self.request.ending:

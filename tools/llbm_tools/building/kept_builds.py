@@ -2,18 +2,24 @@
 
 The file has a line that names its form, a line of JSON, and then bytes whose lengths the JSON has: the parts of what
 was read of each source (`kept_sources`), and the text of the result with tokens in the place of contents. A file of
-another form, or one that is cut off, is as if there were none.
+another form, or one that is cut off, is as if there were none. Nothing else is replaced or removed: neither a file that
+does not begin like one of any form, unless it is empty, nor what is no file.
 """
 
+import contextlib
 import hashlib
 import json
 import os
+import stat
+from collections.abc import Iterator
 from typing import BinaryIO, NamedTuple
 
-from llbm_tools.streams import of_place, temporary_file, write_and_rename
+from llbm_tools.inputs import reading
+from llbm_tools.streams import Failed, Refused, write_and_rename
 from llbm_tools.trees.kept_sources import Kept, Part, Stored, bytes_of
 
-FORM = b"llbm-build kept 1\n"
+BEGIN = b"llbm-build kept "
+FORM = BEGIN + b"1\n"
 PARTS = 8
 PIECE = 1 << 20
 
@@ -107,26 +113,44 @@ def head_of(build: Build, parts: list[list[bytes]]) -> bytes:
     return json.dumps({**head, **rest}).encode() + b"\n"
 
 
-def store(place: str, build: Build) -> None:
-    """Writes what is kept to a file, which appears complete."""
+def pieces_of(build: Build) -> Iterator[bytes]:
+    """Yields the bytes of the file."""
     parts = [one.parts() for one in build.sources if isinstance(one, Kept)]
+    yield FORM + head_of(build, parts)
+    for part in parts:
+        yield from part
+    yield bytes_of(build.text)
+
+
+def is_replaceable(place: str) -> bool:
+    """Returns whether there is a file at a place that is empty or begins like what a build has kept."""
+    if not stat.S_ISREG(os.lstat(place).st_mode):
+        return False
+    with open(place, "rb") as file:
+        return file.read(len(BEGIN)) in (b"", BEGIN)
+
+
+def check_place(place: str) -> None:
+    """Refuses a place that is in no directory, or at which there is what no build has kept."""
+    if not os.path.isdir(os.path.dirname(place) or "."):
+        raise Refused(f"there is no such directory to keep it in: {place}")
+    with reading(place):
+        if os.path.lexists(place) and not is_replaceable(place):
+            raise Refused(f"--keep replaces only what a build has kept: {place}")
+
+
+def store(place: str, build: Build) -> None:
+    """Writes what is kept to a file, which appears complete. The result is written before, so nothing is refused."""
     try:
-        with temporary_file("what is kept") as stored:
-            stored.write(FORM + head_of(build, parts))
-            for part in parts:
-                stored.writelines(part)
-            stored.write(bytes_of(build.text))
-            stored.seek(0)
-            write_and_rename(stored, place)
-    except OSError as fault:
-        raise of_place(fault, place) from fault
+        check_place(place)
+        with reading(place):
+            write_and_rename(pieces_of(build), place)
+    except (Refused, Failed) as fault:
+        raise Failed(f"what is kept could not be stored: {fault}") from fault
 
 
 def forget(place: str) -> None:
     """Removes what is kept, before the result is changed; there may be none."""
-    try:
+    check_place(place)
+    with reading(place), contextlib.suppress(FileNotFoundError):
         os.unlink(place)
-    except FileNotFoundError:
-        return
-    except OSError as fault:
-        raise of_place(fault, place) from fault

@@ -185,7 +185,8 @@ class Build:
             else:
                 raise Ended(REFUSED, f"this exists already: {result}")
             children.ignore_signals()
-        say(f"{result} is written")
+        self.left = f"{result} is written"
+        say(self.left)
 
     def forget(self) -> None:
         """Removes what is kept, since the result is about to change."""
@@ -208,7 +209,8 @@ class Build:
             old = io.BytesIO(bytes_of(last.text))
             found = list(replacing.differences(map(read_line, old), map(read_line, new), same))
         if not found:
-            say(f"{self.request.result} stays as it is")
+            self.left = f"{self.request.result} stays as it is"
+            say(self.left)
             return True
         return self.replace_part(bytes_of(made.text), found)
 
@@ -220,6 +222,7 @@ class Build:
             return False
         self.forget()
         replacing.replace(part, self.request.result, self.directory, self.table(), self.options.mtime)
+        self.left = f"{self.request.result} is written"
         return True
 
     def new_build(self, result: str) -> LastBuild:

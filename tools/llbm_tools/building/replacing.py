@@ -8,6 +8,7 @@ import itertools
 import os
 from collections.abc import Callable, Iterable, Iterator
 
+from llbm_tools.building.children import held_back, ignore_signals
 from llbm_tools.building.entry_writing import Files, finish_directories, make_directories, not_written
 from llbm_tools.building.exchange import exchange
 from llbm_tools.building.result_texts import Line, parent_of, read_line
@@ -167,7 +168,10 @@ def replace(part: Part, result: str, folder: str, table: Table | None, time: int
         part.make(old, new, table, time)
     finally:
         os.umask(mask)
-    say_steps(exchange(new, old))
+    with held_back():
+        is_one_step = exchange(new, old)
+        ignore_signals()
+    say_steps(is_one_step)
     if time is not None and part.place:
         os.utime(os.path.dirname(old), (time, time))
     say(f"{result} is written")

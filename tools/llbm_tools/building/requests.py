@@ -9,7 +9,7 @@ from collections.abc import Iterator
 from typing import NamedTuple
 
 from llbm_tools import inputs
-from llbm_tools.building.kept_builds import state_at
+from llbm_tools.building.kept_builds import check_place, state_at
 from llbm_tools.common import check_open, program_place
 from llbm_tools.images import packing
 from llbm_tools.streams import Refused
@@ -57,10 +57,14 @@ class Request:
         self.data = b""
         self.config = b""
 
+    def places(self) -> list[str]:
+        """Returns the places of all inputs."""
+        config = [] if self.options.config is None else [self.options.config]
+        return [*(source.place for source in self.sources), self.options.definition, *config]
+
     def check(self) -> None:
         """Refuses at the start what would make the build fail at its end, and reads the definition."""
-        config = [] if self.options.config is None else [self.options.config]
-        inputs.check_inputs(self.options.definition, *config, *(source.place for source in self.sources))
+        inputs.check_inputs(*self.places())
         self.check_keep()
         if self.is_output:
             check_open(sys.stdout, "standard output")
@@ -90,7 +94,10 @@ class Request:
         return oci_layout.config_in(inputs.data_at(self.options.config), inputs.shown(self.options.config))
 
     def check_keep(self) -> None:
-        """Refuses a file of --keep without a result in the place of an old one, and one inside the result."""
+        """Refuses a file of --keep that is inside the result, an input, or what no build has kept.
+
+        There has to be a result, in the place of an old one.
+        """
         if self.options.keep is None:
             return
         if self.is_output or not self.options.replace:
@@ -98,6 +105,10 @@ class Request:
         inside, keep = (os.path.realpath(place) for place in (self.result, self.options.keep))
         if os.path.commonpath([inside, keep]) == inside:
             raise Refused(f"the file of --keep would be replaced with the result: {self.options.keep}")
+        for given in self.places():
+            if not inputs.is_standard_input(given) and os.path.realpath(given) == keep:
+                raise Refused(f"the file of --keep would replace {given}")
+        check_place(self.options.keep)
 
     def check_replaced(self) -> None:
         """Refuses a result that is there, unless it is to be replaced and is of the kind of the new one."""
@@ -110,7 +121,7 @@ class Request:
         if os.path.ismount(self.result):
             raise Refused(f"a mount point can't be replaced: {self.result}")
         replaced = os.path.realpath(self.result)
-        for given in [*(source.place for source in self.sources), self.options.definition, "."]:
+        for given in [*self.places(), "."]:
             inside = not inputs.is_standard_input(given) and os.path.realpath(given)
             if inside and os.path.commonpath([replaced, inside]) == replaced:
                 raise Refused(f"the result would replace {'the folder of this build' if given == '.' else given}")

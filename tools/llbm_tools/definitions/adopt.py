@@ -32,8 +32,8 @@ from collections.abc import Iterator
 
 from llbm_tools import common, inputs
 from llbm_tools.definitions import adopting, adoption_rules
-from llbm_tools.llb import findings
-from llbm_tools.llb.wire import Faulty, Unreadable
+from llbm_tools.llb import findings, no_definition
+from llbm_tools.llb.wire import Unreadable
 from llbm_tools.streams import Refused, exit_status
 
 OPTIONS = {kind: f"--without-{kind}" for kind in adopting.DROPPED} | {adopting.RUN_NOTHING: "--run-nothing"}
@@ -140,13 +140,11 @@ def adopt(options: argparse.Namespace) -> None:
     if options.rules is not None:
         inputs.check_inputs(options.definition, options.rules)
     settings = settings_from(options)
+    data = inputs.data_at(options.definition)
     try:
-        data = inputs.data_at(options.definition)
         adopted = adopting.adopt(data, settings)
-    except Faulty as fault:
-        raise Refused(f"not adopted: fault {findings.DEFINITION} {fault.number}") from fault
     except Unreadable as fault:
-        raise Refused(f"not adopted: {fault}") from fault
+        raise no_definition.refusal(fault, data, options.definition) from fault
     left = list(map(left_text, adopted.left))
     left += advice(data, settings, adopted.left)
     if left and not options.leave:

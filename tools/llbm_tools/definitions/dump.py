@@ -12,8 +12,8 @@ comes last. A query prints the first line and the name of each entry that it fin
 dump-llb` prints them, then `row`, `vertex`, `kind`, `inputs` by row, `name`, `group` and `place` if there are any, and
 `refused`: an array of lines of the program.
 
-Exit status: 0 the entries are printed; 1 there is no path; 2 the command line is refused, the bytes are no definition,
-or V is no entry; 3 a read or a write failed.
+Exit status: 0 the entries are printed; 1 there is no path, as a line on standard error says; 2 the command line is
+refused, the bytes are no definition, or V is no entry; 3 a read or a write failed.
 """
 
 import argparse
@@ -21,7 +21,7 @@ import io
 import json
 from collections.abc import Iterable, Iterator
 
-from llbm_tools.common import printable
+from llbm_tools.common import printable, say
 from llbm_tools.definitions import faults, inspection
 from llbm_tools.definitions.inspection import Edge, Entry, Inspected
 from llbm_tools.definitions.queries import Links, chosen
@@ -165,7 +165,7 @@ def lines_of(inspected: Inspected, metadata: dict[str, bytes]) -> Iterator[str]:
 def dump(options: argparse.Namespace) -> int:
     """Prints what is asked for, and returns the exit status."""
     data = data_at(options.definition)
-    inspected, metadata = inspection.inspected(data), metadata_at(data)
+    inspected, metadata = inspection.inspected(data, options.definition), metadata_at(data)
     found = found_by(options, inspected)
     entries = inspected.entries if found is None else found
     if options.json:
@@ -177,7 +177,10 @@ def dump(options: argparse.Namespace) -> int:
         lines = [f"{head(entry, kind_of(entry, inspected))} {entry.name.shown()}".rstrip() for entry in found]
     text = "".join(f"{printable(line)}\n" for line in lines)
     write_output(io.BytesIO(text.encode("utf-8", "backslashreplace")), "the dump")
-    return NO_PATH if found == [] and options.between else 0
+    if found == [] and options.between is not None:
+        say("there is no path: {1} does not need {0}".format(*options.between))
+        return NO_PATH
+    return 0
 
 
 def parser() -> argparse.ArgumentParser:

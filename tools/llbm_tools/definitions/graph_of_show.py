@@ -25,8 +25,8 @@ import sys
 
 from llbm_tools import common
 from llbm_tools.definitions import dot, inspected_graph, inspection
-from llbm_tools.inputs import check_inputs, data_at
-from llbm_tools.llb import definition, names
+from llbm_tools.inputs import check_inputs, data_at, input_lines
+from llbm_tools.llb import definition, names, no_definition
 from llbm_tools.llb.ops import Op
 from llbm_tools.llb.wire import Unreadable
 from llbm_tools.sessions.shows import Edge, Show, Vertex, show_of
@@ -53,14 +53,14 @@ def labels_of(show: Show, file: str | None) -> list[list[str]]:
     """Returns what the labels have after number and kind."""
     if file is None:
         return [counts_of(vertex) for vertex in show.vertices]
+    data = data_at(file)
     try:
-        data = data_at(file)
         entries = definition.entries_of(data)
         graph = definition.graph_of(entries)
         ops = [definition.op_of(row, entries[row]) for row in graph.rows]
         shown = [name.shown() for name in names.names_of_vertices(names.names_of(data))]
     except Unreadable as fault:
-        raise Refused(f"the definition: {fault}") from fault
+        raise no_definition.refusal(fault, data, file) from fault
     check(show, graph, ops)
     return [[*dot.named_by(name), *dot.texts_of(op)] for name, op in zip(shown, ops)]
 
@@ -121,11 +121,10 @@ def drawn(options: argparse.Namespace) -> str:
     if options.file is not None:
         if options.definition is not None or options.impact is not None:
             raise Refused("DEFINITION is drawn alone, without --definition and --impact")
-        return inspected_graph.digraph(inspection.inspected(data_at(options.file)))
+        return inspected_graph.digraph(inspection.inspected(data_at(options.file), options.file))
     if options.definition is not None:
         check_inputs(None, options.definition)
-    common.check_open(sys.stdin, "standard input")
-    show = show_of(sys.stdin.buffer.read().decode("ascii", "backslashreplace"))
+    show = show_of(b"".join(input_lines()).decode("ascii", "backslashreplace"))
     return digraph(show, labels_of(show, options.definition), colors_of(show, options.impact))
 
 

@@ -8,8 +8,10 @@ one side only. PLACE is a directory, an archive (a path that is not a directory 
 reads them, and what cannot be in a tree is named on standard error. A digest is the program's, the SHA-256 of the text.
 All other sources are taken to have the same trees for both.
 
-Out: on standard output a line for each vertex of NEW, by number:
+Out: on standard output a line for the result, and then one for each vertex of NEW, by number:
 
+    result V.I WORD       the result is this output: the word of its vertex, or `other, in OLD V.I` if OLD has a vertex
+                          that matches it or has its digest, but another result
     V KIND kept           OLD has a vertex that matches it, and no cache mount is at or before it: its outcome is the
                           same in both (matched_vertices_end_alike, matched_vertices_settle_alike)
     V KIND fed by NAMES   OLD has a vertex with its digest, and these changed sources but no cache mount are at or
@@ -17,19 +19,17 @@ Out: on standard output a line for each vertex of NEW, by number:
     V KIND cached         OLD has a vertex that matches it or has its digest, and a cache mount is at or before it: no
                           law says what it leaves in a run, which depends on caches and the order of events
     V KIND new            OLD has no vertex that matches it or has its digest: no law says anything
-    result V.I WORD       the result is this output: the word of its vertex, or `other, in OLD V.I` if OLD has a vertex
-                          that matches it or has its digest, but another result
 
-each with its name and its place in its source after a tab, if NEW or OLD has them. Two vertices match if their ops are
-the same but for the digests of inputs, and their inputs match, one by one; two local sources, if their trees are the
-same, whatever their names are. So a source whose name changed is no change, if --before and --after have its tree under
-the old and the new name. A line of counts follows, with the number of vertices of OLD that NEW does not have, and a
-line for each of the words that occurs. The laws are those of the crate `llb_laws`. Their premise, that no two
-unequal entries have one digest, is checked. With --json the output is one object: `vertices`, an array of objects with
-`number`, `kind`, `digest`, `name`, `impact` (the word), `old` (the vertex of OLD that matches or else has the digest,
-or null), `changed` (the changed sources at or before it) and `cached`; `result`, with `vertex`, `output`, `impact` (a
-word, or `other`) and `old` (OLD's result); `counts` by word; `gone`, the vertices of OLD that NEW does not have;
-`changed`, all changed sources; and `laws`. `graph-of-show --impact FILE` colors a picture by such an object.
+each vertex with its name and its place in its source after a tab, if NEW or OLD has them. Two vertices match if their
+ops are the same but for the digests of inputs, and their inputs match, one by one; two local sources, if their trees
+are the same, whatever their names are. So a source whose name changed is no change, if --before and --after have its
+tree under the old and the new name. A line of counts follows, with the number of vertices of OLD that NEW does not
+have, and a line for each of the words that occurs. The laws are those of the crate `llb_laws`. Their premise, that
+no two unequal entries have one digest, is checked. With --json the output is one object: `result`, with `vertex`,
+`output`, `impact` (a word, or `other`) and `old` (OLD's result); `vertices`, an array of objects with `number`, `kind`,
+`digest`, `name`, `impact` (the word), `old` (the vertex of OLD that matches or else has the digest, or null), `changed`
+(the changed sources at or before it) and `cached`; `counts` by word; `gone`, the vertices of OLD that NEW does not
+have; `changed`, all changed sources; and `laws`. `graph-of-show --impact FILE` colors a picture by such an object.
 
 Exit status: 0 the output is written; 2 the command line, a definition or a tree is refused, and nothing is written; 3 a
 read or a write failed; 130 interrupted.
@@ -104,8 +104,7 @@ def result_line(result: Result, found: list[Impact]) -> str:
 def lines_of(found: list[Impact], gone: list[int], result: Result) -> str:
     """Returns all lines."""
     counts = counts_of(found)
-    lines = [line_of(number, impact) for number, impact in enumerate(found)]
-    lines.append(result_line(result, found))
+    lines = [result_line(result, found), *(line_of(number, impact) for number, impact in enumerate(found))]
     parts = [f"{count} {word}" for word, count in counts.items()]
     lines.append(f"{len(found)} vertices: {', '.join(parts)}; {len(gone)} of OLD gone\n")
     lines += [f"{word}: {impacts.LAWS[word]}\n" for word, count in counts.items() if count]
@@ -122,12 +121,12 @@ def vertex_object(number: int, impact: Impact) -> dict[str, object]:
 
 
 def json_of(found: list[Impact], gone: list[int], changed: Names, result: Result) -> str:
-    """Returns the object of all vertices, with one line for each."""
+    """Returns the object of the result and of all vertices, with one line for each."""
     vertices = ",\n".join(f"    {json.dumps(vertex_object(*one))}" for one in enumerate(found))
     shown = {"vertex": result.vertex, "output": result.output, "impact": result.word, "old": list(result.old)}
-    rest = {"result": shown, "counts": counts_of(found), "gone": gone, "changed": sorted(changed), "laws": impacts.LAWS}
+    rest = {"counts": counts_of(found), "gone": gone, "changed": sorted(changed), "laws": impacts.LAWS}
     members = ",\n".join(f"  {json.dumps(name)}: {json.dumps(value)}" for name, value in rest.items())
-    return f'{{\n  "vertices": [\n{vertices}\n  ],\n{members}\n}}\n'
+    return f'{{\n  "result": {json.dumps(shown)},\n  "vertices": [\n{vertices}\n  ],\n{members}\n}}\n'
 
 
 def compare(options: argparse.Namespace) -> None:

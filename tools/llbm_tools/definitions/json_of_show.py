@@ -27,7 +27,7 @@ from llbm_tools.definitions import inspection
 from llbm_tools.definitions.graph_of_show import check
 from llbm_tools.definitions.inspection import Entry
 from llbm_tools.inputs import check_inputs, data_at, input_lines
-from llbm_tools.llb import definition, names, op_rules
+from llbm_tools.llb import definition, names, no_definition, op_rules
 from llbm_tools.llb.names import Name
 from llbm_tools.llb.ops import Field, Message, Op, fields_of
 from llbm_tools.llb.wire import Unreadable
@@ -83,14 +83,14 @@ def entry_object(entry: bytes, op: Op, name: Name, description: dict[str, str]) 
 
 def entry_objects(show: Show, file: str) -> list[Members]:
     """Returns what the vertices have from the definition in a file."""
+    data = data_at(file)
     try:
-        data = data_at(file)
         entries = definition.entries_of(data)
         graph = definition.graph_of(entries)
         ops = [definition.op_of(row, entries[row]) for row in graph.rows]
         named = names.names_of_vertices(names.names_of(data))
     except Unreadable as fault:
-        raise Refused(f"the definition: {fault}") from fault
+        raise no_definition.refusal(fault, data, file) from fault
     check(show, graph, ops)
     descriptions = names.descriptions_of(data)
     return [
@@ -109,9 +109,10 @@ def entry_in(entry: Entry, descriptions: dict[str, dict[str, str]]) -> Members:
     return {**members, **held, "refused": entry.refusals()}
 
 
-def json_of_any(data: bytes) -> str:
+def json_of_any(file: str) -> str:
     """Returns the object of any definition, with one line for each entry."""
-    inspected, descriptions = inspection.inspected(data), names.descriptions_of(data)
+    data = data_at(file)
+    inspected, descriptions = inspection.inspected(data, file), names.descriptions_of(data)
     entries = ",\n".join(f"    {json.dumps(entry_in(one, descriptions))}" for one in inspected.below_terminal())
     result = json.dumps(inspected.result._asdict() if inspected.result else None)
     refused = [f"fault {finding.words()}" for finding in inspected.refused]
@@ -133,7 +134,7 @@ def converted(options: argparse.Namespace) -> str:
     if options.file is not None:
         if options.definition is not None:
             raise Refused("DEFINITION is converted alone, without --definition")
-        return json_of_any(data_at(options.file))
+        return json_of_any(options.file)
     if options.definition is not None:
         check_inputs(None, options.definition)
     show = show_of(b"".join(input_lines()).decode("ascii", "backslashreplace"))

@@ -20,17 +20,13 @@ line is refused; 3 a read or a write failed.
 """
 
 import argparse
-import re
 import sys
 
 from llbm_tools import common, inputs
 from llbm_tools.buildkit import notes
-from llbm_tools.llb import findings, names, op_reading
+from llbm_tools.llb import findings, names, no_definition
 from llbm_tools.llb.wire import Unreadable
 from llbm_tools.streams import exit_status
-
-NO_TEXT = re.compile(rb"[^\t\n\r -~\x80-\xf4]")
-HINT = "`llbm asm` makes a definition of a text of entries, BuildKit's client one of a Dockerfile"
 
 
 def names_in(data: bytes) -> list[str]:
@@ -67,21 +63,12 @@ def parse_options() -> argparse.Namespace:
     return parser.parse_args()
 
 
-def is_text(data: bytes) -> bool:
-    """Returns whether bytes can't be read as a definition, and are a text."""
-    try:
-        op_reading.read_definition(data)
-    except Unreadable:
-        return bool(data.strip()) and not NO_TEXT.search(data)
-    return False
-
-
 def lint(options: argparse.Namespace) -> int:
     """Prints the findings, and returns the exit status."""
     data = inputs.data_at(options.definition)
     faults, noted = lines_of(data, options.like_buildkit)
-    if is_text(data):
-        common.say(f"not the bytes of a definition but a text: {inputs.shown(options.definition)}; {HINT}")
+    if no_definition.is_text(data):
+        common.say(no_definition.text_line(options.definition))
     common.check_open(sys.stdout, "standard output")
     sys.stdout.buffer.write("".join(f"{line}\n" for line in faults + noted).encode("utf-8", "backslashreplace"))
     sys.stdout.flush()

@@ -20,6 +20,7 @@ import re
 import sys
 import textwrap
 
+from llbm_tools.common import check_open
 from llbm_tools.paths import ROOT
 from llbm_tools.repository.specs import Definition, Library, contract
 from llbm_tools.streams import exit_status
@@ -206,6 +207,8 @@ def parse_options() -> argparse.Namespace:
 
 def work(library: Library, options: argparse.Namespace) -> int:
     """Does what the command line asks for, and returns the exit status."""
+    if not options.write:
+        check_open(sys.stdout, "standard output")
     if options.write or options.check:
         return write_or_check(library, options.write)
     if options.first:

@@ -20,7 +20,7 @@ from typing import NamedTuple
 
 from llbm_tools.common import printable, shortened
 from llbm_tools.inputs import data_at, input_lines
-from llbm_tools.llb import definition, names
+from llbm_tools.llb import definition, names, no_definition
 from llbm_tools.llb.ops import Op
 from llbm_tools.llb.wire import Unreadable
 from llbm_tools.sessions.records import Event, Work, events_of, works_of
@@ -47,9 +47,8 @@ def parts_of(op: Op) -> list[str]:
     return definition.commands_of(op) if op.exec else definition.actions_of(op)
 
 
-def vertices_in(file: str) -> list[Shown]:
-    """Returns the vertices of the definition in a file."""
-    data = data_at(file)
+def vertices_of(data: bytes) -> list[Shown]:
+    """Returns the vertices of a definition."""
     entries = definition.entries_of(data)
     found = []
     for name, row in zip(names.names_of_vertices(names.names_of(data)), definition.graph_of(entries).rows):
@@ -117,12 +116,18 @@ def json_of(events: list[Slice]) -> str:
     return f'{{"displayTimeUnit":"ms","traceEvents":[\n{lines}\n]}}\n'
 
 
+def vertices_in(file: str) -> list[Shown]:
+    """Returns the vertices of the definition in a file."""
+    data = data_at(file)
+    try:
+        return vertices_of(data)
+    except Unreadable as fault:
+        raise no_definition.refusal(fault, data, file) from fault
+
+
 def convert(file: str | None) -> None:
     """Converts standard input to standard output."""
-    try:
-        vertices = None if file is None else vertices_in(file)
-    except Unreadable as fault:
-        raise Refused(f"{fault}: {file}") from fault
+    vertices = None if file is None else vertices_in(file)
     trace = trace_of(works_of(events_of(input_lines())), vertices)
     write_output(io.BytesIO(json_of(trace).encode("utf-8")), "the trace")
 

@@ -97,6 +97,67 @@ class Replacing(Builds):
         done = self.build("--replace", "--keep", "out/kept", "definition", "out", "src=in")
         self.assertEqual(done.stderr, b"the file of --keep would be replaced with the result: out/kept\n")
 
+    def check_keep_is_refused(self, keep, cause, *words):
+        """Checks that a file of --keep is refused in one line, and that neither it nor anything else is changed."""
+        before = {name: kept_builds.state_at(str(self.at / name)) for name in os.listdir(self.at)}
+        done = self.build("--replace", "--keep", keep, *words)
+        self.assertEqual((done.returncode, done.stderr.decode()), (2, f"{cause} {keep}\n"))
+        self.assertEqual({name: kept_builds.state_at(str(self.at / name)) for name in os.listdir(self.at)}, before)
+
+    def test_what_no_build_has_kept_is_not_replaced(self):
+        self.file(b"in.tar", tar(entry("x", b"x")))
+        self.file(b"config", b"{}")
+        self.replace()
+        os.symlink("kept", self.at / "link")
+        os.symlink("none", self.at / "dangling")
+        os.mkfifo(self.at / "pipe")
+        cause = "--keep replaces only what a build has kept:"
+        for keep in ["llbm", "does", "link", "dangling", "pipe", "held", "/dev/null", "/dev/zero", "/dev/stdin"]:
+            self.check_keep_is_refused(keep, cause, "definition", "out", "src=in")
+        for keep in ["none/kept", "none/", "llbm/kept"]:
+            cause = "there is no such directory to keep it in:"
+            self.check_keep_is_refused(keep, cause, "definition", "out", "src=in")
+        for given, words in [
+            ("definition", ["definition", "out", "src=in"]), ("in.tar", ["definition", "out", "src=in.tar"]),
+            ("config", ["--config", "config", "definition", "new.oci", "src=in"]),
+        ]:
+            self.check_keep_is_refused(given, "the file of --keep would replace", *words)
+            # An empty file may be replaced, but not one that is an input.
+            self.file(given.encode(), b"")
+            self.check_keep_is_refused(given, "the file of --keep would replace", *words)
+
+    def test_an_empty_file_may_be_replaced_and_so_may_what_another_form_has_kept(self):
+        for data in [b"", b"llbm-build kept 7\n"]:
+            self.file(b"kept", data)
+            self.assertEqual(self.replace("--mtime", str(len(data))).returncode, 0)
+            self.assertTrue((self.at / "kept").read_bytes().startswith(kept_builds.FORM))
+
+    def test_a_result_is_written_though_nothing_could_be_kept(self):
+        os.mkdir(self.at / "folder")
+        words = ["--replace", "--keep", "folder/kept", "definition", "out", "src=in"]
+        self.set_behavior(COPIES + "os.rmdir('folder')\n")
+        cause = "there is no such directory to keep it in: folder/kept"
+        lines = ["writing out", "out is written", f"what is kept could not be stored: {cause}", "out is written"]
+        done = self.build(*words)
+        self.assertEqual((done.returncode, done.stderr.decode().splitlines()[-4:]), (3, lines))
+        self.assertEqual((self.at / "out/a/x").read_bytes(), b"a/x")
+        self.set_behavior(COPIES + "open('folder/kept', 'w').write('mine')\n")
+        shutil.rmtree(self.at / "out")
+        os.mkdir(self.at / "folder")
+        cause = "--keep replaces only what a build has kept: folder/kept"
+        done = self.build(*words)
+        self.assertEqual((done.returncode, done.stderr.decode().splitlines()[-2:-1]), (3, [f"{lines[2][:33]} {cause}"]))
+        self.assertEqual((self.at / "folder/kept").read_text(), "mine")
+
+    def test_a_result_stays_if_its_keep_was_replaced_meanwhile(self):
+        self.replace()
+        self.make(b"new", b"new")
+        self.set_behavior(COPIES + "os.unlink('kept')\nopen('kept', 'w').write('mine')\n")
+        done = self.replace()
+        lines = ["--keep replaces only what a build has kept: kept", "nothing is written"]
+        self.assertEqual((done.returncode, done.stderr.decode().splitlines()[-2:]), (2, lines))
+        self.assertEqual(((self.at / "kept").read_text(), os.path.exists(self.at / "out/new")), ("mine", False))
+
     def test_nothing_is_done_if_nothing_has_changed(self):
         self.check(self.replace(), "writing out", "out is written", runs=1)
         paths = [str(self.at / name) for name in ("out", "out/a/x", "kept")]

@@ -352,7 +352,7 @@ class Adopt(Folder):
         self.assertEqual([one.words() for one in findings.findings_of(done.stdout)][0], "88 1 DiffOp")
 
     def test_faulty_definitions_are_refused(self):
-        self.check_refused(b"\x0a", ["not adopted: fault 81 1"])
+        self.check_refused(b"\x0a", ["not a definition: the bytes end inside a record: standard input"])
         self.check_refused(b"", ["not adopted: fault 83", "nothing is written"])
         self.check_refused(base.definition(self.local, b"\x0b"), ["not adopted: fault 82 1 4", "nothing is written"])
         unknown = base.definition(self.local, base.inputs(b"x"))
@@ -370,7 +370,8 @@ class Adopt(Folder):
             done = run("adopt", given, *words)
             self.assertEqual((done.returncode, done.stdout), (status, b""))
             self.assertEqual(sorted(os.listdir(self.folder)), before)
-        self.check_run(run("adopt", "-o", place, text=b"\x0a"), 2, b"", b"not adopted: fault 81 1\n")
+        cause = b"not a definition: the bytes end inside a record: standard input\n"
+        self.check_run(run("adopt", "-o", place, text=b"\x0a"), 2, b"", cause)
         self.assertEqual(pathlib.Path(os.fsdecode(place)).read_bytes(), base.ending(self.local))
         done = run("adopt", given, "-o", "/dev/null")
         self.assertEqual((done.returncode, os.path.isfile("/dev/null")), (0, False))

@@ -91,7 +91,8 @@ class Dump(Folder):
         self.assertTrue(self.dumped(base.definition(IMAGE, b""))[-1].startswith("refused: fault 85: "))
 
     def test_bytes_that_are_no_definition_are_refused(self):
-        self.check_run(run("dump", text=b"\x0a\x05"), 2, b"", b"the definition: the bytes end inside a record\n")
+        cause = b"not a definition: the bytes end inside a record: standard input\n"
+        self.check_run(run("dump", text=b"\x0a\x05"), 2, b"", cause)
 
     def test_names_and_metadata_are_shown(self):
         lines = self.dumped(FOREIGN.read_bytes())
@@ -118,7 +119,9 @@ class Dump(Folder):
         self.assertEqual(self.rows(data, "--between", "%0", "%4"), ["%0", "%3", "%4"])
         self.assertEqual(self.rows(data, "--before", "0"), [])
         self.assertEqual(self.rows(FOREIGN.read_bytes(), "--after", "[internal] load build context"), ["%3"])
-        self.check_run(run("dump", "--between", "%1", "%4", text=data), 1, b"")
+        for words in [["--between", "%1", "%4"], ["--between", "%1", "%4", "--json"]]:
+            self.check_run(run("dump", *words, text=data), 1, b"", b"there is no path: %4 does not need %1\n")
+        self.check_run(run("dump", "--between", "3", "0", FOREIGN), 1, b"", b"there is no path: 0 does not need 3\n")
 
     def test_a_word_that_names_no_entry_or_several_is_refused(self):
         cause = b"no entry has this vertex, row (%K), digest (8 digits or more) or name: 7\n"

@@ -176,6 +176,10 @@ class Labels(Folder):
     def test_faulty_definitions_are_refused(self):
         lines = ["0 source steps 1 outputs 1 inputs -", "result 0.0"]
         unknown = base.inputs(b"none")
+
+        def line(cause):
+            return f"not a definition: {cause}: ".encode() + self.place(b"definition") + b"\n"
+
         for given, cause in [
             (b"\x0a", "the bytes end inside a record"),
             (base.definition(self.origin), "there are fewer than two distinct rows"),
@@ -183,7 +187,7 @@ class Labels(Folder):
             (base.definition(self.origin, unknown), "input 0 of row 1 names no row"),
             (base.definition(self.origin, base.file_op()), "the terminal has no input"),
         ]:
-            self.check_run(self.show(given, *lines), 2, b"", f"the definition: {cause}\n".encode())
+            self.check_run(self.show(given, *lines), 2, b"", line(cause))
         done = run("graph-of-show", "--definition", self.place(b"none"), text=b"result 0.0\n")
         self.assertEqual(done.returncode, 2)
         text = "".join(line + "\n" for line in lines).encode()

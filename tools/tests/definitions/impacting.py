@@ -57,8 +57,9 @@ class Pair(Folder):
         """Returns what the tool prints after the kind of each vertex."""
         done = self.impact(*words, **given)
         self.assertEqual((done.returncode, done.stderr), (0, b""))
-        lines = done.stdout.decode().splitlines()
-        count = next(place for place, line in enumerate(lines) if line.startswith("result "))
+        first, *lines = done.stdout.decode().splitlines()
+        self.assertTrue(first.startswith("result "), first)
+        count = next(place for place, line in enumerate(lines) if " vertices: " in line)
         return [line.split(" ", 2)[2].split("\t")[0] for line in lines[:count]]
 
     def check_refused(self, cause, *words, **given):
@@ -95,12 +96,12 @@ class Words(Pair):
         two = base.file_op(base.number(3, 0) + base.mkdir("/a"), base.number(3, 1) + base.mkdir("/b"))
         old, new = (base.definition(two, base.inputs((two, output))) for output in (0, 1))
         lines = self.impact(old=old, new=new).stdout.decode().splitlines()
-        self.assertEqual(lines[:2], ["0 file kept", "result 0.1 other, in OLD 0.0"])
+        self.assertEqual(lines[:2], ["result 0.1 other, in OLD 0.0", "0 file kept"])
         self.assertTrue(lines[-1].startswith("other: "))
         found = json.loads(self.impact("--json", old=old, new=new).stdout)
         self.assertEqual(found["result"], {"vertex": 0, "output": 1, "impact": "other", "old": [0, 0]})
         lines = self.impact(old=old, new=old).stdout.decode().splitlines()
-        self.assertEqual(lines[:2], ["0 file kept", "result 0.0 kept"])
+        self.assertEqual(lines[:2], ["result 0.0 kept", "0 file kept"])
 
     def test_nothing_is_said_above_a_cache(self):
         below = with_cache(self.left)
@@ -111,12 +112,12 @@ class Words(Pair):
 
     def test_all_lines_are_printed(self):
         done = self.impact("--changed", "left")
-        lines = """0 source fed by left
+        lines = """result 4.0 new
+0 source fed by left
 1 file fed by left
 2 source kept
 3 file new
 4 merge new
-result 4.0 new
 5 vertices: 1 kept, 2 new, 2 fed, 0 cached; 2 of OLD gone
 kept: its outcome is that of OLD's vertex that does the same on inputs that match (matched_vertices_end_alike)
 new: OLD has no vertex that matches it or has its digest; no law says anything
@@ -135,8 +136,8 @@ fed: its outcome depends on the sources before it alone, and these of them have 
         *entries, last, _ = definition.entries_of(old)
         new = base.ending(*entries, last.replace(b"/all", b"/new"))
         lines = self.impact(old=old, new=new).stdout.decode().splitlines()
-        self.assertEqual([line.split("\t")[0].split(" ")[2] for line in lines[:5]], [*["kept"] * 4, "new"])
-        self.assertIn("RUN mkdir -p out && concat out/all one two (Dockerfile:4)", lines[3])
+        self.assertEqual([line.split("\t")[0].split(" ")[2] for line in lines[1:6]], [*["kept"] * 4, "new"])
+        self.assertIn("RUN mkdir -p out && concat out/all one two (Dockerfile:4)", lines[4])
 
 
 class Trees(Pair):
@@ -156,7 +157,7 @@ class Trees(Pair):
         words = ["--before", f"left={self.at / before}", "--after", f"left={self.at / after}"]
         done = self.impact(*words)
         self.assertEqual(done.returncode, 0, done.stderr)
-        self.assertEqual(done.stdout.decode().splitlines()[0], f"0 source {word}")
+        self.assertEqual(done.stdout.decode().splitlines()[1], f"0 source {word}")
 
     def test_one_tree_in_three_forms_is_one(self):
         for before, after in [("in", "text"), ("text", "in.tar"), ("in.tar", "in")]:
@@ -276,7 +277,7 @@ class Forms(Pair):
 
     def test_the_object_has_all_members(self):
         found = self.object("--changed", "left")
-        self.assertEqual(list(found), ["vertices", "result", "counts", "gone", "changed", "laws"])
+        self.assertEqual(list(found), ["result", "vertices", "counts", "gone", "changed", "laws"])
         upper = base.file_op(base.mkdir("/c"), on=[self.right])
         self.assertEqual(found["vertices"][1:4:2], [
             {"number": 1, "kind": "file", "digest": base.digest(self.lower), "name": "", "impact": "fed", "old": 1,

@@ -351,6 +351,15 @@ class Lint(Folder):
         self.assertEqual((done.returncode, done.stderr.startswith(line)), (1, True), done.stderr)
         self.assertTrue(done.stdout.startswith(b"fault 81 "))
         self.assertEqual(run("lint", self.file(b"other", b"\x00\xff")).stderr, b"")
+        for words in [
+            ["dump"], ["adopt"], ["graph-of-show"], ["json-of-show"], ["graph-of-show", "--definition"],
+            ["json-of-show", "--definition"], ["trace-of-record", "--definition"],
+        ]:
+            shown = b"0 merge steps 0 outputs 1 inputs -\nresult 0.0\n"
+            self.check_run(run(*words, place, text=shown), 2, b"", done.stderr)
+            other = run(*words, self.place(b"other"), text=shown)
+            line = b"not a definition: a record has the field 0: " + self.place(b"other") + b"\n"
+            self.check_run(other, 2, b"", line)
 
     def test_command_lines_and_closed_streams_are_refused(self):
         self.assertEqual(run("lint", "a", "b").returncode, 2)

@@ -9,7 +9,7 @@ import unittest
 from typing import NamedTuple
 
 from llbm_tools.definitions import faults
-from tests.base import ROOT, TOOLS, Folder, run
+from tests.base import ROOT, TOOLS, Folder, run, run_closed
 
 CRATES = ROOT / "crates"
 MOST_OF_A_TOOL = 120
@@ -281,6 +281,11 @@ class Claims(unittest.TestCase):
         done = run("claims", "--bodies")
         self.assertEqual((done.returncode, done.stderr), (0, b""))
         self.assertIn(b"locked key granted twice (`search.rt`, `look_up`)", b" ".join(done.stdout.split()))
+
+    def test_a_standard_output_that_is_closed_is_a_failure(self):
+        for word in ("aim", "--first", "--bodies", "--check"):
+            done = run_closed(1, "claims", word)
+            self.assertEqual((done.returncode, done.stderr), (3, b"standard output is closed\n"), word)
 
     def test_an_unknown_statement_is_refused(self):
         done = run("claims", "nothing")
