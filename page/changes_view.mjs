@@ -5,6 +5,7 @@ import { by, make } from './dom.mjs';
 import { explained } from './faults.mjs';
 import { FolderView } from './folders.mjs';
 import { faultOf, wordsOf as eventWords } from './record.mjs';
+import { counted } from './summary.mjs';
 
 const SIGNS = { added: '+', removed: '−', changed: '~' };
 
@@ -63,7 +64,7 @@ export class ChangesView {
     return make('section', { class: 'compared' },
       make('h4', {}, name, make('span', { class: 'note', text: ` ${shown}` })), summaryElement(summary),
       ...changes.map((change) => this.change(change, part)),
-      ...(more > 0 ? [make('p', { class: 'note', text: `and ${more.toLocaleString('en')} more ${more === 1 ? 'path' : 'paths'}` })] : []));
+      ...(more > 0 ? [make('p', { class: 'note', text: `and ${counted(more, 'more path')}` })] : []));
   }
 
   change({ path, kind, words, hasContent }, part) {
