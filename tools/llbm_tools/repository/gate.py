@@ -68,8 +68,10 @@ JOBS = "RT_JOBS"
 MEMORY = pathlib.Path("/proc/meminfo")
 FREE = r"MemAvailable: +([0-9]+) kB"
 KILO = 1024
-# What a check may take of the memory, in bytes: the most that one took (`llb_refusals`, its tests) was 4.96 GB.
+# What a check may take of the memory, in bytes (`llb_refusals`, its tests: 4.96 GB), and what one of them takes more
+# (`llb_examples`, its tests: 6.4 GB).
 CHECK = 5_000_000_000
+MORE = 1_500_000_000
 # In both versions of control groups: the files with the limit of the memory and with what is in use, and with how long
 # the processors may be used in a period.
 GROUPS = pathlib.Path("/sys/fs/cgroup")
@@ -157,7 +159,7 @@ def checks_at_once() -> int:
     machine = number_in(MEMORY, FREE)
     if machine is not None:
         free.append(KILO * machine)
-    return max(1, min([processors, *(size // CHECK for size in free)]))
+    return max(1, min([processors, *((size - MORE) // CHECK for size in free)]))
 
 
 def counts_in(lines: list[str], status: int) -> Counts:

@@ -88,7 +88,7 @@ class Gate(base.WithPrograms):
             return gate.checks_at_once()
 
     def test_a_check_gets_a_processor_and_its_memory(self):
-        for processors, free, jobs in [(4, 24, 4), (2, 24, 2), (8, 24, 4), (4, 11, 2), (4, 3, 1), (1, 24, 1)]:
+        for processors, free, jobs in [(4, 24, 4), (2, 24, 2), (8, 24, 4), (4, 12, 2), (4, 3, 1), (1, 24, 1)]:
             self.assertEqual(self.checks(processors, 1_000_000 * free), jobs, (processors, free))
         gate = loaded("gate")
         gate.MEMORY = gate.GROUPS = pathlib.Path("/none")
@@ -100,8 +100,8 @@ class Gate(base.WithPrograms):
             ([("cpu.max", "max 100000")], 8), ([("cpu.max", "250000 100000")], 2), ([("cpu.max", "50000 100000")], 1),
             ([("cpu/cpu.cfs_quota_us", "-1"), period], 8), ([("cpu/cpu.cfs_quota_us", "300000"), period], 3),
             ([("memory.max", "max"), ("memory.stat", "anon 7")], 8),
-            ([("memory.max", "16000000000"), ("memory.stat", "file 9\nanon 500000000")], 3),
-            ([("memory/memory.limit_in_bytes", "11000000000"), ("memory/memory.stat", "total_rss 5")], 2),
+            ([("memory.max", "17500000000"), ("memory.stat", "file 9\nanon 500000000")], 3),
+            ([("memory/memory.limit_in_bytes", "12000000000"), ("memory/memory.stat", "total_rss 5")], 2),
         ]:
             self.assertEqual(self.checks(8, 100_000_000, group), jobs, group)
 
