@@ -1,8 +1,9 @@
 """Runs the kit's `rt plant` on a crate over libraries that are there, in the place of libraries that it would build.
 
 In: the folder of a repository in which the crate can be written (`tools/plants` makes it), the crate's name, and words
-for `rt plant`. In place of its first check, which builds the libraries below anew, the crate is checked here, and what
-is proved is kept in out/incremental, where `rt plant` takes it from.
+for `rt plant`; after these may stand `--part K N`, for each N-th function from the K-th. In place of its first check,
+which builds the libraries below anew, the crate is checked here, and what is proved is kept in out/incremental, where
+`rt plant` takes it from.
 
 Out: what `rt plant` prints. Exit status: that of `rt plant`; 2 if a library is missing.
 """
@@ -43,13 +44,26 @@ def check(top: pathlib.Path, at: pathlib.Path, crate: str) -> int:
     return done.returncode
 
 
+def take_part(module: types.ModuleType, first: int, step: int) -> None:
+    """Lets `rt plant` choose each `step`-th function alone, from number `first`."""
+    chosen = module.chosen
+
+    def choose(*given: object) -> tuple[list[object], list[object]]:
+        planted, bare = chosen(*given)
+        return planted[first - 1 :: step], bare[first - 1 :: step]
+
+    vars(module).update(chosen=choose)
+
+
 def main() -> int:
     """Runs `rt plant`, and returns its exit status."""
     top, crate, *words = sys.argv[1:]
+    words, part = (words[:-3], words[-2:]) if "--part" in words else (words, ["1", "1"])
     sys.dont_write_bytecode = True
     at = kit()
     module = planter(at)
     vars(module).update(BATCH=BATCH, SECONDS=SECONDS)
+    take_part(module, *map(int, part))
     module.rt.main = lambda *_: check(pathlib.Path(top), at, crate)
     os.chdir(pathlib.Path(top, "crates", crate))
     module.rt.guarded()

@@ -6,9 +6,10 @@ bodies: some give up (an error, nothing, a constant), others call the real funct
 result. It would first build every library below a crate anew; this tool has the crate checked over the libraries that
 are there, and leaves the rest to `rt plant`. So it needs this kit's `rt plant` as it is, and proves each crate once.
 
---minutes N (10) and --max N (400) are for each crate: the time for its bodies, after its check, and their number. The
-answer for a crate is kept in out/plants, by the sources of the crate and of all below it, the kit, and these two
-numbers; --anew tries the bodies again.
+--minutes N (10) and --max N (400) are for each crate: the time for its bodies, after its check, and their number.
+--part K/N (1/1) takes each N-th function of a crate, from the K-th, so that the parts of a large crate can be tried
+side by side; their rows add up. The answer for a crate is kept in out/plants, by the sources of the crate and of all
+below it, the kit, and these options; --anew tries the bodies again.
 
 Out: a table with a line for each crate: in how many functions bodies were planted, how many bodies are refused, not
 judged (the prover met a limit, or the body is no fair test), not tried (for --minutes or --max), and prove; below it a
@@ -150,13 +151,21 @@ def table_of(answers: dict[str, Answer]) -> list[str]:
     return ["| " + " | ".join(row) + " |" for row in table] + [""] * bool(proving) + proving
 
 
+def part(text: str) -> list[str]:
+    """Returns the words for plant_over that choose part K/N of a crate's functions."""
+    found = re.fullmatch(r"([1-9]\d{0,3})/([1-9]\d{0,3})", text)
+    if not found or int(found[1]) > int(found[2]):
+        raise argparse.ArgumentTypeError(f"no part K/N, with K from 1 to N: {text}")
+    return ["--part", found[1], found[2]]
+
+
 def work(options: argparse.Namespace) -> int:
     """Plants in the crates, and prints the table."""
     top = options.repository.resolve()
     there = crates_of(top)
     if strangers := [name for name in options.crates if name not in there]:
         raise Refused(f"there is no such crate, or it is one of tests: {strangers[0]}")
-    given = ["--minutes", str(options.minutes), "--max", str(options.max)]
+    given = ["--minutes", str(options.minutes), "--max", str(options.max), *options.part]
     names = [name for name in there if not options.crates or name in options.crates]
     try:
         answers = {name: answer_for(top, name, given, options.anew) for name in names}
@@ -176,6 +185,7 @@ def main() -> int:
     parser.add_argument("--repository", metavar="DIRECTORY", type=pathlib.Path, default=ROOT, help="where `rt ci` ran")
     parser.add_argument("--minutes", metavar="N", type=int, default=10, help="the time for the bodies of each crate")
     parser.add_argument("--max", metavar="N", type=int, default=400, help="the most bodies in each crate")
+    parser.add_argument("--part", metavar="K/N", type=part, default=[], help="only each N-th function, from the K-th")
     parser.add_argument("--anew", action="store_true", help="try bodies again whose answer is kept")
     options = parser.parse_args()
     return exit_status(lambda: work(options))

@@ -1,12 +1,14 @@
 """Tests of `plants`: how listings are read, when an answer is kept, what the table has, and what is refused."""
 
+import argparse
 import contextlib
 import io
 import os
 import pathlib
+import types
 from unittest import mock
 
-from llbm_tools.repository import plants
+from llbm_tools.repository import plant_over, plants
 from llbm_tools.streams import Refused
 from tests.base import Folder, run
 
@@ -71,6 +73,15 @@ class Plants(Folder):
             self.assertEqual(plants.answer_for(self.top, "llb_b", GIVEN, False), first)
             self.assertEqual(ask.call_count, 1)
             self.assertEqual(plants.answer_for(self.top, "llb_b", GIVEN, True).refused, 2)
+
+    def test_a_part_has_each_nth_function(self):
+        module = types.SimpleNamespace(chosen=lambda names, bare: (names, bare))
+        plant_over.take_part(module, 2, 3)
+        self.assertEqual(module.chosen([*"abcdefgh"], [*"xyz"]), ([*"beh"], ["y"]))
+        self.assertEqual(plants.part("2/3"), ["--part", "2", "3"])
+        for text in ("0/1", "3/2", "2", "1/2/3", "a/b", "-1/2"):
+            with self.assertRaises(argparse.ArgumentTypeError):
+                plants.part(text)
 
     def test_a_crate_that_is_not_proved_has_no_answer(self):
         kit = mock.patch.object(plants, "kit", return_value=pathlib.Path("/kit"))
