@@ -201,9 +201,6 @@ class Table(Folder):
 
     def test_a_standard_input_that_is_a_device(self):
         for tool, words in TOOLS_ON_STANDARD_INPUT.items():
-            if tool == "explain":
-                # It answers each line as it comes.
-                continue
             with open("/dev/zero", "rb") as device:
                 done = subprocess.run(
                     command(tool, *self.words(words)), stdin=device, capture_output=True, timeout=120

@@ -23,7 +23,7 @@ from collections.abc import Iterable
 
 from llbm_tools import common
 from llbm_tools.definitions import faults
-from llbm_tools.inputs import check_inputs, shown
+from llbm_tools.inputs import check_inputs, shown, standard_input
 from llbm_tools.streams import REFUSED, exit_status
 
 
@@ -79,8 +79,7 @@ def explain(options: argparse.Namespace) -> int:
     if options.word:
         work.explain(" ".join(options.word), "", "")
     else:
-        common.check_open(sys.stdin, "standard input")
-        work.explain_all(sys.stdin.buffer)
+        work.explain_all(standard_input())
     sys.stdout.flush()
     return work.status
 
