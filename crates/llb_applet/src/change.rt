@@ -9,10 +9,10 @@ ghost use Rattle.llb_applet.specs.ViewSpots.{IsSpot, IsWritable, tree_at, entry_
 ghost use Rattle.llb_applet.specs.ViewSpots.{with_dirs, dirs_below, put_then_below};
 ghost use Rattle.llb_applet.specs.ViewChanges.{PutsAside, Does, settled};
 
-use crate::fault::Memory;
 use crate::spot::Spot;
 use llb_mount::View;
 use llb_tree::{Bytes, Content, Meta, Name, Path, Tree, TreeFault};
+use llb_wire::Memory;
 use std::alloc::{AllocError, Global};
 
 // Takes a mount's tree out of the view and leaves an empty one in its place; returns `None` if the mount is read-only.
@@ -27,7 +27,7 @@ fn put_aside(alloc: Global, view: &mut View, mount: u32) -> Result<Option<Tree>,
     Ok(Some(view.swap_tree(mount, empty)))
 }
 
-// Returns true if a change of a tree is done, and false if the tree refuses the change with any fault but `Memory`. Fails with 75 `Memory` if memory was
+// Returns true if a change of a tree is done, and false if the tree refuses the change with any fault but `Memory`. Fails with 5 `Memory` if memory was
 // refused for the change.
 fn settled(change: Result<(), TreeFault>) -> Result<bool, Memory>
     ensures { result ≡ settled change }
@@ -45,7 +45,7 @@ fn settled(change: Result<(), TreeFault>) -> Result<bool, Memory>
 }
 
 /// Puts a file at a spot. Returns false, and leaves the view as it was, if the change is refused, or if the spot is a mount's
-/// dest and no entry is there. Fails with 75 `Memory` alone; then too the view is as it was.
+/// dest and no entry is there. Fails with 5 `Memory` alone; then too the view is as it was.
 pub fn put_file(
     alloc: Global,
     view: &mut View,
@@ -131,7 +131,7 @@ fn share_there(
 }
 
 /// Sets the mode and the owner of the directory at a spot; if nothing is there, makes a directory with this mode and owner.
-/// Returns false, and leaves the view as it was, if the change is refused. Fails with 75 `Memory` alone; then too the view is
+/// Returns false, and leaves the view as it was, if the change is refused. Fails with 5 `Memory` alone; then too the view is
 /// as it was.
 pub fn put_dir(alloc: Global, view: &mut View, spot: &Spot, meta: Meta) -> Result<bool, Memory>
     requires { spot.now.mount < length view.old }
@@ -149,7 +149,7 @@ pub fn put_dir(alloc: Global, view: &mut View, spot: &Spot, meta: Meta) -> Resul
 }
 
 /// Removes what is at and below a spot. Returns false, and leaves the view as it was, if the spot is a mount's dest, or if the removal is refused. Fails with
-/// 75 `Memory` alone; then too the view is as it was.
+/// 5 `Memory` alone; then too the view is as it was.
 pub fn remove(alloc: Global, view: &mut View, spot: &Spot) -> Result<bool, Memory>
     requires { spot.now.mount < length view.old }
     ensures does { Does result (without_spot view.old spot.now) view.old view.new }
@@ -169,7 +169,7 @@ pub fn remove(alloc: Global, view: &mut View, spot: &Spot) -> Result<bool, Memor
 }
 
 /// Makes a directory at a spot. Returns false, and leaves the view as it was, if the spot is a mount's dest, if there is an
-/// entry at it, or if the change is refused. Fails with 75 `Memory` alone; then too the view is as it was.
+/// entry at it, or if the change is refused. Fails with 5 `Memory` alone; then too the view is as it was.
 pub fn make_dir(alloc: Global, view: &mut View, spot: &Spot) -> Result<bool, Memory>
     requires { spot.now.mount < length view.old }
     ensures does { Does result (with_new_dir view.old spot.now) view.old view.new }
@@ -185,7 +185,7 @@ pub fn make_dir(alloc: Global, view: &mut View, spot: &Spot) -> Result<bool, Mem
 }
 
 /// Makes a directory at a spot, and its missing parents below the dest, unless a directory is already there. Returns false,
-/// and leaves the view as it was, if the change is refused. Fails with 75 `Memory` alone; then too the view is as it was.
+/// and leaves the view as it was, if the change is refused. Fails with 5 `Memory` alone; then too the view is as it was.
 pub fn make_dirs(alloc: Global, view: &mut View, spot: &Spot) -> Result<bool, Memory>
     requires { IsSpot view.old spot.now }
     ensures does { Does result (with_dirs view.old spot.now) view.old view.new }

@@ -8,12 +8,11 @@ ghost use Rattle.llb_applet.specs.ViewSpots.{IsSpot, entry_at, file_in};
 ghost use Rattle.llb_applet.specs.Commands.{line, path_by, file_by, joined, listed, line_of, listing_by};
 ghost use Rattle.llb_wire.specs.Digest.{digits_of};
 
-use crate::fault::Memory;
 use crate::setting::Setting;
 use crate::spot::{Spot, spot_by};
 use llb_mount::View;
 use llb_tree::{Bytes, Entry, Name, Path, Tree, TreeFault};
-use llb_wire::Text;
+use llb_wire::{Memory, Text};
 use sha2::{Digest, Sha256};
 use std::alloc::Global;
 
@@ -26,7 +25,7 @@ fn push_line(content: &mut Vec<u8>, word: &str) -> Result<(), Memory>
     Ok(())
 }
 
-/// Returns a word and a line end. Fails with 75 `Memory` alone.
+/// Returns a word and a line end. Fails with 5 `Memory` alone.
 pub fn line(alloc: Global, word: &str) -> Result<Bytes, Memory>
     ensures { IfOk result (λ b. b ≡ line word.now) }
 {
@@ -35,7 +34,7 @@ pub fn line(alloc: Global, word: &str) -> Result<Bytes, Memory>
     Ok(Bytes::new(content))
 }
 
-/// Returns the content of the file at a spot with one more line; if there is no file, returns that line alone. Fails with 75 `Memory` alone.
+/// Returns the content of the file at a spot with one more line; if there is no file, returns that line alone. Fails with 5 `Memory` alone.
 pub fn more(alloc: Global, view: &View, spot: &Spot, word: &Text) -> Result<Bytes, Memory>
     requires { IsSpot view.now spot.now }
     ensures { IfOk result (λ b. b ≡ unwrap_or (option_map (λ f. f.1) (file_in (entry_at view.now spot.now))) [] ++ line word.now) }
@@ -64,7 +63,7 @@ fn content_by<'v>(
     }
 }
 
-/// Returns the joined contents of the files that words name; `None` if one of the words names no file. Fails with 75 `Memory` alone.
+/// Returns the joined contents of the files that words name; `None` if one of the words names no file. Fails with 5 `Memory` alone.
 pub fn joined(
     alloc: Global,
     words: &[Text],
@@ -122,7 +121,7 @@ fn push_name(content: &mut Vec<u8>, tree: &Tree, path: &Path, name: &Name) -> Re
     Ok(())
 }
 
-/// Returns a line for each name in the directory that a word names; `None` if it names no directory. Fails with 75 `Memory` alone.
+/// Returns a line for each name in the directory that a word names; `None` if it names no directory. Fails with 5 `Memory` alone.
 pub fn listing_by(
     alloc: Global,
     path: &Text,
@@ -146,7 +145,7 @@ pub fn listing_by(
     }
 }
 
-/// Returns the entries of the setting's environment, each with a line end. Fails with 75 `Memory` alone.
+/// Returns the entries of the setting's environment, each with a line end. Fails with 5 `Memory` alone.
 pub fn envfile(alloc: Global, setting: &Setting) -> Result<Bytes, Memory>
     ensures { IfOk result (λ b. b ≡ flat_map line setting.now.env) }
 {

@@ -4,7 +4,6 @@
 ghost use Rattle.std.specs.Prelude.{Some};
 ghost use Rattle.llb_applet.specs.CallResults.{script_text};
 
-use llb_tree::TreeFault;
 use llb_wire::Text;
 use std::alloc::{AllocError, AllocFailed};
 use std::{error, fmt};
@@ -76,27 +75,22 @@ impl From<llb_wire::Memory> for ScriptFault {
 #[error("75")]
 pub struct Memory;
 
-impl From<AllocError> for Memory {
-    fn from(_: AllocError) -> Memory {
-        Memory
-    }
-}
-
-impl<T: Drop> From<AllocFailed<T>> for Memory {
-    fn from(_: AllocFailed<T>) -> Memory {
-        Memory
-    }
-}
-
 impl From<llb_wire::Memory> for Memory {
     fn from(_: llb_wire::Memory) -> Memory {
         Memory
     }
 }
 
-/// Converts the fault for refused memory, with which copying a name, a path or a tree can fail, into `Memory`.
-impl From<TreeFault> for Memory {
-    fn from(_: TreeFault) -> Memory {
-        Memory
+/// Converts the fault for refused memory of a command.
+impl From<Memory> for llb_wire::Memory {
+    fn from(_: Memory) -> llb_wire::Memory {
+        llb_wire::Memory
+    }
+}
+
+/// Converts the fault for refused memory, with which copying a script can fail.
+impl From<ScriptFault> for llb_wire::Memory {
+    fn from(_: ScriptFault) -> llb_wire::Memory {
+        llb_wire::Memory
     }
 }

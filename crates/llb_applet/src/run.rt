@@ -10,12 +10,12 @@ ghost use Rattle.llb_applet.specs.ViewChanges.{Does};
 use crate::change::{make_dir, make_dirs, put_dir, put_file, put_shared, remove};
 use crate::command::{Command, Kind};
 use crate::content::{envfile, joined, line, listing_by, more, sha256_by};
-use crate::fault::Memory;
+use crate::fault;
 use crate::setting::Setting;
 use crate::spot::{Spot, meta_in, path_by, spot_by, spot_of};
 use llb_mount::View;
 use llb_tree::{Bytes, Entry, Meta, Mode, Path, TreeFault};
-use llb_wire::Text;
+use llb_wire::{Memory, Text};
 use std::alloc::Global;
 
 // Makes a directory. With `parents`, also makes those of its parents below the mount's dest that are missing.
@@ -287,7 +287,7 @@ pub fn run_command(
     command: &Command,
     setting: &Setting,
     view: &mut View,
-) -> Result<u8, Memory>
+) -> Result<u8, fault::Memory>
     ensures status { IfOk result (λ status. status ≡ status_of (run setting.now view.old command.now)) }
     ensures view { OnOk result (view.new ≡ left view.old (run setting.now view.old command.now)) }
     ensures kept { IfOk result (λ status. status ≢ 0 → view.new ≡ view.old) }

@@ -2,10 +2,9 @@
 
 ghost use Rattle.std.specs.Prelude.{◌≡◌, IfOk};
 
-use crate::fault::Memory;
 use crate::texts::copies;
 use llb_tree::Path;
-use llb_wire::{Many, Same, Text};
+use llb_wire::{Many, Memory, Same, Text};
 
 /// Where commands run: relative paths begin at the directory `cwd`, and `envfile` writes the variables `env`.
 pub struct Setting {
@@ -20,7 +19,7 @@ impl Drop for Setting {
 }
 
 impl Setting {
-    /// Copies the setting. Fails with 75 `Memory` alone.
+    /// Copies the setting. Fails with 5 `Memory` alone.
     pub fn copy(&self) -> Result<Setting, Memory>
         ensures { IfOk result (λ s. s ≡ self.now) }
     {

@@ -7,11 +7,10 @@ ghost use Rattle.llb_tree.specs.PathEntries.{seen};
 ghost use Rattle.llb_applet.specs.ViewSpots.{IsSpot, spot_of, entry_at, is_dest, file_in};
 ghost use Rattle.llb_applet.specs.Commands.{path_by, spot_by, new_meta, meta_there};
 
-use crate::fault::Memory;
 use crate::setting::Setting;
 use llb_mount::View;
 use llb_tree::{Bytes, Content, Entry, Meta, Name, Path, TreeFault};
-use llb_wire::Text;
+use llb_wire::{Memory, Text};
 use std::alloc::Global;
 
 /// A spot: the path `place` in the tree of the mount with number `mount`. The first `base` names of the path are the mount's selector.
@@ -31,7 +30,7 @@ impl Drop for Spot {
     }
 }
 
-/// Reads a word as a path, relative to the setting's cwd; `None` if the word is no path. Fails with 75 `Memory` alone.
+/// Reads a word as a path, relative to the setting's cwd; `None` if the word is no path. Fails with 5 `Memory` alone.
 pub fn path_by(alloc: Global, setting: &Setting, word: &Text) -> Result<Option<Path>, Memory>
     ensures means { IfOk result (λ p. p ≡ path_by setting.now word.now) }
     ensures last { OnErr result (IsSome (path_by setting.now word.now)) }
@@ -44,7 +43,7 @@ pub fn path_by(alloc: Global, setting: &Setting, word: &Text) -> Result<Option<P
 }
 
 /// Returns the spot that a path names; `None` if the path in the mount's tree would have more than 128 names. Fails
-/// with 75 `Memory` alone.
+/// with 5 `Memory` alone.
 pub fn spot_of(view: &View, path: &Path) -> Result<Option<Spot>, Memory>
     ensures means { IfOk result (λ s. s ≡ spot_of view.now path.now) }
     ensures spot { IfOk result (λ s. IfSome s (λ spot. IsSpot view.now spot)) }
@@ -89,7 +88,7 @@ fn new_meta() -> Meta
     Meta::new(0o644, 0, 0).unwrap()
 }
 
-/// Returns the spot that a word names; `None` if it names no spot. Fails with 75 `Memory` alone.
+/// Returns the spot that a word names; `None` if it names no spot. Fails with 5 `Memory` alone.
 pub fn spot_by(
     alloc: Global,
     setting: &Setting,
@@ -144,7 +143,7 @@ impl Spot {
     }
 
     /// Returns the content of the file at the spot, as a value that shares the file's memory; `None` if there is no file. Fails with
-    /// 75 `Memory` alone.
+    /// 5 `Memory` alone.
     pub fn shared(&self, view: &View) -> Result<Option<Content>, Memory>
         requires { self.now.mount < length view.now }
         ensures { IfOk result (λ c. c ≡ option_map (λ f. f.1) (file_in (entry_at view.now self.now))) }

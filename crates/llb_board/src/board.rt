@@ -35,7 +35,7 @@ mod same;
 mod undo;
 mod walk;
 
-use crate::fault::{Memory, OpenFault};
+use crate::fault::OpenFault;
 use crate::history::{Events, History};
 use crate::status::{Status, WorkerStatus};
 use crate::vertices::{Stage, Vertices};
@@ -48,7 +48,7 @@ use llb_events::{
 use llb_execution::Job;
 use llb_loader::{Graph, Locals, missing_local};
 use llb_tree::Tree;
-use llb_wire::Text;
+use llb_wire::{Memory, Text};
 use std::alloc::Global;
 use std::marker::Model;
 pub use walk::{Reply, Walked};

@@ -1,6 +1,6 @@
 //! The faults of opening a board, of a landing and of `Board::walk`, and the fault of calls that fail for want of memory alone; `llb_events` has the faults of
 //! single events. A fault prints its number; 121 then prints the name of the local source without a tree. The fault of an opening or a landing holds what was
-//! handed to the call.
+//! handed to the call. Inside the crate want of memory is `llb_wire::Memory`, which `?` converts.
 
 ghost use Rattle.std.specs.Prelude.{Some};
 ghost use Rattle.llb_board.specs.Faults.{walk_text};
@@ -9,9 +9,8 @@ use llb_cache::Caches;
 use llb_events::{CancelFault, ClaimFault, SettleFault, StepFault};
 use llb_execution::Outcome;
 use llb_loader::{Graph, Locals};
-use llb_tree::TreeFault;
 use llb_wire::Text;
-use std::alloc::{AllocError, AllocFailed};
+use std::alloc::AllocError;
 use std::{error, fmt};
 use thiserror::Error;
 
@@ -100,59 +99,12 @@ impl From<AllocError> for Memory {
     }
 }
 
-impl<T: Drop> From<AllocFailed<T>> for Memory {
-    fn from(_: AllocFailed<T>) -> Memory {
-        Memory
-    }
-}
-
-/// Converts the fault for refused memory, with which copying caches can fail, into this crate's `Memory`.
-impl From<llb_cache::Memory> for Memory {
-    fn from(_: llb_cache::Memory) -> Memory {
-        Memory
-    }
-}
-
-/// Converts the fault for refused memory, with which copying a tree can fail, into `Memory`.
-impl From<TreeFault> for Memory {
-    fn from(_: TreeFault) -> Memory {
-        Memory
-    }
-}
-
-/// Converts the fault for refused memory, with which copying a workspace can fail, into this crate's `Memory`.
 impl From<llb_wire::Memory> for Memory {
     fn from(_: llb_wire::Memory) -> Memory {
         Memory
     }
 }
 
-/// Converts the fault for refused memory, with which copying a graph or local trees can fail, into this crate's `Memory`.
-impl From<llb_loader::Memory> for Memory {
-    fn from(_: llb_loader::Memory) -> Memory {
-        Memory
-    }
-}
-
-/// Converts the fault for refused memory, with which copying the directory and the variables of commands can fail, into this crate's `Memory`.
-impl From<llb_applet::Memory> for Memory {
-    fn from(_: llb_applet::Memory) -> Memory {
-        Memory
-    }
-}
-
-impl From<Memory> for WalkFault {
-    ghost use Rattle.std.specs.Prelude.{◌≡◌};
-    ghost use Rattle.llb_board.specs.declared.fault.WalkFault.TheVariants as walk;
-
-    ghost from_gives = { λ _ e. e ≡ walk.Memory };
-
-    fn from(_: Memory) -> WalkFault {
-        WalkFault::Memory
-    }
-}
-
-/// Converts the fault for refused memory, with which copying the changeable parts of a workspace can fail, into `WalkFault::Memory`.
 impl From<llb_wire::Memory> for WalkFault {
     ghost use Rattle.std.specs.Prelude.{◌≡◌};
     ghost use Rattle.llb_board.specs.declared.fault.WalkFault.TheVariants as walk;
@@ -211,17 +163,5 @@ impl From<CancelFault> for WalkFault {
 
     fn from(fault: CancelFault) -> WalkFault {
         WalkFault::Cancel(fault)
-    }
-}
-
-/// Converts the fault for refused memory, with which reserving room for events can fail, into `ClaimFault::Memory`.
-impl From<Memory> for ClaimFault {
-    ghost use Rattle.std.specs.Prelude.{◌≡◌};
-    ghost use Rattle.llb_events.specs.declared.refusal.ClaimFault.TheVariants as claim;
-
-    ghost from_gives = { λ _ e. e ≡ claim.Memory };
-
-    fn from(_: Memory) -> ClaimFault {
-        ClaimFault::Memory
     }
 }

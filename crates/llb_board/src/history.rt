@@ -7,9 +7,9 @@ ghost use Rattle.llb_board.specs.History.{claimed, unclaimed, cancelled, taken_b
 
 mod events;
 
-use crate::fault::Memory;
 pub use events::Events;
 use llb_events::Event;
+use llb_wire::Memory;
 use std::alloc::{AllocError, Global};
 use std::marker::Model;
 
@@ -120,7 +120,7 @@ impl History {
         }
     }
 
-    /// Reserves room for `events` more events, for a claim of vertex `v`; reserves nothing if the vertex was never cancelled. Fails with 141 `Memory` alone;
+    /// Reserves room for `events` more events, for a claim of vertex `v`; reserves nothing if the vertex was never cancelled. Fails with 5 `Memory` alone;
     /// then the room is as it was.
     pub(crate) fn reserve(&mut self, v: u32, events: usize) -> Result<(), Memory>
         ensures list { self.new.list ≡ self.old.list }
@@ -150,7 +150,7 @@ impl History {
         }
     }
 
-    /// Returns an equal copy, with as much room. Fails with 141 `Memory` alone.
+    /// Returns an equal copy, with as much room. Fails with 5 `Memory` alone.
     pub(crate) fn copy(&self, alloc: Global) -> Result<History, Memory>
         ensures { IfOk result (λ h. h ≡ self.now) }
     {

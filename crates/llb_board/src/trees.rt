@@ -2,11 +2,11 @@
 
 ghost use Rattle.std.specs.Prelude.{◌≡◌, IfOk};
 
-use crate::fault::Memory;
 use llb_tree::Tree;
+use llb_wire::Memory;
 use std::alloc::Global;
 
-/// Returns shared copies of trees. Fails with 141 `Memory` alone.
+/// Returns shared copies of trees. Fails with 5 `Memory` alone.
 pub(crate) fn copied_trees(alloc: Global, trees: &[Tree]) -> Result<Vec<Tree>, Memory>
     ensures { IfOk result (λ t. t.items ≡ trees.now) }
 {

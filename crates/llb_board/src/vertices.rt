@@ -21,7 +21,6 @@ mod marks;
 mod over;
 mod stage;
 
-use crate::fault::Memory;
 use crate::links::Links;
 use crate::status::Status;
 use build::Build;
@@ -29,7 +28,7 @@ use llb_events::ClaimFault;
 use llb_execution::{Outputs, gathered};
 use llb_loader::{Edge, Graph, Locals, Vertex};
 use llb_tree::Tree;
-use llb_wire::{Same, all_same};
+use llb_wire::{Memory, Same, all_same};
 use marks::{is_marked, mark};
 use over::{first_open, is_ended, is_ready};
 pub(crate) use stage::Stage;
@@ -202,7 +201,7 @@ impl Vertices {
         );
     }
 
-    /// Copies the vertices; the copy shares the graph and all trees. Fails with 141 `Memory` alone.
+    /// Copies the vertices; the copy shares the graph and all trees. Fails with 5 `Memory` alone.
     pub(crate) fn copy(&self, alloc: Global) -> Result<Vertices, Memory>
         ensures { IfOk result (λ s. s ≡ self.now) }
     {

@@ -22,13 +22,13 @@ mod seat;
 mod stepping;
 mod undoing;
 
-use crate::fault::Memory;
 use crate::status::WorkerStatus;
 use crate::vertices::Vertices;
 use copying::copied_seats;
 use instances::give_all_back;
 use llb_cache::{Caches, Instance};
 use llb_execution::Workspace;
+use llb_wire::Memory;
 use seat::{Seat, idle, is_finished, same_seats, seat_at};
 use std::alloc::Global;
 use std::marker::Model;
@@ -139,7 +139,7 @@ impl Workers {
         }
     }
 
-    /// Copies the workers, with the same leases, and the caches. Fails with 141 `Memory` alone.
+    /// Copies the workers, with the same leases, and the caches. Fails with 5 `Memory` alone.
     pub(crate) fn copy(&self, alloc: Global) -> Result<Workers, Memory>
         ensures { IfOk result (λ s. s ≡ self.now) }
     {

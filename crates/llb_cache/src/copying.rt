@@ -3,13 +3,12 @@
 ghost use Rattle.std.specs.Prelude.{◌≡◌, ◌↔◌, IsTrue, IfOk};
 ghost use Rattle.llb_cache.specs.RowOrder.{AreOrdered};
 
-use crate::fault::Memory;
 use crate::key::Key;
 use crate::marks::Marks;
 use crate::need::Instance;
 use crate::rows::Rows;
 use crate::trees::Trees;
-use llb_wire::{Many, Same};
+use llb_wire::{Many, Memory, Same};
 use std::alloc::Global;
 
 // Copies the rows; the copy shares the trees.

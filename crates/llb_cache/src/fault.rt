@@ -2,8 +2,7 @@
 //! `?` converts any refusal of memory to `Memory`.
 
 use crate::key::Key;
-use llb_tree::TreeFault;
-use std::alloc::{AllocError, AllocFailed};
+use std::alloc::AllocError;
 use thiserror::Error;
 
 /// Why a lease is refused.
@@ -22,13 +21,13 @@ pub enum LeaseFault {
 #[error("112")]
 pub struct Memory;
 
-impl From<Memory> for LeaseFault {
+impl From<llb_wire::Memory> for LeaseFault {
     ghost use Rattle.std.specs.Prelude.{◌≡◌};
     ghost use Rattle.llb_cache.specs.declared.fault.LeaseFault.TheVariants as lease;
 
     ghost from_gives = { λ _ e. e ≡ lease.Memory };
 
-    fn from(_: Memory) -> LeaseFault {
+    fn from(_: llb_wire::Memory) -> LeaseFault {
         LeaseFault::Memory
     }
 }
@@ -44,27 +43,14 @@ impl From<AllocError> for LeaseFault {
     }
 }
 
-impl From<AllocError> for Memory {
-    fn from(_: AllocError) -> Memory {
-        Memory
-    }
-}
-
-impl<T: Drop> From<AllocFailed<T>> for Memory {
-    fn from(_: AllocFailed<T>) -> Memory {
-        Memory
-    }
-}
-
 impl From<llb_wire::Memory> for Memory {
     fn from(_: llb_wire::Memory) -> Memory {
         Memory
     }
 }
 
-/// Converts the fault for refused memory, with which copying a tree can fail, into `Memory`.
-impl From<TreeFault> for Memory {
-    fn from(_: TreeFault) -> Memory {
-        Memory
+impl From<Memory> for llb_wire::Memory {
+    fn from(_: Memory) -> llb_wire::Memory {
+        llb_wire::Memory
     }
 }

@@ -8,14 +8,13 @@ ghost use Rattle.llb_cache.specs.LeasePreparation.{shown, FitsIn};
 ghost use Rattle.llb_cache.specs.InstanceMarks.{Remarks, is_one_of};
 ghost use Rattle.llb_cache.specs.RowOrder.{AreOrdered, HasRoom};
 
-use crate::fault::Memory;
 use crate::marks::Marks;
 use crate::need::Instance;
 use crate::rows::{Rows, add_row, row_near, row_of};
 use crate::search::free_lease;
 use crate::trees::{Room, Trees};
 use llb_tree::Tree;
-use llb_wire::Many;
+use llb_wire::{Many, Memory};
 use std::alloc::Global;
 
 // What is prepared for a need: the instance, the row at which the search for the key begins, the tree that a new instance begins with,

@@ -4,8 +4,7 @@
 ghost use Rattle.std.specs.Prelude.{◌≡◌, ◌↔◌, IsTrue, IfOk};
 ghost use Rattle.llb_cache.specs.Key.{same_key, same_seed, same_seeds, same_mode};
 
-use crate::fault::Memory;
-use llb_wire::Text;
+use llb_wire::{Memory, Text};
 use std::fmt;
 
 /// How leases share the instances of a cache.
@@ -95,7 +94,7 @@ fn copy_of(seed: &Option<Seed>) -> Result<Option<Seed>, Memory>
 }
 
 impl Key {
-    /// Copies the key. Fails with 112 `Memory` alone.
+    /// Copies the key. Fails with 5 `Memory` alone.
     pub fn copy(&self) -> Result<Key, Memory>
         ensures { IfOk result (λ k. k ≡ self.now) }
     {

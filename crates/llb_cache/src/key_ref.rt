@@ -7,9 +7,8 @@ ghost use Rattle.llb_cache.specs.Caches.{is_locked};
 ghost use Rattle.llb_cache.specs.Key.{same_key, seed_by, has_digest, has_text};
 ghost use Rattle.llb_cache.specs.KeyOrder.{mode_place, seed_cmp, key_cmp};
 
-use crate::fault::Memory;
 use crate::key::{Key, Mode, Seed};
-use llb_tree::Text;
+use llb_wire::{Memory, Text};
 use std::alloc::Global;
 use std::cmp::Ordering;
 use std::marker::Model;
@@ -41,7 +40,7 @@ impl<'a> KeyRef<'a> {
         KeyRef { id, seed, mode }
     }
 
-    /// Returns an equal key that owns its texts. Fails with 112 `Memory` alone. Does not allocate if all texts of the key are
+    /// Returns an equal key that owns its texts. Fails with 5 `Memory` alone. Does not allocate if all texts of the key are
     /// empty.
     pub fn to_key(&self, alloc: Global) -> Result<Key, Memory>
         ensures ok { IfOk result (λ k. k ≡ self.now) }

@@ -12,12 +12,11 @@ ghost use Rattle.llb_cache.specs.RowOrder.{AreOrdered};
 
 use crate::caches::{Caches, Lease};
 use crate::copying::copied_places;
-use crate::fault::Memory;
 use crate::marks::Marks;
 use crate::need::Instance;
 use crate::rows::{Rows, row_of};
 use crate::search::free_lease;
-use llb_wire::Many;
+use llb_wire::{Many, Memory};
 use std::alloc::Global;
 use std::marker::Model;
 
@@ -52,7 +51,7 @@ impl Model for Lent {
 }
 
 impl Lent {
-    /// Prepares a lease of these instances, with a list that has room for `room` leases. Fails with 112 `Memory` alone.
+    /// Prepares a lease of these instances, with a list that has room for `room` leases. Fails with 5 `Memory` alone.
     pub fn new(alloc: Global, places: &[Instance], room: usize) -> Result<Lent, Memory>
         ensures { IfOk result (λ l. l ≡ record { places = places.now; room = room }) }
     {

@@ -3,7 +3,7 @@
 
 ghost use Rattle.std.specs.Prelude.{◌≡◌, ◌<◌, ◌==◌, ℕ, true, false, if◌then◌else◌, length, slice_index_or, IfOk, []};
 
-use crate::fault::Memory;
+use llb_wire::Memory;
 use std::alloc::Global;
 use std::marker::Model;
 

@@ -2,9 +2,9 @@
 
 ghost use Rattle.std.specs.Prelude.{◌≡◌, IfOk};
 
-use crate::fault::Memory;
 use crate::key::Key;
 use llb_tree::Tree;
+use llb_wire::Memory;
 
 /// One need of a lease: an instance of `key`. If the instance is new, it begins with `tree`, the tree of the key's seed
 /// or the empty tree.

@@ -9,10 +9,10 @@ ghost use Rattle.llb_cache.specs.LeaseGrowth.{front, shorter};
 ghost use Rattle.llb_cache.specs.Key.{same_key};
 ghost use Rattle.llb_cache.specs.RowOrder.{has_key, is_before, IsPlace, AreOrdered, HasRoom};
 
-use crate::fault::Memory;
 use crate::key::Key;
 use crate::key_ref::KeyRef;
 use crate::trees::Trees;
+use llb_wire::Memory;
 use std::alloc::Global;
 
 // The rows, each a key with the trees of its instances, in the order in which the keys were first leased (`entries`), and the numbers of the rows in

@@ -11,7 +11,7 @@ ghost use Rattle.llb_cache.specs.Caches.{place, trees_of, is_held, leases, taken
 ghost use Rattle.llb_cache.specs.LeasePreparation.{shown, FitsIn, IsRefusal};
 
 use crate::caches::Caches;
-use crate::fault::{LeaseFault, Memory};
+use crate::fault::LeaseFault;
 use crate::growing::Ready;
 use crate::key::Mode;
 use crate::key_ref::KeyRef;
@@ -19,7 +19,7 @@ use crate::marks::Marks;
 use crate::need::{Found, Instance, Need};
 use crate::rows::{Rows, row_near};
 use crate::trees::Room;
-use llb_wire::Many;
+use llb_wire::{Many, Memory};
 
 // Returns how many leases are current.
 pub(crate) fn count(out: &[Option<Many<Instance>>]) -> u32

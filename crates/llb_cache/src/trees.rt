@@ -3,9 +3,8 @@
 ghost use Rattle.std.specs.Prelude.{◌≡◌, ◌↔◌, IsTrue, ◌<◌, ◌++◌, List, [], ◌∷◌, length, slice_get, slice_set, option_map, IfOk, Some};
 ghost use Rattle.llb_cache.specs.LeaseGrowth.{front};
 
-use crate::fault::Memory;
 use llb_tree::Tree;
-use llb_wire::all_same;
+use llb_wire::{Memory, all_same};
 use std::alloc::Global;
 use std::marker::Model;
 

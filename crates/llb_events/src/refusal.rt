@@ -4,8 +4,6 @@ ghost use Rattle.std.specs.Prelude.{Some};
 ghost use Rattle.llb_events.specs.Faults.{claim_text, step_text, settle_text, cancel_text};
 
 use llb_cache::Key;
-use llb_tree::TreeFault;
-use std::alloc::{AllocError, AllocFailed};
 use std::{error, fmt};
 
 /// Why a claim is refused: the first cause that applies.
@@ -117,41 +115,6 @@ impl fmt::Display for CancelFault {
 
 impl error::Error for CancelFault {}
 
-impl From<AllocError> for ClaimFault {
-    ghost use Rattle.std.specs.Prelude.{◌≡◌};
-    ghost use Rattle.llb_events.specs.declared.refusal.ClaimFault.TheVariants.{Memory};
-
-    ghost from_gives = { λ _ e. e ≡ Memory };
-
-    fn from(_: AllocError) -> ClaimFault {
-        ClaimFault::Memory
-    }
-}
-
-impl<T: Drop> From<AllocFailed<T>> for ClaimFault {
-    ghost use Rattle.std.specs.Prelude.{◌≡◌};
-    ghost use Rattle.llb_events.specs.declared.refusal.ClaimFault.TheVariants.{Memory};
-
-    ghost from_gives = { λ _ e. e ≡ Memory };
-
-    fn from(_: AllocFailed<T>) -> ClaimFault {
-        ClaimFault::Memory
-    }
-}
-
-/// Converts the fault of a claim's call on a tree into `ClaimFault::Memory`: the calls on trees that a claim makes fail only for want of memory.
-impl From<TreeFault> for ClaimFault {
-    ghost use Rattle.std.specs.Prelude.{◌≡◌};
-    ghost use Rattle.llb_events.specs.declared.refusal.ClaimFault.TheVariants.{Memory};
-
-    ghost from_gives = { λ _ e. e ≡ Memory };
-
-    fn from(_: TreeFault) -> ClaimFault {
-        ClaimFault::Memory
-    }
-}
-
-/// Converts the fault for refused memory, with which making or copying a program, a workspace or a text can fail, into `ClaimFault::Memory`.
 impl From<llb_wire::Memory> for ClaimFault {
     ghost use Rattle.std.specs.Prelude.{◌≡◌};
     ghost use Rattle.llb_events.specs.declared.refusal.ClaimFault.TheVariants.{Memory};
@@ -163,44 +126,6 @@ impl From<llb_wire::Memory> for ClaimFault {
     }
 }
 
-/// Converts the fault for refused memory, with which copying a key can fail, into `ClaimFault::Memory`.
-impl From<llb_cache::Memory> for ClaimFault {
-    ghost use Rattle.std.specs.Prelude.{◌≡◌};
-    ghost use Rattle.llb_events.specs.declared.refusal.ClaimFault.TheVariants.{Memory};
-
-    ghost from_gives = { λ _ e. e ≡ Memory };
-
-    fn from(_: llb_cache::Memory) -> ClaimFault {
-        ClaimFault::Memory
-    }
-}
-
-/// Converts the fault of making a lease into `ClaimFault::Memory`. The locked keys of the lease must be free: then making it fails only for want of memory.
-impl From<llb_cache::LeaseFault> for ClaimFault {
-    ghost use Rattle.std.specs.Prelude.{◌≡◌};
-    ghost use Rattle.llb_events.specs.declared.refusal.ClaimFault.TheVariants.{Memory};
-
-    ghost from_gives = { λ _ e. e ≡ Memory };
-
-    fn from(_: llb_cache::LeaseFault) -> ClaimFault {
-        ClaimFault::Memory
-    }
-}
-
-/// Converts the fault for refused memory, with which a call on a tree can fail, into `StepFault::Memory`.
-impl From<TreeFault> for StepFault {
-    ghost use Rattle.std.specs.Prelude.{◌≡◌};
-    ghost use Rattle.llb_events.specs.declared.refusal.StepFault.TheVariants.{Memory};
-
-    ghost from_gives = { λ _ e. e ≡ Memory };
-
-    fn from(_: TreeFault) -> StepFault {
-        StepFault::Memory
-    }
-}
-
-/// Converts the fault of the call that does a micro-step into `Memory`. The call fails only for want of memory; if the micro-step itself has a fault, the call
-/// succeeds, and that fault is part of what it returns.
 impl From<llb_wire::Memory> for StepFault {
     ghost use Rattle.std.specs.Prelude.{◌≡◌};
     ghost use Rattle.llb_events.specs.declared.refusal.StepFault.TheVariants.{Memory};
@@ -208,17 +133,6 @@ impl From<llb_wire::Memory> for StepFault {
     ghost from_gives = { λ _ e. e ≡ Memory };
 
     fn from(_: llb_wire::Memory) -> StepFault {
-        StepFault::Memory
-    }
-}
-
-impl From<AllocError> for StepFault {
-    ghost use Rattle.std.specs.Prelude.{◌≡◌};
-    ghost use Rattle.llb_events.specs.declared.refusal.StepFault.TheVariants.{Memory};
-
-    ghost from_gives = { λ _ e. e ≡ Memory };
-
-    fn from(_: AllocError) -> StepFault {
         StepFault::Memory
     }
 }

@@ -9,7 +9,6 @@ ghost use Rattle.llb_model.specs.Caches.{Distinct};
 ghost use Rattle.llb_model.specs.Program.{Mounted, filled, taken, after_run};
 ghost use Rattle.llb_execution.specs.ModelValues.{work_with};
 
-use crate::refusal::NoMemory;
 use llb_applet::{Command, Setting, run_command};
 use llb_mount::View as Mounts;
 use llb_tree::Tree;
@@ -25,7 +24,7 @@ pub fn empty_trees(alloc: Global, count: u32) -> Result<Vec<Tree>, Memory>
 }
 
 // Makes `count` empty trees.
-fn blanks(alloc: Global, count: usize) -> Result<Vec<Tree>, NoMemory>
+fn blanks(alloc: Global, count: usize) -> Result<Vec<Tree>, Memory>
     ensures { IfOk result (λ v. v.items ≡ replicate count empty_tree) }
 {
     let mut trees = Vec::new(alloc);
@@ -62,7 +61,7 @@ pub(crate) fn run_filled(
     mounts: &mut Mounts,
     numbers: &[u32],
     trees: &mut Vec<Tree>,
-) -> Result<u32, NoMemory>
+) -> Result<u32, Memory>
     requires apart { Distinct numbers.now }
     requires within { All (λ n. n < length mounts.old) numbers.now }
     requires count { length trees.old.items ≡ length numbers.now }

@@ -3,7 +3,6 @@
 ghost use Rattle.std.specs.Prelude.{◌≡◌, ℕ, Option, IfOk, OnErr, is_some, true, option_map};
 ghost use Rattle.llb_model.specs.Outcome.{Ending, inputs_from, output_in};
 
-use crate::refusal::NoMemory;
 use llb_loader::Edge;
 use llb_tree::Tree;
 use llb_wire::Memory;
@@ -53,7 +52,7 @@ fn all_at<O: Outputs>(
     alloc: Global,
     outputs: &O,
     edges: &[Edge],
-) -> Result<Option<Vec<Tree>>, NoMemory>
+) -> Result<Option<Vec<Tree>>, Memory>
     ensures { IfOk result (λ trees. option_map (λ v. v.items) trees ≡ inputs_from (O.ending outputs.now) edges.now) }
 {
     let mut trees = Vec::with_capacity(alloc, edges.len())?;

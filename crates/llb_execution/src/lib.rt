@@ -27,7 +27,6 @@ mod mounting;
 mod outcome;
 mod outputs;
 mod program;
-mod refusal;
 mod same;
 mod saved;
 mod steps;

@@ -6,17 +6,16 @@ ghost use Rattle.llb_tree.specs.Tree.{empty_tree};
 ghost use Rattle.llb_mount.specs.View.{IsView};
 ghost use Rattle.llb_model.specs.Program.{has_cache, path_in, setting_of, selector_of, tree_shown, shown_of, base_in};
 
-use crate::refusal::NoMemory;
 use llb_applet::Setting;
 use llb_loader::{MountType, Vertex, mounts_of};
 use llb_mount::{Shown, View};
 use llb_ops::{Meta, Mount};
 use llb_tree::{Path, Tree, TreeFault};
-use llb_wire::{Many, Text};
+use llb_wire::{Many, Memory, Text};
 use std::alloc::Global;
 
 /// Returns the setting of an exec's commands: the directory in which the commands run (the root if there is no `meta`), and their variables.
-pub(crate) fn setting_with(alloc: Global, meta: &Option<Meta>) -> Result<Setting, NoMemory>
+pub(crate) fn setting_with(alloc: Global, meta: &Option<Meta>) -> Result<Setting, Memory>
     ensures { IfOk result (λ s. s ≡ setting_of meta.now) }
 {
     match meta {
@@ -36,18 +35,18 @@ pub(crate) fn setting_with(alloc: Global, meta: &Option<Meta>) -> Result<Setting
 }
 
 // Reads a text as a path; returns the root if the text is no path.
-fn path_in(alloc: Global, text: &Text) -> Result<Path, NoMemory>
+fn path_in(alloc: Global, text: &Text) -> Result<Path, Memory>
     ensures { IfOk result (λ p. p ≡ path_in text.now) }
 {
     match Path::read(alloc, text.as_str()) {
         Ok(path) => Ok(path),
-        Err(TreeFault::Memory) => Err(NoMemory),
+        Err(TreeFault::Memory) => Err(Memory),
         // Unreachable in a loaded graph: `load` refuses texts that are no paths.
         Err(_) => Ok(Path::root(alloc)),
     }
 }
 
-fn copies(alloc: Global, texts: &[Text]) -> Result<Vec<Text>, NoMemory>
+fn copies(alloc: Global, texts: &[Text]) -> Result<Vec<Text>, Memory>
     ensures { IfOk result (λ v. v.items ≡ texts.now) }
 {
     let mut copied = Vec::new(alloc);
@@ -58,7 +57,7 @@ fn copies(alloc: Global, texts: &[Text]) -> Result<Vec<Text>, NoMemory>
 }
 
 /// Returns the view of an exec's mounts before the first command, from the trees of the inputs.
-pub(crate) fn view_of(alloc: Global, inputs: &[Tree], mounts: &[Mount]) -> Result<View, NoMemory>
+pub(crate) fn view_of(alloc: Global, inputs: &[Tree], mounts: &[Mount]) -> Result<View, Memory>
     requires { IsView (map (shown_of inputs.now) mounts.now) }
     ensures { IfOk result (λ v. v ≡ map (shown_of inputs.now) mounts.now) }
 {
@@ -67,7 +66,7 @@ pub(crate) fn view_of(alloc: Global, inputs: &[Tree], mounts: &[Mount]) -> Resul
 }
 
 // Returns the mounts of an exec before the first command, from the trees of the inputs.
-fn all_shown(alloc: Global, inputs: &[Tree], mounts: &[Mount]) -> Result<Vec<Shown>, NoMemory>
+fn all_shown(alloc: Global, inputs: &[Tree], mounts: &[Mount]) -> Result<Vec<Shown>, Memory>
     ensures { IfOk result (λ v. v.items ≡ map (shown_of inputs.now) mounts.now) }
 {
     let mut shown = Vec::new(alloc);
@@ -78,7 +77,7 @@ fn all_shown(alloc: Global, inputs: &[Tree], mounts: &[Mount]) -> Result<Vec<Sho
 }
 
 // Returns a mount as it is before the first command: with its dest and selector as paths, and with its tree (an input's tree, or the empty tree).
-fn shown_of(alloc: Global, inputs: &[Tree], mount: &Mount) -> Result<Shown, NoMemory>
+fn shown_of(alloc: Global, inputs: &[Tree], mount: &Mount) -> Result<Shown, Memory>
     ensures { IfOk result (λ m. m ≡ shown_of inputs.now mount.now) }
 {
     let dest = path_in(alloc, &mount.dest)?;
@@ -93,7 +92,7 @@ fn shown_of(alloc: Global, inputs: &[Tree], mount: &Mount) -> Result<Shown, NoMe
 }
 
 // Returns the path, in the mount's tree, of what the mount shows at its dest; the root for a tmpfs mount.
-fn selector_of(alloc: Global, mount: &Mount) -> Result<Path, NoMemory>
+fn selector_of(alloc: Global, mount: &Mount) -> Result<Path, Memory>
     ensures { IfOk result (λ p. p ≡ selector_of mount.now) }
 {
     if MountType::Tmpfs.is_of(mount) {
@@ -103,7 +102,7 @@ fn selector_of(alloc: Global, mount: &Mount) -> Result<Path, NoMemory>
 }
 
 // Returns the tree that a mount has at first: for a bind mount with an input the tree of this input, else the empty tree.
-fn tree_shown(alloc: Global, inputs: &[Tree], mount: &Mount) -> Result<Tree, NoMemory>
+fn tree_shown(alloc: Global, inputs: &[Tree], mount: &Mount) -> Result<Tree, Memory>
     ensures { IfOk result (λ t. t ≡ tree_shown inputs.now mount.now) }
 {
     if !MountType::Bind.is_of(mount) {

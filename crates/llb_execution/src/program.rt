@@ -5,7 +5,6 @@ ghost use Rattle.std.specs.Prelude.{◌≡◌, IfOk};
 ghost use Rattle.llb_loader.specs.Rules.{mount_outputs};
 ghost use Rattle.llb_model.specs.Program.{program_of};
 
-use crate::refusal::NoMemory;
 use crate::steps::Steps;
 use llb_loader::{Vertex, mounts_of};
 use llb_ops::Mount;
@@ -61,7 +60,7 @@ impl Program {
 }
 
 // Returns the output number of each mount.
-fn output_numbers_of(alloc: Global, mounts: &[Mount]) -> Result<Vec<i64>, NoMemory>
+fn output_numbers_of(alloc: Global, mounts: &[Mount]) -> Result<Vec<i64>, Memory>
     ensures { IfOk result (λ v. v.items ≡ mount_outputs mounts.now) }
 {
     let mut numbers = Vec::new(alloc);

@@ -4,7 +4,6 @@ ghost use Rattle.std.specs.Prelude.{◌≡◌, IfOk};
 ghost use Rattle.llb_execution.specs.SavedWorkspaces.{saved_in, saved_of, put_back, PutsBack};
 ghost use Rattle.llb_execution.specs.ModelValues.{own_of};
 
-use crate::refusal::NoMemory;
 use crate::workspace::{WorkState, Workspace};
 use llb_mount::View as Mounts;
 use llb_tree::Tree;
@@ -64,7 +63,7 @@ impl Workspace {
 }
 
 // Copies what a micro-step can change in a workspace's data.
-fn was_in(own: &WorkState) -> Result<StateBefore, NoMemory>
+fn was_in(own: &WorkState) -> Result<StateBefore, Memory>
     ensures { IfOk result (λ w. saved_in w ≡ saved_of (own_of own.now)) }
 {
     match own {

@@ -8,7 +8,6 @@ ghost use Rattle.llb_execution.specs.ModelValues.{step_in, steps_in};
 
 use crate::micro_step::{MicroStep, act_at, lay_at, read_at, run_at};
 use crate::mounting::setting_with;
-use crate::refusal::NoMemory;
 use llb_applet::{Script, Setting};
 use llb_loader::Vertex;
 use llb_ops::{Actions, Kind, MergeInput};
@@ -84,7 +83,7 @@ impl Steps {
 }
 
 // Returns the micro-steps of an op of this kind; for an exec, `script` has the commands.
-fn by_kind(alloc: Global, kind: &Option<Kind>, script: &Option<Script>) -> Result<ByKind, NoMemory>
+fn by_kind(alloc: Global, kind: &Option<Kind>, script: &Option<Script>) -> Result<ByKind, Memory>
     ensures { IfOk result (λ s. steps_in s ≡ steps_of kind.now script.now) }
 {
     match kind {
@@ -103,7 +102,7 @@ fn by_kind(alloc: Global, kind: &Option<Kind>, script: &Option<Script>) -> Resul
 }
 
 // Returns the commands of a script as micro-steps that run in this setting.
-fn commands(setting: Setting, script: &Option<Script>) -> Result<ByKind, NoMemory>
+fn commands(setting: Setting, script: &Option<Script>) -> Result<ByKind, Memory>
     ensures { IfOk result (λ s. steps_in s ≡ runs_of setting (unwrap_or script.now [])) }
 {
     match script {
@@ -113,7 +112,7 @@ fn commands(setting: Setting, script: &Option<Script>) -> Result<ByKind, NoMemor
 }
 
 // Returns the numbers of a merge's inputs.
-fn numbers_of(alloc: Global, inputs: &[MergeInput]) -> Result<Vec<i64>, NoMemory>
+fn numbers_of(alloc: Global, inputs: &[MergeInput]) -> Result<Vec<i64>, Memory>
     ensures { IfOk result (λ v. v.items ≡ map (λ (i : merge_input.MergeInput). i.input) inputs.now) }
 {
     let mut numbers = Vec::new(alloc);
@@ -124,7 +123,7 @@ fn numbers_of(alloc: Global, inputs: &[MergeInput]) -> Result<Vec<i64>, NoMemory
 }
 
 // Copies micro-steps of any kind.
-fn copy_of(by: &ByKind) -> Result<ByKind, NoMemory>
+fn copy_of(by: &ByKind) -> Result<ByKind, Memory>
     ensures { IfOk result (λ s. steps_in s ≡ steps_in by.now) }
 {
     match by {

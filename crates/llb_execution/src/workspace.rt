@@ -20,7 +20,6 @@ use crate::filling::run_filled;
 use crate::micro_step::MicroStep;
 use crate::mounting::{input_tree, view_of};
 use crate::outputs::outputs_of;
-use crate::refusal::NoMemory;
 use llb_applet::{Join, Joined, Setting};
 use llb_events::VertexFault;
 use llb_fileop::{ActFault, act};
@@ -170,7 +169,7 @@ impl Workspace {
         &mut self,
         k: u32,
         acted: Result<Tree, ActFault>,
-    ) -> Result<Option<VertexFault>, NoMemory>
+    ) -> Result<Option<VertexFault>, Memory>
         ensures left { IfOk result (λ fault. (rule : Result TreeMap ActFault) (trees : List TreeMap) → Gives (λ t. t) acted rule
             → left_with self.new trees fault ≡ tried (work_with self.old trees) (with_result k self.old rule)) }
         ensures err { OnErr result (self.new ≡ self.old) }
@@ -180,7 +179,7 @@ impl Workspace {
                 self.push(tree)?;
                 Ok(None)
             }
-            Err(ActFault::Memory) => Err(NoMemory),
+            Err(ActFault::Memory) => Err(Memory),
             Err(fault) => Ok(Some(VertexFault::Action(k, number(fault)))),
         }
     }
@@ -207,7 +206,7 @@ impl Workspace {
     }
 
     // Appends a result of a file op.
-    fn push(&mut self, tree: Tree) -> Result<(), NoMemory>
+    fn push(&mut self, tree: Tree) -> Result<(), Memory>
         ensures ok { OnOk result (self.new ≡ with_tree self.old tree) }
         ensures err { OnErr result (self.new ≡ self.old) }
     {
@@ -222,7 +221,7 @@ impl Workspace {
     }
 
     // Lays the input with this number over a merge's result so far.
-    fn lay(&mut self, alloc: Global, input: i64) -> Result<(), NoMemory>
+    fn lay(&mut self, alloc: Global, input: i64) -> Result<(), Memory>
         ensures ok { OnOk result (self.new ≡ lay_on input self.old) }
         ensures err { OnErr result (self.new ≡ self.old) }
     {
@@ -275,7 +274,7 @@ impl Workspace {
         command: &Joined,
         later: &[Joined],
         trees: &mut Vec<Tree>,
-    ) -> Result<Option<VertexFault>, NoMemory>
+    ) -> Result<Option<VertexFault>, Memory>
         requires apart { Distinct (shown_in self.old) }
         requires within { All (λ n. n < mounts_in self.old) (shown_in self.old) }
         requires count { length trees.old.items ≡ length (shown_in self.old) }
@@ -300,7 +299,7 @@ impl Workspace {
 }
 
 // Copies the data of a workspace; the copy shares the trees with the workspace.
-fn copy_of(own: &WorkState) -> Result<WorkState, NoMemory>
+fn copy_of(own: &WorkState) -> Result<WorkState, Memory>
     ensures { IfOk result (λ o. own_of o ≡ own_of own.now) }
 {
     match own {
@@ -320,7 +319,7 @@ fn copy_of(own: &WorkState) -> Result<WorkState, NoMemory>
 }
 
 // Copies a list of trees; the copies share memory with the trees.
-pub(crate) fn tree_copies(alloc: Global, trees: &[Tree]) -> Result<Vec<Tree>, NoMemory>
+pub(crate) fn tree_copies(alloc: Global, trees: &[Tree]) -> Result<Vec<Tree>, Memory>
     ensures { IfOk result (λ v. v.items ≡ trees.now) }
 {
     let mut copies = Vec::new(alloc);
@@ -337,7 +336,7 @@ fn own_on(
     vertex: &Vertex,
     inputs: Vec<Tree>,
     caches: Vec<u32>,
-) -> Result<WorkState, NoMemory>
+) -> Result<WorkState, Memory>
     requires kind { IsVertexOf vertex.now vertex.now.op.kind }
     requires caches { caches.items ≡ map mount_of (needs_of vertex.now) }
     ensures { IfOk result (λ own. own_of own ≡ workspace_on locals.now vertex.now vertex.now.op.kind inputs.items) }
@@ -354,7 +353,7 @@ fn own_on(
 }
 
 // Copies the local tree of a source; returns the empty tree if no tree is given for the source.
-fn local_tree(alloc: Global, locals: &Locals, vertex: &Vertex) -> Result<Tree, NoMemory>
+fn local_tree(alloc: Global, locals: &Locals, vertex: &Vertex) -> Result<Tree, Memory>
     ensures { IfOk result (λ t. t ≡ local_tree locals.now vertex.now) }
 {
     let name = vertex.local_name().unwrap_or("");
@@ -364,7 +363,7 @@ fn local_tree(alloc: Global, locals: &Locals, vertex: &Vertex) -> Result<Tree, N
     }
 }
 
-fn empty(alloc: Global) -> Result<Tree, NoMemory>
+fn empty(alloc: Global) -> Result<Tree, Memory>
     ensures { IfOk result (λ t. t ≡ empty_tree) }
 {
     Ok(Tree::empty(alloc)?)
@@ -397,7 +396,7 @@ fn tree_number(fault: TreeFault) -> u32
 }
 
 // Lays the input with this number over the tree `laid`; the number -1 means the empty tree.
-fn lay_input(alloc: Global, laid: &mut Tree, inputs: &[Tree], input: i64) -> Result<(), NoMemory>
+fn lay_input(alloc: Global, laid: &mut Tree, inputs: &[Tree], input: i64) -> Result<(), Memory>
     ensures ok { OnOk result (laid.new ≡ lay laid.old (base_in input inputs.now)) }
     ensures err { OnErr result (laid.new ≡ laid.old) }
 {

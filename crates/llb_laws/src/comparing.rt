@@ -7,9 +7,8 @@ ghost use Rattle.llb_laws.specs.TokenLists.{StandsFor};
 
 use crate::marks::has_mark;
 use crate::spelling::is_spelled;
-use llb_loader::Memory;
 use llb_tree::{Entry, Tree};
-use llb_wire::{Bytes, Same};
+use llb_wire::{Bytes, Memory, Same};
 
 // Returns whether a content stands for another one.
 fn stands_for(contents: &[Bytes], by_value: bool, first: &Bytes, second: &Bytes) -> bool

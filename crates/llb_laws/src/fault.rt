@@ -1,6 +1,7 @@
 //! Why no board is opened on outputs of another board. A fault prints its number; a fault of loading is printed as it is.
 
-use llb_loader::{LoadFault, Memory};
+use llb_loader::LoadFault;
+use llb_wire::Memory;
 use thiserror::Error;
 
 /// Why no board is opened on outputs of an earlier board: the first cause that applies.
@@ -31,7 +32,6 @@ impl From<LoadFault> for KeptFault {
     }
 }
 
-/// Converts the fault for refused memory, with which copying local trees can fail, into `KeptFault::Memory`.
 impl From<Memory> for KeptFault {
     ghost use Rattle.std.specs.Prelude.{◌≡◌};
     ghost use Rattle.llb_laws.specs.declared.fault.KeptFault.TheVariants as kept;

@@ -17,9 +17,9 @@ use crate::graphs::kept_outputs_stand_in;
 use crate::plain::{plain_in, plains_of};
 use llb_board::Board;
 use llb_cache::Caches;
-use llb_loader::{Edge, Graph, Locals, Memory, Vertex, load};
+use llb_loader::{Edge, Graph, Locals, Vertex, load};
 use llb_tree::Tree;
-use llb_wire::{Same, Text};
+use llb_wire::{Memory, Same, Text};
 use std::alloc::Global;
 
 // Returns the output that a source with this name replaces, by the first pair with its name.
@@ -262,7 +262,7 @@ fn locals_for(
 }
 
 // Returns whether a board may have this number of workers.
-fn may_work(workers: u32) -> bool
+pub(crate) fn may_work(workers: u32) -> bool
     ensures { result ≡ may_work workers }
 {
     1 <= workers && workers <= 64

@@ -13,8 +13,8 @@ use crate::names::locals_have_names;
 use crate::plan::by_value;
 use llb_board::{Board, OpenFault};
 use llb_cache::Caches;
-use llb_loader::{Graph, Locals, Memory, Vertex};
-use llb_wire::Bytes;
+use llb_loader::{Graph, Locals, Vertex};
+use llb_wire::{Bytes, Memory};
 use std::alloc::Global;
 
 // Returns whether the tree of a local source stands for the one that the other list has; `true` for a vertex that is no local source.
@@ -55,7 +55,7 @@ fn sources_stand(
 
 /// Returns whether local trees with tokens stand for others, where token n is content n of a list. `true` says that a run on the first is the run on the
 /// others: it gives the premises of `contents::records_are_handed_on` (`tokens`) for runs without caches at the opening, whatever a table has past the list.
-/// Looks at each tree once. Fails with 92 `Memory` alone.
+/// Looks at each tree once. Fails with 5 `Memory` alone.
 pub fn have_tokens(
     alloc: Global,
     graph: &Graph,
@@ -117,7 +117,7 @@ pub fn open_on_tokens(
 
 /// Returns whether a board on local trees with tokens stands for a board on others: whether these trees stand for the others by a list of contents
 /// (`have_tokens`), and the graph writes no byte 255. `true` says so of a board that was opened on these trees, without caches, whatever has happened on it.
-/// Fails with 92 `Memory` alone.
+/// Fails with 5 `Memory` alone.
 pub fn stands_for_contents(
     alloc: Global,
     board: &Board,

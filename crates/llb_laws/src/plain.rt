@@ -7,7 +7,8 @@ ghost use Rattle.llb_model.specs.Outcome.{next_plain};
 ghost use Rattle.llb_laws.specs.KeptOutputs.{plain_in};
 
 use llb_execution::mounts_cache;
-use llb_loader::{Edge, Graph, Memory, Vertex};
+use llb_loader::{Edge, Graph, Vertex};
+use llb_wire::Memory;
 use std::alloc::Global;
 
 /// Returns whether no cache mount is at or before a vertex, by a list that has this for each vertex; `false` past the end of the list.

@@ -15,8 +15,9 @@ ghost use Rattle.llb_laws.specs.TokenPlans.{Passes, is_cause, mounts_cache};
 
 use crate::marks::commands_of;
 use llb_applet::{Command, Joined, Script};
-use llb_loader::{Edge, Graph, Memory, Vertex, cache_in, mounts_of};
+use llb_loader::{Edge, Graph, Vertex, cache_in, mounts_of};
 use llb_ops::Kind;
+use llb_wire::Memory;
 use std::alloc::Global;
 
 // Returns whether one of these commands makes a digest.
@@ -132,7 +133,7 @@ fn spread(graph: &Graph, marks: &mut Vec<bool>)
     }
 }
 
-/// Returns for each vertex of a graph whether what it reads has to be given by value. Fails with 92 `Memory` alone.
+/// Returns for each vertex of a graph whether what it reads has to be given by value. Fails with 5 `Memory` alone.
 pub fn by_value(alloc: Global, graph: &Graph) -> Result<Vec<bool>, Memory>
     ensures count { IfOk result (λ marks. length marks.items ≡ length graph.now.vertices) }
     ensures exact { IfOk result (λ marks. (k : ℕ) → (slice_index_or marks.items k false ≡ true) ↔ IsByValue graph.now k) }

@@ -7,7 +7,6 @@ ghost use Rattle.llb_loader.specs.Faults.{load_text, feature_text, rule_name, ru
 
 use llb_applet::ScriptFault;
 use llb_ops::OpFault;
-use llb_tree::TreeFault;
 use std::alloc::{AllocError, AllocFailed};
 use std::{error, fmt};
 use thiserror::Error;
@@ -247,17 +246,15 @@ impl From<AllocError> for Memory {
     }
 }
 
-/// Converts the fault for refused memory, with which copying a tree can fail, into this crate's `Memory`.
-impl From<TreeFault> for Memory {
-    fn from(_: TreeFault) -> Memory {
+impl From<llb_wire::Memory> for Memory {
+    fn from(_: llb_wire::Memory) -> Memory {
         Memory
     }
 }
 
-/// Converts the fault for refused memory, with which copying a text can fail, into this crate's `Memory`.
-impl From<llb_wire::Memory> for Memory {
-    fn from(_: llb_wire::Memory) -> Memory {
-        Memory
+impl From<Memory> for llb_wire::Memory {
+    fn from(_: Memory) -> llb_wire::Memory {
+        llb_wire::Memory
     }
 }
 

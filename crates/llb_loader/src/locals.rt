@@ -4,10 +4,10 @@ ghost use Rattle.std.specs.Prelude.{◌≡◌, ◌↔◌, ℕ, IsTrue, List, [],
 ghost use Rattle.std.specs.Str.{bytes_eq};
 ghost use Rattle.llb_loader.specs.LocalSources.{locals_of, tree_of_local, with_local};
 
-use crate::fault::Memory;
+use crate::fault;
 use indexmap::IndexMap;
 use llb_tree::Tree;
-use llb_wire::{Same, Text};
+use llb_wire::{Memory, Same, Text};
 use std::alloc::Global;
 use std::marker::Model;
 
@@ -50,7 +50,7 @@ impl Locals {
     ///
     /// Fails with 92 `Memory` alone; then the list is unchanged.
     #[tactic(auto, using(crate::proofs::LocalTreeMaps::locals_added, crate::proofs::LocalTreeMaps::last_given))]
-    pub fn add(&mut self, name: Text, tree: Tree) -> Result<(), Memory>
+    pub fn add(&mut self, name: Text, tree: Tree) -> Result<(), fault::Memory>
         ensures ok { OnOk result (self.new ≡ with_local self.old name tree) }
         ensures last { OnOk result ((other : List ℕ) → tree_of_local self.new other ≡ cond (bytes_eq name other) (Some tree) (tree_of_local self.old other)) }
         ensures err { OnErr result (self.new ≡ self.old) }
@@ -60,10 +60,10 @@ impl Locals {
     }
 
     /// Copies the list: the names are copied, and the trees are shared. Fails with 92 `Memory` alone.
-    pub fn copy(&self) -> Result<Locals, Memory>
+    pub fn copy(&self) -> Result<Locals, fault::Memory>
         ensures { IfOk result (λ l. l ≡ self.now) }
     {
-        copied(&self.trees)
+        Ok(copied(&self.trees)?)
     }
 
     /// Returns the tree that was given for a name; `None` if no tree was given for that name.
@@ -92,7 +92,8 @@ fn copy_at(copies: &mut Locals, trees: &IndexMap<String, Tree>, i: usize) -> Res
     match trees.get_index(i) {
         Some((name, tree)) => {
             let name = Text::from_str(*trees.allocator(), name.as_str())?;
-            copies.add(name, tree.copy()?)
+            copies.add(name, tree.copy()?)?;
+            Ok(())
         }
         None => Ok(()),
     }

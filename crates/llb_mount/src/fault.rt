@@ -41,3 +41,9 @@ impl From<TreeFault> for Memory {
         Memory
     }
 }
+
+impl From<Memory> for llb_wire::Memory {
+    fn from(_: Memory) -> llb_wire::Memory {
+        llb_wire::Memory
+    }
+}

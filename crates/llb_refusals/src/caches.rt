@@ -13,7 +13,7 @@ enum Answer {
     None,
     Lease(Result<Lease, LeaseFault>),
     Copied(Result<Caches, Memory>),
-    Ready(Result<Lent, Memory>),
+    Ready(Result<Lent, llb_wire::Memory>),
 }
 
 // Two equal values of caches; two copies of the list of `Need`s that `lease` is given, since each of its two calls consumes one; and for the key of each `Need`
@@ -177,9 +177,8 @@ impl Trial for OnCaches {
             Answer::Copied(Ok(copy)) => printed_text(rt, alloc, self.printed_copy(copy)),
             Answer::Ready(Ok(_)) => printed_text(rt, alloc, "a lease that is ready"),
             Answer::Lease(Err(fault)) => printed_fault(rt, alloc, fault),
-            Answer::Copied(Err(fault)) | Answer::Ready(Err(fault)) => printed_fault(
-                rt, alloc, fault,
-            ),
+            Answer::Copied(Err(fault)) => printed_fault(rt, alloc, fault),
+            Answer::Ready(Err(fault)) => printed_fault(rt, alloc, fault),
         }
     }
 
@@ -225,7 +224,7 @@ const ROWS: &[Row] = &[
     (
         "Lent::new",
         "k locked, p private F",
-        "112",
+        "5",
         "a lease that is ready",
     ),
 ];

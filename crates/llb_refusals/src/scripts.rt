@@ -14,7 +14,7 @@ enum Answer {
     None,
     View(Result<View, llb_mount::Memory>),
     Shown(Result<Shown, llb_mount::Memory>),
-    Setting(Result<Setting, llb_applet::Memory>),
+    Setting(Result<Setting, llb_wire::Memory>),
     Script(Result<Script, ScriptFault>),
     Command(Result<Command, ScriptFault>),
     Ran(Result<u8, llb_applet::Memory>),
@@ -244,9 +244,8 @@ impl Trial for OnView {
             Answer::Script(Err(fault)) | Answer::Command(Err(fault)) => {
                 printed_fault(rt, alloc, fault)
             }
-            Answer::Setting(Err(fault)) | Answer::Ran(Err(fault)) => printed_fault(
-                rt, alloc, fault,
-            ),
+            Answer::Setting(Err(fault)) => printed_fault(rt, alloc, fault),
+            Answer::Ran(Err(fault)) => printed_fault(rt, alloc, fault),
         }
     }
 
@@ -264,7 +263,7 @@ const ROWS: &[Row] = &[
     ("View::make", SCRIPT, "", MOUNTED),
     ("View::copy", SCRIPT, "62", MOUNTED),
     ("Shown::copy", SCRIPT, "62", "SUB"),
-    ("Setting::copy", SCRIPT, "75", "1"),
+    ("Setting::copy", SCRIPT, "5", "1"),
     ("read_script", SCRIPT, "74", "the script"),
     (
         "read_script",

@@ -62,3 +62,10 @@ impl From<llb_wire::Memory> for TreeFault {
         TreeFault::Memory
     }
 }
+
+/// Converts the fault for refused memory, with which making or copying a name, a path or a tree can fail.
+impl From<TreeFault> for llb_wire::Memory {
+    fn from(_: TreeFault) -> llb_wire::Memory {
+        llb_wire::Memory
+    }
+}

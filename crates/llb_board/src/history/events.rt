@@ -3,8 +3,9 @@
 ghost use Rattle.std.specs.Prelude.{◌≡◌, ◌==◌, ◌≤◌, ◌<◌, ◌∷◌, ◌++◌, [], length, IfOk, OnOk, OnErr, ◌+◌, ◌-◌};
 ghost use Rattle.llb_board.specs.History.{front, last_of};
 
-use crate::fault::Memory;
+use crate::fault;
 use llb_events::Event;
+use llb_wire::Memory;
 use std::alloc::{AllocError, Global};
 use std::marker::Model;
 
@@ -62,7 +63,7 @@ impl Events {
         self.items.pop()
     }
 
-    /// Adds `more` to the number of events for which memory is reserved (the room). Fails with 141 `Memory` alone; then this number is as it was.
+    /// Adds `more` to the number of events for which memory is reserved (the room). Fails with 5 `Memory` alone; then this number is as it was.
     pub(crate) fn take_room(&mut self, more: usize) -> Result<(), Memory>
         ensures list { self.new.list ≡ self.old.list }
         ensures room { OnOk result (self.new.room ≡ self.old.room + more) }
@@ -84,7 +85,7 @@ impl Events {
         self.room = self.room.saturating_sub(more);
     }
 
-    /// Returns a copy of the events. The copy has memory for as many events as the original has memory for. Fails with 141 `Memory` alone.
+    /// Returns a copy of the events. The copy has memory for as many events as the original has memory for. Fails with 5 `Memory` alone.
     pub(crate) fn with_same(&self, alloc: Global) -> Result<Events, Memory>
         ensures list { IfOk result (λ e. e.list ≡ self.now.list) }
         ensures room { IfOk result (λ e. e.room ≡ self.now.room) }
@@ -119,7 +120,7 @@ impl Events {
     }
 
     /// Returns a copy of the events, with no room for further events. Fails with 141 `Memory` alone.
-    pub fn copy(&self) -> Result<Events, Memory>
+    pub fn copy(&self) -> Result<Events, fault::Memory>
         ensures list { IfOk result (λ e. e.list ≡ self.now.list) }
         ensures room { IfOk result (λ e. e.room ≡ 0) }
     {

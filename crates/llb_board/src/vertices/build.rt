@@ -4,8 +4,8 @@ ghost use Rattle.std.specs.Prelude.{◌≡◌, ◌<◌, ◌^◌, length, option_
 ghost use Rattle.llb_loader.specs.Graph.{IsGraph};
 ghost use Rattle.llb_model.specs.Program.{program_at};
 
-use llb_loader::{Graph, Locals, Memory, Vertex};
-use llb_wire::Same;
+use llb_loader::{Graph, Locals, Vertex};
+use llb_wire::{Memory, Same};
 use std::marker::Model;
 
 /// A graph, and the trees of its local sources.

@@ -4,11 +4,10 @@ ghost use Rattle.std.specs.Prelude.{◌≡◌, Some, IfOk};
 ghost use Rattle.llb_model.specs.State.{ending_of, is_done, is_failed};
 ghost use Rattle.llb_board.specs.Vertices.{status_of};
 
-use crate::fault::Memory;
 use crate::trees::copied_trees;
 use llb_events::VertexFault;
 use llb_tree::Tree;
-use llb_wire::{Many, Same};
+use llb_wire::{Many, Memory, Same};
 use std::alloc::Global;
 
 /// The state of a vertex: the vertex waits, a worker runs it, or it ended with its outputs or a fault.
@@ -45,7 +44,7 @@ impl Stage {
         }
     }
 
-    /// Returns a copy of the state; the copy shares the trees. Fails with 141 `Memory` alone.
+    /// Returns a copy of the state; the copy shares the trees. Fails with 5 `Memory` alone.
     pub(crate) fn copy(&self, alloc: Global) -> Result<Stage, Memory>
         ensures { IfOk result (λ s. s ≡ self.now) }
     {

@@ -23,7 +23,10 @@ ghost use Rattle.llb_board.specs.Workers.{IsBegunOn, Fits, claim_in, reply_of, s
 use crate::vertices::Vertices;
 use crate::workers::Workers;
 use crate::workers::instances::lease_for;
-use crate::workers::needs::{Wanted, mount_numbers, taking_for, wanted_by};
+use crate::workers::needs::{
+    Wanted, asked, first_trees, instance_numbers, mount_numbers, places_found, rows_found,
+    wanted_by,
+};
 use crate::workers::outfit::outfit_for;
 use crate::workers::seat::{Execution, Seat, seat_at};
 use llb_cache::Need;
@@ -166,26 +169,30 @@ fn begun_with(
     let (w, v) = at;
     let inputs = vertices.inputs(alloc, vertex)?;
     let numbers = mount_numbers(alloc, wanted)?;
-    let taking = taking_for(alloc, &inputs, wanted)?;
+    let places = places_found(alloc, wanted)?;
+    let instances = instance_numbers(alloc, &places)?;
+    let trees = first_trees(alloc, &inputs, wanted)?;
+    let needs = asked(alloc, &inputs, wanted)?;
+    let rows = rows_found(alloc, wanted)?;
     let outfit = outfit_for(alloc, vertex)?;
     let view = Workspace::on(alloc, vertices.locals(), vertex, inputs, numbers)?;
     let own = view.copy()?;
-    let trees = Many::new(taking.trees);
-    let instances = Many::new(taking.instances);
+    let trees = Many::new(trees);
+    let instances = Many::new(instances);
     let job = Job::new(w, v, outfit.program, view, trees, instances);
     let execution = Execution {
         vertex: v,
         done: 0,
         fault: None,
         view: own,
-        places: taking.places,
+        places,
         outputs: outfit.outputs,
         steps: outfit.steps,
     };
     Ok(Begun {
         job,
         execution,
-        needs: taking.needs,
-        rows: taking.rows,
+        needs,
+        rows,
     })
 }

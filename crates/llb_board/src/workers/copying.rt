@@ -5,13 +5,13 @@ ghost use Rattle.llb_board.specs.Supplies.{ready_made};
 ghost use Rattle.llb_board.specs.WorkerUndo.{left_in};
 ghost use Rattle.llb_board.specs.WorkerModelValues.{at_of, leased_by};
 
-use crate::fault::Memory;
 use crate::trees::copied_trees;
 use crate::workers::seat::{Execution, Seat};
 use llb_cache::Instance;
+use llb_wire::Memory;
 use std::alloc::Global;
 
-/// Copies workers, with the same leases. Fails with 141 `Memory` alone.
+/// Copies workers, with the same leases. Fails with 5 `Memory` alone.
 pub(crate) fn copied_seats(alloc: Global, seats: &[Seat]) -> Result<Vec<Seat>, Memory>
     ensures workers { IfOk result (λ d. map at_of d.items ≡ map at_of seats.now) }
     ensures leases { IfOk result (λ d. map leased_by d.items ≡ map leased_by seats.now) }
@@ -35,7 +35,7 @@ fn copied_seat(alloc: Global, seat: &Seat) -> Result<Seat, Memory>
     }
 }
 
-/// Copies what a running worker holds; the copy shares the trees. Fails with 141 `Memory` alone.
+/// Copies what a running worker holds; the copy shares the trees. Fails with 5 `Memory` alone.
 pub(crate) fn copied(alloc: Global, execution: &Execution) -> Result<Execution, Memory>
     ensures { IfOk result (λ x. left_in x ≡ left_in execution.now) }
 {

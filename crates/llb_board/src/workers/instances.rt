@@ -1,7 +1,7 @@
 //! Leases the cache instances of a worker, reads their trees before a micro-step, writes their trees after the micro-step, and gives the lease back. A
 //! worker whose vertex mounts no cache has no lease.
 
-ghost use Rattle.std.specs.Prelude.{◌≡◌, ◌≢◌, ◌<◌, ◌^◌, map, length, AllPairs, IfOk, IfErr, OnErr, Ok, true};
+ghost use Rattle.std.specs.Prelude.{◌≡◌, ◌≢◌, ◌<◌, ◌^◌, map, length, AllPairs, IfOk, OnErr};
 ghost use Rattle.std.specs.Option.{ForSome};
 ghost use Rattle.llb_cache.specs.Caches.{places_of, leases, AreThere};
 ghost use Rattle.llb_cache.specs.LeaseGrowth.{CanLend};
@@ -10,24 +10,20 @@ ghost use Rattle.llb_model.specs.Caches.{trees_at, tree_of};
 ghost use Rattle.llb_model.specs.CacheBridge.{store_of, AreLeased, put_each};
 ghost use Rattle.llb_board.specs.OptionalLeases.{leased_places, IsOutIf, given_back, taken_back, lease_if, lent_of, lent_if};
 ghost use Rattle.llb_board.specs.WorkerModelValues.{at_of, leased_by};
-ghost use Rattle.llb_events.specs.Faults.{step_memory};
 
-use crate::fault::Memory;
 use crate::workers::seat::Seat;
 use llb_cache::{Caches, Growth, Instance, Lease, LeaseFault, Lent, Need};
-use llb_events::StepFault;
 use llb_tree::Tree;
-use llb_wire::Many;
+use llb_wire::{Many, Memory};
 use std::alloc::Global;
 
-/// Returns copies of the trees of instances; for an instance that does not exist, the empty tree. Fails with 141 `Memory` alone.
+/// Returns copies of the trees of instances; for an instance that does not exist, the empty tree. Fails with 5 `Memory` alone.
 pub(crate) fn contents(
     alloc: Global,
     caches: &Caches,
     places: &[Instance],
-) -> Result<Vec<Tree>, StepFault>
-    ensures trees { IfOk result (λ ts. ts.items ≡ trees_at (store_of caches.now.rows) places.now) }
-    ensures memory { IfErr result (λ e. step_memory e ≡ true) }
+) -> Result<Vec<Tree>, Memory>
+    ensures { IfOk result (λ ts. ts.items ≡ trees_at (store_of caches.now.rows) places.now) }
 {
     let mut trees = Vec::with_capacity(alloc, places.len())?;
     for place in places {
@@ -36,9 +32,8 @@ pub(crate) fn contents(
     Ok(trees)
 }
 
-fn content(alloc: Global, caches: &Caches, place: &Instance) -> Result<Tree, StepFault>
-    ensures tree { IfOk result (λ t. t ≡ tree_of (store_of caches.now.rows) place.now) }
-    ensures memory { IfErr result (λ e. step_memory e ≡ true) }
+fn content(alloc: Global, caches: &Caches, place: &Instance) -> Result<Tree, Memory>
+    ensures { IfOk result (λ t. t ≡ tree_of (store_of caches.now.rows) place.now) }
 {
     match caches.instance(&place.key, place.number) {
         Some(tree) => Ok(tree.copy()?),
@@ -87,7 +82,7 @@ pub(crate) fn take_back(caches: &mut Caches, lease: Option<Lease>, growths: &[Gr
 }
 
 /// Prepares a lease of these instances, so that the later grant does not allocate. When the lease is granted, fewer than `room` leases must be current. Returns
-/// `None` if there are no instances. Fails with 141 `Memory` alone.
+/// `None` if there are no instances. Fails with 5 `Memory` alone.
 pub(crate) fn lent_for(
     alloc: Global,
     places: &[Instance],

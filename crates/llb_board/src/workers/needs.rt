@@ -1,24 +1,24 @@
 //! Finds the caches that a vertex mounts, and what a claim takes of these caches: instances, the trees of the instances, and the needs for a lease.
 //! Nothing here changes the caches.
 
-ghost use Rattle.std.specs.Prelude.{◌≡◌, ◌<◌, ◌^◌, Ok, IfErr, IfOk, MatchResult, Some, None, true, map, length, option_map};
+ghost use Rattle.std.specs.Prelude.{◌≡◌, ◌<◌, ◌^◌, IfErr, IfOk, MatchResult, Some, None, true, map, length, option_map};
 ghost use Rattle.std.specs.List.{All};
 ghost use Rattle.llb_loader.specs.Mounts.{key_of, seed_of};
 ghost use Rattle.llb_loader.specs.Rules.{kind_mounts};
 ghost use Rattle.llb_model.specs.CacheBridge.{asked, growth_for};
 ghost use Rattle.llb_model.specs.Program.{needs_of, mount_of, base_in, mode_of, key_as, seed_as};
 ghost use Rattle.llb_board.specs.Needs.{need_of, first_held_key, unless_held, if_locked, number_of, HasEdges};
-ghost use Rattle.llb_board.specs.Needs.{IsFound, place_found, row_found, first_tree, taken_by};
+ghost use Rattle.llb_board.specs.Needs.{IsFound, place_found, row_found, first_tree};
 ghost use Rattle.llb_cache.specs.Key.{seed_by};
 ghost use Rattle.llb_events.specs.Faults.{GivesClaim, claim_memory, claim_may_want};
 
-use crate::fault::Memory;
 use llb_cache::{Caches, Found, Growth, Instance, KeyRef, Mode, Need};
 use llb_events::ClaimFault;
 use llb_execution::input_tree;
 use llb_loader::{Vertex, cache_in, mounts_of};
 use llb_ops::Mount;
 use llb_tree::Tree;
+use llb_wire::Memory;
 use std::alloc::Global;
 
 /// A cache that an exec mounts: the number of the mount, the key, the number of the input with whose tree a new instance begins (-1 for none), and what was
@@ -29,19 +29,6 @@ pub(crate) struct Wanted<'a> {
     pub key: KeyRef<'a>,
     pub input: i64,
     pub found: Found<'a>,
-}
-
-/// What a claim takes of the caches, found before the claim changes anything.
-#[derive(Drop)]
-pub(crate) struct Taking {
-    pub places: Vec<Instance>,
-    /// The numbers of the instances.
-    pub instances: Vec<u32>,
-    /// The trees of the instances; for an instance that does not exist yet, the tree with which the instance will begin.
-    pub trees: Vec<Tree>,
-    pub needs: Vec<Need>,
-    /// For each need, the index of the row that has the need's key; `None` if no row has it.
-    pub rows: Vec<Option<usize>>,
 }
 
 // Returns the caches that a vertex mounts, in the order of the mounts. Fails with 135 `Held` and the first locked key whose instance a lease has; in that
@@ -60,11 +47,11 @@ pub(crate) fn wanted_by<'a>(
 {
     match last_locked(caches, vertex) {
         Err(key) => Err(ClaimFault::Held(key.to_key(alloc)?)),
-        Ok(row) => wants(alloc, caches, vertex, row),
+        Ok(row) => Ok(wants(alloc, caches, vertex, row)?),
     }
 }
 
-/// Returns what a claim of a vertex would add to the caches, for each cache that the vertex mounts. Fails with 141 `Memory` alone.
+/// Returns what a claim of a vertex would add to the caches, for each cache that the vertex mounts. Fails with 5 `Memory` alone.
 pub(crate) fn growths_of(
     alloc: Global,
     caches: &Caches,
@@ -103,16 +90,17 @@ fn last_locked<'a>(caches: &Caches, vertex: &'a Vertex) -> Result<Option<usize>,
     Ok(row)
 }
 
-// Looks up the caches that a vertex mounts. For each key, the row with the number `near` is tried first. Fails with 141 `Memory` alone.
+// Looks up the caches that a vertex mounts. For each key, the row with the number `near` is tried first. Fails with 5 `Memory` alone, as do the functions
+// below.
 fn wants<'a>(
     alloc: Global,
     caches: &'a Caches,
     vertex: &'a Vertex,
     near: Option<usize>,
-) -> Result<Vec<Wanted<'a>>, ClaimFault>
+) -> Result<Vec<Wanted<'a>>, Memory>
     requires seeds { HasEdges vertex.now }
     requires few { length (kind_mounts vertex.now.op.kind) < 2 ^ 32 }
-    ensures gives { GivesClaim (λ ws. map need_of ws.items) result (Ok (needs_of vertex.now)) }
+    ensures needs { IfOk result (λ ws. map need_of ws.items ≡ needs_of vertex.now) }
     ensures found { IfOk result (λ ws. All (IsFound caches.now) ws.items) }
 {
     let mut wanted = Vec::new(alloc);
@@ -178,9 +166,9 @@ fn mode_of(sharing: i32) -> Mode
     }
 }
 
-// Returns the numbers of the mounts that show caches. Fails with 141 `Memory` alone.
-pub(crate) fn mount_numbers(alloc: Global, wanted: &[Wanted<'_>]) -> Result<Vec<u32>, ClaimFault>
-    ensures { GivesClaim (λ ns. ns.items) result (Ok (map mount_of (map need_of wanted.now))) }
+// Returns the numbers of the mounts that show caches.
+pub(crate) fn mount_numbers(alloc: Global, wanted: &[Wanted<'_>]) -> Result<Vec<u32>, Memory>
+    ensures { IfOk result (λ ns. ns.items ≡ map mount_of (map need_of wanted.now)) }
 {
     let mut numbers = Vec::new(alloc);
     for want in wanted {
@@ -189,32 +177,9 @@ pub(crate) fn mount_numbers(alloc: Global, wanted: &[Wanted<'_>]) -> Result<Vec<
     Ok(numbers)
 }
 
-// Returns what the claim of a vertex with these cache mounts takes of the caches (`Taking`); `inputs` has the trees of the vertex's inputs. Fails with 141
-// `Memory` alone.
-pub(crate) fn taking_for(
-    alloc: Global,
-    inputs: &[Tree],
-    wanted: &[Wanted<'_>],
-) -> Result<Taking, ClaimFault>
-    ensures { GivesClaim (λ t. (t.places.items, t.instances.items, t.trees.items, t.needs.items)) result (Ok (taken_by inputs.now wanted.now)) }
-{
-    let places = places_found(alloc, wanted)?;
-    let instances = instance_numbers(alloc, &places)?;
-    let trees = first_trees(alloc, inputs, wanted)?;
-    let needs = asked(alloc, inputs, wanted)?;
-    let rows = rows_found(alloc, wanted)?;
-    Ok(Taking {
-        places,
-        instances,
-        trees,
-        needs,
-        rows,
-    })
-}
-
-// Returns the instances that a lease of these caches would take. Fails with 141 `Memory` alone, as do the functions below.
-fn places_found(alloc: Global, wanted: &[Wanted<'_>]) -> Result<Vec<Instance>, ClaimFault>
-    ensures { GivesClaim (λ ps. ps.items) result (Ok (map place_found wanted.now)) }
+// Returns the instances that a lease of these caches would take.
+pub(crate) fn places_found(alloc: Global, wanted: &[Wanted<'_>]) -> Result<Vec<Instance>, Memory>
+    ensures { IfOk result (λ ps. ps.items ≡ map place_found wanted.now) }
 {
     let mut places = Vec::new(alloc);
     for want in wanted {
@@ -225,8 +190,9 @@ fn places_found(alloc: Global, wanted: &[Wanted<'_>]) -> Result<Vec<Instance>, C
     Ok(places)
 }
 
-fn instance_numbers(alloc: Global, places: &[Instance]) -> Result<Vec<u32>, ClaimFault>
-    ensures { GivesClaim (λ ns. ns.items) result (Ok (map number_of places.now)) }
+// Returns the numbers of instances.
+pub(crate) fn instance_numbers(alloc: Global, places: &[Instance]) -> Result<Vec<u32>, Memory>
+    ensures { IfOk result (λ ns. ns.items ≡ map number_of places.now) }
 {
     let mut numbers = Vec::new(alloc);
     for place in places {
@@ -236,12 +202,12 @@ fn instance_numbers(alloc: Global, places: &[Instance]) -> Result<Vec<u32>, Clai
 }
 
 // Copies the tree of the instance of each wanted cache or, if the instance is a new one, the tree of its seed.
-fn first_trees(
+pub(crate) fn first_trees(
     alloc: Global,
     inputs: &[Tree],
     wanted: &[Wanted<'_>],
-) -> Result<Vec<Tree>, ClaimFault>
-    ensures { GivesClaim (λ ts. ts.items) result (Ok (map (first_tree inputs.now) wanted.now)) }
+) -> Result<Vec<Tree>, Memory>
+    ensures { IfOk result (λ ts. ts.items ≡ map (first_tree inputs.now) wanted.now) }
 {
     let mut trees = Vec::new(alloc);
     for want in wanted {
@@ -252,8 +218,8 @@ fn first_trees(
 }
 
 // Copies the tree of an instance, or the tree of its seed if the instance does not exist.
-fn first_tree(alloc: Global, inputs: &[Tree], want: &Wanted<'_>) -> Result<Tree, ClaimFault>
-    ensures { GivesClaim (λ t. t) result (Ok (first_tree inputs.now want.now)) }
+fn first_tree(alloc: Global, inputs: &[Tree], want: &Wanted<'_>) -> Result<Tree, Memory>
+    ensures { IfOk result (λ t. t ≡ first_tree inputs.now want.now) }
 {
     match want.found.tree {
         Some(tree) => Ok(tree.copy()?),
@@ -262,8 +228,8 @@ fn first_tree(alloc: Global, inputs: &[Tree], want: &Wanted<'_>) -> Result<Tree,
 }
 
 // Copies the tree of a seed; returns the empty tree if there is no seed.
-fn seed_tree(alloc: Global, inputs: &[Tree], input: i64) -> Result<Tree, ClaimFault>
-    ensures { GivesClaim (λ t. t) result (Ok (base_in input inputs.now)) }
+fn seed_tree(alloc: Global, inputs: &[Tree], input: i64) -> Result<Tree, Memory>
+    ensures { IfOk result (λ t. t ≡ base_in input inputs.now) }
 {
     match input_tree(inputs, input) {
         Some(tree) => Ok(tree.copy()?),
@@ -272,8 +238,12 @@ fn seed_tree(alloc: Global, inputs: &[Tree], input: i64) -> Result<Tree, ClaimFa
 }
 
 // Makes a `Need` for each cache that a vertex mounts: the cache's key, and the tree that a new instance begins with.
-fn asked(alloc: Global, inputs: &[Tree], wanted: &[Wanted<'_>]) -> Result<Vec<Need>, ClaimFault>
-    ensures { GivesClaim (λ ns. ns.items) result (Ok (asked inputs.now (map need_of wanted.now))) }
+pub(crate) fn asked(
+    alloc: Global,
+    inputs: &[Tree],
+    wanted: &[Wanted<'_>],
+) -> Result<Vec<Need>, Memory>
+    ensures { IfOk result (λ ns. ns.items ≡ asked inputs.now (map need_of wanted.now)) }
 {
     let mut needs = Vec::new(alloc);
     for want in wanted {
@@ -285,8 +255,8 @@ fn asked(alloc: Global, inputs: &[Tree], wanted: &[Wanted<'_>]) -> Result<Vec<Ne
 }
 
 // Returns for each of these caches the index of the row that has the cache's key; `None` if no row has it.
-fn rows_found(alloc: Global, wanted: &[Wanted<'_>]) -> Result<Vec<Option<usize>>, ClaimFault>
-    ensures { GivesClaim (λ rs. rs.items) result (Ok (map row_found wanted.now)) }
+pub(crate) fn rows_found(alloc: Global, wanted: &[Wanted<'_>]) -> Result<Vec<Option<usize>>, Memory>
+    ensures { IfOk result (λ rs. rs.items ≡ map row_found wanted.now) }
 {
     let mut rows = Vec::new(alloc);
     for want in wanted {

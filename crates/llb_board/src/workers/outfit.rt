@@ -1,13 +1,12 @@
 //! What a claim prepares from the vertex alone.
 
-ghost use Rattle.std.specs.Prelude.{Ok};
+ghost use Rattle.std.specs.Prelude.{◌≡◌, IfOk};
 ghost use Rattle.llb_board.specs.VertexOutfits.{outfit_as, outfit_of};
-ghost use Rattle.llb_events.specs.Faults.{GivesClaim};
 
-use llb_events::ClaimFault;
 use llb_execution::{Program, Steps, empty_trees};
 use llb_loader::Vertex;
 use llb_tree::Tree;
+use llb_wire::Memory;
 use std::alloc::Global;
 
 /// What a claim prepares from the vertex alone: the program (for the job), and for the worker an empty tree for each output and the micro-steps.
@@ -18,9 +17,9 @@ pub(crate) struct Outfit {
     pub steps: Steps,
 }
 
-/// Makes the `Outfit` for a vertex: what a claim prepares from the vertex alone. Fails with 141 `Memory` alone.
-pub(crate) fn outfit_for(alloc: Global, vertex: &Vertex) -> Result<Outfit, ClaimFault>
-    ensures { GivesClaim outfit_as result (Ok (outfit_of vertex.now)) }
+/// Makes the `Outfit` for a vertex: what a claim prepares from the vertex alone. Fails with 5 `Memory` alone.
+pub(crate) fn outfit_for(alloc: Global, vertex: &Vertex) -> Result<Outfit, Memory>
+    ensures { IfOk result (λ o. outfit_as o ≡ outfit_of vertex.now) }
 {
     let program = Program::of(alloc, vertex)?;
     let outputs = empty_trees(alloc, vertex.outputs)?;

@@ -11,7 +11,7 @@ ghost use Rattle.llb_board.specs.DisplacedWorkers.{back_in, workers_before, rows
 ghost use Rattle.llb_board.specs.WorkerModelValues.{at_of, leased_by};
 ghost use Rattle.llb_board.specs.Workers.{Fits, IsCrew};
 
-use crate::fault::{Memory, WalkFault};
+use crate::fault::WalkFault;
 use crate::vertices::{Stage, Vertices};
 use crate::workers::Workers;
 use crate::workers::copying::copied;
@@ -22,6 +22,7 @@ use llb_cache::{Caches, Growth, Lent};
 use llb_events::{CancelFault, Event, SettleFault, StepFault};
 use llb_execution::Saved;
 use llb_tree::Tree;
+use llb_wire::Memory;
 use std::alloc::Global;
 use std::marker::Model;
 

@@ -20,4 +20,4 @@ returns-in_ok-trees-in-Some-Runs-clause-marks c =
     subst (λ (s : WorkersValue). MarksStep vs s c.args.w (record { back = Unstep c.args.w saved trees })) c.self.view_is
     (marks_step vs b.seats.items b.caches.rows c.args.w l x (subst (Fits vs.build) (sym c.self.view_is) c.requires) there saved trees
     c.in_ok-saved-in-Some-Runs.ensures.is
-    (c.in_ok-trees-in-Some-Runs.ensures.trees ∙ ap (λ (ps : List Instance). trees_at (store_of b.caches.rows) ps) c.deref-in-Some-Runs.ensures.value))
+    (c.in_ok-trees-in-Some-Runs.ensures ∙ ap (λ (ps : List Instance). trees_at (store_of b.caches.rows) ps) c.deref-in-Some-Runs.ensures.value))

@@ -1,27 +1,26 @@
-use Rattle.std.proofs.Common.{◌≡◌, List, sym, ap, ◌∙◌}
+use Rattle.std.proofs.Common.{◌≡◌, List, map, sym, ap, ◌∙◌}
 use Rattle.std.specs.Prelude.{Ok}
 use Rattle.llb_tree.specs.Tree.{TreeMap}
+use Rattle.llb_model.specs.CacheBridge.{asked}
 use Rattle.llb_model.specs.Outcome.{inputs_from}
 use Rattle.llb_model.specs.Program.{workspace_on}
 use Rattle.llb_model.specs.State.{ending_at}
 use Rattle.llb_model.specs.Table.{Job, Claimed}
-use Rattle.llb_board.specs.Needs.{taken_by}
+use Rattle.llb_board.specs.Needs.{first_tree, need_of, number_of, place_found}
 use Rattle.llb_board.specs.VertexOutfits.{outfit_as}
 use Rattle.llb_board.proofs.ClaimParts.{Parts, AreParts, put_together, begun_of, supplied, workable}
 use Rattle.llb_board.proofs.workers.claiming.begun_with.Goals as goal
 use Rattle.llb_board.proofs.workers.claiming.begun_with.Goals.{After-new-instances}
-use Rattle.llb_model.proofs.ConstructorEqualities.{inside_ok}
 
 parts : goal.After-new-instances → Parts
 parts c =
-    let t = c.in_ok-taking.taking in
     record {
       view = c.in_ok-view.view;
       own = c.in_ok-own.own;
-      places = t.places.items;
+      places = c.in_ok-places.places.items;
       instances = c.new-instances.result;
       trees = c.new-trees.result;
-      needs = t.needs.items;
+      needs = c.in_ok-needs.needs.items;
       outfit = outfit_as c.in_ok-outfit.outfit;
     }
 
@@ -31,12 +30,20 @@ are_parts c =
     let x = c.args.vertex.now in
     let view : workspace_on c.args.vertices.now.build.locals x x.op.kind c.in_ok-inputs.inputs.items ≡ c.in_ok-view.view
     = ap (λ locals. workspace_on locals x x.op.kind c.in_ok-inputs.inputs.items) (sym c.locals.ensures) ∙ sym c.in_ok-view.ensures in
+    let ws = c.args.wanted.now in
+    let trees = c.in_ok-inputs.inputs.items in
+    let placed : c.in_ok-places.places.items ≡ map place_found ws = c.in_ok-places.ensures in
+    let numbered : c.new-instances.result ≡ map number_of (map place_found ws)
+    = c.new-instances.ensures ∙ c.in_ok-instances.ensures ∙ ap (map number_of) (c.deref.ensures.value ∙ placed) in
+    let first : c.new-trees.result ≡ map (first_tree trees) ws
+    = c.new-trees.ensures ∙ c.in_ok-trees.ensures ∙ ap (λ (ts : List TreeMap). map (first_tree ts) ws) c.deref-2.ensures.value in
+    let asks : c.in_ok-needs.needs.items ≡ asked trees (map need_of ws)
+    = c.in_ok-needs.ensures ∙ ap (λ (ts : List TreeMap). asked ts (map need_of ws)) c.deref-3.ensures.value in
     record {
       view = view;
       own = view ∙ sym c.in_ok-own.ensures;
-      taking = ap (λ (ts : List TreeMap). taken_by ts c.args.wanted.now) (sym c.deref.ensures.value) ∙ inside_ok c.in_ok-taking.ensures
-          ∙ (λ i. (c.in_ok-taking.taking.places.items, sym c.new-instances.ensures i, sym c.new-trees.ensures i, c.in_ok-taking.taking.needs.items));
-      outfit = inside_ok c.in_ok-outfit.ensures;
+      taking = λ i. (sym placed i, sym numbered i, sym first i, sym asks i);
+      outfit = sym c.in_ok-outfit.ensures;
     }
 
 pub returns-clause-gives : goal.returns-clause-gives

@@ -28,13 +28,13 @@ loop-place-preserved c =
     let at : slice_get c.args.places.now c.loop-place.place-index ≡ Some c.place-item.result
     = slice_get_read c.args.places.now (length c.args.places.now) c.loop-place.place-index c.place-item.result refl c.loop-place-test.true c.place-item.is in
     record {
-      front = c.push_reserved.ensures.items ∙ ap (λ (t : TreeMap). c.loop-place.trees.items ++ t ∷ []) c.in_ok-content.ensures.tree
+      front = c.push_reserved.ensures.items ∙ ap (λ (t : TreeMap). c.loop-place.trees.items ++ t ∷ []) c.in_ok-content.ensures
           ∙ copied_more (tree_of (store_of c.args.caches.now.rows)) c.args.places.now c.loop-place.place-index c.loop-place.trees.items
           c.place-item.result c.loop-place.invariant.front at;
       reserved = search rules;
     }
 
-pub returns-clause-trees : goal.returns-clause-trees
-returns-clause-trees c =
+pub returns : goal.returns
+returns c =
     c.loop-place.invariant.front ∙ ap (map (tree_of (store_of c.args.caches.now.rows)))
     (take_all c.loop-place.place-index c.args.places.now c.loop-place-test.false)

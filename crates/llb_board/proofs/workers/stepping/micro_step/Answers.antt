@@ -72,7 +72,7 @@ write_back-requires-clause-few c =
     let b = c.args.vertices.now.build in
     let x = c.args.execution.now in
     let few = few_places b x c.requires.supplies c.vertex.ensures.graph in
-    let read = trees_count (store_of c.args.caches.now.rows) c.deref.result.now c.in_ok-trees.trees.items c.in_ok-trees.ensures.trees in
+    let read = trees_count (store_of c.args.caches.now.rows) c.deref.result.now c.in_ok-trees.trees.items c.in_ok-trees.ensures in
     omega (arith, few, read, ap length c.deref.ensures.value, c.in_ok-fault.ensures.count)
 
 pub returns-clause-gives : goal.returns-clause-gives
@@ -86,6 +86,6 @@ returns-clause-gives c =
     stepped_by b rows x m clean
     (step_at b c.args.execution.now c.requires.supplies (step_in c.in-Some.next) c.in-Some.ensures)
     c.in_ok-trees.trees.items left (HasStepped c.told.result) c.write_back.new.caches.rows (leased_places c.args.caches.now.out c.args.lease)
-    (c.in_ok-trees.ensures.trees ∙ ap (trees_at (store_of rows)) c.deref.ensures.value) c.in_ok-fault.ensures.left
+    (c.in_ok-trees.ensures ∙ ap (trees_at (store_of rows)) c.deref.ensures.value) c.in_ok-fault.ensures.left
     (c.told.ensures x.own left (sym c.skips.ensures ∙ c.if-skips.false) (sym c.last.ensures) refl) c.write_back.ensures.rows
     (places_are c.args.caches.now.out c.args.lease x.places c.requires.leased)
