@@ -1,14 +1,16 @@
 //! Tests of boards that go on from outputs of an earlier board. In the tests' text, a line that begins with `@ ` has the name of local trees, the name of a
 //! source with the vertex and the number of the output that it replaces, and the entries of two definitions, as in `sharing`. The first definition is
-//! run to its end, and the second goes on from the output. Below is the tree of the second result, or `none` if the second definition is not that.
+//! run to its end, and the second goes on from the output. Below is the tree of the second result, or `none` if the second definition is not that. Also tests
+//! of two runs of one definition.
 
 use super::checks::say_tree;
 use super::sessions::{StoryKind, are_stories, wanted};
 use super::walks::finish;
 use super::written::{board_of, definition_from, locals_of};
 use llb_board::Board;
-use llb_laws::open_on_kept;
-use llb_loader::Edge;
+use llb_events::Event;
+use llb_laws::{KeptFault, open_on_kept, run_twice};
+use llb_loader::{Edge, Locals};
 use llb_samples::locals_named;
 use llb_wire::Text;
 use std::alloc::Global;
@@ -138,4 +140,65 @@ fn a_board_that_goes_on_has_1_to_64_workers(rt: HostRuntime) {
     assert!(&rt; refusal(&rt, rt.alloc(), 65).as_str() == "122");
     assert!(&rt; refusal(&rt, rt.alloc(), 1).as_str() == "83");
     assert!(&rt; refusal(&rt, rt.alloc(), 64).as_str() == "83");
+}
+
+// Returns the events of a whole run by one worker, after `first`.
+fn events_after(rt: &impl Abort, alloc: Global, first: Event, written: &str) -> Vec<Event> {
+    let mut board = board_of(rt, alloc, written, locals_named("OLD_AND_F"), 1);
+    let _ = finish(&mut board);
+    let mut events = Vec::new(alloc);
+    events.push(first).expect(rt, "memory");
+    events
+        .extend_from_slice(board.events().as_slice())
+        .expect(rt, "memory");
+    events
+}
+
+// Calls `run_twice`. This function has no clauses, so that the proof of its caller does not carry those of `run_twice`.
+fn ran(
+    alloc: Global,
+    definition: &[u8],
+    locals: &Locals,
+    workers: u32,
+    events: &[Event],
+    others: &[Event],
+) -> Result<Option<(Board, Board)>, KeptFault> {
+    run_twice(alloc, definition, locals, workers, events, others)
+}
+
+// Runs a definition twice: with the events of a whole run, and with the same events after a step that is refused. Returns the results of both runs, `none` if a
+// source has no tree, or the fault.
+fn twice(rt: &impl Abort, alloc: Global, trees: &str, written: &str, workers: u32) -> String {
+    let others = events_after(rt, alloc, Event::Step(0), written);
+    let locals = locals_of(rt, alloc, locals_named(trees));
+    let definition = definition_from(rt, alloc, written);
+    let (_, events) = others.split_first().expect(rt, "an event");
+    let definition = definition.as_slice();
+    let mut text = String::new(alloc);
+    match ran(alloc, definition, &locals, workers, events, &others) {
+        Ok(Some((board, other))) => {
+            say_result(rt, &mut text, &board);
+            say_result(rt, &mut text, &other);
+        }
+        Ok(None) => text.push_str("none").expect(rt, "memory"),
+        Err(fault) => write!(text, "{fault}").expect(rt, "memory"),
+    }
+    text
+}
+
+const P_WITH_D_TWICE: &str = "d 0755 0 0 /
+d 0755 0 0 /d
+f 0644 0 0 6869 /old
+d 0755 0 0 /
+d 0755 0 0 /d
+f 0644 0 0 6869 /old
+";
+
+#[test]
+fn two_runs_of_a_definition_end_alike(rt: HostRuntime) {
+    let written = "SOURCE_P; D_ON_0; RESULT_1";
+    assert!(&rt; twice(&rt, rt.alloc(), "OLD_AND_F", written, 64).as_str() == P_WITH_D_TWICE);
+    assert!(&rt; twice(&rt, rt.alloc(), "NONE", written, 1).as_str() == "none");
+    assert!(&rt; twice(&rt, rt.alloc(), "OLD_AND_F", written, 0).as_str() == "122");
+    assert!(&rt; twice(&rt, rt.alloc(), "OLD_AND_F", written, 65).as_str() == "122");
 }

@@ -42,3 +42,5 @@ mod PlainVertexTests
 mod Keys
 mod Jobs
 mod Refusals
+mod EqualContents
+mod TwoRuns

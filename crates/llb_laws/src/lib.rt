@@ -15,7 +15,8 @@
 //! definitions.
 //! `graphs::parts_are_not_refused`: a part of a loaded definition that has what its result reaches is refused for no cause. `load_renamed`: whether a
 //! definition is another one with local sources renamed. `load_matched`: which vertices of two definitions do the same on inputs that match, and that no more
-//! do. `open_on_kept`: a board that goes on from outputs of an earlier board, which local sources replace.
+//! do. `open_on_kept`: a board that goes on from outputs of an earlier board, which local sources replace. `run_twice`: two runs of one definition, of which
+//! the premises of the laws in `graphs` hold.
 //! `contents::contents_are_handed_on` (`tokens`, `contents`): if the sources have tokens in place of contents, the outcome of a vertex has tokens that expand
 //! to the contents that the outcome has if the sources have the contents themselves. The premises: at or before the vertex, no op writes the byte 255; the
 //! sources at or before each exec that makes a digest have no tokens; and the paths in sources consist of names, as they do in each tree of the code.
@@ -64,6 +65,7 @@ mod plain;
 pub mod plan;
 mod renaming;
 mod spelling;
+mod twice;
 
 pub use fault::KeptFault;
 pub use keeping::open_on_kept;
@@ -71,3 +73,4 @@ pub use loading::load_both;
 pub use matching::load_matched;
 pub use parts::load_part;
 pub use renaming::load_renamed;
+pub use twice::run_twice;
