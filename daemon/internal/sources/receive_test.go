@@ -15,7 +15,8 @@ import (
 )
 
 // A script is the client's end of a transfer: packets that it sends whatever it is asked, and then contents that it is asked
-// for, and the end.
+// for, and the end. Asked for a content that it does not have, it answers nothing, and ends after its packets: whether it is
+// asked before or after it has sent them makes no difference.
 type script struct {
 	packets  []*fstypes.Packet
 	contents map[uint32]string // what is sent for a number that is asked for, in parts of two bytes
@@ -33,7 +34,12 @@ func (s *script) SendMsg(message any) error {
 	switch p.Type {
 	case fstypes.PACKET_REQ:
 		s.asked = append(s.asked, p.ID)
-		for text := s.contents[p.ID]; text != ""; {
+		text, known := s.contents[p.ID]
+		if !known {
+			s.finished = true
+			break
+		}
+		for text != "" {
 			n := min(2, len(text))
 			s.packets = append(s.packets, &fstypes.Packet{Type: fstypes.PACKET_DATA, ID: p.ID, Data: []byte(text[:n])})
 			text = text[n:]

@@ -137,11 +137,17 @@ def bodies(library: Library) -> list[str]:
     return items
 
 
+def changes_a_definition(edit: pathlib.Path) -> bool:
+    """Returns whether an edit changes a file of definitions, and so no body."""
+    return edit.read_text("utf-8").startswith("file: specs/")
+
+
 def edits(library: Library) -> list[str]:
-    """Returns how many wrong bodies there are, and how many of each crate."""
+    """Returns how many edits there are, how many of them change a definition, and how many each crate has."""
     crates = crates_with_edits(library)
     each = ", ".join(f"`{crate.name}` {len(found)}" for crate, found in crates)
-    text = f"{sum(len(found) for _, found in crates)} wrong bodies: {each}."
+    whole = [edit for _, found in crates for edit in found]
+    text = f"{len(whole)} edits, of which {sum(map(changes_a_definition, whole))} change a definition: {each}."
     return textwrap.wrap(text, COLUMNS, break_long_words=False, break_on_hyphens=False)
 
 
