@@ -21,12 +21,12 @@ With --quick nothing is proved, and no wrong body is tried. `tools/unproved-prog
 on the program without proof, with `tools/fuzz` for 20 seconds. `rt ci`, `tools/refuse`, `tools/library` and
 `tools/bindings` are left out, since nothing builds a static library without a proof.
 
-Out: on standard output a line for each part, its output, and its counts; after the output of `rt ci` the processor
-minutes of each crate, as `tools/minutes` prints them. The last line is `N passed, M failed`, the sum over all parts,
-with `, K skipped` where tests were skipped; with --quick a line before it says what was not done, and the parts that
-are left out and the tests that need more time than `rt try` gives a test are skipped too. A part that counts nothing is
-one test; of `tools/transcripts` each command that is compared is one. If all passed, without --after, --llbm and
---quick, out/gate-passed has the digest of the program that `rt ci` left.
+Out: on standard output a line for each part, its output, and its counts; after all parts the processor minutes that
+`rt ci` took for each crate, as `tools/minutes` prints them. The last line is `N passed, M failed`, the sum over all
+parts, with `, K skipped` where tests were skipped; with --quick a line before it says what was not done, and the parts
+that are left out and the tests that need more time than `rt try` gives a test are skipped too. A part that counts
+nothing is one test; of `tools/transcripts` each command that is compared is one. If all passed, without --after, --llbm
+and --quick, out/gate-passed has the digest of the program that `rt ci` left.
 
 Exit status: 0 nothing failed; 1 something failed; 2 the command line is refused; 130 interrupted.
 """
@@ -214,14 +214,15 @@ def print_fault(fault: OSError) -> Counts:
     return Counts(0, 1)
 
 
-def print_minutes(watch: minutes.Watch | None) -> None:
-    """Prints the processor minutes of the proofs, if they were watched. What fails in it does not fail the gate."""
+def minutes_of(watch: minutes.Watch | None) -> list[str]:
+    """Returns the table of processor minutes, if they were watched. What fails in it does not fail the gate."""
     with contextlib.suppress(Exception):
-        print("\n".join(watch.lines() if watch else []), end="\n" if watch else "", flush=True)
+        return watch.lines() if watch else []
+    return []
 
 
-def run_part(part: Part) -> Counts:
-    """Runs a part, prints its output line by line, and returns its counts."""
+def run_part(part: Part, table: list[str]) -> Counts:
+    """Runs a part, prints its output line by line, and returns its counts; minutes of proofs are added to the table."""
     print(f"== {part.shown()}", flush=True)
     lines = []
     watch = None
@@ -239,7 +240,7 @@ def run_part(part: Part) -> Counts:
         counts = counts_in(lines, child.returncode)
     except OSError as fault:
         counts = print_fault(fault)
-    print_minutes(watch)
+    table += minutes_of(watch)
     return print_counts(part, counts)
 
 
@@ -347,9 +348,9 @@ def run_quick(options: argparse.Namespace) -> Iterator[Counts]:
     """Runs the parts that need no proof, and yields their counts."""
     yield from run_together(quick_parts(), options.jobs)
     for part in parts_without_program():
-        yield run_part(part)
+        yield run_part(part, [])
     for part in parts_with([str(paths.UNPROVED)], options.fuzz or SHORT, options.seed, "--unproved"):
-        yield run_part(part)
+        yield run_part(part, [])
     yield Counts(0, 0, len(LEFT_OUT))
 
 
@@ -379,8 +380,9 @@ def main() -> int:
     """Runs the tool, and returns its exit status."""
     options = parse_options()
     signal.signal(signal.SIGTERM, signal.default_int_handler)
+    table: list[str] = []
     try:
-        counts = list(run_quick(options)) if options.quick else [run_part(part) for part in parts(options)]
+        counts = list(run_quick(options)) if options.quick else [run_part(part, table) for part in parts(options)]
     except KeyboardInterrupt:
         return 130
     passed, failed, skipped = (sum(each) for each in zip(*counts))
@@ -389,5 +391,5 @@ def main() -> int:
     else:
         if not failed and not options.after and not options.llbm:
             keep_receipt()
-        print(f"{passed} passed, {failed} failed" + (f", {skipped} skipped" if skipped else ""))
+        print(*table, f"{passed} passed, {failed} failed" + (f", {skipped} skipped" if skipped else ""), sep="\n")
     return 1 if failed else 0

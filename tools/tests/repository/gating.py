@@ -113,7 +113,7 @@ class Gate(base.WithPrograms):
             with mock.patch.dict(os.environ), contextlib.redirect_stdout(io.StringIO()):
                 os.environ.pop("RT_JOBS", None)
                 os.environ.update(known)
-                self.assertEqual(gate.run_part(gate.Part(gate.PROOFS)).passed, jobs)
+                self.assertEqual(gate.run_part(gate.Part(gate.PROOFS), []).passed, jobs)
 
     def test_the_quick_parts_compile_and_do_not_prove(self):
         gate = loaded("gate")
@@ -136,11 +136,12 @@ class Gate(base.WithPrograms):
         self.assertIn("there is no such file or directory: /none", lines)
 
     def run_main(self, *words, quick=(), whole=()):
-        """Runs the gate with these counts in place of its parts; returns its status, its lines, and its receipts."""
+        """Runs the gate with these counts, and lines of a table, in place of its parts; returns its status, its lines,
+        and its receipts."""
         gate, receipts = loaded("gate"), []
         gate.run_quick = lambda options: [gate.Counts(*counts) for counts in quick]
         gate.parts = lambda options: whole
-        gate.run_part = lambda counts: gate.Counts(*counts)
+        gate.run_part = lambda part, table: table.extend(part[3:]) or gate.Counts(*part[:3])
         gate.keep_receipt = lambda: receipts.append("receipt")
         handler = signal.getsignal(signal.SIGTERM)
         with mock.patch.object(sys, "argv", ["gate", *words]), contextlib.redirect_stdout(io.StringIO()) as out:
@@ -152,6 +153,8 @@ class Gate(base.WithPrograms):
         self.assertEqual(self.run_main(whole=[(2, 0), (3, 0)]), (0, ["5 passed, 0 failed"], ["receipt"]))
         self.assertEqual(self.run_main(whole=[(2, 1), (3, 0)]), (1, ["5 passed, 1 failed"], []))
         self.assertEqual(self.run_main(whole=[(2, 0, 1)])[1], ["2 passed, 0 failed, 1 skipped"])
+        lines = self.run_main(whole=[(2, 0, 0, "crate", "all"), (3, 0)])[1]
+        self.assertEqual(lines, ["crate", "all", "5 passed, 0 failed"])
         self.assertEqual(self.run_main("--after", whole=[(2, 0)]), (0, ["2 passed, 0 failed"], []))
         self.assertEqual(self.run_main("--llbm", "/p", whole=[(2, 0)]), (0, ["2 passed, 0 failed"], []))
 
