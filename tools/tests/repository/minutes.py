@@ -140,23 +140,24 @@ class Minutes(Folder):
         self.assertEqual(child.wait(60), 130)
 
     def gate(self, part, *changes):
-        """Runs a part of the gate in which `rt ci` is another command; returns the counts and the lines."""
+        """Runs a part of the gate in which `rt ci` is another command; returns the counts, the lines and the table."""
         gate = loaded("gate")
         gate.PROOFS = [part, "ci"]
         with contextlib.ExitStack() as stack:
             for change in changes:
                 stack.enter_context(change)
             out = stack.enter_context(contextlib.redirect_stdout(io.StringIO()))
-            counts = gate.run_part(gate.Part([part, "ci"]))
-        return counts, out.getvalue().splitlines()
+            table = []
+            counts = gate.run_part(gate.Part([part, "ci"]), table)
+        return counts, out.getvalue().splitlines(), table
 
-    def test_the_gate_prints_the_table_after_the_proofs(self):
-        counts, lines = self.gate(self.fake(status=1, failed=2))
+    def test_the_gate_keeps_the_table_of_the_proofs(self):
+        counts, lines, table = self.gate(self.fake(status=1, failed=2))
         self.assertEqual(counts, (5, 2, 0))
         self.assertEqual(lines[1:3], ["rt: all proved", "5 passed, 2 failed"])
-        self.assertTrue(lines[-1].endswith(": 5 passed, 2 failed"), lines)
-        self.assertEqual(lines[3].split()[:2], ["crate", "proof"])
-        self.assertTrue(LAST.fullmatch(lines[-2]), lines)
+        self.assertTrue(lines[3].endswith(": 5 passed, 2 failed"), lines)
+        self.assertEqual(table[0].split()[:2], ["crate", "proof"])
+        self.assertTrue(LAST.fullmatch(table[-1]), table)
 
     def test_a_table_that_fails_does_not_fail_the_gate(self):
         for change in [
@@ -164,14 +165,15 @@ class Minutes(Folder):
             mock.patch("threading.Thread.start", side_effect=RuntimeError),
             mock.patch.object(minutes, "processes", side_effect=OSError),
         ]:
-            counts, lines = self.gate(self.fake(), change)
+            counts, lines, _ = self.gate(self.fake(), change)
             self.assertEqual(counts, (5, 0, 0))
             self.assertTrue(lines[-1].endswith(": 5 passed, 0 failed"), lines)
 
     def test_other_parts_of_the_gate_have_no_table(self):
         gate = loaded("gate")
-        with contextlib.redirect_stdout(io.StringIO()) as out:
-            gate.run_part(gate.Part([self.fake(), "ci"]))
-        self.assertNotIn("processor minutes", out.getvalue())
+        table = []
+        with contextlib.redirect_stdout(io.StringIO()):
+            gate.run_part(gate.Part([self.fake(), "ci"]), table)
+        self.assertEqual(table, [])
         self.assertEqual(gate.PROOFS, ["rt", "ci"])
         self.assertTrue((ROOT / "tools" / "minutes").exists())
