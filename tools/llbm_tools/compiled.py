@@ -6,6 +6,9 @@ and no others, are kept in the user's cache folder: in `llbm/compiled` of XDG_CA
 kept if this folder is another user's or can be written by others, since its content is run. PYTHONPYCACHEPREFIX, which
 names a place for all modules, comes first. As everywhere in Python, a compiled module is used only if the time and the
 size of its source are those that it was compiled from.
+
+In both places a compiled module is kept whole or not at all. Python by itself keeps what a limit or a full disk leaves
+of it, and then can't load the module any more.
 """
 
 import os
@@ -35,9 +38,9 @@ def cache_folder() -> str:
 
 
 class Kept(SourceFileLoader):
-    """Loads a module from its source, or from its compiled form in the cache folder."""
+    """Loads a module from its source, or from its compiled form in the cache folder, or beside the source for None."""
 
-    folder = ""
+    folder: str | None = None
 
     def get_code(self, fullname: str) -> types.CodeType | None:
         """Returns the code of a module; what is set for all modules is changed while this one is loaded."""
@@ -47,6 +50,18 @@ class Kept(SourceFileLoader):
             return super().get_code(fullname)
         finally:
             sys.pycache_prefix, sys.dont_write_bytecode = before
+
+    def set_data(self, path: str, data: bytes, *, _mode: int = 0o666) -> None:  # type: ignore[override]
+        """Writes a file for a compiled module under a name of its own, and renames it if it is whole."""
+        beside = f"{path}.{os.getpid()}"
+        super().set_data(beside, data, _mode=_mode)
+        try:
+            if os.stat(beside).st_size == len(data):
+                os.replace(beside, path)
+            else:
+                os.unlink(beside)
+        except OSError:
+            return
 
 
 def is_below(path: str) -> bool:
@@ -62,12 +77,12 @@ def finder_in(path: str) -> FileFinder:
 
 
 def keep() -> None:
-    """Makes Python keep the compiled modules of the tools in the cache folder, if it does not keep them by itself."""
-    keeps = not sys.dont_write_bytecode and os.access(os.path.join(TOOLS, "llbm_tools"), os.W_OK)
-    if keeps or sys.pycache_prefix is not None:
+    """Makes Python keep the compiled modules of the tools: in the cache folder, if it does not keep them by itself."""
+    if sys.pycache_prefix is not None:
         return
-    Kept.folder = cache_folder()
-    if Kept.folder:
+    keeps = not sys.dont_write_bytecode and os.access(os.path.join(TOOLS, "llbm_tools"), os.W_OK)
+    Kept.folder = None if keeps else cache_folder()
+    if Kept.folder != "":
         sys.path_hooks.insert(0, finder_in)
         for path in filter(is_below, list(sys.path_importer_cache)):
             del sys.path_importer_cache[path]

@@ -2,6 +2,7 @@
 
 import os
 import pathlib
+import resource
 import shutil
 import subprocess
 import sys
@@ -109,14 +110,17 @@ class Kept(Folder):
         """Writes the module that the tool imports."""
         (self.modules / "word.py").write_text(f"WORD = {word!r}\n", "utf-8")
 
-    def run_it(self, **settings):
-        """Runs the tool, and returns what it prints and what Python says of the modules that it loads."""
+    def run_it(self, most=resource.RLIM_INFINITY, **settings):
+        """Runs the tool, whose files may get so many bytes each, and returns what it prints and what Python says of the
+        modules that it loads."""
         cache = {"XDG_CACHE_HOME": str(self.cache)}
         names = ("PYTHONDONTWRITEBYTECODE", "PYTHONPYCACHEPREFIX")
         settings = {**{name: value for name, value in os.environ.items() if name not in names}, **cache, **settings}
         done = subprocess.run(
-            [sys.executable, "-S", "-v", self.tools / "tool"], capture_output=True, timeout=600, env=settings, text=True
-        )
+            [sys.executable, "-S", "-v", self.tools / "tool"],
+            capture_output=True, timeout=600, env=settings, text=True,
+            preexec_fn=lambda: resource.setrlimit(resource.RLIMIT_FSIZE, (most, resource.RLIM_INFINITY)),
+        )  # fmt: skip
         self.assertEqual(done.returncode, 0, done.stderr)
         return done.stdout, done.stderr
 
@@ -152,6 +156,17 @@ class Kept(Folder):
         self.run_it(PYTHONDONTWRITEBYTECODE="1")
         self.write_module("other")
         self.assertEqual(self.run_it(PYTHONDONTWRITEBYTECODE="1")[0], "other\n")
+
+    def test_a_module_that_is_not_written_whole_is_not_kept(self):
+        for settings in ({}, {"PYTHONDONTWRITEBYTECODE": "1"}):
+            self.write_module("one")
+            self.run_it(**settings)
+            self.write_module("three")
+            for most in (1, 100, resource.RLIM_INFINITY):
+                self.assertEqual(self.run_it(most, **settings)[0], "three\n")
+            folders = [file.parent for place in (self.tools, self.cache) for file in place.rglob("word.*.pyc")]
+            for folder in folders:
+                self.assertEqual([file.suffix for file in folder.glob("word.*")], [".pyc"])
 
     def test_a_folder_that_others_can_write_is_not_used(self):
         self.kept.mkdir(parents=True)

@@ -257,5 +257,7 @@ def main() -> int:
     """Runs the tool, and returns its exit status."""
     options = parse_options()
     os.umask(0o022)
-    signal.signal(signal.SIGTERM, signal.default_int_handler)
+    # SIGINT is ignored in what a shell starts in the background, and would be in the tools that tests interrupt.
+    for number in (signal.SIGTERM, signal.SIGINT):
+        signal.signal(number, signal.default_int_handler)
     return streams.exit_status(lambda: test(options))

@@ -8,7 +8,6 @@ import re
 import signal
 import subprocess
 import sys
-import unittest
 from urllib.parse import quote
 
 from llbm_tools.page import builds, server
@@ -184,7 +183,6 @@ class Served(WithBuilds):
 class Tool(WithBuilds):
     """The tool as a process."""
 
-    @unittest.skipIf(signal.getsignal(signal.SIGINT) == signal.SIG_IGN, "SIGINT is ignored here")
     def test_it_prints_links_and_ends_when_it_is_interrupted(self):
         page = self.top / "page"
         words = [sys.executable, "-S", TOOLS / "page", "--serve", "--page", page, self.top / "kept"]

@@ -196,7 +196,6 @@ class TreeOfDirectory(Folder):
         done = run_closed(2, "tree-of-directory", self.place(b"in"))
         self.check_run(done, 0, self.text(["d 0755 OWN /", "f 0644 OWN 61 /a"]))
 
-    @unittest.skipIf(signal.getsignal(signal.SIGINT) == signal.SIG_IGN, "SIGINT is ignored here")
     def test_an_interrupt_ends_the_tool(self):
         self.make(b"a", b"a" * (1 << 20))
         child = subprocess.Popen(
