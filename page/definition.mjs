@@ -200,10 +200,21 @@ export function localsOf(definition) {
   return [...new Set(lines.filter((line) => line.startsWith(LOCAL)).map((line) => line.slice(LOCAL.length)))];
 }
 
+// The first line of a text that is neither empty nor a comment, without spaces around it. A long text is not split.
+function firstLine(text) {
+  for (let at = 0; at < text.length;) {
+    const next = text.indexOf('\n', at);
+    const end = next < 0 ? text.length : next;
+    const line = text.slice(at, end).trim();
+    if (line !== '' && !line.startsWith('#')) return line;
+    at = end + 1;
+  }
+  return '';
+}
+
 /** Returns whether bytes are the text of entries, and no definition. */
 export function isText(bytes) {
   if (bytes.includes(0)) return false;
-  const start = optional(() => new TextDecoder('utf-8', { fatal: true }).decode(bytes), '');
-  const line = start.split('\n').map((one) => one.trim()).find((one) => one !== '' && !one.startsWith('#'));
-  return line === 'op {' || (line ?? '').startsWith('raw ');
+  const line = firstLine(optional(() => new TextDecoder('utf-8', { fatal: true }).decode(bytes), ''));
+  return line === 'op {' || line.startsWith('raw ');
 }

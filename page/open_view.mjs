@@ -113,14 +113,9 @@ export class OpenView {
 
   /** Takes the bytes of a definition, or of its text. */
   take(bytes, name = '') {
-    const field = by('definition');
-    field.value = '';
-    this.given = null;
-    if (isText(bytes)) {
-      field.value = new TextDecoder().decode(bytes);
-      this.given = field.value.length > MOST_SHOWN ? bytes : null;
-      if (this.given) field.value = '';
-    } else this.given = bytes;
+    const text = isText(bytes) ? new TextDecoder().decode(bytes) : '';
+    this.given = text === '' || text.length > MOST_SHOWN ? bytes : null;
+    by('definition').value = this.given ? '' : text;
     this.name = this.given ? `${name || 'A definition'}: ${bytes.length} bytes` : '';
     this.origins.clear();
     this.showDefinition();
