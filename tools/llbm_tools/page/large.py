@@ -224,6 +224,8 @@ def large_tree(place: pathlib.Path) -> int:
 def a_long_text_does_not_stop_the_page(page: Page) -> None:
     """Gives the text of 20,000 vertices: a worker reads it, and the page draws meanwhile."""
     page.load()
+    # What the pages before this one have left is not collected while frames are watched.
+    page.browser.send("HeapProfiler.collectGarbage")
     place = page.folder / "long.text"
     ops = [file_on([number - 1] if number else [], f"/{number}") for number in range(LONG)]
     place.write_text("".join(ops) + f"op {{\n  inputs {{\n    digest %{LONG - 1}\n  }}\n}}\n", "utf-8")
