@@ -7,9 +7,9 @@ import (
 	"time"
 
 	"github.com/moby/buildkit/solver/pb"
-	"llbm/daemon/internal/differences"
 	"llbm/daemon/internal/graph"
 	"llbm/daemon/internal/machine"
+	"llbm/daemon/internal/rules"
 )
 
 const (
@@ -27,7 +27,7 @@ type comparison struct {
 	p      *progress
 	g      *graph.Graph
 	texts  map[int]*machine.Source // of the sources, by vertex
-	run    *differences.Run
+	run    *rules.Run
 	ctx    context.Context
 	cancel context.CancelFunc
 	done   chan struct{} // is closed when what no execution is before has been compared
@@ -36,7 +36,7 @@ type comparison struct {
 
 // compare begins a comparison. Its caller has to stop it before the texts are closed.
 func compare(ctx context.Context, def *pb.Definition, g *graph.Graph, in *inputs, texts []machine.Source, p *progress) *comparison {
-	c := &comparison{p: p, g: g, texts: map[int]*machine.Source{}, run: differences.New(g.Vertices), done: make(chan struct{})}
+	c := &comparison{p: p, g: g, texts: map[int]*machine.Source{}, run: rules.New(g.Vertices), done: make(chan struct{})}
 	for i, one := range in.all {
 		for _, v := range one.vertices {
 			c.texts[v] = &texts[i]
@@ -56,12 +56,12 @@ func compare(ctx context.Context, def *pb.Definition, g *graph.Graph, in *inputs
 // say shows what does not depend on trees.
 func (c *comparison) say(def *pb.Definition) {
 	for v := range c.g.Vertices {
-		for _, step := range differences.Static(v, c.g.Vertices[v].Sent) {
+		for _, step := range rules.Static(v, c.g.Vertices[v].Sent) {
 			c.show(step)
 		}
 	}
-	for _, line := range differences.UnknownInputs(def) {
-		c.show(differences.Step{Vertex: c.g.Result, Action: -1, Lines: []differences.Line{line}})
+	for _, line := range rules.UnknownInputs(def) {
+		c.show(rules.Step{Vertex: c.g.Result, Action: -1, Lines: []rules.Line{line}})
 	}
 }
 
@@ -96,9 +96,9 @@ func (c *comparison) end(run *machine.Run) bool {
 
 // show shows a step that ends otherwise: one warning for all paths with the same causes. What only follows from a difference
 // of an input has none.
-func (c *comparison) show(s differences.Step) {
+func (c *comparison) show(s rules.Step) {
 	var order []string
-	groups := map[string][]differences.Line{}
+	groups := map[string][]rules.Line{}
 	for _, line := range s.Lines {
 		key := fmt.Sprint(line.Texts)
 		if len(line.Texts) > 0 && groups[key] == nil {
@@ -112,7 +112,7 @@ func (c *comparison) show(s differences.Step) {
 }
 
 // differs shows a warning for lines with the same causes.
-func (p *progress) differs(s differences.Step, lines []differences.Line) {
+func (p *progress) differs(s rules.Step, lines []rules.Line) {
 	place := ""
 	if s.Action >= 0 {
 		number := s.Action
@@ -132,7 +132,7 @@ func (p *progress) differs(s differences.Step, lines []differences.Line) {
 	if more := len(lines) - 1 + s.More; more > 0 {
 		short += fmt.Sprintf(", and %d more", more)
 	}
-	if line := lines[0]; line.Texts[0].Name == differences.Execution && line.Words != differences.Unknown && !p.shown.note(line.Words) {
+	if line := lines[0]; line.Texts[0].Name == rules.Execution && line.Words != rules.Unknown && !p.shown.note(line.Words) {
 		return // the words are the same for all executions
 	}
 	p.note(s.Vertex, short, details)
@@ -145,7 +145,7 @@ type given struct {
 }
 
 // Source returns the tree of a source, as llbm gets it.
-func (g given) Source(v int) (*differences.Node, error) {
+func (g given) Source(v int) (*rules.Node, error) {
 	text, ok := g.texts[v]
 	if !ok {
 		return nil, fmt.Errorf("vertex %d has no text", v)
@@ -154,11 +154,11 @@ func (g given) Source(v int) (*differences.Node, error) {
 	if err != nil {
 		return nil, err
 	}
-	return differences.Read(g.ctx, io.NewSectionReader(text.Text, 0, end))
+	return rules.Read(g.ctx, io.NewSectionReader(text.Text, 0, end))
 }
 
 // Executed returns the outputs of an execution.
-func (g given) Executed(v int) ([]*differences.Node, bool, error) {
+func (g given) Executed(v int) ([]*rules.Node, bool, error) {
 	if g.outputs == nil {
 		return nil, false, nil
 	}
@@ -173,9 +173,9 @@ type executed struct {
 	stopped bool
 }
 
-func (e *executed) of(v int) ([]*differences.Node, bool, error) {
-	var out []*differences.Node
-	for index := range differences.Outputs(e.c.g.Vertices[v].Op.GetExec()) {
+func (e *executed) of(v int) ([]*rules.Node, bool, error) {
+	var out []*rules.Node
+	for index := range rules.Outputs(e.c.g.Vertices[v].Op.GetExec()) {
 		t, size, err := e.run.Aside(v, index, len(e.c.g.Vertices), e.left)
 		if err != nil {
 			e.stopped = true
@@ -185,7 +185,7 @@ func (e *executed) of(v int) ([]*differences.Node, bool, error) {
 			return nil, true, nil
 		}
 		e.left -= size
-		out = append(out, differences.Of(t))
+		out = append(out, rules.Of(t))
 	}
 	return out, true, nil
 }

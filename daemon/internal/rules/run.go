@@ -1,7 +1,7 @@
 // Package differences says where BuildKit would end otherwise, on the trees of a build: it does file ops and merges by the
 // rules of BuildKit and by those of llbm, side by side. It is the model of `tools/as-buildkit`, in the tool's words; a test
 // compares both. What executions make it is given. It reads what clients sent, so a context bounds it.
-package differences
+package rules
 
 import (
 	"context"
@@ -62,7 +62,7 @@ type Run struct {
 type state struct {
 	done  bool
 	here  []*Node
-	there []*ref
+	there []*Ref
 }
 
 // New returns a run; nil if there is nothing to compare.
@@ -110,8 +110,8 @@ func (r *Run) isReady(v int) bool {
 }
 
 // inputs returns the inputs of a vertex in both, each of them nil if one of its inputs is not there.
-func (r *Run) inputs(v int) (here []*Node, there []*ref) {
-	here, there = []*Node{}, []*ref{}
+func (r *Run) inputs(v int) (here []*Node, there []*Ref) {
+	here, there = []*Node{}, []*Ref{}
 	for i, input := range r.vertices[v].Inputs {
 		index, s := int(r.vertices[v].Op.Inputs[i].Index), &r.states[input]
 		if here != nil && index < len(s.here) {
@@ -155,13 +155,13 @@ func (r *Run) do(ctx context.Context, v int, given Given, found func(Step)) erro
 }
 
 func (r *Run) source(v int, given Given) (err error) {
-	t := empty()
+	t := Empty()
 	if r.wanted[v] {
 		if t, err = given.Source(v); err != nil {
 			return err
 		}
 	}
-	r.states[v] = state{true, []*Node{t}, []*ref{based(t)}}
+	r.states[v] = state{true, []*Node{t}, []*Ref{Based(t)}}
 	return nil
 }
 
@@ -180,14 +180,14 @@ func outputsOf(exec *pb.ExecOp) map[int]*pb.Mount {
 func Outputs(exec *pb.ExecOp) int { return len(outputsOf(exec)) }
 
 // execution takes what an execution made. Where its inputs differ, that is what it makes here; there it is not known.
-func (r *Run) execution(v int, exec *pb.ExecOp, here []*Node, there []*ref, given Given, found func(Step)) (err error) {
+func (r *Run) execution(v int, exec *pb.ExecOp, here []*Node, there []*Ref, given Given, found func(Step)) (err error) {
 	mounts := outputsOf(exec)
 	outputs, known := []*Node(nil), here == nil
 	switch {
 	case known:
 	case !r.wanted[v]:
 		for range mounts {
-			outputs = append(outputs, empty())
+			outputs = append(outputs, Empty())
 		}
 	default:
 		if outputs, known, err = given.Executed(v); !known || err != nil {
@@ -197,7 +197,7 @@ func (r *Run) execution(v int, exec *pb.ExecOp, here []*Node, there []*ref, give
 	s := &r.states[v]
 	s.done, s.here = true, outputs
 	for i := range there {
-		if here != nil && !same(here[i], there[i].tree) {
+		if here != nil && !Equal(here[i], there[i].tree) {
 			found(Step{Vertex: v, Action: -1, Lines: []Line{{Words: Unknown, Texts: []Text{other(Execution)}}}})
 			return nil
 		}
@@ -206,25 +206,25 @@ func (r *Run) execution(v int, exec *pb.ExecOp, here []*Node, there []*ref, give
 		return nil
 	}
 	for number, t := range outputs {
-		var base *ref
+		var base *Ref
 		if mount := mounts[number]; mount != nil && mount.Input != nothing {
 			base = there[mount.Input]
 		}
-		s.there = append(s.there, on(base, t))
+		s.there = append(s.there, On(base, t))
 	}
 	return nil
 }
 
 // asRefs returns trees without layers.
-func asRefs(trees []*Node) []*ref {
-	out := []*ref{}
+func asRefs(trees []*Node) []*Ref {
+	out := []*Ref{}
 	for _, t := range trees {
-		out = append(out, &ref{tree: t})
+		out = append(out, &Ref{tree: t})
 	}
 	return out
 }
 
-func asTrees(refs []*ref) []*Node {
+func asTrees(refs []*Ref) []*Node {
 	out := []*Node{}
 	for _, one := range refs {
 		out = append(out, one.tree)
@@ -267,27 +267,27 @@ func lineOf(words string, causes []Rule) Line {
 }
 
 // compareMerges does a merge by both sets of rules.
-func compareMerges(v int, op *pb.MergeOp, here []*Node, there []*ref, found func(Step)) ([]*Node, []*ref) {
+func compareMerges(v int, op *pb.MergeOp, here []*Node, there []*Ref, found func(Step)) ([]*Node, []*Ref) {
 	var outputsHere []*Node
-	var outputsThere []*ref
+	var outputsThere []*Ref
 	if here != nil {
-		if one, err := merge(op, asRefs(here), none); err == nil {
+		if one, err := Merge(op, asRefs(here), None); err == nil {
 			outputsHere = []*Node{one.tree}
 		}
 	}
 	if there == nil {
 		return outputsHere, nil
 	}
-	one, err := merge(op, there, all)
+	one, err := Merge(op, there, All)
 	if err == nil {
-		outputsThere = []*ref{one}
+		outputsThere = []*Ref{one}
 	}
 	if here == nil {
 		return nil, outputsThere
 	}
 	by := func() *causes {
 		return causesOf(func(like Rules) (*Node, error) {
-			made, err := merge(op, there, like)
+			made, err := Merge(op, there, like)
 			if err != nil {
 				return nil, err
 			}
@@ -305,8 +305,8 @@ func compareMerges(v int, op *pb.MergeOp, here []*Node, there []*ref, found func
 }
 
 // failed returns which action failed, if one did.
-func failed(err error) (*actionFails, bool) {
-	var one *actionFails
+func failed(err error) (*ActionFails, bool) {
+	var one *ActionFails
 	ok := errors.As(err, &one)
 	return one, ok
 }

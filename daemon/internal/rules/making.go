@@ -1,4 +1,4 @@
-package differences
+package rules
 
 import (
 	"context"
@@ -23,7 +23,7 @@ func mkdir(given *pb.FileActionMkDir, base *Node, like Rules) (*Node, error) {
 	}
 	if e.at(path) == nil {
 		e.set(path, e.made(path, entry{dir: true, mode: mode}, by, like))
-	} else if !like.has(MkdirOver) {
+	} else if !like.Has(MkdirOver) {
 		return nil, fails("%s is a file", shown(path))
 	}
 	return e.root, nil
@@ -42,10 +42,10 @@ func mkfile(given *pb.FileActionMkFile, base *Node, like Rules) (*Node, error) {
 	if err := e.checkParents(path); err != nil {
 		return nil, err
 	}
-	one := entry{mode: modeOfMade(given.Mode, like), content: contentOf(given.Data)}
+	one := entry{mode: modeOfMade(given.Mode, like), content: string(given.Data)}
 	by := ownerOf(given.Owner, like)
 	switch {
-	case old != nil && like.has(MkfileOver):
+	case old != nil && like.Has(MkfileOver):
 		one = writtenOver(old.entry, given.Owner, one.content, like)
 	case old != nil:
 		by.of(&one, [2]uint32{}, [2]uint32{}, like)
@@ -60,7 +60,7 @@ func mkfile(given *pb.FileActionMkFile, base *Node, like Rules) (*Node, error) {
 // path also removes the root.
 func rm(ctx context.Context, given *pb.FileActionRm, base *Node, like Rules) (*Node, error) {
 	if !given.AllowWildcard {
-		if like.has(RmRoot) && path.Clean(given.Path) == "." {
+		if like.Has(RmRoot) && path.Clean(given.Path) == "." {
 			return nil, nil
 		}
 		one, err := pathOfRm(given, base, like)
@@ -73,7 +73,7 @@ func rm(ctx context.Context, given *pb.FileActionRm, base *Node, like Rules) (*N
 	if err != nil {
 		return nil, err
 	}
-	if len(found) == 0 && !given.AllowNotFound && !like.has(RmNoMatch) {
+	if len(found) == 0 && !given.AllowNotFound && !like.Has(RmNoMatch) {
 		return nil, fails("no path matches")
 	}
 	return removed(base, found, given.AllowNotFound)
@@ -82,7 +82,7 @@ func rm(ctx context.Context, given *pb.FileActionRm, base *Node, like Rules) (*N
 // pathOfRm returns the path of an rm. Rule RmBelowFile: a path below a file is not skipped by `allowNotFound`.
 func pathOfRm(given *pb.FileActionRm, base *Node, like Rules) ([]string, error) {
 	path, err := read(given.Path, like)
-	if err == nil && like.has(RmBelowFile) && base.isBelowFile(path) {
+	if err == nil && like.Has(RmBelowFile) && base.isBelowFile(path) {
 		err = fails("%s is below a file", shown(path))
 	}
 	return path, err

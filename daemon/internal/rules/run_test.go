@@ -1,4 +1,4 @@
-package differences
+package rules
 
 import (
 	"context"
@@ -47,15 +47,15 @@ func TestAContextEndsAMatch(t *testing.T) {
 	}
 	ctx, cancel := context.WithCancel(context.Background())
 	cancel()
-	if _, err := rm(ctx, &pb.FileActionRm{Path: "/*", AllowWildcard: true}, root, all); !errors.Is(err, context.Canceled) {
+	if _, err := rm(ctx, &pb.FileActionRm{Path: "/*", AllowWildcard: true}, root, All); !errors.Is(err, context.Canceled) {
 		t.Error(err)
 	}
 }
 
 func TestALongPathIsReadInNoTimeByAnyRules(t *testing.T) {
 	long := &pb.FileActionMkDir{Path: strings.Repeat("/a", 1<<20), MakeParents: true}
-	for _, like := range []Rules{all, none, all &^ (1 << Length)} {
-		if _, err := mkdir(long, empty(), like); err == nil {
+	for _, like := range []Rules{All, None, All &^ (1 << Length)} {
+		if _, err := mkdir(long, Empty(), like); err == nil {
 			t.Error("it is made")
 		}
 	}
@@ -66,11 +66,11 @@ func TestTreesShareWhatIsCopiedAsItIs(t *testing.T) {
 	if err != nil {
 		t.Fatal(err)
 	}
-	left, err := copied(context.Background(), &pb.FileActionCopy{Src: "/a", Dest: "/c", Mode: keptMode}, empty(), root, all)
+	left, err := copied(context.Background(), &pb.FileActionCopy{Src: "/a", Dest: "/c", Mode: keptMode}, Empty(), root, All)
 	if err != nil || left.at([]string{"c"}) != root.at([]string{"a"}) {
 		t.Error(left, err)
 	}
-	if _, err := mkfile(&pb.FileActionMkFile{Path: "/c/d"}, left, all); err != nil || root.at([]string{"a", "d"}) != nil {
+	if _, err := mkfile(&pb.FileActionMkFile{Path: "/c/d"}, left, All); err != nil || root.at([]string{"a", "d"}) != nil {
 		t.Error("a tree changed that is shared", err)
 	}
 }

@@ -1,4 +1,4 @@
-package differences
+package rules
 
 import (
 	"strings"
@@ -23,7 +23,7 @@ func needed(actions []*pb.FileAction, count int, like Rules) []int {
 	found := map[int]bool{}
 	var todo, order []int
 	for number, action := range actions {
-		if action.Output != nothing || !like.has(UnusedAction) {
+		if action.Output != nothing || !like.Has(UnusedAction) {
 			todo = append(todo, number)
 		}
 	}
@@ -32,7 +32,7 @@ func needed(actions []*pb.FileAction, count int, like Rules) []int {
 		todo = todo[:len(todo)-1]
 		if number < len(actions) && !found[number] {
 			found[number] = true
-			if like.has(UnusedAction) {
+			if like.Has(UnusedAction) {
 				todo = append(todo, needs(actions[number], count)...)
 			}
 		}
@@ -50,12 +50,12 @@ func needed(actions []*pb.FileAction, count int, like Rules) []int {
 func checkSecondInputs(actions []*pb.FileAction, count int) error {
 	for number, action := range actions {
 		if index := int(action.SecondaryInput); index < nothing || index >= count+len(actions) {
-			return &actionFails{number, fails("the second input does not exist")}
+			return &ActionFails{number, fails("the second input does not exist")}
 		}
 	}
-	for _, number := range needed(actions, count, all) {
+	for _, number := range needed(actions, count, All) {
 		if isLoop(actions, count, number) {
-			return &actionFails{number, fails("the second input depends on the action")}
+			return &ActionFails{number, fails("the second input depends on the action")}
 		}
 	}
 	return nil
@@ -92,7 +92,7 @@ type selected struct {
 
 // checkSelected fails by rule Selected: before a file op BuildKit hashes what its copies select in inputs that no action works
 // on. So what is missing there fails, and a text that is no pattern, even for an action that is not done.
-func checkSelected(actions []*pb.FileAction, inputs []*ref) error {
+func checkSelected(actions []*pb.FileAction, inputs []*Ref) error {
 	worked := map[int]bool{}
 	for _, action := range actions {
 		worked[int(action.Input)] = true
@@ -113,7 +113,7 @@ func checkSelected(actions []*pb.FileAction, inputs []*ref) error {
 			}
 			plain[key] = append(plain[key], selected{number, c.Src})
 		} else if inputs[index].tree.at(parts[:wild]) != nil && !paths.IsPattern(strings.Join(parts, "/")) {
-			return &actionFails{number, fails("a text is no pattern")}
+			return &ActionFails{number, fails("a text is no pattern")}
 		}
 	}
 	for _, key := range order {
@@ -132,7 +132,7 @@ func checkPlain(found []selected, t *Node) error {
 			isBelow = isBelow || one.text != other.text && strings.HasPrefix(one.text, strings.TrimSuffix(other.text, "/")+"/")
 		}
 		if !isBelow && t.at(paths.Names(one.text)) == nil {
-			return &actionFails{one.action, fails("%s is missing", one.text)}
+			return &ActionFails{one.action, fails("%s is missing", one.text)}
 		}
 	}
 	return nil

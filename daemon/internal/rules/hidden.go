@@ -1,9 +1,9 @@
-package differences
+package rules
 
 import "github.com/moby/buildkit/solver/pb"
 
 // refusal returns the action for which BuildKit refuses a file op before it does any, and by which rule, if it does.
-func refusal(actions []*pb.FileAction, inputs []*ref) (*actionFails, Rule) {
+func refusal(actions []*pb.FileAction, inputs []*Ref) (*ActionFails, Rule) {
 	if fault, ok := failed(checkSelected(actions, inputs)); ok {
 		return fault, Selected
 	}
@@ -14,7 +14,7 @@ func refusal(actions []*pb.FileAction, inputs []*ref) (*actionFails, Rule) {
 }
 
 // hidden returns a step if BuildKit refuses a file op as it was sent, but not as it was rewritten.
-func hidden(v int, sent, op *pb.FileOp, inputs []*ref) (Step, bool) {
+func hidden(v int, sent, op *pb.FileOp, inputs []*Ref) (Step, bool) {
 	if sent == op {
 		return Step{}, false
 	}
@@ -26,5 +26,5 @@ func hidden(v int, sent, op *pb.FileOp, inputs []*ref) (Step, bool) {
 		return Step{}, false
 	}
 	line := lineOf("fails: "+fault.Error(), []Rule{rule})
-	return Step{Vertex: v, Action: fault.action, AsSent: true, Lines: []Line{line}}, true
+	return Step{Vertex: v, Action: fault.Action, AsSent: true, Lines: []Line{line}}, true
 }

@@ -1,30 +1,30 @@
-package differences
+package rules
 
-// A layer is a change of a tree: the tree before it, or none, and the tree after it. BuildKit's merges lay layers.
+// A layer is a change of a tree: the tree before it, or None, and the tree after it. BuildKit's merges lay layers.
 type layer struct{ lower, upper *Node }
 
-// A ref is a tree with its layers from the lowest one.
-type ref struct {
+// A Ref is a tree with its layers from the lowest one.
+type Ref struct {
 	tree   *Node
 	layers []layer
 }
 
-func based(t *Node) *ref { return &ref{t, []layer{{nil, t}}} }
+func Based(t *Node) *Ref { return &Ref{t, []layer{{nil, t}}} }
 
-// on returns a tree that is a change of another one, or of nothing.
-func on(base *ref, t *Node) *ref {
+// On returns a tree that is a change of another one, or of nothing.
+func On(base *Ref, t *Node) *Ref {
 	if base == nil {
-		return based(t)
+		return Based(t)
 	}
-	return &ref{t, append(base.layers[:len(base.layers):len(base.layers)], layer{base.tree, t})}
+	return &Ref{t, append(base.layers[:len(base.layers):len(base.layers)], layer{base.tree, t})}
 }
 
 // merged returns the merge of one or more trees: their layers, one over the other. One tree by itself stays as it is.
-func merged(refs []*ref) *ref {
+func merged(refs []*Ref) *Ref {
 	if len(refs) == 1 {
 		return refs[0]
 	}
-	all := &ref{tree: empty()}
+	all := &Ref{tree: Empty()}
 	for _, one := range refs {
 		all.layers = append(all.layers, one.layers...)
 	}

@@ -1,4 +1,4 @@
-package differences
+package rules
 
 import (
 	"context"
@@ -28,7 +28,7 @@ func copied(ctx context.Context, given *pb.FileActionCopy, base, second *Node, l
 	if c.dest, err = read(given.Dest, like); err != nil {
 		return nil, err
 	}
-	if !given.CreateDestPath && (len(sources) > 0 || like.has(EmptyCopy)) && len(c.dest) > 0 {
+	if !given.CreateDestPath && (len(sources) > 0 || like.Has(EmptyCopy)) && len(c.dest) > 0 {
 		if err := c.checkParents(c.dest); err != nil {
 			return nil, err
 		}
@@ -56,7 +56,7 @@ func sourcesOf(ctx context.Context, given *pb.FileActionCopy, second *Node, like
 // makeParents makes a directory and its missing parents. Rule ParentOwner: they get the owner of the action.
 func (c *copier) makeParents(path []string) error {
 	by := noOwner
-	if c.like.has(ParentOwner) {
+	if c.like.Has(ParentOwner) {
 		by = c.by
 	}
 	return c.makeAll(path, newMode, by, c.like)
@@ -75,13 +75,13 @@ func (c *copier) makeDirectories(path []string) error {
 // makesDest is whether a missing dest is made. Rules DestSlash and DestDot: one that ends in `/` or `/.` is a directory.
 func (c *copier) makesDest() bool {
 	dest := c.given.Dest
-	return c.like.has(DestSlash) && strings.HasSuffix(dest, "/") || c.like.has(DestDot) && strings.HasSuffix(dest, "/.")
+	return c.like.Has(DestSlash) && strings.HasSuffix(dest, "/") || c.like.Has(DestDot) && strings.HasSuffix(dest, "/.")
 }
 
 // nameOf returns the name of what is copied, as a path. Rule SourceDot: what is copied from a text that ends in `/.` has none.
 func (c *copier) nameOf(source []string) []string {
 	dot := strings.HasSuffix(c.given.Src, "/.") && !c.given.AllowWildcard
-	if len(source) == 0 || dot && c.like.has(SourceDot) {
+	if len(source) == 0 || dot && c.like.Has(SourceDot) {
 		return nil
 	}
 	return source[len(source)-1:]
@@ -123,7 +123,7 @@ func (c *copier) copySource(source []string) error {
 		err = c.checkParents(target)
 	}
 	from := c.from.at(source)
-	if err == nil && c.given.DirCopyContents && from.dir && c.like.has(ContentsTarget) {
+	if err == nil && c.given.DirCopyContents && from.dir && c.like.Has(ContentsTarget) {
 		err = c.makeDirectories(target)
 	}
 	if err != nil {
@@ -146,7 +146,7 @@ func (c *copier) lay(path []string, from *Node, isSource bool) error {
 			kind = "directory"
 		}
 		return fails("%s is a %s", shown(path), kind)
-	case old.isDir() && (isSource || !c.like.has(NestedDirectory)):
+	case old.isDir() && (isSource || !c.like.Has(NestedDirectory)):
 	case old.isDir():
 		c.set(path, c.entryOf(from.entry, [2]uint32{old.user, old.group}))
 	case c.keepsAll() && fits(path, from, c.like):

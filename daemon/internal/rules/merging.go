@@ -1,40 +1,40 @@
-package differences
+package rules
 
 import "github.com/moby/buildkit/solver/pb"
 
-// merge returns the result of a merge. Rule MergeInputs: BuildKit lays all inputs of the op in their order, each as often as
+// Merge returns the result of a merge. Rule MergeInputs: BuildKit lays all inputs of the op in their order, each as often as
 // the op has it, whatever the merge lists. Rule MergeNothing: a merge of no input fails. Rule MergeLayers: inputs are laid
 // layer by layer, and what a layer removed is removed.
-func merge(op *pb.MergeOp, inputs []*ref, like Rules) (*ref, error) {
-	var listed, laidOnes []*ref
-	if like.has(MergeInputs) {
+func Merge(op *pb.MergeOp, inputs []*Ref, like Rules) (*Ref, error) {
+	var listed, laidOnes []*Ref
+	if like.Has(MergeInputs) {
 		listed, laidOnes = inputs, inputs
 	} else {
 		for _, one := range op.GetInputs() {
 			if one.Input == nothing {
-				listed = append(listed, based(empty()))
+				listed = append(listed, Based(Empty()))
 			} else {
 				listed = append(listed, inputs[one.Input])
 				laidOnes = append(laidOnes, inputs[one.Input])
 			}
 		}
 	}
-	if like.has(MergeNothing) && len(laidOnes) == 0 {
+	if like.Has(MergeNothing) && len(laidOnes) == 0 {
 		return nil, fails("there is nothing to merge")
 	}
-	if like.has(MergeLayers) {
+	if like.Has(MergeLayers) {
 		if len(laidOnes) == 0 {
-			return based(empty()), nil
+			return Based(Empty()), nil
 		}
 		return merged(laidOnes), nil
 	}
-	made := &ref{tree: empty()}
+	made := &Ref{tree: Empty()}
 	for _, one := range listed {
 		made.tree = laid(made.tree, one.tree)
 		made.layers = append(made.layers, one.layers...)
 	}
 	if len(made.layers) == 0 {
-		return based(made.tree), nil
+		return Based(made.tree), nil
 	}
 	return made, nil
 }

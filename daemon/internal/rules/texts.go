@@ -1,4 +1,4 @@
-package differences
+package rules
 
 import (
 	"strings"
@@ -34,10 +34,10 @@ func bytesOf(path []string) int {
 // checkLength fails if a path is too long. Rule Length: in BuildKit one of more than about 4,000 bytes. Rule Names: in llbm
 // one of more than 128 names.
 func checkLength(path []string, like Rules) error {
-	if like.has(Length) && bytesOf(path) > mostOfPath {
+	if like.Has(Length) && bytesOf(path) > mostOfPath {
 		return fails("the path is too long")
 	}
-	if !like.has(Names) && len(path) > paths.MostNames {
+	if !like.Has(Names) && len(path) > paths.MostNames {
 		return fails("a path has more than 128 names")
 	}
 	return nil
@@ -46,13 +46,13 @@ func checkLength(path []string, like Rules) error {
 // fits is whether all paths of a tree that is put at a path pass checkLength.
 func fits(path []string, n *Node, like Rules) bool {
 	e := n.measure()
-	return (!like.has(Length) || bytesOf(path)+e.bytes <= mostOfPath) && (like.has(Names) || len(path)+e.names <= paths.MostNames)
+	return (!like.Has(Length) || bytesOf(path)+e.bytes <= mostOfPath) && (like.Has(Names) || len(path)+e.names <= paths.MostNames)
 }
 
 // read reads the text of a path. Rule Names: BuildKit takes control bytes and more than 128 names, and skips names that a
 // `..` removes.
 func read(text string, like Rules) ([]string, error) {
-	if !like.has(Names) && !paths.IsPath(text) {
+	if !like.Has(Names) && !paths.IsPath(text) {
 		return nil, fails("a text is no path")
 	}
 	path := paths.Names(text)
@@ -69,7 +69,7 @@ func read(text string, like Rules) ([]string, error) {
 // below a file.
 func readOfMkdir(text string, base *Node, like Rules) ([]string, error) {
 	path, err := read(text, like)
-	if err != nil || !like.has(MkdirPath) {
+	if err != nil || !like.Has(MkdirPath) {
 		return path, err
 	}
 	var walked []string

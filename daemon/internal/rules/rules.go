@@ -1,4 +1,4 @@
-package differences
+package rules
 
 import "strings"
 
@@ -46,11 +46,11 @@ const (
 type Rules uint64
 
 const (
-	none Rules = 0
-	all  Rules = 1<<numberOfRules - 1
+	None Rules = 0
+	All  Rules = 1<<numberOfRules - 1
 )
 
-func (s Rules) has(r Rule) bool { return s>>r&1 == 1 }
+func (s Rules) Has(r Rule) bool { return s>>r&1 == 1 }
 
 // A Text says of a rule, or of another note, when it matters, and what BuildKit and llbm do.
 type Text struct{ Name, Case, BuildKit, LLBM string }

@@ -1,4 +1,4 @@
-package differences
+package rules
 
 import (
 	"context"
@@ -24,15 +24,15 @@ func unescaped(part string) (string, error) {
 }
 
 // patternOf returns the names before the first wildcard, and the other parts. Rule Escape: in these names a backslash is a
-// backslash; in llbm it is none, but makes the character after it plain.
+// backslash; in llbm it is None, but makes the character after it plain.
 func patternOf(text string, like Rules) (names, parts []string, err error) {
-	if !like.has(Names) && !paths.IsPath(text) {
+	if !like.Has(Names) && !paths.IsPath(text) {
 		return nil, nil, fails("a text is no pattern")
 	}
 	given := paths.Names(text)
 	n := paths.Wild(given)
 	for _, name := range given[:n] {
-		if !like.has(Escape) {
+		if !like.Has(Escape) {
 			if name, err = unescaped(name); err != nil {
 				return nil, nil, err
 			}
@@ -95,7 +95,7 @@ func matchesCharacters(pattern, name string) bool {
 // isMatch is whether the rest of a path matches. Rule Match: BuildKit matches the parts as one text of bytes, so a class can
 // match a `/`.
 func isMatch(parts, rest []string, like Rules) bool {
-	if like.has(Match) {
+	if like.Has(Match) {
 		ok, _ := path.Match(strings.Join(parts, "/"), strings.Join(rest, "/"))
 		return ok
 	}
@@ -113,7 +113,7 @@ func isMatch(parts, rest []string, like Rules) bool {
 // matched adds to the paths below a directory that match, in order. What is below a match is not looked at. A client chooses
 // the pattern, so the context ends this too.
 func matched(ctx context.Context, n *Node, at, rest, parts []string, like Rules, found [][]string) ([][]string, error) {
-	if !like.has(Match) && len(rest) == len(parts) {
+	if !like.Has(Match) && len(rest) == len(parts) {
 		return found, nil
 	}
 	for _, name := range n.names() {
@@ -137,11 +137,11 @@ func matched(ctx context.Context, n *Node, at, rest, parts []string, like Rules,
 // be there. Rule BadPattern: a text that is no pattern matches nothing, and does not fail.
 func foundBelow(ctx context.Context, names, parts []string, t *Node, like Rules) ([][]string, error) {
 	base := t.at(names)
-	if like.has(WildcardBase) && base == nil {
+	if like.Has(WildcardBase) && base == nil {
 		return nil, fails("%s is missing", shown(names))
 	}
-	if paths.IsMalformed(parts) && !(like.has(BadPattern) && like.has(Match)) {
-		if like.has(BadPattern) {
+	if paths.IsMalformed(parts) && !(like.Has(BadPattern) && like.Has(Match)) {
+		if like.Has(BadPattern) {
 			return nil, nil
 		}
 		return nil, fails("a text is no pattern")
@@ -157,7 +157,7 @@ func foundForRm(ctx context.Context, text string, t *Node, like Rules) ([][]stri
 		return nil, err
 	case len(parts) > 0:
 		return foundBelow(ctx, names, parts, t, like)
-	case like.has(RmBelowFile) && t.isBelowFile(names):
+	case like.Has(RmBelowFile) && t.isBelowFile(names):
 		return nil, fails("%s is below a file", shown(names))
 	}
 	return [][]string{names}, nil
@@ -178,7 +178,7 @@ func foundForCopy(ctx context.Context, text string, allowEmpty bool, t *Node, li
 	} else if t.at(names) != nil {
 		found = [][]string{names}
 	}
-	if len(found) == 0 && (!allowEmpty || len(parts) == 0 && like.has(PlainWildcard)) {
+	if len(found) == 0 && (!allowEmpty || len(parts) == 0 && like.Has(PlainWildcard)) {
 		return nil, fails("nothing is there")
 	}
 	return found, nil

@@ -1,4 +1,4 @@
-package differences
+package rules
 
 import (
 	"context"
@@ -12,13 +12,13 @@ type sideBySide struct {
 	v            int
 	op           *pb.FileOp
 	here         []*Node
-	there        []*ref
+	there        []*Ref
 	outputsHere  []*Node
-	outputsThere []*ref
+	outputsThere []*Ref
 }
 
 // ruled returns a file op that was done by some rules, its outputs, and which action failed.
-func (f *sideBySide) ruled(inputs []*ref, like Rules) (*fileOp, []*ref, *actionFails, error) {
+func (f *sideBySide) ruled(inputs []*Ref, like Rules) (*fileOp, []*Ref, *ActionFails, error) {
 	one := newFileOp(f.op, inputs, like)
 	outputs, err := one.outputs(f.ctx)
 	if fault, ok := failed(err); ok {
@@ -30,17 +30,17 @@ func (f *sideBySide) ruled(inputs []*ref, like Rules) (*fileOp, []*ref, *actionF
 // compare does the op, and calls a function for each action that ends otherwise, if its inputs are known in both.
 func (f *sideBySide) compare(found func(Step)) error {
 	var here, there *fileOp
-	var faultHere, faultThere *actionFails
+	var faultHere, faultThere *ActionFails
 	var err error
 	if f.here != nil {
-		var outputs []*ref
-		if here, outputs, faultHere, err = f.ruled(asRefs(f.here), none); err != nil {
+		var outputs []*Ref
+		if here, outputs, faultHere, err = f.ruled(asRefs(f.here), None); err != nil {
 			return err
 		}
 		f.outputsHere = asTrees(outputs)
 	}
 	if f.there != nil {
-		if there, f.outputsThere, faultThere, err = f.ruled(f.there, all); err != nil {
+		if there, f.outputsThere, faultThere, err = f.ruled(f.there, All); err != nil {
 			return err
 		}
 	}
@@ -59,15 +59,15 @@ func (f *sideBySide) compare(found func(Step)) error {
 }
 
 // action returns the lines of an action.
-func (f *sideBySide) action(number int, here, there *fileOp, faultHere, faultThere *actionFails) Step {
+func (f *sideBySide) action(number int, here, there *fileOp, faultHere, faultThere *ActionFails) Step {
 	stepHere, isHere := here.steps[number]
 	stepThere, isThere := there.steps[number]
 	s := Step{Vertex: f.v, Action: number}
 	switch {
-	case faultThere != nil && faultThere.action == number:
-		if faultHere == nil || faultHere.action != number {
+	case faultThere != nil && faultThere.Action == number:
+		if faultHere == nil || faultHere.Action != number {
 			if !isHere {
-				stepHere = step{base: empty(), second: empty()}
+				stepHere = step{base: Empty(), second: Empty()}
 			}
 			causes := f.causes(number, stepHere).ofFault()
 			if len(causes) == 0 {
@@ -75,7 +75,7 @@ func (f *sideBySide) action(number int, here, there *fileOp, faultHere, faultThe
 			}
 			s.Lines = []Line{lineOf("fails: "+faultThere.Error(), causes)}
 		}
-	case faultHere != nil && faultHere.action == number && faultThere == nil:
+	case faultHere != nil && faultHere.Action == number && faultThere == nil:
 		if isThere {
 			s.Lines = []Line{lineOf("does not fail (here: "+faultHere.Error()+")", f.causes(number, stepThere).ofFault())}
 		} else {
@@ -100,19 +100,19 @@ func (f *sideBySide) causes(number int, on step) *causes {
 		if err := f.ctx.Err(); err != nil {
 			return nil, err
 		}
-		return acted(f.ctx, f.op.Actions[number], on.base, on.second, like)
+		return Act(f.ctx, f.op.Actions[number], on.base, on.second, like)
 	}, rules)
 }
 
 // causesOfOp returns the rule of the op by which an action fails that does not fail by itself.
-func causesOfOp(fault *actionFails, here *fileOp) []Rule {
+func causesOfOp(fault *ActionFails, here *fileOp) []Rule {
 	if one, ok := failed(checkSecondInputs(here.actions, len(here.inputs))); ok {
-		if one.action == fault.action {
+		if one.Action == fault.Action {
 			return []Rule{SecondInput}
 		}
 		return nil
 	}
-	if one, ok := failed(checkSelected(here.actions, here.inputs)); ok && one.action == fault.action {
+	if one, ok := failed(checkSelected(here.actions, here.inputs)); ok && one.Action == fault.Action {
 		return []Rule{Selected}
 	}
 	return nil

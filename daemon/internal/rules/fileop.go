@@ -1,4 +1,4 @@
-package differences
+package rules
 
 import (
 	"context"
@@ -10,16 +10,16 @@ import (
 
 const nothing = -1 // the empty tree as an input
 
-// An actionFails says which action of a file op fails, and why.
-type actionFails struct {
-	action int
-	err    error
+// An ActionFails says which action of a file op fails, and why.
+type ActionFails struct {
+	Action int
+	Err    error
 }
 
-func (f *actionFails) Error() string { return f.err.Error() }
+func (f *ActionFails) Error() string { return f.Err.Error() }
 
-// acted returns what an action leaves of a tree.
-func acted(ctx context.Context, action *pb.FileAction, base, second *Node, like Rules) (*Node, error) {
+// Act returns what an action leaves of a tree.
+func Act(ctx context.Context, action *pb.FileAction, base, second *Node, like Rules) (*Node, error) {
 	switch a := action.Action.(type) {
 	case *pb.FileAction_Copy:
 		return copied(ctx, a.Copy, base, second, like)
@@ -36,8 +36,8 @@ func acted(ctx context.Context, action *pb.FileAction, base, second *Node, like 
 // A working is what an action left: its tree, what this is a change of, and the tree as a layer by itself, if it is one.
 type working struct {
 	tree *Node
-	base *ref
-	ref  *ref
+	base *Ref
+	ref  *Ref
 }
 
 // A step has the trees that an action was done on, and what it left.
@@ -46,14 +46,14 @@ type step struct{ base, second, left *Node }
 // A fileOp is a file op while it is done on its inputs.
 type fileOp struct {
 	actions []*pb.FileAction
-	inputs  []*ref
+	inputs  []*Ref
 	like    Rules
 	uses    map[int]int
 	done    map[int]*working
 	steps   map[int]step
 }
 
-func newFileOp(op *pb.FileOp, inputs []*ref, like Rules) *fileOp {
+func newFileOp(op *pb.FileOp, inputs []*Ref, like Rules) *fileOp {
 	f := &fileOp{actions: op.GetActions(), inputs: inputs, like: like, uses: map[int]int{}, done: map[int]*working{}, steps: map[int]step{}}
 	for _, one := range f.actions {
 		f.uses[int(one.Input)]++
@@ -63,13 +63,13 @@ func newFileOp(op *pb.FileOp, inputs []*ref, like Rules) *fileOp {
 }
 
 // outputs does the actions, and returns the outputs of the op.
-func (f *fileOp) outputs(ctx context.Context) ([]*ref, error) {
-	if f.like.has(Selected) {
+func (f *fileOp) outputs(ctx context.Context) ([]*Ref, error) {
+	if f.like.Has(Selected) {
 		if err := checkSelected(f.actions, f.inputs); err != nil {
 			return nil, err
 		}
 	}
-	if f.like.has(SecondInput) {
+	if f.like.Has(SecondInput) {
 		if err := checkSecondInputs(f.actions, len(f.inputs)); err != nil {
 			return nil, err
 		}
@@ -85,10 +85,10 @@ func (f *fileOp) outputs(ctx context.Context) ([]*ref, error) {
 			return nil, err
 		}
 		if err := f.do(ctx, number); err != nil {
-			return nil, &actionFails{number, err}
+			return nil, &ActionFails{number, err}
 		}
 	}
-	var out []*ref
+	var out []*Ref
 	for _, output := range slices.Sorted(maps.Keys(numbers)) {
 		out = append(out, f.refOf(len(f.inputs)+numbers[output]))
 	}
@@ -98,11 +98,11 @@ func (f *fileOp) outputs(ctx context.Context) ([]*ref, error) {
 // do does an action; what it needs is done. A result that is used twice is a layer by itself, and so is one that is an output.
 func (f *fileOp) do(ctx context.Context, number int) error {
 	action := f.actions[number]
-	base, second := f.startOf(int(action.Input)), empty()
+	base, second := f.startOf(int(action.Input)), Empty()
 	if action.GetCopy() != nil {
 		second = f.startOf(int(action.SecondaryInput)).tree
 	}
-	left, err := acted(ctx, action, base.tree, second, f.like)
+	left, err := Act(ctx, action, base.tree, second, f.like)
 	if err != nil {
 		return err
 	}
@@ -112,7 +112,7 @@ func (f *fileOp) do(ctx context.Context, number int) error {
 		if left == nil {
 			return fails("the root is removed")
 		}
-		made.ref = on(made.base, left)
+		made.ref = On(made.base, left)
 	}
 	f.done[number] = made
 	return nil
@@ -121,7 +121,7 @@ func (f *fileOp) do(ctx context.Context, number int) error {
 // startOf returns the tree that an action is done on, with what its change is a change of.
 func (f *fileOp) startOf(index int) *working {
 	if index < 0 {
-		return &working{tree: empty()}
+		return &working{tree: Empty()}
 	}
 	if number := index - len(f.inputs); number >= 0 && f.done[number].ref == nil {
 		return f.done[number]
@@ -131,7 +131,7 @@ func (f *fileOp) startOf(index int) *working {
 }
 
 // refOf returns an input, or the result of an action as a layer by itself.
-func (f *fileOp) refOf(index int) *ref {
+func (f *fileOp) refOf(index int) *Ref {
 	if index < len(f.inputs) {
 		return f.inputs[index]
 	}
@@ -139,5 +139,5 @@ func (f *fileOp) refOf(index int) *ref {
 	if one.ref != nil {
 		return one.ref
 	}
-	return on(one.base, one.tree)
+	return On(one.base, one.tree)
 }

@@ -1,4 +1,4 @@
-package differences
+package rules
 
 import (
 	"math"
@@ -36,7 +36,7 @@ func ownerOf(given *pb.ChownOpt, like Rules) owner {
 		return noOwner
 	}
 	o := owner{numberOf(given.User), numberOf(given.Group)}
-	if like.has(Owner) {
+	if like.Has(Owner) {
 		o.user = max(o.user, 0)
 		if o.group == absent {
 			o.group = o.user
@@ -53,7 +53,7 @@ func (o owner) of(one *entry, before, created [2]uint32, like Rules) {
 		switch {
 		case number == absent:
 			chosen = before[i]
-		case number == unchanged && like.has(NoOwner):
+		case number == unchanged && like.Has(NoOwner):
 			chosen = created[i]
 		}
 		if i == 0 {
@@ -66,7 +66,7 @@ func (o owner) of(one *entry, before, created [2]uint32, like Rules) {
 
 // modeOfMade returns the mode that mkdir and mkfile set. Rule Mode: the low 9 bits of a mode, in llbm the low 12.
 func modeOfMade(mode int32, like Rules) uint32 {
-	if like.has(Mode) {
+	if like.Has(Mode) {
 		return uint32(mode) & 0o777
 	}
 	return uint32(mode) & modeBits
@@ -74,7 +74,7 @@ func modeOfMade(mode int32, like Rules) uint32 {
 
 // inherits is whether a new entry is in a directory with the set-group bit, and that matters.
 func (e *edit) inherits(path []string, like Rules) bool {
-	return len(path) > 0 && like.has(SetGroup) && e.at(path[:len(path)-1]).mode&setGroup != 0
+	return len(path) > 0 && like.Has(SetGroup) && e.at(path[:len(path)-1]).mode&setGroup != 0
 }
 
 // creator returns the owner of a new entry before an action changes it. Rule SetGroup: in a directory with the set-group bit

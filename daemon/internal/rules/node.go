@@ -1,10 +1,9 @@
-package differences
+package rules
 
 import (
 	"bufio"
 	"bytes"
 	"context"
-	"crypto/sha256"
 	"io"
 	"maps"
 	"slices"
@@ -16,7 +15,7 @@ import (
 type entry struct {
 	dir               bool
 	mode, user, group uint32
-	content           string // of a file: what its tree's text has, or a digest of that
+	content           string // of a file: what its tree's text has
 }
 
 // A Node is an entry with all that is below it. Trees share nodes, so only the edit that made a node changes it. No node is a
@@ -41,7 +40,7 @@ func newNode(one entry) *Node {
 	return n
 }
 
-func empty() *Node { return newNode(entry{dir: true, mode: newMode}) }
+func Empty() *Node { return newNode(entry{dir: true, mode: newMode}) }
 
 // at returns what is at a path, or nil.
 func (n *Node) at(path []string) *Node {
@@ -99,8 +98,8 @@ func (n *Node) isBelowFile(path []string) bool {
 	return false
 }
 
-// same is whether two trees are equal.
-func same(a, b *Node) bool {
+// Equal is whether two trees are equal.
+func Equal(a, b *Node) bool {
 	if a == b {
 		return true
 	}
@@ -108,28 +107,17 @@ func same(a, b *Node) bool {
 		return false
 	}
 	for name, one := range a.below {
-		if !same(one, b.below[name]) {
+		if !Equal(one, b.below[name]) {
 			return false
 		}
 	}
 	return true
 }
 
-// mostOfContent is how many bytes of a content are kept as they are.
-const mostOfContent = sha256.Size
-
-func contentOf(data []byte) string {
-	if len(data) < mostOfContent {
-		return string(data)
-	}
-	sum := sha256.Sum256(data)
-	return string(sum[:])
-}
-
 func entryOf(e *tree.Entry) entry {
 	one := entry{dir: e.Dir, mode: e.Mode, user: e.UID, group: e.GID}
 	if !e.Dir {
-		one.content = contentOf(e.Content)
+		one.content = string(e.Content)
 	}
 	return one
 }

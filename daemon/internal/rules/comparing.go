@@ -1,4 +1,4 @@
-package differences
+package rules
 
 import (
 	"fmt"
@@ -101,12 +101,12 @@ func causesOf(made func(Rules) (*Node, error), rules []Rule) *causes {
 		t, err := made(like)
 		return result{t, err}
 	}
-	c := &causes{there: do(all), here: do(none), rules: rules}
-	if (c.there.err == nil) == (c.here.err == nil) && same(c.there.tree, c.here.tree) {
+	c := &causes{there: do(All), here: do(None), rules: rules}
+	if (c.there.err == nil) == (c.here.err == nil) && Equal(c.there.tree, c.here.tree) {
 		c.rules = nil
 	}
 	for _, rule := range c.rules {
-		c.without[rule], c.alone[rule] = do(all&^(1<<rule)), do(1<<rule)
+		c.without[rule], c.alone[rule] = do(All&^(1<<rule)), do(1<<rule)
 	}
 	return c
 }

@@ -1,4 +1,4 @@
-package differences
+package rules
 
 import (
 	"fmt"
@@ -31,7 +31,7 @@ func Static(v int, op *pb.Op) []Step {
 		add(-1, "ShortMerge")
 	}
 	actions := op.GetFile().GetActions()
-	for _, number := range needed(actions, len(op.Inputs), all) {
+	for _, number := range needed(actions, len(op.Inputs), All) {
 		if rm := actions[number].GetRm(); rm != nil && leavesTree(rm) {
 			add(number, "RmAboveRoot")
 		}

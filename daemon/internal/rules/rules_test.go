@@ -1,4 +1,4 @@
-package differences
+package rules
 
 import (
 	"encoding/json"
