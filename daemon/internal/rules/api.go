@@ -2,10 +2,8 @@ package rules
 
 import (
 	"context"
-	"io"
 
 	"github.com/moby/buildkit/solver/pb"
-	"llbm/daemon/internal/tree"
 )
 
 // With returns the rules and one more.
@@ -20,34 +18,16 @@ func FileOp(ctx context.Context, op *pb.FileOp, inputs []*Ref, like Rules) ([]*R
 	return newFileOp(op, inputs, like).outputs(ctx)
 }
 
-// Tree returns the node of a ref's tree.
-func (r *Ref) Tree() *Node { return r.tree }
-
-// Tree returns the entries of a tree, none if its root is removed.
-func (n *Node) Tree() tree.Tree { return n.entries("", nil) }
-
-func (n *Node) entries(path string, found tree.Tree) tree.Tree {
-	if n == nil {
-		return found
+// Differences returns how two trees differ, a line for each of up to some paths, in path order: what the first has, and what the
+// second one has "here".
+func Differences(ctx context.Context, there, here *Node, most int) ([]string, error) {
+	s := &search{ctx: ctx, most: most}
+	if err := s.below("", pair{there, here}, nil); err != nil {
+		return nil, err
 	}
-	found = append(found, tree.Entry{Path: path, Dir: n.dir, Mode: n.mode, UID: n.user, GID: n.group, Content: []byte(n.content)})
-	if path != "" {
-		path += "/"
+	var out []string
+	for _, one := range s.found {
+		out = append(out, one.words())
 	}
-	for _, name := range n.names() {
-		found = n.below[name].entries(path+name, found)
-	}
-	return found
-}
-
-// Write writes the text of a tree.
-func (n *Node) Write(to io.Writer) error { return n.Tree().Write(to) }
-
-// Differences returns how two trees differ, one line for each path, in path order: what BuildKit has, and what llbm has "here".
-func Differences(there, here *Node) []string {
-	var found []string
-	for _, one := range differing("", there, here, nil) {
-		found = append(found, one.words())
-	}
-	return found
+	return out, nil
 }

@@ -1,164 +1,189 @@
 package rules
 
 import (
+	"context"
+	"errors"
 	"fmt"
-	"strings"
+
+	"github.com/moby/buildkit/solver/pb"
 )
 
-// A difference is a path at which two trees differ: what BuildKit and what llbm has there.
-type difference struct {
-	path            string // without a slash in front
-	there, here     entry
-	isThere, isHere bool
+// Notes of a comparison without a rule.
+const (
+	// Rewriting is the name of the note that no rule explains a difference: llbm runs another action than was sent.
+	Rewriting = "Rewriting"
+	// HardLinks is the name of the note that a file is written which has other names.
+	HardLinks = "HardLinks"
+)
+
+// mostLines is how many paths of a step are looked at.
+const mostLines = 1000
+
+// A Step is an action of a file op as it was sent, or a vertex as a whole (-1), that ends otherwise.
+type Step struct {
+	Action int
+	Lines  []Line
+	More   bool // whether there is more than the lines say
 }
 
-func kindOf(one entry, is bool) string {
-	switch {
-	case !is:
-		return "missing"
-	case one.dir:
-		return "a directory"
-	}
-	return "a file"
+// A Line is one way in which a step ends otherwise: in words, with the names of the rules or notes by which it does. Without one
+// it is only that what the step works on differs already.
+type Line struct {
+	Words string   `json:"words"`
+	Notes []string `json:"notes"`
+	More  int      `json:"more,omitempty"` // how many further paths have the same notes
 }
 
-// words returns the difference in words.
-func (d difference) words() string {
-	if !d.isThere || !d.isHere || d.there.dir != d.here.dir {
-		return fmt.Sprintf("/%s is %s (here %s)", d.path, kindOf(d.there, d.isThere), kindOf(d.here, d.isHere))
+// Follows are the words for a difference without a rule.
+const Follows = "its inputs differ"
+
+func (l Line) String() string {
+	if len(l.Notes) == 0 {
+		return printable(l.Words) + ": " + Follows
 	}
-	var parts []string
-	if d.there.mode != d.here.mode {
-		parts = append(parts, fmt.Sprintf("mode %04o (here %04o)", d.there.mode, d.here.mode))
+	names := ""
+	for _, name := range l.Notes {
+		names += ", " + name
 	}
-	if d.there.user != d.here.user || d.there.group != d.here.group {
-		parts = append(parts, fmt.Sprintf("owner %d:%d (here %d:%d)", d.there.user, d.there.group, d.here.user, d.here.group))
-	}
-	if d.there.content != d.here.content {
-		parts = append(parts, "another content")
-	}
-	return fmt.Sprintf("/%s has %s", d.path, strings.Join(parts, ", "))
+	return printable(l.Words) + ": " + names[2:]
 }
 
-// differing adds the differences below a directory to those that were found, in path order. The root itself, which no result
-// shows, is not compared.
-func differing(at string, there, here *Node, found []difference) []difference {
-	if there == here {
-		return found
+func lineOf(words string, causes []Rule) Line {
+	line := Line{Words: words}
+	for _, rule := range causes {
+		line.Notes = append(line.Notes, rule.String())
 	}
-	for _, name := range joined(there.names(), here.names()) {
-		one, other := there.child(name), here.child(name)
-		if one == other {
-			continue
-		}
-		d := difference{path: at + name}
-		if one != nil {
-			d.there, d.isThere = one.entry, true
-		}
-		if other != nil {
-			d.here, d.isHere = other.entry, true
-		}
-		if d.there != d.here || d.isThere != d.isHere {
-			found = append(found, d)
-		}
-		found = differing(d.path+"/", one, other, found)
-	}
-	return found
+	return line
 }
 
-// joined returns the names of two lists in order.
-func joined(a, b []string) []string {
-	out := make([]string, 0, max(len(a), len(b)))
-	for len(a) > 0 || len(b) > 0 {
-		switch {
-		case len(b) == 0 || len(a) > 0 && a[0] < b[0]:
-			out, a = append(out, a[0]), a[1:]
-		case len(a) == 0 || b[0] < a[0]:
-			out, b = append(out, b[0]), b[1:]
-		default:
-			out, a, b = append(out, a[0]), a[1:], b[1:]
-		}
+// A Compared is a vertex that was done as it was sent by BuildKit's rules, and as it runs by those of llbm. Outputs are nil if it
+// fails, or if its inputs are not known.
+type Compared struct {
+	There []*Ref
+	Here  []*Node
+	Steps []Step
+}
+
+// failed returns which action failed, if one did.
+func failed(err error) (*ActionFails, bool) {
+	var one *ActionFails
+	ok := errors.As(err, &one)
+	return one, ok
+}
+
+// asRefs returns trees without layers.
+func asRefs(trees []*Node) []*Ref {
+	out := []*Ref{}
+	for _, t := range trees {
+		out = append(out, &Ref{tree: t})
 	}
 	return out
 }
 
-// A result is a tree, or why there is none.
-type result struct {
-	tree *Node
-	err  error
+func asTrees(refs []*Ref) []*Node {
+	out := []*Node{}
+	for _, one := range refs {
+		out = append(out, one.tree)
+	}
+	return out
 }
 
-// causes finds the rules that can be the cause of a difference: by what is made without each of them, and by each alone.
-type causes struct {
-	there, here    result
-	without, alone [numberOfRules]result
-	rules          []Rule
+// stepOf returns a step with a line for each difference. A difference that no rule explains follows from the inputs, if they
+// differ.
+func stepOf(action int, s *search, inputsDiffer bool, of func(difference) []Rule) Step {
+	step := Step{Action: action, More: s.more}
+	for _, one := range s.found {
+		line := lineOf(one.words(), of(one))
+		if len(line.Notes) == 0 && !inputsDiffer {
+			line.Notes = []string{Rewriting}
+		}
+		step.Lines = append(step.Lines, line)
+	}
+	return step
 }
 
-// causesOf does a step by all sets of rules that are asked for; rules has those that can matter.
-func causesOf(made func(Rules) (*Node, error), rules []Rule) *causes {
-	do := func(like Rules) result {
-		t, err := made(like)
-		return result{t, err}
+// CompareMerges does a merge as it was sent, on the inputs in BuildKit, and as it runs, on those in llbm. Inputs are nil if they
+// are not known.
+func CompareMerges(ctx context.Context, sent, run *pb.MergeOp, there []*Ref, here []*Node) (*Compared, error) {
+	c := &Compared{}
+	if here != nil {
+		one, err := Merge(ctx, run, asRefs(here), None)
+		if err != nil {
+			return nil, err
+		}
+		c.Here = []*Node{one.tree}
 	}
-	c := &causes{there: do(All), here: do(None), rules: rules}
-	if (c.there.err == nil) == (c.here.err == nil) && Equal(c.there.tree, c.here.tree) {
-		c.rules = nil
+	if there == nil {
+		return c, nil
 	}
-	for _, rule := range c.rules {
-		c.without[rule], c.alone[rule] = do(All&^(1<<rule)), do(1<<rule)
+	one, fault := Merge(ctx, sent, there, All)
+	if err := ctx.Err(); err != nil {
+		return nil, err
 	}
-	return c
+	if fault == nil {
+		c.There = []*Ref{one}
+	}
+	if here == nil {
+		return c, nil
+	}
+	by := func() *causes {
+		return causesOf(rulesOfMerge, func(like Rules) (*Node, error) {
+			made, err := Merge(ctx, sent, there, like)
+			if err != nil {
+				return nil, err
+			}
+			return made.tree, nil
+		})
+	}
+	if fault != nil {
+		c.Steps = []Step{{Action: -1, Lines: []Line{lineOf("fails: "+fault.Error(), by().ofFault())}}}
+		return c, ctx.Err()
+	}
+	before := pairsOf(asTrees(there), here)
+	s := &search{ctx: ctx, most: mostLines}
+	if err := s.below("", pair{one.tree, c.Here[0]}, before); err != nil {
+		return nil, err
+	}
+	if len(s.found) > 0 {
+		c.Steps = []Step{stepOf(-1, s, len(before) > 0 || len(there) != len(here), by().of)}
+	}
+	return c, ctx.Err()
 }
 
-// ofFault returns the rules by which one of both fails.
-func (c *causes) ofFault() []Rule {
-	var found, other []Rule
-	for _, rule := range c.rules {
-		if (c.without[rule].err == nil) != (c.there.err == nil) {
-			found = append(found, rule)
-		}
-		if (c.alone[rule].err == nil) != (c.here.err == nil) {
-			other = append(other, rule)
-		}
+// pairsOf returns the pairs of two lists that do not agree.
+func pairsOf(there, here []*Node) []pair {
+	var out []pair
+	for i := range min(len(there), len(here)) {
+		out = append(out, pair{there[i], here[i]})
 	}
-	if len(found) == 0 {
-		return other
-	}
-	return found
+	return differing(out)
 }
 
-// at returns the rules by which a path differs.
-func (c *causes) at(path string) []Rule {
-	if c.there.err != nil || c.here.err != nil {
-		return c.ofFault()
+// CompareSources compares what BuildKit's client sends of a tree with the tree.
+func CompareSources(ctx context.Context, source *pb.SourceOp, t *Node) (*Compared, error) {
+	made := func(like Rules) (*Node, error) { return Sent(ctx, source, t, like) }
+	by := causesOf([]Rule{LocalOwner, Filters}, made)
+	if err := ctx.Err(); err != nil {
+		return nil, err
 	}
-	names := strings.Split(path, "/")
-	entryAt := func(r result) (one entry, is bool) {
-		if n := r.tree.at(names); n != nil {
-			return n.entry, true
-		}
-		return entry{}, false
+	c := &Compared{Here: []*Node{t}}
+	if by.there.err != nil {
+		c.Steps = []Step{{Action: -1, Lines: []Line{lineOf("fails: "+by.there.err.Error(), by.ofFault())}}}
+		return c, nil
 	}
-	equal := func(a, b result) bool {
-		one, is := entryAt(a)
-		other, isOther := entryAt(b)
-		return one == other && is == isOther
+	c.There = []*Ref{Based(by.there.tree)}
+	s := &search{ctx: ctx, most: mostLines}
+	if err := s.below("", pair{by.there.tree, t}, nil); err != nil {
+		return nil, err
 	}
-	if equal(c.there, c.here) {
-		return nil
+	if len(s.found) > 0 {
+		c.Steps = []Step{stepOf(-1, s, false, by.of)}
 	}
-	var found, other []Rule
-	for _, rule := range c.rules {
-		if c.without[rule].err == nil && !equal(c.without[rule], c.there) {
-			found = append(found, rule)
-		}
-		if c.alone[rule].err == nil && !equal(c.alone[rule], c.here) {
-			other = append(other, rule)
-		}
-	}
-	if len(found) == 0 {
-		return other
-	}
-	return found
+	return c, nil
 }
+
+// Same is a local source of which BuildKit has what llbm has.
+func Same(t *Node) *Compared { return &Compared{There: []*Ref{Based(t)}, Here: []*Node{t}} }
+
+// wordsOfFault returns the words for a fault that llbm alone has.
+func wordsOfFault(fault *ActionFails) string { return fmt.Sprintf("does not fail (here: %v)", fault) }

@@ -5,31 +5,46 @@ import (
 	"strings"
 
 	"github.com/moby/buildkit/solver/pb"
+	"llbm/daemon/internal/persistent"
 )
 
-// A copier copies into a tree, which it edits.
+// A copier copies into a tree.
 type copier struct {
-	*edit
+	ctx   context.Context
 	given *pb.FileActionCopy
 	from  *Node
+	into  *Node
 	like  Rules
 	by    owner
 	dest  []string
+	laid  map[laying]*Node
+	// grafted has, by the path of what was put into the tree as it is, the path where it was.
+	grafted map[string]string
+}
+
+// A laying is what the result of a copy depends on, besides the action: what is there, what is copied, and the directory that
+// it is copied into. A tree that has itself many times is copied once.
+type laying struct {
+	old, from *Node
+	setGroup  bool
+	group     uint32
+	isSource  bool
 }
 
 // copied returns a tree with what is copied from a second one. Rule EmptyCopy: without `createDestPath` the parents of dest
 // have to be there even if nothing is copied.
-func copied(ctx context.Context, given *pb.FileActionCopy, base, second *Node, like Rules) (*Node, error) {
+func copied(ctx context.Context, given *pb.FileActionCopy, base, second *Node, like Rules) (*copier, error) {
 	sources, err := sourcesOf(ctx, given, second, like)
 	if err != nil {
 		return nil, err
 	}
-	c := &copier{edit: begin(base), given: given, from: second, like: like, by: ownerOf(given.Owner, like)}
+	c := &copier{ctx: ctx, given: given, from: second, into: base, like: like, by: ownerOf(given.Owner, like)}
+	c.laid, c.grafted = map[laying]*Node{}, map[string]string{}
 	if c.dest, err = read(given.Dest, like); err != nil {
 		return nil, err
 	}
 	if !given.CreateDestPath && (len(sources) > 0 || like.Has(EmptyCopy)) && len(c.dest) > 0 {
-		if err := c.checkParents(c.dest); err != nil {
+		if err := checkParents(c.into, c.dest); err != nil {
 			return nil, err
 		}
 	}
@@ -38,7 +53,7 @@ func copied(ctx context.Context, given *pb.FileActionCopy, base, second *Node, l
 			return nil, err
 		}
 	}
-	return c.root, nil
+	return c, nil
 }
 
 // sourcesOf returns what a copy copies, in order.
@@ -47,25 +62,29 @@ func sourcesOf(ctx context.Context, given *pb.FileActionCopy, second *Node, like
 		return foundForCopy(ctx, given.Src, given.AllowEmptyWildcard, second, like)
 	}
 	source, err := read(given.Src, like)
-	if err == nil && second.at(source) == nil {
+	if err == nil && second.At(source) == nil {
 		err = fails("%s is missing", shown(source))
 	}
 	return [][]string{source}, err
 }
 
 // makeParents makes a directory and its missing parents. Rule ParentOwner: they get the owner of the action.
-func (c *copier) makeParents(path []string) error {
-	by := noOwner
+func (c *copier) makeParents(path []string) (err error) {
+	m := maker{mode: newMode, by: noOwner, like: c.like}
 	if c.like.Has(ParentOwner) {
-		by = c.by
+		m.by = c.by
 	}
-	return c.makeAll(path, newMode, by, c.like)
+	into, err := m.all(c.into, path)
+	if err == nil {
+		c.into = into
+	}
+	return err
 }
 
 // makeDirectories does the same, but without `createDestPath` the parents have to be there.
 func (c *copier) makeDirectories(path []string) error {
 	if !c.given.CreateDestPath {
-		if err := c.checkParents(path); err != nil {
+		if err := checkParents(c.into, path); err != nil {
 			return err
 		}
 	}
@@ -89,14 +108,14 @@ func (c *copier) nameOf(source []string) []string {
 
 // targetOf returns where a source is copied to.
 func (c *copier) targetOf(source []string) ([]string, error) {
-	dir, dest := c.from.at(source).isDir(), c.at(c.dest)
+	dir, dest := c.from.At(source).IsDir(), c.into.At(c.dest)
 	if dir && c.given.DirCopyContents {
 		return c.dest, nil
 	}
 	if dir && dest != nil && !dest.dir {
 		return nil, fails("%s is a file", shown(c.dest))
 	}
-	if strings.HasSuffix(c.given.Dest, "/") || dest.isDir() {
+	if strings.HasSuffix(c.given.Dest, "/") || dest.IsDir() {
 		return append(append([]string{}, c.dest...), c.nameOf(source)...), nil
 	}
 	return c.dest, nil
@@ -104,6 +123,9 @@ func (c *copier) targetOf(source []string) ([]string, error) {
 
 // copySource copies a source. Rule ContentsTarget: with `dirCopyContents` a missing target is made as parents are.
 func (c *copier) copySource(source []string) error {
+	if err := c.ctx.Err(); err != nil {
+		return err
+	}
 	if c.makesDest() {
 		if err := c.makeDirectories(c.dest); err != nil {
 			return err
@@ -112,55 +134,90 @@ func (c *copier) copySource(source []string) error {
 	if err := c.makeParents(nil); err != nil {
 		return err
 	}
+	from := c.from.At(source)
 	target, err := c.targetOf(source)
 	if err == nil {
-		err = checkLength(target, c.like)
+		err = checkFits(target, from, c.like)
 	}
 	if err == nil && c.given.CreateDestPath {
 		err = c.makeParents(target[:max(0, len(target)-1)])
 	}
 	if err == nil {
-		err = c.checkParents(target)
+		err = checkParents(c.into, target)
 	}
-	from := c.from.at(source)
 	if err == nil && c.given.DirCopyContents && from.dir && c.like.Has(ContentsTarget) {
 		err = c.makeDirectories(target)
 	}
 	if err != nil {
 		return err
 	}
-	return c.lay(target, from, true)
+	one, err := c.lay(target, source, c.into.At(target), from, above(c.into, target), true)
+	if err == nil {
+		c.into = c.into.with(target, one)
+	}
+	return err
 }
 
-// lay puts a copied node at a path. Rule NestedDirectory: a directory below the source replaces mode and owner of one that is
-// there.
-func (c *copier) lay(path []string, from *Node, isSource bool) error {
-	if err := checkLength(path, c.like); err != nil {
-		return err
-	}
-	old := c.at(path)
-	switch {
-	case old != nil && old.dir != from.dir:
+// lay returns what is at a path in a directory once a node is copied over what is there. Rule NestedDirectory: a directory
+// below the source replaces mode and owner of one that is there.
+func (c *copier) lay(path, source []string, old, from *Node, in entry, isSource bool) (*Node, error) {
+	if old != nil && old.dir != from.dir {
 		kind := "file"
 		if old.dir {
 			kind = "directory"
 		}
-		return fails("%s is a %s", shown(path), kind)
-	case old.isDir() && (isSource || !c.like.Has(NestedDirectory)):
-	case old.isDir():
-		c.set(path, c.entryOf(from.entry, [2]uint32{old.user, old.group}))
-	case c.keepsAll() && fits(path, from, c.like):
-		c.put(path, from)
-		return nil
-	default:
-		c.set(path, c.entryOf(from.entry, c.creator(path, c.like)))
+		return nil, fails("%s is a %s", shown(path), kind)
 	}
-	for _, name := range from.names() {
-		if err := c.lay(below(path, name), from.below[name], false); err != nil {
-			return err
+	if !old.IsDir() && c.keepsAll() {
+		c.grafted[shown(path)] = shown(source)
+		return from, nil
+	}
+	if err := c.ctx.Err(); err != nil {
+		return nil, err
+	}
+	one := entry{}
+	switch {
+	case old.IsDir() && (isSource || !c.like.Has(NestedDirectory)):
+		one = old.entry
+	case old.IsDir():
+		one = c.entryOf(from.entry, [2]uint32{old.user, old.group})
+	default:
+		one = c.entryOf(from.entry, creator(in, c.like))
+	}
+	if !from.dir {
+		return shared(newNode(one, persistent.Map[*Node]{}), old), nil
+	}
+	key := laying{old, from, inherits(in, c.like), in.group, isSource}
+	if found := c.laid[key]; found != nil {
+		return found, nil
+	}
+	below, err := c.layBelow(path, source, old.children(), from, one)
+	if err != nil {
+		return nil, err
+	}
+	c.laid[key] = shared(newNode(one, below), old)
+	return c.laid[key], nil
+}
+
+// layBelow returns what is below a directory once that of another one is copied into it.
+func (c *copier) layBelow(path, source []string, old persistent.Map[*Node], from *Node, in entry) (persistent.Map[*Node], error) {
+	var fresh persistent.Builder[*Node]
+	isNew, after := old.Len() == 0, old
+	for name, one := range from.below.All() {
+		laid, err := c.lay(below(path, name), below(source, name), old.Get(name), one, in, false)
+		if err != nil {
+			return old, err
+		}
+		if isNew {
+			fresh.Add(name, laid)
+		} else {
+			after = after.Put(name, laid)
 		}
 	}
-	return nil
+	if isNew {
+		return fresh.Map(), nil
+	}
+	return after, nil
 }
 
 // keepsAll is whether what is copied keeps its owner and its mode.

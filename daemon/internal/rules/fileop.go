@@ -18,19 +18,36 @@ type ActionFails struct {
 
 func (f *ActionFails) Error() string { return f.Err.Error() }
 
+// An outcome is what an action left. Of a copy it has, by the path of what was put into the tree as it is, where it was.
+type outcome struct {
+	tree    *Node
+	grafted map[string]string
+}
+
 // Act returns what an action leaves of a tree.
 func Act(ctx context.Context, action *pb.FileAction, base, second *Node, like Rules) (*Node, error) {
+	out, err := act(ctx, action, base, second, like)
+	return out.tree, err
+}
+
+func act(ctx context.Context, action *pb.FileAction, base, second *Node, like Rules) (out outcome, err error) {
 	switch a := action.Action.(type) {
 	case *pb.FileAction_Copy:
-		return copied(ctx, a.Copy, base, second, like)
+		c, err := copied(ctx, a.Copy, base, second, like)
+		if err != nil {
+			return out, err
+		}
+		return outcome{c.into, c.grafted}, nil
 	case *pb.FileAction_Mkdir:
-		return mkdir(a.Mkdir, base, like)
+		out.tree, err = mkdir(a.Mkdir, base, like)
 	case *pb.FileAction_Mkfile:
-		return mkfile(a.Mkfile, base, like)
+		out.tree, err = mkfile(a.Mkfile, base, like)
 	case *pb.FileAction_Rm:
-		return rm(ctx, a.Rm, base, like)
+		out.tree, err = rm(ctx, a.Rm, base, like)
+	default:
+		err = fails("the action has no kind")
 	}
-	return nil, fails("the action has no kind")
+	return out, err
 }
 
 // A working is what an action left: its tree, what this is a change of, and the tree as a layer by itself, if it is one.
@@ -41,7 +58,10 @@ type working struct {
 }
 
 // A step has the trees that an action was done on, and what it left.
-type step struct{ base, second, left *Node }
+type step struct {
+	base, second *Node
+	left         outcome
+}
 
 // A fileOp is a file op while it is done on its inputs.
 type fileOp struct {
@@ -51,6 +71,7 @@ type fileOp struct {
 	uses    map[int]int
 	done    map[int]*working
 	steps   map[int]step
+	failed  *step // the trees on which an action failed
 }
 
 func newFileOp(op *pb.FileOp, inputs []*Ref, like Rules) *fileOp {
@@ -102,17 +123,19 @@ func (f *fileOp) do(ctx context.Context, number int) error {
 	if action.GetCopy() != nil {
 		second = f.startOf(int(action.SecondaryInput)).tree
 	}
-	left, err := Act(ctx, action, base.tree, second, f.like)
+	left, err := act(ctx, action, base.tree, second, f.like)
 	if err != nil {
+		f.failed = &step{base: base.tree, second: second}
 		return err
 	}
 	f.steps[number] = step{base.tree, second, left}
-	made := &working{tree: left, base: base.base}
+	made := &working{tree: left.tree, base: base.base}
 	if action.Output != nothing || f.uses[len(f.inputs)+number] > 1 {
-		if left == nil {
+		if left.tree == nil {
+			f.failed = &step{base: base.tree, second: second}
 			return fails("the root is removed")
 		}
-		made.ref = On(made.base, left)
+		made.ref = On(made.base, left.tree)
 	}
 	f.done[number] = made
 	return nil

@@ -26,15 +26,15 @@ type known struct {
 }
 
 // mayHave is whether something can be at a path.
-func (k *known) mayHave(path []string) bool { return k.tree == nil || k.tree.at(path) != nil }
+func (k *known) mayHave(path []string) bool { return k.tree == nil || k.tree.At(path) != nil }
 
 // mayHaveBelow is whether a directory can be below a path.
 func (k *known) mayHaveBelow(path []string) bool {
 	if k.tree == nil {
 		return true
 	}
-	for _, name := range k.tree.at(path).names() {
-		if k.tree.at(below(path, name)).isDir() {
+	for _, one := range k.tree.At(path).children().All() {
+		if one.dir {
 			return true
 		}
 	}
@@ -43,7 +43,7 @@ func (k *known) mayHaveBelow(path []string) bool {
 
 // has is whether a path is surely a directory.
 func (k *known) has(path []string) bool {
-	return len(path) == 0 || k.directories[strings.Join(path, "/")] || k.tree != nil && k.tree.at(path).isDir()
+	return len(path) == 0 || k.directories[strings.Join(path, "/")] || k.tree != nil && k.tree.At(path).IsDir()
 }
 
 // mayBeBelowFile is whether a file can be above a path.
@@ -84,7 +84,7 @@ func (n *Node) isLarge(most int) bool {
 		if count++; count > most {
 			return true
 		}
-		for _, below := range one.below {
+		for _, below := range one.below.All() {
 			if add(below) {
 				return true
 			}

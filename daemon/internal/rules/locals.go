@@ -12,6 +12,7 @@ import (
 	"github.com/tonistiigi/fsutil"
 	"github.com/tonistiigi/fsutil/types"
 	"llbm/daemon/internal/paths"
+	"llbm/daemon/internal/persistent"
 )
 
 // Sent returns what BuildKit's client sends of the tree of a local source, by the library that it uses. Rule Filters: what the
@@ -27,9 +28,9 @@ func Sent(ctx context.Context, source *pb.SourceOp, t *Node, like Rules) (*Node,
 		t = withoutOwners(t)
 	}
 	if like.Has(LocalRoot) && t.mode != newMode {
-		root := *t
+		root := t.entry
 		root.mode = newMode
-		t = &root
+		t = t.withEntry(root)
 	}
 	return t, nil
 }
@@ -70,26 +71,26 @@ func selectedBy(ctx context.Context, source *pb.SourceOp, t *Node) (*Node, error
 	if err != nil {
 		return nil, err
 	}
-	e := begin(newNode(t.entry))
+	var b builder
+	b.begin(t.entry)
 	err = selecting.Walk(ctx, "/", func(path string, _ fs.DirEntry, err error) error {
 		if err != nil {
 			return err
 		}
-		names := paths.Names(path)
-		e.set(names, t.at(names).entry)
-		return nil
+		return b.put(path, t.At(paths.Names(path)).entry)
 	})
-	return e.root, err
+	return b.tree(), err
 }
 
 // withoutOwners returns a tree in which all is of 0:0.
 func withoutOwners(t *Node) *Node {
-	made := newNode(t.entry)
-	made.user, made.group = 0, 0
-	for name, one := range t.below {
-		made.below[name] = withoutOwners(one)
+	one := t.entry
+	one.user, one.group = 0, 0
+	var below persistent.Builder[*Node]
+	for name, child := range t.below.All() {
+		below.Add(name, withoutOwners(child))
 	}
-	return made
+	return shared(newNode(one, below.Map()), t)
 }
 
 // A directory is a tree as fsutil walks it.
@@ -103,7 +104,7 @@ func (d directory) Open(path string) (io.ReadCloser, error) {
 // Walk calls a function for what is at and below a path, but for the root, in path order.
 func (d directory) Walk(ctx context.Context, target string, found fs.WalkDirFunc) error {
 	names := paths.Names(target)
-	if one := d.root.at(names); one != nil {
+	if one := d.root.At(names); one != nil {
 		if err := walk(ctx, paths.Clean(target), one, found); err != nil && err != fs.SkipDir {
 			return err
 		}
@@ -129,8 +130,8 @@ func walk(ctx context.Context, path string, n *Node, found fs.WalkDirFunc) error
 		}
 		prefix = path + "/"
 	}
-	for _, name := range n.names() {
-		if err := walk(ctx, prefix+name, n.below[name], found); err == fs.SkipDir {
+	for name, one := range n.below.All() {
+		if err := walk(ctx, prefix+name, one, found); err == fs.SkipDir {
 			return nil
 		} else if err != nil {
 			return err

@@ -5,28 +5,29 @@ import (
 	"path"
 
 	"github.com/moby/buildkit/solver/pb"
+	"llbm/daemon/internal/persistent"
 )
 
 // mkdir returns a tree with a new directory. Rule MkdirOver: without `makeParents`, where a file is nothing changes.
 func mkdir(given *pb.FileActionMkDir, base *Node, like Rules) (*Node, error) {
 	path, err := readOfMkdir(given.Path, base, like)
-	if err != nil || base.at(path).isDir() {
+	if err != nil || base.At(path).IsDir() {
 		return base, err
 	}
-	mode, by, e := modeOfMade(given.Mode, like), ownerOf(given.Owner, like), begin(base)
+	m := &maker{modeOfMade(given.Mode, like), ownerOf(given.Owner, like), like}
 	if given.MakeParents {
-		err := e.makeAll(path, mode, by, like)
-		return e.root, err
+		return m.all(base, path)
 	}
-	if err := e.checkParents(path); err != nil {
+	if err := checkParents(base, path); err != nil {
 		return nil, err
 	}
-	if e.at(path) == nil {
-		e.set(path, e.made(path, entry{dir: true, mode: mode}, by, like))
-	} else if !like.Has(MkdirOver) {
+	if base.At(path) == nil {
+		return m.all(base, path)
+	}
+	if !like.Has(MkdirOver) {
 		return nil, fails("%s is a file", shown(path))
 	}
-	return e.root, nil
+	return base, nil
 }
 
 // mkfile returns a tree with a new file.
@@ -35,14 +36,14 @@ func mkfile(given *pb.FileActionMkFile, base *Node, like Rules) (*Node, error) {
 	if err != nil {
 		return nil, err
 	}
-	e, old := begin(base), base.at(path)
-	if old.isDir() {
+	old := base.At(path)
+	if old.IsDir() {
 		return nil, fails("%s is a directory", shown(path))
 	}
-	if err := e.checkParents(path); err != nil {
+	if err := checkParents(base, path); err != nil {
 		return nil, err
 	}
-	one := entry{mode: modeOfMade(given.Mode, like), content: string(given.Data)}
+	one := entry{mode: modeOfMade(given.Mode, like), content: contentOf(string(given.Data))}
 	by := ownerOf(given.Owner, like)
 	switch {
 	case old != nil && like.Has(MkfileOver):
@@ -50,10 +51,9 @@ func mkfile(given *pb.FileActionMkFile, base *Node, like Rules) (*Node, error) {
 	case old != nil:
 		by.of(&one, [2]uint32{}, [2]uint32{}, like)
 	default:
-		one = e.made(path, one, by, like)
+		one = made(one, above(base, path), by, like)
 	}
-	e.set(path, one)
-	return e.root, nil
+	return base.with(path, newNode(one, persistent.Map[*Node]{})), nil
 }
 
 // rm returns a tree without what is at or below a path, or below all that match a pattern. Rule RmRoot: an rm of the empty
@@ -95,14 +95,16 @@ func removed(base *Node, found [][]string, skipped bool) (*Node, error) {
 			return nil, fails("the root is not removed")
 		}
 	}
-	e := begin(base)
+	left := base
 	for _, path := range found {
-		if base.at(path) == nil && !skipped {
+		if base.At(path) == nil && !skipped {
 			return nil, fails("%s is missing", shown(path))
 		}
-		e.remove(path)
+		if left.At(path) != nil {
+			left = left.with(path, nil)
+		}
 	}
-	return e.root, nil
+	return left, nil
 }
 
 // leavesTree is whether the path of an rm without `allowWildcard` leads above the root. BuildKit then removes the directory

@@ -1,54 +1,82 @@
 package rules
 
 import (
-	"bufio"
-	"bytes"
 	"context"
+	"encoding/binary"
 	"io"
-	"maps"
-	"slices"
 
+	"llbm/daemon/internal/persistent"
 	"llbm/daemon/internal/tree"
 )
+
+// A content is what a tree's text has of a file.
+type content struct {
+	text string
+	sum  persistent.Sum
+}
+
+func contentOf(text string) content { return content{text, persistent.SumOf([]byte(text))} }
 
 // An entry is what a directory or a file is by itself.
 type entry struct {
 	dir               bool
+	linked            bool // of a file: whether its source has other names for it
 	mode, user, group uint32
-	content           string // of a file: what its tree's text has
+	content           content // of a file
 }
 
-// A Node is an entry with all that is below it. Trees share nodes, so only the edit that made a node changes it. No node is a
-// tree without a root.
+// A Node is an entry with all that is below it. No node is changed once it is made, and trees share nodes. No node is a tree
+// without a root.
 type Node struct {
 	entry
-	below  map[string]*Node
-	sorted []string // the names below, if they have been listed
-	extent *extent  // if it has been measured
+	below persistent.Map[*Node]
+	sum   persistent.Sum
 }
-
-// An extent is how many names the longest path below a node has, and how many bytes, with a slash for each name.
-type extent struct{ names, bytes int }
 
 const newMode = 0o755
 
-func newNode(one entry) *Node {
-	n := &Node{entry: one}
+// newNode makes a node; a file has nothing below it.
+func newNode(one entry, below persistent.Map[*Node]) *Node {
+	var space [64]byte
+	data := append(space[:0], 0)
 	if one.dir {
-		n.below = map[string]*Node{}
+		data[0] = 1
+	} else if one.linked {
+		data[0] = 2
 	}
-	return n
+	for _, number := range []uint32{one.mode, one.user, one.group} {
+		data = binary.LittleEndian.AppendUint32(data, number)
+	}
+	last := below.Sum()
+	if !one.dir {
+		last = one.content.sum
+	}
+	return &Node{one, below, persistent.SumOf(append(data, last[:]...))}
 }
 
-func Empty() *Node { return newNode(entry{dir: true, mode: newMode}) }
+func newDir(mode uint32) entry { return entry{dir: true, mode: mode} }
 
-// at returns what is at a path, or nil.
-func (n *Node) at(path []string) *Node {
+// Empty returns the tree with nothing below its root.
+func Empty() *Node { return newNode(newDir(newMode), persistent.Map[*Node]{}) }
+
+// Sum returns a digest of the tree.
+func (n *Node) Sum() persistent.Sum {
+	if n == nil {
+		return persistent.Sum{}
+	}
+	return n.sum
+}
+
+// Extent returns the longest path below the node.
+func (n *Node) Extent() persistent.Extent { return n.below.Extent() }
+
+// Equal is whether two trees are equal.
+func Equal(a, b *Node) bool { return a == b || a != nil && b != nil && a.sum == b.sum }
+
+// At returns what is at a path, or nil.
+func (n *Node) At(path []string) *Node {
 	for _, name := range path {
-		if n == nil {
-			return nil
-		}
-		n = n.below[name]
+		n = n.child(name)
 	}
 	return n
 }
@@ -58,33 +86,36 @@ func (n *Node) child(name string) *Node {
 	if n == nil {
 		return nil
 	}
-	return n.below[name]
+	return n.below.Get(name)
 }
 
-func (n *Node) isDir() bool { return n != nil && n.dir }
-
-// names returns the names in a directory, in order.
-func (n *Node) names() []string {
+// children returns what is below a node, or nothing.
+func (n *Node) children() persistent.Map[*Node] {
 	if n == nil {
-		return nil
+		return persistent.Map[*Node]{}
 	}
-	if len(n.sorted) != len(n.below) {
-		n.sorted = slices.Sorted(maps.Keys(n.below))
-	}
-	return n.sorted
+	return n.below
 }
 
-func (n *Node) measure() extent {
-	if n.extent == nil {
-		found := extent{}
-		for name, one := range n.below {
-			below := one.measure()
-			found.names = max(found.names, 1+below.names)
-			found.bytes = max(found.bytes, 1+len(name)+below.bytes)
-		}
-		n.extent = &found
+// IsDir is whether there is a directory.
+func (n *Node) IsDir() bool { return n != nil && n.dir }
+
+// Mode returns the low twelve bits of the mode.
+func (n *Node) Mode() uint32 { return n.mode }
+
+// Owner returns the user and the group.
+func (n *Node) Owner() (user, group uint32) { return n.user, n.group }
+
+// Text returns the content of a file, as the text of its tree has it.
+func (n *Node) Text() string { return n.content.text }
+
+// Names returns the names in a directory, in order.
+func (n *Node) Names() []string {
+	var out []string
+	for name := range n.children().All() {
+		out = append(out, name)
 	}
-	return *n.extent
+	return out
 }
 
 // isBelowFile is whether a file is at a proper prefix of a path.
@@ -93,93 +124,82 @@ func (n *Node) isBelowFile(path []string) bool {
 		if !n.dir {
 			return true
 		}
-		n = n.below[path[i]]
+		n = n.child(path[i])
 	}
 	return false
 }
 
-// Equal is whether two trees are equal.
-func Equal(a, b *Node) bool {
-	if a == b {
-		return true
+// withEntry returns the node with another entry, and what is below it if it is a directory.
+func (n *Node) withEntry(one entry) *Node {
+	if n.entry == one {
+		return n
 	}
-	if a == nil || b == nil || a.entry != b.entry || len(a.below) != len(b.below) {
-		return false
+	if !one.dir {
+		return newNode(one, persistent.Map[*Node]{})
 	}
-	for name, one := range a.below {
-		if !Equal(one, b.below[name]) {
-			return false
-		}
-	}
-	return true
+	return newNode(one, n.below)
 }
 
-func entryOf(e *tree.Entry) entry {
-	one := entry{dir: e.Dir, mode: e.Mode, user: e.UID, group: e.GID}
-	if !e.Dir {
-		one.content = string(e.Content)
+// with returns the tree with a node at a path whose parent is a directory, in the place of what is there. No node removes it.
+func (n *Node) with(path []string, one *Node) *Node {
+	if len(path) == 0 {
+		return one
+	}
+	below, after := n.below, n.child(path[0]).with(path[1:], one)
+	if after == nil {
+		below = below.Delete(path[0])
+	} else {
+		below = below.Put(path[0], after)
+	}
+	return n.over(below)
+}
+
+// over returns the directory with something else below it.
+func (n *Node) over(below persistent.Map[*Node]) *Node {
+	if below == n.below {
+		return n
+	}
+	return newNode(n.entry, below)
+}
+
+// Tree returns the entries of a tree, none if its root is removed.
+func (n *Node) Tree() tree.Tree {
+	if n == nil {
+		return nil
+	}
+	return n.entries("", nil)
+}
+
+func (n *Node) entries(path string, found tree.Tree) tree.Tree {
+	found = append(found, n.asEntry(path))
+	if path != "" {
+		path += "/"
+	}
+	for name, one := range n.below.All() {
+		found = one.entries(path+name, found)
+	}
+	return found
+}
+
+func (n *Node) asEntry(path string) tree.Entry {
+	one := tree.Entry{Path: path, Dir: n.dir, Mode: n.mode, UID: n.user, GID: n.group}
+	if !n.dir {
+		one.Content = []byte(n.content.text)
 	}
 	return one
 }
 
-// A builder makes a tree of entries in path order.
-type builder struct {
-	root *Node
-	open []*Node  // the directories that lead to the last one
-	path []string // their paths
-}
-
-func (b *builder) add(e *tree.Entry) {
-	n := newNode(entryOf(e))
-	if e.Path == "" {
-		b.root, b.open, b.path = n, []*Node{n}, []string{""}
-		return
-	}
-	parent, name := "", e.Path
-	for i := len(e.Path) - 1; i >= 0; i-- {
-		if e.Path[i] == '/' {
-			parent, name = e.Path[:i], e.Path[i+1:]
-			break
-		}
-	}
-	last := len(b.path) - 1
-	for ; last > 0 && b.path[last] != parent; last-- {
-	}
-	b.open, b.path = append(b.open[:last+1], n), append(b.path[:last+1], e.Path)
-	b.open[last].below[name] = n
-}
-
-// Of returns the node of a tree.
+// Of returns the node of a tree, nil of none.
 func Of(t tree.Tree) *Node {
 	var b builder
 	for i := range t {
-		b.add(&t[i])
+		_ = b.add(&t[i])
 	}
-	return b.root
+	return b.tree()
 }
 
-// linesAtOnce is how many lines are read without a look at the context.
-const linesAtOnce = 1 << 12
-
-// Read reads the text of a tree.
-func Read(ctx context.Context, text io.Reader) (*Node, error) {
-	var b builder
-	lines := bufio.NewReaderSize(text, 1<<16)
-	for number := 0; ; number++ {
-		if number%linesAtOnce == 0 && ctx.Err() != nil {
-			return nil, ctx.Err()
-		}
-		line, err := lines.ReadBytes('\n')
-		if err == io.EOF && len(line) == 0 {
-			return b.root, nil
-		}
-		if err != nil && err != io.EOF {
-			return nil, err
-		}
-		e, err := tree.ParseLine(bytes.TrimSuffix(line, []byte("\n")))
-		if err != nil {
-			return nil, err
-		}
-		b.add(&e)
-	}
+// Read reads the text of a tree. Where it has the same as another tree at the same place, the two share it.
+func Read(ctx context.Context, text io.Reader, near *Node) (*Node, error) {
+	b := builder{near: near}
+	return b.read(ctx, text)
 }

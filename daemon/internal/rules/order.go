@@ -53,29 +53,50 @@ func checkSecondInputs(actions []*pb.FileAction, count int) error {
 			return &ActionFails{number, fails("the second input does not exist")}
 		}
 	}
+	loops := onLoops(actions, count)
 	for _, number := range needed(actions, count, All) {
-		if isLoop(actions, count, number) {
+		if loops[number] {
 			return &ActionFails{number, fails("the second input depends on the action")}
 		}
 	}
 	return nil
 }
 
-// isLoop is whether an action depends on itself.
-func isLoop(actions []*pb.FileAction, count, start int) bool {
-	seen, todo := map[int]bool{}, needs(actions[start], count)
-	for len(todo) > 0 {
-		number := todo[len(todo)-1]
-		todo = todo[:len(todo)-1]
-		if number == start {
-			return true
+// onLoops returns the actions that depend on themselves: those that are not alone among the actions that need each other. (This
+// is Tarjan's search for strong components.)
+func onLoops(actions []*pb.FileAction, count int) map[int]bool {
+	found, place, low := map[int]bool{}, map[int]int{}, map[int]int{}
+	var open []int
+	isOpen := map[int]bool{}
+	var visit func(int)
+	visit = func(number int) {
+		place[number] = len(place)
+		low[number] = place[number]
+		open, isOpen[number] = append(open, number), true
+		for _, before := range needs(actions[number], count) {
+			if _, seen := place[before]; !seen {
+				visit(before)
+			}
+			if isOpen[before] {
+				low[number] = min(low[number], low[before])
+			}
+			found[number] = found[number] || before == number
 		}
-		if number < len(actions) && !seen[number] {
-			seen[number] = true
-			todo = append(todo, needs(actions[number], count)...)
+		if low[number] != place[number] {
+			return
+		}
+		for last, alone := -1, true; last != number; alone = false {
+			last, open = open[len(open)-1], open[:len(open)-1]
+			isOpen[last] = false
+			found[last] = found[last] || last != number || !alone
 		}
 	}
-	return false
+	for number := range actions {
+		if _, seen := place[number]; !seen {
+			visit(number)
+		}
+	}
+	return found
 }
 
 // A selection is what copies select in an input of the op that no action works on.
@@ -121,7 +142,7 @@ func checkSelected(actions []*pb.FileAction, inputs []*Ref) error {
 				order = append(order, key)
 			}
 			plain[key] = append(plain[key], selected{number, c.Src})
-		} else if inputs[index].tree.at(parts[:wild]) != nil && !paths.IsPattern(strings.Join(parts, "/")) {
+		} else if inputs[index].tree.At(parts[:wild]) != nil && !paths.IsPattern(strings.Join(parts, "/")) {
 			return &ActionFails{number, fails("a text is no pattern")}
 		}
 	}
@@ -135,14 +156,24 @@ func checkSelected(actions []*pb.FileAction, inputs []*Ref) error {
 
 // checkPlain fails if a path is missing, unless the text of another one begins its text.
 func checkPlain(found []selected, t *Node) error {
+	texts := map[string]bool{}
 	for _, one := range found {
-		isBelow := false
-		for _, other := range found {
-			isBelow = isBelow || one.text != other.text && strings.HasPrefix(one.text, strings.TrimSuffix(other.text, "/")+"/")
-		}
-		if !isBelow && t.at(paths.Names(one.text)) == nil {
+		texts[one.text] = true
+	}
+	for _, one := range found {
+		if !isBelowAny(one.text, texts) && t.At(paths.Names(one.text)) == nil {
 			return &ActionFails{one.action, fails("%s is missing", one.text)}
 		}
 	}
 	return nil
+}
+
+// isBelowAny is whether a text has another one, and a slash after it, at its begin.
+func isBelowAny(text string, texts map[string]bool) bool {
+	for i := range text {
+		if text[i] == '/' && (texts[text[:i]] || i+1 < len(text) && texts[text[:i+1]]) {
+			return true
+		}
+	}
+	return false
 }

@@ -73,23 +73,21 @@ func modeOfMade(mode int32, like Rules) uint32 {
 }
 
 // inherits is whether a new entry is in a directory with the set-group bit, and that matters.
-func (e *edit) inherits(path []string, like Rules) bool {
-	return len(path) > 0 && like.Has(SetGroup) && e.at(path[:len(path)-1]).mode&setGroup != 0
-}
+func inherits(in entry, like Rules) bool { return like.Has(SetGroup) && in.mode&setGroup != 0 }
 
 // creator returns the owner of a new entry before an action changes it. Rule SetGroup: in a directory with the set-group bit
 // new files get its group.
-func (e *edit) creator(path []string, like Rules) [2]uint32 {
-	if e.inherits(path, like) {
-		return [2]uint32{0, e.at(path[:len(path)-1]).group}
+func creator(in entry, like Rules) [2]uint32 {
+	if inherits(in, like) {
+		return [2]uint32{0, in.group}
 	}
 	return [2]uint32{}
 }
 
-// made returns a new entry. Rule SetGroup: a new directory also gets the set-group bit of its parent.
-func (e *edit) made(path []string, one entry, by owner, like Rules) entry {
-	created := e.creator(path, like)
-	if one.dir && e.inherits(path, like) {
+// made returns a new entry in a directory. Rule SetGroup: a new directory also gets the set-group bit of its parent.
+func made(one, in entry, by owner, like Rules) entry {
+	created := creator(in, like)
+	if one.dir && inherits(in, like) {
 		one.mode |= setGroup
 	}
 	by.of(&one, created, created, like)
@@ -98,7 +96,7 @@ func (e *edit) made(path []string, one entry, by owner, like Rules) entry {
 
 // writtenOver returns the entry of a file that replaces another one. Rule MkfileOver: it keeps its mode, and its owner unless
 // the action has one; a change of the owner clears the set-id bits.
-func writtenOver(old entry, given *pb.ChownOpt, content string, like Rules) entry {
+func writtenOver(old entry, given *pb.ChownOpt, content content, like Rules) entry {
 	one := old
 	one.content = content
 	if given != nil {

@@ -116,7 +116,7 @@ func matched(ctx context.Context, n *Node, at, rest, parts []string, like Rules,
 	if !like.Has(Match) && len(rest) == len(parts) {
 		return found, nil
 	}
-	for _, name := range n.names() {
+	for _, name := range n.Names() {
 		if err := ctx.Err(); err != nil {
 			return nil, err
 		}
@@ -126,7 +126,7 @@ func matched(ctx context.Context, n *Node, at, rest, parts []string, like Rules,
 			continue
 		}
 		var err error
-		if found, err = matched(ctx, n.below[name], path, after, parts, like, found); err != nil {
+		if found, err = matched(ctx, n.child(name), path, after, parts, like, found); err != nil {
 			return nil, err
 		}
 	}
@@ -136,7 +136,7 @@ func matched(ctx context.Context, n *Node, at, rest, parts []string, like Rules,
 // foundBelow returns the paths that match a pattern with a wildcard. Rule WildcardBase: what is before the first wildcard must
 // be there. Rule BadPattern: a text that is no pattern matches nothing, and does not fail.
 func foundBelow(ctx context.Context, names, parts []string, t *Node, like Rules) ([][]string, error) {
-	base := t.at(names)
+	base := t.At(names)
 	if like.Has(WildcardBase) && base == nil {
 		return nil, fails("%s is missing", shown(names))
 	}
@@ -175,7 +175,7 @@ func foundForCopy(ctx context.Context, text string, allowEmpty bool, t *Node, li
 		if found, err = foundBelow(ctx, names, parts, t, like); err != nil {
 			return nil, err
 		}
-	} else if t.at(names) != nil {
+	} else if t.At(names) != nil {
 		found = [][]string{names}
 	}
 	if len(found) == 0 && (!allowEmpty || len(parts) == 0 && like.Has(PlainWildcard)) {

@@ -179,16 +179,13 @@ func mattering(ctx context.Context, action *pb.FileAction, base, second *Node) (
 		left, err := Act(ctx, action, base, second, like)
 		return result{left, err}
 	}
-	isSame := func(a, b result) bool {
-		return (a.err == nil) == (b.err == nil) && (a.err != nil || Equal(a.tree, b.tree))
-	}
 	there, here := do(All), do(None)
-	if isSame(there, here) {
+	if there.isSame(here) {
 		return nil, there.tree, ctx.Err()
 	}
 	var found []Rule
 	for rule := range numberOfRules {
-		if !isSame(do(All.Without(rule)), there) || !isSame(do(None.With(rule)), here) {
+		if !do(All.Without(rule)).isSame(there) || !do(None.With(rule)).isSame(here) {
 			found = append(found, rule)
 		}
 	}

@@ -4,7 +4,7 @@ import (
 	_ "embed" // the table
 	"encoding/json"
 	"fmt"
-	"strings"
+	"slices"
 )
 
 // A Rule is one by which BuildKit ends otherwise than llbm. docs/BUILDKIT.md has a least example of each.
@@ -107,24 +107,12 @@ func (r Rule) String() string { return texts[r].Name }
 // Text returns what is said of the rule.
 func (r Rule) Text() Text { return texts[r] }
 
-// other returns what is said of a note without a rule.
-func other(name string) Text {
-	for _, one := range others {
+// TextOf returns what is said of a rule or of another note.
+func TextOf(name string) Text {
+	for _, one := range slices.Concat(texts, others) {
 		if one.Name == name {
 			return one
 		}
 	}
 	return Text{Name: name}
-}
-
-// named returns the names of rules. A difference without a cause is one of what the step works on.
-func named(causes []Rule) string {
-	if len(causes) == 0 {
-		return "its inputs differ"
-	}
-	var names []string
-	for _, rule := range causes {
-		names = append(names, rule.String())
-	}
-	return strings.Join(names, ", ")
 }

@@ -6,42 +6,11 @@ import (
 	"strings"
 	"testing"
 
-	"github.com/moby/buildkit/client/llb"
 	"github.com/moby/buildkit/solver/pb"
-	"llbm/daemon/internal/graph"
 )
 
-func verticesOf(t *testing.T, state llb.State) []graph.Vertex {
-	t.Helper()
-	sent, err := state.Marshal(context.Background())
-	if err != nil {
-		t.Fatal(err)
-	}
-	def := &pb.Definition{Def: sent.Def}
-	g, err := graph.Load(def, def)
-	if err != nil {
-		t.Fatal(err)
-	}
-	return g.Vertices
-}
-
-func TestWithoutFileOpsAndMergesThereIsNothingToCompare(t *testing.T) {
-	if run := New(verticesOf(t, llb.Local("a"))); run != nil {
-		t.Error(run)
-	}
-}
-
-func TestAContextEndsARun(t *testing.T) {
-	vertices := verticesOf(t, llb.Scratch().File(llb.Mkdir("/a", 0o755)))
-	ctx, cancel := context.WithCancel(context.Background())
-	cancel()
-	if err := New(vertices).Go(ctx, givens{vertices: vertices}, nil); !errors.Is(err, context.Canceled) {
-		t.Error(err)
-	}
-}
-
 func TestAContextEndsAMatch(t *testing.T) {
-	root, err := Read(context.Background(), strings.NewReader("d 0755 0 0 /\nf 0644 0 0 - /a\n"))
+	root, err := Read(context.Background(), strings.NewReader("d 0755 0 0 /\nf 0644 0 0 - /a\n"), nil)
 	if err != nil {
 		t.Fatal(err)
 	}
@@ -62,15 +31,12 @@ func TestALongPathIsReadInNoTimeByAnyRules(t *testing.T) {
 }
 
 func TestTreesShareWhatIsCopiedAsItIs(t *testing.T) {
-	root, err := Read(context.Background(), strings.NewReader("d 0755 0 0 /\nd 0755 0 0 /a\nf 0644 0 0 - /a/b\n"))
+	root, err := Read(context.Background(), strings.NewReader("d 0755 0 0 /\nd 0755 0 0 /a\nf 0644 0 0 - /a/b\n"), nil)
 	if err != nil {
 		t.Fatal(err)
 	}
 	left, err := copied(context.Background(), &pb.FileActionCopy{Src: "/a", Dest: "/c", Mode: keptMode}, Empty(), root, All)
-	if err != nil || left.at([]string{"c"}) != root.at([]string{"a"}) {
+	if err != nil || left.into.At([]string{"c"}) != root.At([]string{"a"}) {
 		t.Error(left, err)
-	}
-	if _, err := mkfile(&pb.FileActionMkFile{Path: "/c/d"}, left, All); err != nil || root.at([]string{"a", "d"}) != nil {
-		t.Error("a tree changed that is shared", err)
 	}
 }

@@ -16,30 +16,28 @@ const (
 	RmAboveRoot  = "RmAboveRoot"
 )
 
-func otherLine(name string) Line {
-	text := other(name)
-	return Line{Words: fmt.Sprintf("%s (here %s)", text.BuildKit, text.LLBM), Texts: []Text{text}}
+func lineOfNote(name string) Line {
+	text := TextOf(name)
+	return Line{Words: fmt.Sprintf("%s (here %s)", text.BuildKit, text.LLBM), Notes: []string{name}}
 }
 
 // Static returns what can be said of a vertex without its trees, by its op as it was sent: that it is an execution, and what
 // BuildKit's daemon dies of.
-func Static(v int, op *pb.Op) []Step {
+func Static(op *pb.Op) []Step {
 	var out []Step
 	add := func(action int, name string) {
-		out = append(out, Step{Vertex: v, Action: action, AsSent: true, Lines: []Line{otherLine(name)}})
+		out = append(out, Step{Action: action, Lines: []Line{lineOfNote(name)}})
 	}
-	switch {
-	case op.GetExec() != nil:
+	if op.GetExec() != nil {
 		add(-1, Execution)
-	case op.GetSource() != nil && len(op.Inputs) > 0:
-		add(-1, SourceInputs)
-	case op.GetMerge() != nil && len(op.GetMerge().Inputs) < len(op.Inputs):
-		add(-1, ShortMerge)
 	}
-	actions := op.GetFile().GetActions()
-	for _, number := range needed(actions, len(op.Inputs), All) {
-		if rm := actions[number].GetRm(); rm != nil && leavesTree(rm) {
-			add(number, RmAboveRoot)
+	wanted := map[int]bool{-1: true}
+	for _, number := range needed(op.GetFile().GetActions(), len(op.Inputs), All) {
+		wanted[number] = true
+	}
+	for _, one := range Breaking(op) {
+		if wanted[one.Action] {
+			add(one.Action, one.Name)
 		}
 	}
 	return out
@@ -59,11 +57,38 @@ func UnknownInputs(def *pb.Definition) []Line {
 		}
 		for i, input := range op.Inputs {
 			if !known[input.Digest] {
-				line := otherLine(UnknownInput)
+				line := lineOfNote(UnknownInput)
 				line.Words = fmt.Sprintf("entry %d input %d: %s", row, i, line.Words)
 				out = append(out, line)
 			}
 		}
+	}
+	return out
+}
+
+// outputsOf returns the mounts of an execution whose trees are outputs, by the output.
+func outputsOf(exec *pb.ExecOp) map[int]*pb.Mount {
+	mounts := map[int]*pb.Mount{}
+	for _, mount := range exec.GetMounts() {
+		if mount.Output != nothing {
+			mounts[int(mount.Output)] = mount
+		}
+	}
+	return mounts
+}
+
+// Outputs returns how many outputs an execution has.
+func Outputs(exec *pb.ExecOp) int { return len(outputsOf(exec)) }
+
+// Left returns the outputs of an execution as changes of its inputs.
+func Left(exec *pb.ExecOp, inputs []*Ref, outputs []*Node) []*Ref {
+	mounts, out := outputsOf(exec), []*Ref{}
+	for number, t := range outputs {
+		var base *Ref
+		if mount := mounts[number]; mount != nil && mount.Input != nothing {
+			base = inputs[mount.Input]
+		}
+		out = append(out, On(base, t))
 	}
 	return out
 }

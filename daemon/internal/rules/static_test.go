@@ -24,8 +24,8 @@ func TestWhatKillsBuildKitsDaemonIsSaidWithoutTrees(t *testing.T) {
 		}}}},
 	} {
 		got := ""
-		for _, step := range Static(7, op) {
-			got += fmt.Sprint(step.Action, " ", step.Lines[0].Texts[0].Name, " ")
+		for _, step := range Static(op) {
+			got += fmt.Sprint(step.Action, " ", step.Lines[0].Notes[0], " ")
 		}
 		if got != want {
 			t.Errorf("%q, not %q", got, want)

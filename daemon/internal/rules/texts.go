@@ -43,10 +43,16 @@ func checkLength(path []string, like Rules) error {
 	return nil
 }
 
-// fits is whether all paths of a tree that is put at a path pass checkLength.
-func fits(path []string, n *Node, like Rules) bool {
-	e := n.measure()
-	return (!like.Has(Length) || bytesOf(path)+e.bytes <= mostOfPath) && (like.Has(Names) || len(path)+e.names <= paths.MostNames)
+// checkFits fails unless all paths of a tree that is put at a path pass checkLength.
+func checkFits(path []string, n *Node, like Rules) error {
+	e := n.Extent()
+	if like.Has(Length) && bytesOf(path)+e.Bytes > mostOfPath {
+		return fails("a path is too long")
+	}
+	if !like.Has(Names) && len(path)+e.Names > paths.MostNames {
+		return fails("a path has more than 128 names")
+	}
+	return nil
 }
 
 // read reads the text of a path. Rule Names: BuildKit takes control bytes and more than 128 names, and skips names that a
@@ -72,20 +78,22 @@ func readOfMkdir(text string, base *Node, like Rules) ([]string, error) {
 	if err != nil || !like.Has(MkdirPath) {
 		return path, err
 	}
-	var walked []string
+	walked, nodes := []string{}, []*Node{base}
 	for _, part := range strings.Split(text, "/") {
+		last := len(nodes) - 1
 		switch part {
 		case "", ".":
 		case "..":
-			walked = walked[:max(0, len(walked)-1)]
+			walked, nodes = walked[:max(0, last-1)], nodes[:max(1, last)]
 		default:
 			walked = append(walked, part)
 			if err := checkNames([]string{part}); err != nil {
 				return nil, err
 			}
-			if base.isBelowFile(walked) {
+			if nodes[last] != nil && !nodes[last].dir {
 				return nil, fails("%s is below a file", shown(walked))
 			}
+			nodes = append(nodes, nodes[last].child(part))
 		}
 	}
 	return path, nil
