@@ -2,8 +2,8 @@ package solver
 
 import (
 	"github.com/moby/buildkit/solver/pb"
-	"llbm/daemon/internal/alike"
 	"llbm/daemon/internal/graph"
+	"llbm/daemon/internal/rewriting"
 )
 
 // note shows a warning for each field of the entries that were sent which has an effect in BuildKit alone.
@@ -21,21 +21,7 @@ func (s *Solver) liken(c *checks, def, sent *pb.Definition, g *graph.Graph, p *p
 		p.warn(g.Result, "the definition has bytes that BuildKit's library would not write, so it runs by the rules of llbm alone", nil)
 		return def, g, nil
 	}
-	reached := map[int]bool{}
-	for _, v := range g.Vertices {
-		reached[v.Row] = true
-	}
-	actions := map[int][]int{}
-	rewritten, err := graph.Rewrite(def, func(row int, op *pb.Op) (bool, error) {
-		if !reached[row] {
-			return false, nil
-		}
-		changed, from := alike.Op(op)
-		if changed {
-			actions[row] = from
-		}
-		return changed, nil
-	})
+	rewritten, rows, err := rewriting.Definition(c.ctx, def, nil)
 	if err != nil || rewritten == def {
 		return def, g, err
 	}
@@ -44,6 +30,6 @@ func (s *Solver) liken(c *checks, def, sent *pb.Definition, g *graph.Graph, p *p
 		return nil, nil, err
 	}
 	p.change(g)
-	p.actions = actions
+	p.rows = rows
 	return rewritten, g, nil
 }

@@ -13,6 +13,7 @@ import (
 	"llbm/daemon/internal/machine"
 	"llbm/daemon/internal/messages"
 	"llbm/daemon/internal/plan"
+	"llbm/daemon/internal/rewriting"
 )
 
 // often is how often a transfer's progress is shown.
@@ -25,8 +26,8 @@ type progress struct {
 	shown   *shown
 	mu      sync.Mutex
 	begun   []*time.Time
-	running map[int]int   // the vertex of each worker
-	actions map[int][]int // which action each action of a rewritten row was
+	running map[int]int    // the vertex of each worker
+	rows    rewriting.Rows // the rows that were rewritten
 }
 
 // shown are the vertices of a build that have been shown as done, and the notes that have been shown; what two results need
@@ -81,8 +82,8 @@ func (p *progress) change(g *graph.Graph) {
 
 // action returns the number that an action of a vertex had before the definition was rewritten.
 func (p *progress) action(v, place int) int {
-	if from := p.actions[p.g.Vertices[v].Row]; place < len(from) {
-		return from[place]
+	if row := p.rows[p.g.Vertices[v].Row]; row != nil && place < len(row.Actions) {
+		return row.Actions[place]
 	}
 	return place
 }

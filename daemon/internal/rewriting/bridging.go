@@ -1,0 +1,194 @@
+package rewriting
+
+import (
+	"errors"
+	"slices"
+
+	"github.com/moby/buildkit/solver/pb"
+	"llbm/daemon/internal/paths"
+	"llbm/daemon/internal/rules"
+)
+
+// A source is a place from which what is at or below a path is copied: a path in an input or in a result.
+type source struct {
+	target []string // the path
+	index  pb.InputIndex
+	path   []string
+	mode   int32 // which mode and owner what is copied gets
+	owner  *pb.ChownOpt
+	sets   bool // whether it gets any
+}
+
+var errNoSource = errors.New("a content is not known")
+
+func below(path []string, name string) []string { return append(slices.Clip(path), name) }
+
+// bridge adds actions until what is at a path is as wanted. Both sets of rules agree on each of them: they remove a path, make a
+// directory with its mode and owner, or copy to a path that is missing or a file.
+func (c *cursor) bridge(path []string, here, wanted *rules.Node) error {
+	switch {
+	case rules.Equal(here, wanted):
+		return nil
+	case here == nil:
+		return c.create(path, wanted)
+	case wanted == nil:
+		return c.remove(path)
+	case here.IsDir() != wanted.IsDir():
+		if err := c.remove(path); err != nil {
+			return err
+		}
+		return c.create(path, wanted)
+	case !wanted.IsDir():
+		return c.create(path, wanted)
+	case len(path) > 0 && !rules.SameEntry(here, wanted):
+		if err := c.remake(path, here, wanted); err != nil {
+			return err
+		}
+	}
+	for _, name := range rules.Join(here, wanted) {
+		if err := c.bridge(below(path, name), here.Child(name), wanted.Child(name)); err != nil {
+			return err
+		}
+	}
+	return nil
+}
+
+func (c *cursor) remove(path []string) error {
+	rm := &pb.FileActionRm{Path: paths.Text(path, ""), AllowNotFound: true}
+	return c.do(&pb.FileAction{Action: &pb.FileAction_Rm{Rm: rm}}, nothing)
+}
+
+// makeDirectory makes a directory with the mode and the owner of another one: by an mkdir, or, where that would get other ones from
+// its parent or for the mode, by a copy of the empty tree.
+func (c *cursor) makeDirectory(path []string, like *rules.Node) error {
+	mode, owner := int32(like.Mode()), chown(like.Owner())
+	parent := c.pair(c.at).again.At(path[:len(path)-1])
+	if mode&^madeMode == 0 && parent.IsDir() && parent.Mode()&setGroup == 0 {
+		mkdir := &pb.FileActionMkDir{Path: paths.Text(path, ""), Mode: mode, Owner: owner, Timestamp: -1}
+		return c.do(&pb.FileAction{Action: &pb.FileAction_Mkdir{Mkdir: mkdir}}, nothing)
+	}
+	return c.do(copyOf(nil, path, mode, owner), nothing)
+}
+
+// copyContents copies what is in a directory into another one.
+func (c *cursor) copyContents(from source, path []string) error {
+	action := copyOf(from.path, path, keptMode, nil)
+	if from.sets {
+		action = copyOf(from.path, path, from.mode, from.owner)
+	}
+	action.GetCopy().DirCopyContents = true
+	return c.do(action, from.index)
+}
+
+// remake makes a directory anew, with another mode or owner, and what is below it as before.
+func (c *cursor) remake(path []string, here, wanted *rules.Node) error {
+	before := c.at
+	if err := c.remove(path); err != nil {
+		return err
+	}
+	if err := c.makeDirectory(path, wanted); err != nil || len(here.Names()) == 0 {
+		return err
+	}
+	return c.copyContents(source{index: before, path: path}, path)
+}
+
+// sourcesOf returns the places from which what is at a path may be copied, the likeliest first.
+func (c *cursor) sourcesOf(path []string) []source {
+	var found []source
+	for _, one := range slices.Backward(c.from) {
+		if len(one.target) <= len(path) && slices.Equal(one.target, path[:len(one.target)]) {
+			one.path = append(slices.Clip(one.path), path[len(one.target):]...)
+			found = append(found, one)
+			if one.sets {
+				one.sets = false
+				found = append(found, one)
+			}
+		}
+	}
+	return found
+}
+
+// create makes what is at a path, which is missing, or a file that a file replaces.
+func (c *cursor) create(path []string, wanted *rules.Node) error {
+	sources := c.sourcesOf(path)
+	for _, one := range sources {
+		if one.gives(c.pair(one.index).here.At(one.path), wanted) {
+			action := copyOf(one.path, path, keptMode, nil)
+			if one.sets {
+				action = copyOf(one.path, path, one.mode, one.owner)
+			}
+			return c.do(action, one.index)
+		}
+	}
+	if wanted.IsDir() {
+		return c.createDirectory(path, wanted, sources)
+	}
+	for _, one := range sources {
+		if rules.SameContent(c.pair(one.index).here.At(one.path), wanted) {
+			return c.do(copyOf(one.path, path, int32(wanted.Mode()), chown(wanted.Owner())), one.index)
+		}
+	}
+	return errNoSource
+}
+
+// createDirectory makes a directory, copies into it what is in the source that has most of it, and then bridges the rest.
+func (c *cursor) createDirectory(path []string, wanted *rules.Node, sources []source) error {
+	if err := c.makeDirectory(path, wanted); err != nil {
+		return err
+	}
+	most, best := 0, source{}
+	for _, one := range sources {
+		from, right := c.pair(one.index).here.At(one.path), 0
+		for _, name := range from.Names() {
+			if one.gives(from.Child(name), wanted.Child(name)) {
+				right++
+			}
+		}
+		if right > most && 2*right > len(from.Names()) {
+			most, best = right, one
+		}
+	}
+	if most > 0 {
+		if err := c.copyContents(best, path); err != nil {
+			return err
+		}
+	}
+	here := c.here().At(path)
+	for _, name := range rules.Join(here, wanted) {
+		if err := c.bridge(below(path, name), here.Child(name), wanted.Child(name)); err != nil {
+			return err
+		}
+	}
+	return nil
+}
+
+// gives is whether a copy of a node from the source is as wanted.
+func (s source) gives(from, wanted *rules.Node) bool {
+	if from == nil || wanted == nil || from.IsDir() != wanted.IsDir() {
+		return false
+	}
+	if !s.sets {
+		return rules.Equal(from, wanted)
+	}
+	mode := from.Mode()
+	if s.mode != keptMode {
+		mode = uint32(s.mode) & modeBits
+	}
+	user, group := from.Owner()
+	if s.owner != nil {
+		user, group, _ = ownerOf(s.owner)
+	}
+	wantedUser, wantedGroup := wanted.Owner()
+	if mode != wanted.Mode() || user != wantedUser || group != wantedGroup || len(from.Names()) != len(wanted.Names()) {
+		return false
+	}
+	if !from.IsDir() {
+		return rules.SameContent(from, wanted)
+	}
+	for _, name := range from.Names() {
+		if !s.gives(from.Child(name), wanted.Child(name)) {
+			return false
+		}
+	}
+	return true
+}
