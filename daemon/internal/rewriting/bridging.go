@@ -45,7 +45,7 @@ func (c *cursor) bridge(path []string, here, wanted *rules.Node) error {
 			return err
 		}
 	}
-	for _, name := range rules.Join(here, wanted) {
+	for _, name := range rules.Changed(here, wanted) {
 		if err := c.bridge(below(path, name), here.Child(name), wanted.Child(name)); err != nil {
 			return err
 		}
@@ -154,7 +154,7 @@ func (c *cursor) createDirectory(path []string, wanted *rules.Node, sources []so
 		}
 	}
 	here := c.here().At(path)
-	for _, name := range rules.Join(here, wanted) {
+	for _, name := range rules.Changed(here, wanted) {
 		if err := c.bridge(below(path, name), here.Child(name), wanted.Child(name)); err != nil {
 			return err
 		}

@@ -62,7 +62,7 @@ func (w *writer) follow(ctx context.Context, v int, inputs []trees) error {
 		if op.GetFile() != nil {
 			return rules.FileOp(ctx, op.GetFile(), inputs, like)
 		}
-		one, err := rules.Merge(op.GetMerge(), inputs, like)
+		one, err := rules.Merge(ctx, op.GetMerge(), inputs, like)
 		return []*rules.Ref{one}, err
 	}
 	byLLBM, errHere := do(run, here, rules.None)

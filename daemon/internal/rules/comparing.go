@@ -62,6 +62,20 @@ type Compared struct {
 	There []*Ref
 	Here  []*Node
 	Steps []Step
+	Fails string // why BuildKit fails, if it does
+}
+
+// Compare does a vertex, which is no source and no execution, as it was sent and as it runs. Of a file op it is given which action
+// that was sent each one is, or is a part of, that runs; nil if they are the same. What runs is nil if nothing needs it, and
+// inputs are nil if they are not known.
+func Compare(ctx context.Context, sent, run *pb.Op, from []int, there []*Ref, here []*Node) (*Compared, error) {
+	if run == nil {
+		run, here = sent, nil
+	}
+	if sent.GetMerge() != nil {
+		return compareMerges(ctx, sent.GetMerge(), run, there, here)
+	}
+	return compareFileOps(ctx, sent.GetFile(), run.GetFile(), from, there, here)
 }
 
 // failed returns which action failed, if one did.
@@ -102,16 +116,30 @@ func stepOf(action int, s *search, inputsDiffer bool, of func(difference) []Rule
 	return step
 }
 
-// CompareMerges does a merge as it was sent, on the inputs in BuildKit, and as it runs, on those in llbm. Inputs are nil if they
-// are not known.
-func CompareMerges(ctx context.Context, sent, run *pb.MergeOp, there []*Ref, here []*Node) (*Compared, error) {
-	c := &Compared{}
-	if here != nil {
-		one, err := Merge(ctx, run, asRefs(here), None)
+// mergedHere returns what llbm makes of a merge, which may run as a file op; nil if it fails.
+func mergedHere(ctx context.Context, run *pb.Op, here []*Node) ([]*Node, error) {
+	if run.GetMerge() != nil {
+		one, err := Merge(ctx, run.GetMerge(), asRefs(here), None)
 		if err != nil {
 			return nil, err
 		}
-		c.Here = []*Node{one.tree}
+		return []*Node{one.tree}, nil
+	}
+	outputs, err := FileOp(ctx, run.GetFile(), asRefs(here), None)
+	if _, ok := failed(err); ok && ctx.Err() == nil {
+		return nil, nil
+	}
+	return asTrees(outputs), err
+}
+
+// compareMerges does a merge.
+func compareMerges(ctx context.Context, sent *pb.MergeOp, run *pb.Op, there []*Ref, here []*Node) (*Compared, error) {
+	c := &Compared{}
+	if here != nil {
+		var err error
+		if c.Here, err = mergedHere(ctx, run, here); err != nil {
+			return nil, err
+		}
 	}
 	if there == nil {
 		return c, nil
@@ -122,8 +150,10 @@ func CompareMerges(ctx context.Context, sent, run *pb.MergeOp, there []*Ref, her
 	}
 	if fault == nil {
 		c.There = []*Ref{one}
+	} else {
+		c.Fails = fault.Error()
 	}
-	if here == nil {
+	if here == nil || fault != nil && c.Here == nil {
 		return c, nil
 	}
 	by := func() *causes {
@@ -138,6 +168,10 @@ func CompareMerges(ctx context.Context, sent, run *pb.MergeOp, there []*Ref, her
 	if fault != nil {
 		c.Steps = []Step{{Action: -1, Lines: []Line{lineOf("fails: "+fault.Error(), by().ofFault())}}}
 		return c, ctx.Err()
+	}
+	if c.Here == nil {
+		c.Steps = []Step{{Action: -1, Lines: []Line{{Words: "does not fail (here it does)", Notes: []string{Rewriting}}}}}
+		return c, nil
 	}
 	before := pairsOf(asTrees(there), here)
 	s := &search{ctx: ctx, most: mostLines}
@@ -168,7 +202,8 @@ func CompareSources(ctx context.Context, source *pb.SourceOp, t *Node) (*Compare
 	}
 	c := &Compared{Here: []*Node{t}}
 	if by.there.err != nil {
-		c.Steps = []Step{{Action: -1, Lines: []Line{lineOf("fails: "+by.there.err.Error(), by.ofFault())}}}
+		c.Fails = by.there.err.Error()
+		c.Steps = []Step{{Action: -1, Lines: []Line{lineOf("fails: "+c.Fails, by.ofFault())}}}
 		return c, nil
 	}
 	c.There = []*Ref{Based(by.there.tree)}

@@ -21,10 +21,10 @@ type sideBySide struct {
 	outputsHere           []*Node
 }
 
-// CompareFileOps does a file op as it was sent, on the inputs in BuildKit, and as it runs, on those in llbm. For each action that
+// compareFileOps does a file op as it was sent, on the inputs in BuildKit, and as it runs, on those in llbm. For each action that
 // runs it is given which one of those that were sent it is, or is a part of; nil if the actions are the same. Inputs are nil if
 // they are not known.
-func CompareFileOps(ctx context.Context, sent, run *pb.FileOp, from []int, there []*Ref, here []*Node) (*Compared, error) {
+func compareFileOps(ctx context.Context, sent, run *pb.FileOp, from []int, there []*Ref, here []*Node) (*Compared, error) {
 	f := &sideBySide{ctx: ctx, sent: sent, from: from, parts: map[int][]int{}, inputsThere: there, inputsHere: here}
 	for number := range run.Actions {
 		f.parts[f.sentAs(number)] = append(f.parts[f.sentAs(number)], number)
@@ -45,6 +45,9 @@ func CompareFileOps(ctx context.Context, sent, run *pb.FileOp, from []int, there
 		}
 	}
 	c := &Compared{There: f.outputsThere, Here: f.outputsHere}
+	if f.faultThere != nil {
+		c.Fails = f.faultThere.Error()
+	}
 	if there == nil || here == nil {
 		return c, nil
 	}

@@ -5,6 +5,7 @@ import (
 	"encoding/binary"
 	"io"
 
+	"llbm/daemon/internal/paths"
 	"llbm/daemon/internal/persistent"
 	"llbm/daemon/internal/tree"
 )
@@ -200,6 +201,14 @@ func Of(t tree.Tree) *Node {
 
 // Read reads the text of a tree. Where it has the same as another tree at the same place, the two share it.
 func Read(ctx context.Context, text io.Reader, near *Node) (*Node, error) {
-	b := builder{near: near}
+	return ReadLinked(ctx, text, near, nil)
+}
+
+// ReadLinked does the same for a tree of which some files have other names.
+func ReadLinked(ctx context.Context, text io.Reader, near *Node, linked []string) (*Node, error) {
+	b := builder{near: near, linked: map[string]bool{}}
+	for _, path := range linked {
+		b.linked[paths.Clean(path)] = true
+	}
 	return b.read(ctx, text)
 }

@@ -16,6 +16,11 @@ const (
 	RmAboveRoot  = "RmAboveRoot"
 )
 
+// Breaks is whether BuildKit's daemon dies of what a note names.
+func Breaks(name string) bool {
+	return name == SourceInputs || name == ShortMerge || name == UnknownInput || name == RmAboveRoot
+}
+
 func lineOfNote(name string) Line {
 	text := TextOf(name)
 	return Line{Words: fmt.Sprintf("%s (here %s)", text.BuildKit, text.LLBM), Notes: []string{name}}
@@ -80,15 +85,24 @@ func outputsOf(exec *pb.ExecOp) map[int]*pb.Mount {
 // Outputs returns how many outputs an execution has.
 func Outputs(exec *pb.ExecOp) int { return len(outputsOf(exec)) }
 
-// Left returns the outputs of an execution as changes of its inputs.
-func Left(exec *pb.ExecOp, inputs []*Ref, outputs []*Node) []*Ref {
-	mounts, out := outputsOf(exec), []*Ref{}
-	for number, t := range outputs {
-		var base *Ref
+// Bases returns what the outputs of an execution are changes of: trees of its inputs, or nil.
+func Bases[T any](exec *pb.ExecOp, inputs []*T) []*T {
+	mounts, out := outputsOf(exec), []*T{}
+	for number := range len(mounts) {
+		var base *T
 		if mount := mounts[number]; mount != nil && mount.Input != nothing {
 			base = inputs[mount.Input]
 		}
-		out = append(out, On(base, t))
+		out = append(out, base)
+	}
+	return out
+}
+
+// Left returns the outputs of an execution as changes of its inputs.
+func Left(exec *pb.ExecOp, inputs []*Ref, outputs []*Node) []*Ref {
+	out := []*Ref{}
+	for number, base := range Bases(exec, inputs) {
+		out = append(out, On(base, outputs[number]))
 	}
 	return out
 }
