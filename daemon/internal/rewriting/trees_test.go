@@ -93,7 +93,7 @@ func do(t *testing.T, g *graph.Graph, v int, inputs []*rules.Ref, trees []*rules
 	case op.GetFile() != nil:
 		return rules.FileOp(context.Background(), op.GetFile(), inputs, like)
 	}
-	one, err := rules.Merge(op.GetMerge(), inputs, like)
+	one, err := rules.Merge(context.Background(), op.GetMerge(), inputs, like)
 	return []*rules.Ref{one}, err
 }
 
@@ -139,7 +139,8 @@ func judge(t *testing.T, number int, def *pb.Definition, trees []*rules.Node) (i
 			fmt.Fprintf(&text, "\n%d %v %v", row, one.Op, rows[row])
 		}
 		if before != nil && here != nil {
-			fmt.Fprintf(&text, "\n%v", rules.Differences(before.Tree(), here.Tree()))
+			lines, err := rules.Differences(context.Background(), before.Tree(), here.Tree(), 9)
+			fmt.Fprintf(&text, "\n%v %v", lines, err)
 		}
 		return text.String()
 	}
@@ -158,7 +159,7 @@ func judge(t *testing.T, number int, def *pb.Definition, trees []*rules.Node) (i
 func TestByTreesASingleActionEndsAsInBuildKit(t *testing.T) {
 	random := rand.New(rand.NewSource(2))
 	different, changed := 0, 0
-	for number := range 6_000 {
+	for number := range 3_000 {
 		action := randomAction(random, number%2 == 0)
 		trees := []*rules.Node{randomTree(random), randomTree(random)}
 		def := definition(t, 2, func(inputs []*pb.Input) *pb.Op {
@@ -239,7 +240,7 @@ func randomDefinition(t *testing.T, random *rand.Rand, trees []*rules.Node, plai
 func TestByTreesADefinitionEndsAsInBuildKit(t *testing.T) {
 	random := rand.New(rand.NewSource(3))
 	different, changed, failed := 0, 0, 0
-	for number := range 6_000 {
+	for number := range 1_500 {
 		trees := []*rules.Node{randomTree(random), randomTree(random)}
 		def := randomDefinition(t, random, trees, number%2 == 0)
 		isRewritten, differs := judge(t, number, def, trees)
