@@ -11,6 +11,7 @@ const (
 	sourceOp         = 3
 	sourceAttributes = 2
 	keyOfEntry       = 1
+	valueOfEntry     = 2
 	platform         = 10
 	partAction       = "action"
 )
@@ -84,4 +85,13 @@ func joined(given []record) []byte {
 		out = append(out, one.held...)
 	}
 	return out
+}
+
+// lastOf returns the bytes of the last record of a field.
+func lastOf(message []record, field protowire.Number) string {
+	given := counted(message, nil, field)
+	if len(given) == 0 {
+		return ""
+	}
+	return string(given[len(given)-1].held)
 }

@@ -90,20 +90,29 @@ type selected struct {
 	text   string
 }
 
-// checkSelected fails by rule Selected: before a file op BuildKit hashes what its copies select in inputs that no action works
-// on. So what is missing there fails, and a text that is no pattern, even for an action that is not done.
-func checkSelected(actions []*pb.FileAction, inputs []*Ref) error {
+// hashedCopies returns the copies from inputs of the op that no action works on.
+func hashedCopies(actions []*pb.FileAction, count int) []int {
 	worked := map[int]bool{}
 	for _, action := range actions {
 		worked[int(action.Input)] = true
 	}
+	var found []int
+	for number, action := range actions {
+		index := int(action.SecondaryInput)
+		if action.GetCopy() != nil && index >= 0 && index < count && !worked[index] {
+			found = append(found, number)
+		}
+	}
+	return found
+}
+
+// checkSelected fails by rule Selected: before a file op BuildKit hashes what its copies select in inputs that no action works
+// on. So what is missing there fails, and a text that is no pattern, even for an action that is not done.
+func checkSelected(actions []*pb.FileAction, inputs []*Ref) error {
 	var order []selection
 	plain := map[selection][]selected{}
-	for number, action := range actions {
-		c, index := action.GetCopy(), int(action.SecondaryInput)
-		if c == nil || index < 0 || index >= len(inputs) || worked[index] {
-			continue
-		}
+	for _, number := range hashedCopies(actions, len(inputs)) {
+		c, index := actions[number].GetCopy(), int(actions[number].SecondaryInput)
 		parts := paths.Names(c.Src)
 		wild := paths.Wild(parts)
 		if !c.AllowWildcard || wild == len(parts) {

@@ -7,8 +7,14 @@ import (
 	digest "github.com/opencontainers/go-digest"
 )
 
-// Execution is the name of the note that an execution is one.
-const Execution = "Execution"
+// Notes without a rule.
+const (
+	Execution    = "Execution"
+	SourceInputs = "SourceInputs"
+	ShortMerge   = "ShortMerge"
+	UnknownInput = "UnknownInput"
+	RmAboveRoot  = "RmAboveRoot"
+)
 
 func otherLine(name string) Line {
 	text := other(name)
@@ -26,14 +32,14 @@ func Static(v int, op *pb.Op) []Step {
 	case op.GetExec() != nil:
 		add(-1, Execution)
 	case op.GetSource() != nil && len(op.Inputs) > 0:
-		add(-1, "SourceInputs")
+		add(-1, SourceInputs)
 	case op.GetMerge() != nil && len(op.GetMerge().Inputs) < len(op.Inputs):
-		add(-1, "ShortMerge")
+		add(-1, ShortMerge)
 	}
 	actions := op.GetFile().GetActions()
 	for _, number := range needed(actions, len(op.Inputs), All) {
 		if rm := actions[number].GetRm(); rm != nil && leavesTree(rm) {
-			add(number, "RmAboveRoot")
+			add(number, RmAboveRoot)
 		}
 	}
 	return out
@@ -53,7 +59,7 @@ func UnknownInputs(def *pb.Definition) []Line {
 		}
 		for i, input := range op.Inputs {
 			if !known[input.Digest] {
-				line := otherLine("UnknownInput")
+				line := otherLine(UnknownInput)
 				line.Words = fmt.Sprintf("entry %d input %d: %s", row, i, line.Words)
 				out = append(out, line)
 			}
