@@ -52,8 +52,8 @@ const (
 type Options struct {
 	Program    string
 	Rules      string // the program llbm-rules; nothing for the one beside this program
-	Workers    int // of each build
-	AtOnce     int // processes of the program
+	Workers    int    // of each build
+	AtOnce     int    // processes of the program
 	Store      string
 	StoreBytes int64
 	Idle       time.Duration
