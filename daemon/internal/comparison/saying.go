@@ -2,28 +2,45 @@ package comparison
 
 import (
 	"fmt"
-	"slices"
 	"strings"
 
+	"github.com/moby/buildkit/solver/pb"
 	"llbm/daemon/internal/rules"
 )
 
 // static says what can be said of a vertex without its trees.
 func (s *session) static(v int) error {
-	it := &s.sent.Vertices[v]
-	for _, one := range rules.Breaking(it.Op) {
-		s.broken = s.broken || rules.Breaks(one.Name)
+	steps := rules.Static(s.sent.Vertices[v].Op)
+	for _, one := range steps {
+		s.broken = s.broken || rules.Breaks(one.Lines[0].Notes[0])
 	}
-	if s.request.Received { // llbmd says this itself
+	if s.request.Received {
 		return nil
 	}
-	return s.steps(v, rules.Static(it.Op))
+	return s.steps(v, steps)
+}
+
+// outside says what can be said of entries that are no vertices.
+func (s *session) outside(def *pb.Definition) error {
+	for _, line := range rules.UnknownInputs(def) {
+		s.broken = true
+		if s.request.Received {
+			continue
+		}
+		if err := s.talk.Write(Message{Step: &Step{Row: line.Row, Action: -1, Lines: []rules.Line{line.Line}}}); err != nil {
+			return err
+		}
+	}
+	return nil
 }
 
 // steps says steps of a vertex.
 func (s *session) steps(v int, steps []rules.Step) error {
 	for _, one := range steps {
-		step := &Step{Vertex: v, Row: s.sent.Vertices[v].Row, Action: one.Action, Lines: s.chosen(one.Lines), More: one.More}
+		step := &Step{Vertex: &v, Row: s.sent.Vertices[v].Row, Action: one.Action, Lines: s.chosen(one.Lines), Beyond: one.More}
+		for _, line := range step.Lines {
+			step.More += line.More
+		}
 		if err := s.talk.Write(Message{Step: step}); err != nil {
 			return err
 		}
@@ -31,9 +48,15 @@ func (s *session) steps(v int, steps []rules.Step) error {
 	return nil
 }
 
+// usualPaths is how many paths with the same rules are named if nothing else is asked for.
+const usualPaths = 20
+
 // chosen returns the first lines with the same rules. The first of these counts those that are left out.
 func (s *session) chosen(lines []rules.Line) []rules.Line {
-	most := max(1, s.request.Paths)
+	most := s.request.Paths
+	if most < 1 {
+		most = usualPaths
+	}
 	var out []rules.Line
 	first, count := map[string]int{}, map[string]int{}
 	for _, one := range lines {
@@ -47,7 +70,7 @@ func (s *session) chosen(lines []rules.Line) []rules.Line {
 		}
 		out = append(out, one)
 	}
-	return slices.Clip(out)
+	return out
 }
 
 // mostDiffering is how many paths of results are counted.
@@ -56,7 +79,7 @@ const mostDiffering = 1000
 // end says whether the results agree, if this is asked for.
 func (s *session) end() error {
 	end := &End{}
-	if !s.request.Result && !s.request.Tree {
+	if s.request.Received {
 		return s.talk.Write(Message{End: end})
 	}
 	one, index := &s.states[s.sent.Result], s.sent.Output
@@ -73,12 +96,10 @@ func (s *session) end() error {
 	}
 	if there == nil {
 		end.Fails = s.why
-	} else if s.request.Tree {
-		files, err := s.write([]*rules.Ref{one.there[index]})
-		if err != nil {
+	} else if s.request.Tree != "" {
+		if err := s.writeTo(s.request.Tree, there); err != nil {
 			return err
 		}
-		end.Tree = files[0]
 	}
 	return s.talk.Write(Message{End: end})
 }

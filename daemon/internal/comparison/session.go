@@ -29,6 +29,7 @@ type state struct {
 	users   int  // which have not been done yet
 	waits   int  // for inputs that have not been done yet
 	needed  bool // whether the trees are looked at
+	reply   *Reply
 }
 
 // A session compares the entries of two definitions, which have the same rows.
@@ -49,6 +50,8 @@ type session struct {
 	broken  bool   // whether something breaks BuildKit's daemon
 	runs    bool   // whether there is an execution
 	why     string // why BuildKit fails
+	layered bool   // whether there is a merge, which needs layers
+	folder  string // of inputs for executions, if there are any
 	files   int
 }
 
@@ -72,7 +75,15 @@ func Serve(ctx context.Context, talk *Talk) error {
 	if s.run, err = graph.Read(run, sent); err != nil {
 		return Refused{err}
 	}
+	defer func() {
+		if s.folder != "" {
+			_ = os.RemoveAll(s.folder)
+		}
+	}()
 	s.prepare()
+	if err := s.outside(sent); err != nil {
+		return err
+	}
 	if err := s.all(); err != nil {
 		return err
 	}
@@ -132,9 +143,9 @@ func (s *session) prepare() {
 	}
 	for v := range s.sent.Vertices {
 		it := &s.sent.Vertices[v]
-		s.inSent[it.Row] = v
+		s.inSent[it.Row], s.layered = v, s.layered || it.Op.GetMerge() != nil
 		for _, input := range it.Inputs {
-			s.states[input].needed = s.states[input].needed || s.request.Executes || it.Op.GetExec() == nil
+			s.states[input].needed = s.states[input].needed || !s.request.Received || it.Op.GetExec() == nil
 			s.states[input].users++
 			s.states[v].waits++
 			s.users[input] = append(s.users[input], v)
@@ -143,7 +154,7 @@ func (s *session) prepare() {
 			heap.Push(&s.ready, v)
 		}
 	}
-	if s.request.Result || s.request.Tree {
+	if !s.request.Received {
 		s.states[s.sent.Result].needed = true
 		s.states[s.sent.Result].users++
 	}
@@ -155,26 +166,32 @@ func (s *session) all() error {
 		if err := s.ctx.Err(); err != nil {
 			return err
 		}
-		if s.ready.Len() == 0 {
-			v := s.waiting[0]
-			s.waiting = s.waiting[1:]
-			if err := s.execution(v); err != nil {
-				return err
-			}
-			s.done(v)
-			continue
+		v, err := s.next()
+		if err != nil {
+			return err
 		}
-		v := heap.Pop(&s.ready).(int)
-		if s.sent.Vertices[v].Op.GetExec() != nil {
+		if s.sent.Vertices[v].Op.GetExec() == nil {
+			err = s.vertex(v)
+		} else if s.isToBeAsked(v) {
 			s.waiting = append(s.waiting, v)
 			continue
+		} else {
+			err = s.execution(v)
 		}
-		if err := s.vertex(v); err != nil {
+		if err != nil {
 			return err
 		}
 		s.done(v)
 	}
 	return nil
+}
+
+// next returns a vertex that can be done: an execution of which it was asked what it made, if there is no other one.
+func (s *session) next() (int, error) {
+	if s.ready.Len() > 0 {
+		return heap.Pop(&s.ready).(int), nil
+	}
+	return s.ask()
 }
 
 // done lets those go on that wait for a vertex. What a vertex made is forgotten after its last user.
@@ -256,8 +273,14 @@ func (s *session) vertex(v int) error {
 	}
 	one := &s.states[v]
 	one.there, one.here, one.unknown = made.There, made.Here, s.isUnknown(v)
-	if made.There == nil && !one.unknown && s.why == "" {
-		s.why = fmt.Sprintf("vertex %d: %s", v, made.Fails)
+	if !s.layered {
+		one.there = rules.WithoutLayers(one.there)
+	}
+	if made.Fails != "" {
+		s.fails(v, made.Fails)
+	}
+	if len(rules.Breaking(it.Op)) > 0 { // that BuildKit's daemon dies is all that counts
+		return nil
 	}
 	return s.steps(v, made.Steps)
 }

@@ -48,13 +48,19 @@ func Static(op *pb.Op) []Step {
 	return out
 }
 
+// An EntryLine is a line of an entry of a definition.
+type EntryLine struct {
+	Row int
+	Line
+}
+
 // UnknownInputs returns a line for each input of an entry that names no entry.
-func UnknownInputs(def *pb.Definition) []Line {
+func UnknownInputs(def *pb.Definition) []EntryLine {
 	known := map[digest.Digest]bool{}
 	for _, entry := range def.Def {
 		known[digest.FromBytes(entry)] = true
 	}
-	var out []Line
+	var out []EntryLine
 	for row, entry := range def.Def {
 		op := &pb.Op{}
 		if op.Unmarshal(entry) != nil {
@@ -64,7 +70,7 @@ func UnknownInputs(def *pb.Definition) []Line {
 			if !known[input.Digest] {
 				line := lineOfNote(UnknownInput)
 				line.Words = fmt.Sprintf("entry %d input %d: %s", row, i, line.Words)
-				out = append(out, line)
+				out = append(out, EntryLine{row, line})
 			}
 		}
 	}

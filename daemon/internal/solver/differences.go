@@ -34,7 +34,7 @@ type comparing struct {
 	talk   *comparison.Talk
 	child  *machine.Talk
 	run    chan *comparison.Run
-	asked  chan *comparison.Question
+	asked  chan int      // an execution whose outputs the child needs
 	done   chan struct{} // is closed when nothing more is said
 	why    string        // why not all was compared
 	files  []*os.File
@@ -57,7 +57,7 @@ func isCompared(g *graph.Graph) bool {
 func (s *Solver) compare(
 	ctx context.Context, def *pb.Definition, g *graph.Graph, in *inputs, texts []machine.Source, rewrites bool, p *progress,
 ) *comparing {
-	c := &comparing{p: p, g: g, run: make(chan *comparison.Run, 1), asked: make(chan *comparison.Question), done: make(chan struct{}), left: mostAside}
+	c := &comparing{p: p, g: g, run: make(chan *comparison.Run, 1), asked: make(chan int), done: make(chan struct{}), left: mostAside}
 	c.ctx, c.cancel = context.WithCancel(ctx)
 	c.static(def)
 	if !isCompared(g) {
@@ -124,11 +124,11 @@ func (c *comparing) file(name string, data []byte) (string, error) {
 func (c *comparing) static(def *pb.Definition) {
 	for v := range c.g.Vertices {
 		for _, step := range rules.Static(c.g.Vertices[v].Op) {
-			c.show(&comparison.Step{Vertex: v, Action: step.Action, Lines: step.Lines})
+			c.show(&comparison.Step{Vertex: &v, Action: step.Action, Lines: step.Lines})
 		}
 	}
 	for _, line := range rules.UnknownInputs(def) {
-		c.show(&comparison.Step{Vertex: c.g.Result, Action: -1, Lines: []rules.Line{line}})
+		c.show(&comparison.Step{Vertex: &c.g.Result, Action: -1, Lines: []rules.Line{line.Line}})
 	}
 }
 
@@ -149,11 +149,11 @@ func (c *comparing) listen() {
 		switch {
 		case m.Run != nil:
 			c.run <- m.Run
-		case m.Step != nil:
+		case m.Step != nil && m.Vertex != nil:
 			c.show(m.Step)
-		case m.Needs != nil:
+		case len(m.Needs) > 0:
 			select {
-			case c.asked <- m.Needs:
+			case c.asked <- m.Needs[0]:
 			case <-c.ctx.Done():
 				return
 			}
@@ -210,8 +210,8 @@ func (c *comparing) end(run *machine.Run, g *graph.Graph) {
 	defer timer.Stop()
 	for {
 		select {
-		case question := <-c.asked:
-			if err := c.answer(run, g, question); err != nil {
+		case v := <-c.asked:
+			if err := c.answer(run, g, v); err != nil {
 				c.cancel()
 				<-c.done
 				c.why = err.Error()
@@ -237,24 +237,23 @@ func (c *comparing) conclude() {
 }
 
 // answer tells the child what an execution made.
-func (c *comparing) answer(run *machine.Run, g *graph.Graph, question *comparison.Question) error {
-	reply := &comparison.Reply{Vertex: question.Vertex, Outputs: []string{}}
-	if question.Vertex < 0 || question.Vertex >= len(g.Vertices) {
-		return fmt.Errorf("there is no vertex %d", question.Vertex)
+func (c *comparing) answer(run *machine.Run, g *graph.Graph, v int) error {
+	if v < 0 || v >= len(g.Vertices) {
+		return fmt.Errorf("there is no vertex %d", v)
 	}
-	c.close() // the child has read them
-	for index := range rules.Outputs(g.Vertices[question.Vertex].Op.GetExec()) {
+	reply := &comparison.Reply{Vertex: v}
+	c.close() // the child has read the files before
+	for index := range rules.Outputs(g.Vertices[v].Op.GetExec()) {
 		path, err := c.file("output", nil)
 		if err != nil {
 			return err
 		}
-		size, err := run.Aside(question.Vertex, index, len(g.Vertices), c.left, c.files[len(c.files)-1])
+		size, err := run.Aside(v, index, len(g.Vertices), c.left, c.files[len(c.files)-1])
 		if err != nil {
 			return err
 		}
 		if size == 0 {
-			reply = &comparison.Reply{Vertex: question.Vertex, Failed: true}
-			break
+			return c.talk.Write(&comparison.Reply{Vertex: v, Failed: true})
 		}
 		c.left -= size
 		reply.Outputs = append(reply.Outputs, path)
@@ -298,7 +297,7 @@ func (c *comparing) differs(s *comparison.Step, lines []rules.Line) {
 	}
 	short := place + lines[0].String()
 	switch {
-	case s.More:
+	case s.Beyond:
 		short += fmt.Sprintf(", and more than %d more", more)
 	case more > 0:
 		short += fmt.Sprintf(", and %d more", more)
@@ -306,5 +305,5 @@ func (c *comparing) differs(s *comparison.Step, lines []rules.Line) {
 	if line := lines[0]; line.Notes[0] == rules.Execution && line.Words != comparison.Unknown && !c.p.shown.Note(line.Words) {
 		return // the words are the same for all executions
 	}
-	c.p.noteOf(c.g.Vertices[s.Vertex].Digest, short, details)
+	c.p.noteOf(c.g.Vertices[*s.Vertex].Digest, short, details)
 }

@@ -32,7 +32,10 @@ func (s *Solver) failure(run *machine.Run, p *progress, v int) error {
 	op := g.Vertices[v].Op
 	var number, place, code int
 	if n, _ := fmt.Sscanf(line, "%d failed action %d fault %d", &number, &place, &code); n == 3 && place < len(op.GetFile().GetActions()) {
-		why := reason(run, g, v, place, code)
+		why := p.fails(v)
+		if why == "" {
+			why = reason(run, g, v, place, code)
+		}
 		text := fmt.Sprintf("llbm: failed %d action %d fault %d %s: %s", number, p.action(v, place), code, machine.Name(code), why)
 		subject := &errdefs.Solve_File{File: &errdefs.FileAction{Index: int64(p.action(v, place))}}
 		return failed(op, subject, status.Error(codes.Unknown, text))
