@@ -10,6 +10,7 @@ import (
 	"github.com/moby/buildkit/solver/pb"
 	digest "github.com/opencontainers/go-digest"
 	"llbm/daemon/internal/graph"
+	"llbm/daemon/internal/records"
 	"llbm/daemon/internal/rules"
 )
 
@@ -44,17 +45,17 @@ type rows struct {
 
 // read reads a definition, whatever its entries are.
 func read(data []byte) (*rows, error) {
-	records := recordsOf(data)
-	if len(records) == 0 {
+	message := records.Of(data)
+	if len(message) == 0 {
 		return nil, errors.New("this is no definition")
 	}
 	r := &rows{first: map[digest.Digest]int{}, metadata: map[string][]byte{}}
-	for _, one := range counted(records, nil, entriesOfDefinition) {
-		r.add(one.held)
+	for _, one := range records.Counted(message, nil, entriesOfDefinition) {
+		r.add(one.Held)
 	}
-	for _, one := range counted(records, nil, metadataOfDefinition) {
-		given := recordsOf(one.held)
-		r.metadata[lastOf(given, keyOfEntry)] = joined(counted(given, nil, valueOfEntry))
+	for _, one := range records.Counted(message, nil, metadataOfDefinition) {
+		given := records.Of(one.Held)
+		r.metadata[records.Last(given, keyOfEntry)] = records.Joined(records.Counted(given, nil, valueOfEntry))
 	}
 	if len(r.entries) > 0 {
 		r.terminal = r.first[digest.FromBytes(r.entries[len(r.entries)-1])]

@@ -15,6 +15,7 @@ import (
 
 	"github.com/moby/buildkit/solver/pb"
 	"google.golang.org/protobuf/encoding/protowire"
+	"llbm/daemon/internal/records"
 )
 
 // builtIn is the table of the daemon, of the tools and of the page.
@@ -126,7 +127,7 @@ func (t *Table) Of(entry []byte, own pb.Platform) []Note {
 	if t == nil {
 		return nil
 	}
-	op := recordsOf(entry)
+	op := records.Of(entry)
 	isOwn := isPlatform(op, own)
 	return slices.DeleteFunc(append(notesOf(t.Fields, op, kindsOfOp), t.ofAttributes(op)...), func(one Note) bool {
 		isHeeded := one.Key == "" && slices.ContainsFunc(t.Attributes, func(a Attribute) bool { return a.Name == one.Name })
@@ -136,12 +137,12 @@ func (t *Table) Of(entry []byte, own pb.Platform) []Note {
 
 // all returns the notes of an entry and of its metadata.
 func (t *Table) all(entry, metadata []byte) []Note {
-	op := recordsOf(entry)
-	return slices.Concat(notesOf(t.Fields, op, kindsOfOp), t.ofAttributes(op), notesOf(t.Metadata, recordsOf(metadata), nil))
+	op := records.Of(entry)
+	return slices.Concat(notesOf(t.Fields, op, kindsOfOp), t.ofAttributes(op), notesOf(t.Metadata, records.Of(metadata), nil))
 }
 
 // notesOf returns a note for each place of each field that is set in a message, of which only one of some fields counts.
-func notesOf(rows []Row, message []record, kinds []protowire.Number) []Note {
+func notesOf(rows []Row, message []records.Record, kinds []protowire.Number) []Note {
 	var out []Note
 	for i := range rows {
 		row := &rows[i]
@@ -151,22 +152,22 @@ func notesOf(rows []Row, message []record, kinds []protowire.Number) []Note {
 }
 
 // isPlatform is whether an op's platform is a given one.
-func isPlatform(op []record, own pb.Platform) bool {
+func isPlatform(op []records.Record, own pb.Platform) bool {
 	var p pb.Platform
-	return p.Unmarshal(joined(counted(op, nil, platform))) == nil && p.OS == own.OS && p.Architecture == own.Architecture && p.Variant == own.Variant
+	return p.Unmarshal(records.Joined(records.Counted(op, nil, platform))) == nil && p.OS == own.OS && p.Architecture == own.Architecture && p.Variant == own.Variant
 }
 
 // ofAttributes returns a note for each attribute of a source that is set and has an effect in BuildKit, or is not in the table.
-func (t *Table) ofAttributes(op []record) []Note {
+func (t *Table) ofAttributes(op []records.Record) []Note {
 	var keys []string
 	values := map[string]string{}
-	for _, one := range counted(recordsOf(joined(counted(op, kindsOfOp, sourceOp))), nil, sourceAttributes) {
-		given := recordsOf(one.held)
-		key := lastOf(given, keyOfEntry)
+	for _, one := range records.Counted(records.Of(records.Joined(records.Counted(op, kindsOfOp, sourceOp))), nil, sourceAttributes) {
+		given := records.Of(one.Held)
+		key := records.Last(given, keyOfEntry)
 		if _, ok := values[key]; !ok {
 			keys = append(keys, key)
 		}
-		values[key] = lastOf(given, valueOfEntry)
+		values[key] = records.Last(given, valueOfEntry)
 	}
 	var out []Note
 	for _, key := range keys {
@@ -183,8 +184,8 @@ func (t *Table) ofAttributes(op []record) []Note {
 }
 
 // find calls a function for each place of the field in a message, of which only one of some fields counts: its kind.
-func (row *Row) find(message []record, kinds []protowire.Number, path []step, part string, found func(part string)) {
-	given := counted(message, kinds, path[0].number)
+func (row *Row) find(message []records.Record, kinds []protowire.Number, path []step, part string, found func(part string)) {
+	given := records.Counted(message, kinds, path[0].number)
 	switch {
 	case path[0].repeated:
 		inner := []protowire.Number(nil)
@@ -192,22 +193,22 @@ func (row *Row) find(message []record, kinds []protowire.Number, path []step, pa
 			inner = kindsOfAction
 		}
 		for index, one := range given {
-			row.find(recordsOf(one.held), inner, path[1:], fmt.Sprintf("%s %d", row.Part, index), found)
+			row.find(records.Of(one.Held), inner, path[1:], fmt.Sprintf("%s %d", row.Part, index), found)
 		}
 	case len(path) > 1:
-		row.find(recordsOf(joined(given)), nil, path[1:], part, found)
+		row.find(records.Of(records.Joined(given)), nil, path[1:], part, found)
 	case row.isSet(given):
 		found(part)
 	}
 }
 
 // isSet is whether the records of a field give it a value that has an effect: the last one, or any that has bytes.
-func (row *Row) isSet(given []record) bool {
+func (row *Row) isSet(given []records.Record) bool {
 	if len(given) == 0 {
 		return false
 	}
-	if last := given[len(given)-1]; last.kind == protowire.VarintType {
-		return !slices.Contains(row.Unset, int64(last.number))
+	if last := given[len(given)-1]; last.Kind == protowire.VarintType {
+		return !slices.Contains(row.Unset, int64(last.Number))
 	}
-	return len(joined(given)) > 0
+	return len(records.Joined(given)) > 0
 }

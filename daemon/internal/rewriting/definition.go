@@ -40,16 +40,10 @@ func Definition(ctx context.Context, def *pb.Definition, given Trees) (*pb.Defin
 	if err != nil || !g.Canonical {
 		return def, nil, err
 	}
-	w := &writer{graph: g, given: given, states: make([]state, len(g.Vertices)), ops: map[int]*pb.Op{}, rows: Rows{}}
-	for v := range g.Vertices {
-		if err := ctx.Err(); err != nil {
-			return nil, nil, err
-		}
-		if err := w.vertex(ctx, v); err != nil {
-			return nil, nil, err
-		}
+	w, err := written(ctx, def, g, given)
+	if err != nil {
+		return nil, nil, err
 	}
-	w.terminal(def)
 	new, err := graph.Rewrite(def, func(row int, op *pb.Op) (bool, error) {
 		made, ok := w.ops[row]
 		if ok {
@@ -58,6 +52,40 @@ func Definition(ctx context.Context, def *pb.Definition, given Trees) (*pb.Defin
 		return ok, nil
 	})
 	return new, w.rows, err
+}
+
+// Bytes does the same in the bytes of a definition: what is not rewritten stays as it is, also what BuildKit's library would not
+// write. It returns the rows whose inputs got other digests, too.
+func Bytes(ctx context.Context, data []byte, given Trees) (new []byte, rows Rows, linked []int, err error) {
+	def, g, err := graph.ReadBytes(data)
+	if err != nil {
+		return nil, nil, nil, err
+	}
+	w, err := written(ctx, def, g, given)
+	if err != nil {
+		return nil, nil, nil, err
+	}
+	changes := map[int]graph.Change{}
+	for row, op := range w.ops {
+		changes[row] = graph.Change{Op: op, Actions: w.rows[row].Actions}
+	}
+	new, linked, err = graph.RewriteBytes(data, changes)
+	return new, w.rows, linked, err
+}
+
+// written rewrites the vertices of a graph.
+func written(ctx context.Context, def *pb.Definition, g *graph.Graph, given Trees) (*writer, error) {
+	w := &writer{graph: g, given: given, states: make([]state, len(g.Vertices)), ops: map[int]*pb.Op{}, rows: Rows{}}
+	for v := range g.Vertices {
+		if err := ctx.Err(); err != nil {
+			return nil, err
+		}
+		if err := w.vertex(ctx, v); err != nil {
+			return nil, err
+		}
+	}
+	w.terminal(def)
+	return w, nil
 }
 
 // set takes the new op of a row.

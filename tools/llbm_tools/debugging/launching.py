@@ -4,7 +4,6 @@ The program reads all its files before it answers the first command, so the temp
 launch.
 """
 
-import contextlib
 import difflib
 import functools
 import os
@@ -21,15 +20,13 @@ from llbm_tools.debugging.arguments import Object, argument, of_kind
 from llbm_tools.debugging.origins import Origins, origins_of
 from llbm_tools.debugging.readable import readable
 from llbm_tools.definitions import faults
-from llbm_tools.inputs import data_at, is_standard_input, opened_file
+from llbm_tools.inputs import data_at, is_standard_input
 from llbm_tools.llb import definition, names, source_names
 from llbm_tools.llb.wire import Unreadable
 from llbm_tools.os_errors import os_error_text
 from llbm_tools.sessions.session import Refusal, Session, SessionFailed
-from llbm_tools.streams import Failed, Refused, why_not
-from llbm_tools.trees.directory_texts import Values
-from llbm_tools.trees.references import Table
-from llbm_tools.trees.source_texts import TEXT, Reading, Source, kind_of
+from llbm_tools.streams import Refused, why_not
+from llbm_tools.trees.source_files import source_words
 
 ARGUMENTS = ("definition", "text", "sources", "files", "workers", "stopOnEntry", "stopAtEnd", "noDebug", "llbm")
 EDITOR_ARGUMENTS = (
@@ -136,35 +133,10 @@ def text_of(program: str, data: bytes, text: bytes | None, entries: list[bytes])
     return places.Text(given, places.lines_of(given))
 
 
-def source_file(name: str, path: str, place: str, say: Say) -> str:
-    """Returns the file with the tree text of a local source, which is written to `place` if it is no text."""
-    def say_of(line: str) -> None:
-        said.append(line)
-        say(f"{line} (the local source {name})")
-
-    said: list[str] = []
-    try:
-        if kind_of(path) == TEXT:
-            with opened_file(path):
-                return path
-        with open(place, "wb") as text, contextlib.ExitStack() as kept:
-            is_whole = Source(Values(text, None), Table(), kept, Reading(say=say_of, quiet=True)).read(path, [])
-    except (Refused, Failed) as fault:
-        raise Refused(f"{fault} (the local source {name})") from fault
-    if not is_whole:
-        raise Refused(f"{said[0]} (the local source {name})")
-    return place
-
-
-def source_words(arguments: Object, folder: str, say: Say) -> list[str]:
-    """Returns the command-line words for the program's local sources."""
-    words = []
-    for number, (name, path) in enumerate(argument(arguments, "sources", dict, {}).items()):
-        of_kind(path, f"sources: {name}", str)
-        if not name or "=" in name or name.startswith("-"):
-            raise Refused(f"this can't be the name of a local source on a command line: {name!r}")
-        words.append(f"{name}={source_file(name, path, os.path.join(folder, f'{number}.tree'), say)}")
-    return words
+def sources_of(arguments: Object) -> dict[str, str]:
+    """Returns the paths of local sources by name."""
+    given: Object = argument(arguments, "sources", dict, {})
+    return {name: of_kind(path, f"sources: {name}", str) for name, path in given.items()}
 
 
 def workers_of(arguments: Object) -> int:
@@ -217,8 +189,8 @@ def start(arguments: Object, folder: str, say: Say, program_argument: str) -> La
     shown = output_of(program, "show", data, named_entries).decode("ascii", "backslashreplace")
     named = names.names_of(data)
     graph = places.graph_of(shown, text_of(program, data, text, entries), entries, [one.text for one in named])
-    words = source_words(arguments, folder, say)
-    given_names = list(argument(arguments, "sources", dict, {}))
+    sources = sources_of(arguments)
+    words, given_names = source_words(sources, folder, say), list(sources)
     for note in source_names.word_notes(data, given_names):
         say(note)
     file = os.path.join(folder, "definition")

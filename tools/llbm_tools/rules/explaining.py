@@ -1,24 +1,27 @@
 """Explains lines about BuildKit: the notes of `lint`, the lines of `as-buildkit` and of `explain-run`, and the warnings
 of the daemon, as its clients show them.
 
-Such a line names fields, rules or other notes; `fields.json` and `rules.json` have what is said of each.
+Such a line names fields, rules or other notes; the program `llbm-rules` has what is said of each.
 """
 
 import functools
 import re
 from typing import NamedTuple
 
-from llbm_tools.buildkit import differing, fields, page, rules
+from llbm_tools.rules import program
+from llbm_tools.rules.lines import INHERITED
+from llbm_tools.rules.notes import ATTRIBUTE
 
 # What is before a line in the output of `explain-run`, of buildctl and of docker-buildx.
 LEAD = re.compile(r"\s*(?:BuildKit: |(?:=> )*(?:#\d+ )?WARN: |- )?")
 NOTE = re.compile(r"note (\d+) (\S+)(?: (.*))?")
 STEP = re.compile(r"(?:vertex (\d+)(?: action (\d+))?|action (\d+)|entry (\d+) input (\d+)): (.*)")
+NAMES = re.compile(r"[A-Z]\w*(?:, [A-Z]\w*)*")
 MORE = re.compile(r"and [0-9,]+ more paths?")
 COUNTED = re.compile(r", and [0-9]+ more$")
 FIELD = re.compile(r"(\w+)(?: of (action|mount) (\d+)| (.*))? has no effect: .*")
 SENTENCE = re.compile(r"(\w+): .*\. In BuildKit: .*")
-INHERITED = "the step before made this difference; see the first line with this path, and its rule"
+OF_INHERITED = "the step before made this difference; see the first line with this path, and its rule"
 AGREE = "BuildKit's result has the same paths, modes, owners and contents, but for what notes name"
 FAIL = "neither BuildKit nor llbm has a result"
 IF_ALIKE = "if executions make there what they make here"
@@ -70,19 +73,9 @@ class Unknown(Exception):
 @functools.cache
 def notes() -> dict[str, list[str]]:
     """Returns what is said of each field, rule and other note, by its name."""
-    given = fields.table()
     found: dict[str, list[str]] = {}
-    for place, row in [
-        *((page.numbers_shown(row["numbers"]) + " of an op", row) for row in given["fields"]),
-        *((page.numbers_shown(row["numbers"]) + " of an entry's metadata", row) for row in given["metadata"]),
-        *((f"the attribute `{row['key']}` of a source", row) for row in given["attributes"]),
-        ("an attribute of a local source that no table here has", given["other_attribute"]),
-    ]:
-        found.setdefault(row["name"], []).append(
-            f"{row['name']}: {place}. In BuildKit: {row['effect']}. In llbm: no effect. What to do: {row['advice']}"
-        )
-    for one in [*rules.rows(), *rules.rows("others")]:
-        found[one.name] = [one.words()]
+    for one in program.answers("texts"):
+        found.setdefault(one["name"], []).append(one["words"])
     return found
 
 
@@ -104,7 +97,7 @@ def note(row: str, name: str, part: str | None) -> Explained:
 def texts_of_field(name: str, key: str | None) -> list[str]:
     """Returns what is said of a field, or of an attribute with its key."""
     texts = texts_of(name)
-    return [f"{text} (KEY = {key})" for text in texts] if name == fields.ATTRIBUTE and key else texts
+    return [f"{text} (KEY = {key})" for text in texts] if name == ATTRIBUTE and key else texts
 
 
 def step(words: str, *given: str | None) -> Explained:
@@ -120,8 +113,10 @@ def texts_of_step(words: str) -> list[str]:
     _, colon, names = COUNTED.sub("", words).rpartition(": ")
     if not colon:
         raise Unknown("the line names no rule")
-    if names == differing.INHERITED:
-        return [f"{names}: {INHERITED}"]
+    if names != INHERITED and not NAMES.fullmatch(names):
+        raise Unknown(f"{names!r} is no note")
+    if names == INHERITED:
+        return [f"{names}: {OF_INHERITED}"]
     return [text for name in names.split(", ") for text in texts_of(name)]
 
 
