@@ -1,5 +1,6 @@
 """The trees of local sources as the words NAME=FILE of a program, which reads texts of trees."""
 
+import argparse
 import contextlib
 import os
 from collections.abc import Callable, Mapping
@@ -11,6 +12,14 @@ from llbm_tools.trees.references import Table
 from llbm_tools.trees.source_texts import TEXT, Reading, Source, kind_of
 
 Say = Callable[[str], None]
+
+
+def source_of(word: str) -> tuple[str, str]:
+    """Parses NAME=PATH of a command line."""
+    name, mark, path = word.partition("=")
+    if not name or not mark:
+        raise argparse.ArgumentTypeError(f"{word!r} is not NAME=PATH")
+    return name, path
 
 
 def source_file(name: str, path: str, place: str, say: Say) -> str:
