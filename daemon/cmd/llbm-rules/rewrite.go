@@ -112,5 +112,5 @@ func readTree(ctx context.Context, path string) (*rules.Node, error) {
 		return nil, refused{err}
 	}
 	defer file.Close()
-	return rules.Read(ctx, file)
+	return rules.Read(ctx, file, nil)
 }

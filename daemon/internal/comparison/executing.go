@@ -1,6 +1,7 @@
 package comparison
 
 import (
+	"errors"
 	"fmt"
 	"os"
 	"path/filepath"
@@ -12,13 +13,12 @@ import (
 // Unknown are the words for an execution whose inputs differ.
 const Unknown = "its inputs differ, so what it makes in BuildKit is not known"
 
+// errLater is that it is not known yet what an execution made.
+var errLater = errors.New("later")
+
 // execution takes what an execution made. Where its inputs differ, that is what it makes here; in BuildKit it is not known,
 // unless it can be done on these inputs.
 func (s *session) execution(v int) error {
-	s.runs = true
-	if err := s.static(v); err != nil {
-		return err
-	}
 	it, one := &s.sent.Vertices[v], &s.states[v]
 	exec := it.Op.GetExec()
 	there, here := s.inputs(v)
@@ -99,6 +99,9 @@ func (s *session) outputs(v int, files []string, inputs []*rules.Node) ([]*rules
 	reply, err := s.ask(v, files)
 	if err != nil {
 		return nil, err
+	}
+	if reply.Later && files == nil {
+		return nil, errLater
 	}
 	if reply.Unknown {
 		s.states[v].unknown = true

@@ -29,6 +29,7 @@ type Request struct {
 	Paths    int               `json:"paths,omitempty"`    // how many paths with the same rules a step has at most
 	Result   bool              `json:"result,omitempty"`   // whether the results are compared too
 	Tree     bool              `json:"tree,omitempty"`     // whether BuildKit's result is written
+	Made     string            `json:"made,omitempty"`     // the file of the result that llbm made, which is checked
 }
 
 // A Message is one of a comparison: only one of its fields is set.
@@ -47,7 +48,7 @@ type Run struct {
 }
 
 // A Step is an action of a vertex that ends otherwise, or a vertex as a whole (-1). The vertex is one of the definition as it was
-// sent, the row its entry.
+// sent, the row its entry; both are -1 for an entry that is no vertex.
 type Step struct {
 	Vertex int          `json:"vertex"`
 	Row    int          `json:"row"`
@@ -63,12 +64,14 @@ type Question struct {
 	Inputs []string `json:"inputs,omitempty"`
 }
 
-// A Reply has what an execution made: its outputs in files, or that it failed, or that this is not known.
+// A Reply has what an execution made: its outputs in files, or that it failed, or that this is not known, or not yet: then it is
+// asked again after the others.
 type Reply struct {
 	Vertex  int      `json:"vertex"`
 	Outputs []string `json:"outputs,omitempty"`
 	Failed  bool     `json:"failed,omitempty"`
 	Unknown bool     `json:"unknown,omitempty"`
+	Later   bool     `json:"later,omitempty"`
 }
 
 // An End is the last message. It has words if the results are compared.

@@ -5,19 +5,49 @@ import (
 	"slices"
 	"strings"
 
+	"github.com/moby/buildkit/solver/pb"
 	"llbm/daemon/internal/rules"
 )
 
-// static says what can be said of a vertex without its trees.
-func (s *session) static(v int) error {
-	it := &s.sent.Vertices[v]
-	for _, one := range rules.Breaking(it.Op) {
-		s.broken = s.broken || rules.Breaks(one.Name)
+// static says what can be said of a vertex without its trees, and returns whether BuildKit's daemon dies of the vertex as a whole.
+// llbmd says this itself.
+func (s *session) static(v int) (dies bool, err error) {
+	if s.request.Received {
+		return false, nil
 	}
-	if s.request.Received { // llbmd says this itself
+	var said []rules.Step
+	for _, one := range rules.Static(s.sent.Vertices[v].Op) {
+		if one.Action >= 0 {
+			continue // it is said where the action is done
+		}
+		said = append(said, one)
+		if rules.Breaks(one.Lines[0].Notes[0]) {
+			dies = true
+			s.dies(v, one.Lines[0])
+		}
+	}
+	return dies, s.steps(v, said)
+}
+
+// dies notes that BuildKit's daemon dies of a vertex.
+func (s *session) dies(v int, line rules.Line) {
+	s.broken = true
+	s.fails(v, line.String())
+}
+
+// unknownInputs says which inputs of entries that are no vertices name no entry, of which BuildKit's daemon dies.
+func (s *session) unknownInputs(sent *pb.Definition) error {
+	if s.request.Received {
 		return nil
 	}
-	return s.steps(v, rules.Static(it.Op))
+	for _, one := range rules.UnknownInputs(sent) {
+		s.broken = true
+		step := &Step{Vertex: -1, Row: -1, Action: -1, Lines: []rules.Line{one}}
+		if err := s.talk.Write(Message{Step: step}); err != nil {
+			return err
+		}
+	}
+	return nil
 }
 
 // steps says steps of a vertex.
@@ -67,6 +97,9 @@ func (s *session) end() error {
 	if index < len(one.here) {
 		here = one.here[index]
 	}
+	if err := s.checkMade(here); err != nil {
+		return err
+	}
 	var err error
 	if end.Words, end.Agree, err = s.verdict(there, here, one.unknown); err != nil {
 		return err
@@ -81,6 +114,18 @@ func (s *session) end() error {
 		end.Tree = files[0]
 	}
 	return s.talk.Write(Message{End: end})
+}
+
+// checkMade refuses a result of llbm that its rules here do not make: then the comparison is worth nothing.
+func (s *session) checkMade(here *rules.Node) error {
+	if s.request.Made == "" || here == nil {
+		return nil
+	}
+	made, err := s.read(s.request.Made, here, nil)
+	if err == nil && !rules.Equal(made, here) {
+		err = refuse("the result is not what the rules of docs/FORMATS.md make")
+	}
+	return err
 }
 
 // verdict returns in words whether two results agree.

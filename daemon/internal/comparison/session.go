@@ -73,6 +73,9 @@ func Serve(ctx context.Context, talk *Talk) error {
 		return Refused{err}
 	}
 	s.prepare()
+	if err := s.unknownInputs(sent); err != nil {
+		return err
+	}
 	if err := s.all(); err != nil {
 		return err
 	}
@@ -158,7 +161,12 @@ func (s *session) all() error {
 		if s.ready.Len() == 0 {
 			v := s.waiting[0]
 			s.waiting = s.waiting[1:]
-			if err := s.execution(v); err != nil {
+			err := s.execution(v)
+			if err == errLater {
+				s.waiting = append(s.waiting, v)
+				continue
+			}
+			if err != nil {
 				return err
 			}
 			s.done(v)
@@ -166,6 +174,10 @@ func (s *session) all() error {
 		}
 		v := heap.Pop(&s.ready).(int)
 		if s.sent.Vertices[v].Op.GetExec() != nil {
+			s.runs = true
+			if _, err := s.static(v); err != nil {
+				return err
+			}
 			s.waiting = append(s.waiting, v)
 			continue
 		}
@@ -231,16 +243,19 @@ func (s *session) isUnknown(v int) bool {
 
 // vertex does a vertex that is no execution.
 func (s *session) vertex(v int) error {
-	if err := s.static(v); err != nil {
+	dies, err := s.static(v)
+	if err != nil {
 		return err
 	}
 	it := &s.sent.Vertices[v]
 	var made *rules.Compared
-	var err error
 	if it.Op.GetSource() != nil {
 		made, err = s.source(v)
 	} else {
 		there, here := s.inputs(v)
+		if dies {
+			there = nil
+		}
 		var run *pb.Op
 		var from []int
 		if r, ok := s.inRun[it.Row]; ok {
@@ -256,8 +271,14 @@ func (s *session) vertex(v int) error {
 	}
 	one := &s.states[v]
 	one.there, one.here, one.unknown = made.There, made.Here, s.isUnknown(v)
-	if made.There == nil && !one.unknown && s.why == "" {
-		s.why = fmt.Sprintf("vertex %d: %s", v, made.Fails)
+	switch {
+	case dies:
+		one.there, made.Steps = nil, nil
+	case made.Dies != nil && !s.request.Received:
+		s.dies(v, made.Dies.Lines[0])
+		made.Steps = append(made.Steps, *made.Dies)
+	case made.Fails != "":
+		s.fails(v, made.Fails)
 	}
 	return s.steps(v, made.Steps)
 }

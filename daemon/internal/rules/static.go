@@ -48,6 +48,17 @@ func Static(op *pb.Op) []Step {
 	return out
 }
 
+// diesOf returns the step of an action that fails, if BuildKit's daemon dies of it.
+func diesOf(op *pb.FileOp, number int) *Step {
+	if number < 0 {
+		return nil
+	}
+	if rm := op.Actions[number].GetRm(); rm == nil || !leavesTree(rm) {
+		return nil
+	}
+	return &Step{Action: number, Lines: []Line{lineOfNote(RmAboveRoot)}}
+}
+
 // UnknownInputs returns a line for each input of an entry that names no entry.
 func UnknownInputs(def *pb.Definition) []Line {
 	known := map[digest.Digest]bool{}
