@@ -113,11 +113,18 @@ class Comparison:
         said = self.error.read().decode("utf-8", "backslashreplace").strip() or f"status {status}"
         raise Refused(said) if status == REFUSED else Failed(f"{program.NAME} compare: {said}")
 
-    def go(self) -> None:
-        """Goes on until the end, or until what an execution makes is not known yet."""
+    def go(self, defers: bool = False) -> None:
+        """Goes on until the end, or until what an execution makes is not known yet; with `defers` each such question is
+        put off once, since another execution may have ended."""
+        deferred: set[int] = set()
         while self.end is None:
-            if self.question and not self.reply(self.question):
-                return
+            if self.question:
+                vertex = self.question["vertex"]
+                reply = self.reply(self.question)
+                if reply is None and (not defers or vertex in deferred):
+                    return
+                deferred.add(vertex)
+                self.send({"vertex": vertex, **(reply or {"later": True})})
             self.question = None
             self.take(self.message())
 
@@ -129,24 +136,19 @@ class Comparison:
             tree = pathlib.Path(end["tree"]) if end.get("tree") else None
             self.end = End(end["agree"], end.get("words", ""), end.get("fails", ""), tree)
         else:
-            self.question = message
+            self.question = message.get("needs") or message["execute"]
 
-    def reply(self, question: Answer) -> bool:
-        """Answers a question, and returns whether it could."""
-        asked = question.get("needs") or question["execute"]
-        vertex, answer = asked["vertex"], {"vertex": asked["vertex"]}
+    def reply(self, question: Answer) -> Answer | None:
+        """Returns the reply to a question, or None if it is not known yet."""
+        vertex, inputs = question["vertex"], question.get("inputs")
         try:
-            if "execute" in question:
-                found = self.executions.make(vertex, asked["inputs"]) if self.executions.make else None
-            else:
-                found = self.executions.made(vertex)
+            made = self.executions.make
+            found = made(vertex, inputs) if made and inputs is not None else self.executions.made(vertex)
         except Unknown:
-            self.send({**answer, "unknown": True})
-            return True
+            return {"unknown": True}
         except Later:
-            return False
-        self.send({**answer, "failed": True} if found is None else {**answer, "outputs": list(map(self.stored, found))})
-        return True
+            return None
+        return {"failed": True} if found is None else {"outputs": list(map(self.stored, found))}
 
     def stored(self, tree: Tree) -> str:
         """Writes a tree into a file, and returns its path."""

@@ -79,6 +79,12 @@ def notes() -> dict[str, list[str]]:
     return found
 
 
+def line_of(name: str) -> str:
+    """Returns what is said of a name as the words of a line."""
+    one = next(one for one in program.answers("texts") if one["name"] == name)
+    return f"{one['buildkit']} (here {one['llbm']}): {name}"
+
+
 def texts_of(name: str) -> list[str]:
     """Returns what is said of a name."""
     if name not in notes():
