@@ -59,6 +59,7 @@ func (o *options) flags() *flag.FlagSet {
 	f := flag.NewFlagSet("llbmd", flag.ContinueOnError)
 	f.StringVar(&o.address, "addr", "", "the `PATH` of the socket, or unix://PATH")
 	f.StringVar(&o.Program, "llbm", "llbm", "the `PROGRAM` llbm")
+	f.StringVar(&o.Rules, "rules", "", "the `PROGRAM` llbm-rules, which has BuildKit's rules, instead of the one beside llbmd")
 	f.IntVar(&o.Workers, "workers", 1, "the number of workers of each build, 1 to 64")
 	f.IntVar(&o.AtOnce, "builds", runtime.NumCPU(), "how many builds run at once; others wait")
 	f.Var(o.Frontends, "frontend", "`NAME=PROGRAM`: a frontend that speaks the gateway on its standard input and output; may be repeated")

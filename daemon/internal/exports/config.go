@@ -1,6 +1,10 @@
 package exports
 
 import (
+	"bytes"
+	"encoding/json"
+	"errors"
+	"io"
 	"time"
 
 	digest "github.com/opencontainers/go-digest"
@@ -58,6 +62,20 @@ func configIn(given []byte) (map[string]any, error) {
 		dropNulls(inner)
 	}
 	return config, nil
+}
+
+// decoded reads one value of JSON. Its numbers stay texts, so they are written again as they are.
+func decoded(data []byte) (any, error) {
+	var value any
+	decoder := json.NewDecoder(bytes.NewReader(data))
+	decoder.UseNumber()
+	if err := decoder.Decode(&value); err != nil {
+		return nil, err
+	}
+	if _, err := decoder.Token(); !errors.Is(err, io.EOF) {
+		return nil, errors.New("there is more than one value")
+	}
+	return value, nil
 }
 
 func dropNulls(members map[string]any) {

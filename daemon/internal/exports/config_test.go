@@ -1,6 +1,7 @@
 package exports
 
 import (
+	"encoding/json"
 	"testing"
 	"time"
 
@@ -36,7 +37,7 @@ func TestConfigurationsHaveTheirLayer(t *testing.T) {
 			t.Errorf("%s: %v", name, err)
 			continue
 		}
-		got, err := canonical(config)
+		got, err := json.Marshal(config)
 		if err != nil || string(got) != c.want {
 			t.Errorf("%s: %s, not %s", name, got, c.want)
 		}

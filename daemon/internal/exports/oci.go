@@ -1,6 +1,7 @@
 package exports
 
 import (
+	"archive/tar"
 	"bytes"
 	"compress/gzip"
 	"context"
@@ -177,7 +178,7 @@ const whiteout = ".wh."
 
 // writeLayer writes a result as the plain archive of its tree.
 func writeLayer(ctx context.Context, all files, to io.Writer) error {
-	a := &archive{to: to}
+	archive := tar.NewWriter(to)
 	for n := range all.result.Tree {
 		e := &all.result.Tree[n]
 		if err := ctx.Err(); err != nil {
@@ -186,34 +187,48 @@ func writeLayer(ctx context.Context, all files, to io.Writer) error {
 		if strings.HasPrefix(path.Base(e.Path), whiteout) {
 			return status.Errorf(codes.InvalidArgument, "a layer of an image can't have a name that begins with %s: /%s", whiteout, e.Path)
 		}
-		if err := all.add(a, e); err != nil {
+		if err := all.add(archive, e); err != nil {
 			return err
 		}
 	}
-	return a.end()
+	return archive.Close()
+}
+
+// header returns the header of a file, in the one form that docs/FORMATS.md has ("Images").
+func header(name string, mode, size int64, when time.Time) *tar.Header {
+	return &tar.Header{Format: tar.FormatGNU, Typeflag: tar.TypeReg, Name: name, Mode: mode, Size: size, ModTime: when}
 }
 
 // add writes an entry into an archive.
-func (f files) add(a *archive, e *tree.Entry) error {
-	h := header{name: e.Path, mode: e.Mode, uid: int64(e.UID), gid: int64(e.GID), time: f.when.Unix()}
+func (f files) add(to *tar.Writer, e *tree.Entry) error {
+	h := header(e.Path, int64(e.Mode), 0, f.when)
+	h.Uid, h.Gid = int(e.UID), int(e.GID)
 	if e.Path == "" {
-		h.name = "."
+		h.Name = "."
 	}
 	if e.Dir {
-		h.name += "/"
-		return a.addBytes(h, nil)
+		h.Typeflag, h.Name = tar.TypeDir, h.Name+"/"
+		return to.WriteHeader(h)
 	}
 	content, err := f.result.Contents.Content(e.Content)
 	if err != nil {
 		return err
 	}
-	h.size = content.Size
-	return a.add(h, content.Reader(0, -1))
+	h.Size = content.Size
+	return addFile(to, h, content.Reader(0, -1))
+}
+
+func addFile(to *tar.Writer, h *tar.Header, from io.Reader) error {
+	if err := to.WriteHeader(h); err != nil {
+		return err
+	}
+	_, err := io.Copy(to, from)
+	return err
 }
 
 // described returns the descriptor of a value, and its blob.
 func described(media string, value any) (ocispecs.Descriptor, blob, error) {
-	data, err := canonical(value)
+	data, err := json.Marshal(value)
 	if err != nil {
 		return ocispecs.Descriptor{}, blob{}, err
 	}
@@ -238,18 +253,19 @@ func (i *image) index(top ocispecs.Descriptor) ocispecs.Index {
 
 // write writes the archive: the index, the layout's version, and each blob once.
 func (i *image) write(to io.Writer, top ocispecs.Descriptor) error {
-	a := &archive{to: to}
-	head := header{mode: 0o644, time: i.e.when.Unix()}
+	archive := tar.NewWriter(to)
+	add := func(name string, size int64, from io.Reader) error {
+		return addFile(archive, header(name, 0o644, size, i.e.when), from)
+	}
 	for _, file := range []struct {
 		name  string
 		value any
 	}{{"index.json", i.index(top)}, {ocispecs.ImageLayoutFile, ocispecs.ImageLayout{Version: ocispecs.ImageLayoutVersion}}} {
-		data, err := canonical(file.value)
+		data, err := json.Marshal(file.value)
 		if err != nil {
 			return err
 		}
-		head.name = file.name
-		if err := a.addBytes(head, data); err != nil {
+		if err := add(file.name, int64(len(data)), bytes.NewReader(data)); err != nil {
 			return err
 		}
 	}
@@ -259,12 +275,11 @@ func (i *image) write(to io.Writer, top ocispecs.Descriptor) error {
 			continue
 		}
 		written[b.digest] = true
-		head.name, head.size = path.Join("blobs/sha256", b.digest.Encoded()), b.size
-		if err := a.add(head, b.open()); err != nil {
+		if err := add(path.Join("blobs/sha256", b.digest.Encoded()), b.size, b.open()); err != nil {
 			return err
 		}
 	}
-	return a.end()
+	return archive.Close()
 }
 
 // tagOf returns the tag in an image's name.

@@ -23,35 +23,55 @@ var errNoSource = errors.New("a content is not known")
 
 func below(path []string, name string) []string { return append(slices.Clip(path), name) }
 
+// at returns what is at a path in both trees.
+func (p pair) at(path []string) pair { return pair{p.here.At(path), p.again.At(path)} }
+
+func (p pair) child(name string) pair { return pair{p.here.Child(name), p.again.Child(name)} }
+
+// changed returns the names of two directories that do not have in both what a third one has.
+func (p pair) changed(wanted *rules.Node) []string {
+	found := rules.Changed(p.here, wanted)
+	if !rules.Equal(p.here, p.again) {
+		found = append(found, rules.Changed(p.again, wanted)...)
+		slices.Sort(found)
+	}
+	return slices.Compact(found)
+}
+
+func (p pair) are(like func(a, b *rules.Node) bool, wanted *rules.Node) bool {
+	return like(p.here, wanted) && like(p.again, wanted)
+}
+
 // bridge adds actions until what is at a path is as wanted. Both sets of rules agree on each of them: they remove a path, make a
 // directory with its mode and owner, or copy to a path that is missing or a file.
-func (c *cursor) bridge(path []string, here, wanted *rules.Node) error {
+func (c *cursor) bridge(path []string, now pair, wanted *rules.Node) error {
+	isDir, isFile := now.here.IsDir() && now.again.IsDir(), now.are(areFiles, wanted)
 	switch {
-	case rules.Equal(here, wanted):
+	case now.are(rules.Equal, wanted):
 		return nil
-	case here == nil:
+	case now.here == nil && now.again == nil, isFile:
 		return c.create(path, wanted)
 	case wanted == nil:
 		return c.remove(path)
-	case here.IsDir() != wanted.IsDir():
+	case !isDir || !wanted.IsDir():
 		if err := c.remove(path); err != nil {
 			return err
 		}
 		return c.create(path, wanted)
-	case !wanted.IsDir():
-		return c.create(path, wanted)
-	case len(path) > 0 && !rules.SameEntry(here, wanted):
-		if err := c.remake(path, here, wanted); err != nil {
+	case len(path) > 0 && !now.are(rules.SameEntry, wanted):
+		if err := c.remake(path, now, wanted); err != nil {
 			return err
 		}
 	}
-	for _, name := range rules.Changed(here, wanted) {
-		if err := c.bridge(below(path, name), here.Child(name), wanted.Child(name)); err != nil {
+	for _, name := range now.changed(wanted) {
+		if err := c.bridge(below(path, name), now.child(name), wanted.Child(name)); err != nil {
 			return err
 		}
 	}
 	return nil
 }
+
+func areFiles(a, b *rules.Node) bool { return a != nil && b != nil && !a.IsDir() && !b.IsDir() }
 
 func (c *cursor) remove(path []string) error {
 	rm := &pb.FileActionRm{Path: paths.Text(path, ""), AllowNotFound: true}
@@ -81,12 +101,12 @@ func (c *cursor) copyContents(from source, path []string) error {
 }
 
 // remake makes a directory anew, with another mode or owner, and what is below it as before.
-func (c *cursor) remake(path []string, here, wanted *rules.Node) error {
+func (c *cursor) remake(path []string, now pair, wanted *rules.Node) error {
 	before := c.at
 	if err := c.remove(path); err != nil {
 		return err
 	}
-	if err := c.makeDirectory(path, wanted); err != nil || len(here.Names()) == 0 {
+	if err := c.makeDirectory(path, wanted); err != nil || len(now.here.Names())+len(now.again.Names()) == 0 {
 		return err
 	}
 	return c.copyContents(source{index: before, path: path}, path)
@@ -112,7 +132,7 @@ func (c *cursor) sourcesOf(path []string) []source {
 func (c *cursor) create(path []string, wanted *rules.Node) error {
 	sources := c.sourcesOf(path)
 	for _, one := range sources {
-		if one.gives(c.pair(one.index).here.At(one.path), wanted) {
+		if c.pair(one.index).at(one.path).are(one.gives, wanted) {
 			action := copyOf(one.path, path, keptMode, nil)
 			if one.sets {
 				action = copyOf(one.path, path, one.mode, one.owner)
@@ -124,7 +144,7 @@ func (c *cursor) create(path []string, wanted *rules.Node) error {
 		return c.createDirectory(path, wanted, sources)
 	}
 	for _, one := range sources {
-		if rules.SameContent(c.pair(one.index).here.At(one.path), wanted) {
+		if c.pair(one.index).at(one.path).are(rules.SameContent, wanted) {
 			return c.do(copyOf(one.path, path, int32(wanted.Mode()), chown(wanted.Owner())), one.index)
 		}
 	}
@@ -138,13 +158,13 @@ func (c *cursor) createDirectory(path []string, wanted *rules.Node, sources []so
 	}
 	most, best := 0, source{}
 	for _, one := range sources {
-		from, right := c.pair(one.index).here.At(one.path), 0
-		for _, name := range from.Names() {
-			if one.gives(from.Child(name), wanted.Child(name)) {
+		from, right := c.pair(one.index).at(one.path), 0
+		for _, name := range from.here.Names() {
+			if from.child(name).are(one.gives, wanted.Child(name)) {
 				right++
 			}
 		}
-		if right > most && 2*right > len(from.Names()) {
+		if right > most && 2*right > len(from.here.Names()) {
 			most, best = right, one
 		}
 	}
@@ -153,9 +173,9 @@ func (c *cursor) createDirectory(path []string, wanted *rules.Node, sources []so
 			return err
 		}
 	}
-	here := c.here().At(path)
-	for _, name := range rules.Changed(here, wanted) {
-		if err := c.bridge(below(path, name), here.Child(name), wanted.Child(name)); err != nil {
+	now := c.pair(c.at).at(path)
+	for _, name := range now.changed(wanted) {
+		if err := c.bridge(below(path, name), now.child(name), wanted.Child(name)); err != nil {
 			return err
 		}
 	}

@@ -25,22 +25,32 @@ type Rows map[int]*Row
 
 // A writer rewrites the vertices of a graph.
 type writer struct {
-	graph  *graph.Graph
-	given  Trees // or nil
-	states []state
-	ops    map[int]*pb.Op
-	rows   Rows
+	graph    *graph.Graph
+	given    Trees // or nil
+	treeless bool  // whether no tree is looked at
+	states   []state
+	ops      map[int]*pb.Op
+	rows     Rows
 }
 
 // Definition rewrites a definition, as far as that is possible without trees, or with those that are given. A definition that
 // llbm refuses is an error. One with bytes that BuildKit's library would not write stays as it is, since its fields are not
 // all known.
 func Definition(ctx context.Context, def *pb.Definition, given Trees) (*pb.Definition, Rows, error) {
+	return rewrite(ctx, def, given, false)
+}
+
+// Treeless rewrites a definition as far as that is possible without looking at any tree, also at none that its ops make.
+func Treeless(ctx context.Context, def *pb.Definition) (*pb.Definition, Rows, error) {
+	return rewrite(ctx, def, nil, true)
+}
+
+func rewrite(ctx context.Context, def *pb.Definition, given Trees, treeless bool) (*pb.Definition, Rows, error) {
 	g, err := graph.Read(def, def)
 	if err != nil || !g.Canonical {
 		return def, nil, err
 	}
-	w, err := written(ctx, def, g, given)
+	w, err := written(ctx, def, &writer{graph: g, given: given, treeless: treeless})
 	if err != nil {
 		return nil, nil, err
 	}
@@ -61,7 +71,7 @@ func Bytes(ctx context.Context, data []byte, given Trees) (new []byte, rows Rows
 	if err != nil {
 		return nil, nil, nil, err
 	}
-	w, err := written(ctx, def, g, given)
+	w, err := written(ctx, def, &writer{graph: g, given: given})
 	if err != nil {
 		return nil, nil, nil, err
 	}
@@ -74,9 +84,9 @@ func Bytes(ctx context.Context, data []byte, given Trees) (new []byte, rows Rows
 }
 
 // written rewrites the vertices of a graph.
-func written(ctx context.Context, def *pb.Definition, g *graph.Graph, given Trees) (*writer, error) {
-	w := &writer{graph: g, given: given, states: make([]state, len(g.Vertices)), ops: map[int]*pb.Op{}, rows: Rows{}}
-	for v := range g.Vertices {
+func written(ctx context.Context, def *pb.Definition, w *writer) (*writer, error) {
+	w.states, w.ops, w.rows = make([]state, len(w.graph.Vertices)), map[int]*pb.Op{}, Rows{}
+	for v := range w.graph.Vertices {
 		if err := ctx.Err(); err != nil {
 			return nil, err
 		}

@@ -10,23 +10,24 @@ import (
 // listed returns a merge that lists each input of its op once, in their order, as BuildKit lays them. If the merge lists fewer than
 // its op has, of which BuildKit's daemon dies, the op gets those that are listed.
 func listed(op *pb.Op) (*pb.Op, string) {
-	var laid []pb.InputIndex
 	given := op.GetMerge().GetInputs()
 	inOrder := len(given) == len(op.Inputs)
 	for i, one := range given {
-		if one.Input != nothing {
-			laid = append(laid, one.Input)
-		}
 		inOrder = inOrder && one.Input == pb.InputIndex(i)
 	}
-	if len(laid) == 0 || inOrder {
+	if inOrder {
 		return op, ""
 	}
 	made, what := *op, "lists each input once, in their order"
 	if len(given) < len(op.Inputs) {
 		what, made.Inputs = "its op has the inputs that it lists", nil
-		for _, number := range laid {
-			made.Inputs = append(made.Inputs, op.Inputs[number])
+		for _, one := range given {
+			if one.Input != nothing {
+				made.Inputs = append(made.Inputs, op.Inputs[one.Input])
+			}
+		}
+		if len(made.Inputs) == 0 {
+			return op, ""
 		}
 	}
 	merge := &pb.MergeOp{}
@@ -41,8 +42,8 @@ func listed(op *pb.Op) (*pb.Op, string) {
 func (w *writer) merge(ctx context.Context, v int) error {
 	it := &w.graph.Vertices[v]
 	op, what := listed(it.Op)
-	if isEmptyMerge(it.Op) {
-		f := &fileOp{count: len(it.Op.Inputs)}
+	if len(it.Op.Inputs) == 0 {
+		f := &fileOp{}
 		f.fail(-1, "there is nothing to merge")
 		w.setMerge(v, f)
 		return nil
@@ -60,16 +61,6 @@ func (w *writer) merge(ctx context.Context, v int) error {
 	return w.mergeByTrees(ctx, v, inputs)
 }
 
-// isEmptyMerge is whether a merge lists no input.
-func isEmptyMerge(op *pb.Op) bool {
-	for _, one := range op.GetMerge().GetInputs() {
-		if one.Input != nothing {
-			return false
-		}
-	}
-	return true
-}
-
 // setMerge makes a merge a file op.
 func (w *writer) setMerge(v int, f *fileOp) {
 	it := &w.graph.Vertices[v]
@@ -84,7 +75,7 @@ func (w *writer) mergeByTrees(ctx context.Context, v int, inputs []trees) error 
 	var best *cursor
 	for _, base := range []int{0, len(inputs) - 1} {
 		c := w.bridgeFrom(ctx, v, base, inputs)
-		if c.bridge(nil, c.here(), wanted.Tree()) == nil && c.isAt(wanted.Tree()) && (best == nil || len(c.new) < len(best.new)) {
+		if c.bridge(nil, c.pair(c.at), wanted.Tree()) == nil && c.isAt(wanted.Tree()) && (best == nil || len(c.new) < len(best.new)) {
 			best = c
 		}
 		if ctx.Err() != nil {

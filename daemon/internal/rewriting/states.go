@@ -30,6 +30,9 @@ type state struct{ outputs []trees }
 
 // inputs returns the trees of a vertex's inputs, if all are known.
 func (w *writer) inputs(v int) ([]trees, bool) {
+	if w.treeless {
+		return nil, false
+	}
 	it := &w.graph.Vertices[v]
 	found := []trees{}
 	for i, input := range it.Inputs {

@@ -269,7 +269,7 @@ func (c *cursor) byTrees(wanted *rules.Node) (err error) {
 	}
 	if err == nil && wanted != nil {
 		c.from = append(c.from, source{index: c.base}, source{index: c.at})
-		err = c.bridge(nil, c.here(), wanted)
+		err = c.bridge(nil, c.pair(c.at), wanted)
 	}
 	c.changes = []string{fmt.Sprintf("is %d actions, by its trees", len(c.new)-c.mark)}
 	return err

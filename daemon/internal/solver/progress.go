@@ -23,48 +23,18 @@ const often = 100 * time.Millisecond
 type progress struct {
 	b       *builds.Build
 	g       *graph.Graph
-	shown   *shown
+	shown   *builds.Shown
 	mu      sync.Mutex
 	begun   []*time.Time
 	running map[int]int    // the vertex of each worker
 	rows    rewriting.Rows // the rows that were rewritten
 }
 
-// shown are the vertices of a build that have been shown as done, and the notes that have been shown; what two results need
-// is shown once.
-type shown struct {
-	mu    sync.Mutex
-	done  map[digest.Digest]bool
-	noted map[string]bool
-}
-
-func (s *shown) has(d digest.Digest) bool {
-	s.mu.Lock()
-	defer s.mu.Unlock()
-	return s.done[d]
-}
-
-func (s *shown) add(d digest.Digest) {
-	s.mu.Lock()
-	defer s.mu.Unlock()
-	s.done[d] = true
-}
-
-// note returns whether a note is still to be shown; it is shown from now on.
-func (s *shown) note(key string) bool {
-	s.mu.Lock()
-	defer s.mu.Unlock()
-	before := s.noted[key]
-	s.noted[key] = true
-	return !before
-}
-
 func newProgress(b *builds.Build, g *graph.Graph) *progress {
-	p := &progress{b: b, g: g, begun: make([]*time.Time, len(g.Vertices)), running: map[int]int{}}
-	p.shown = b.Share("shown", func() any { return &shown{done: map[digest.Digest]bool{}, noted: map[string]bool{}} }).(*shown)
+	p := &progress{b: b, g: g, shown: b.Shown, begun: make([]*time.Time, len(g.Vertices)), running: map[int]int{}}
 	event := &controlapi.StatusResponse{}
 	for v := range g.Vertices {
-		if !p.shown.has(g.Vertices[v].Digest) {
+		if !p.shown.Has(g.Vertices[v].Digest) {
 			event.Vertexes = append(event.Vertexes, p.vertex(v))
 		}
 	}
@@ -97,7 +67,7 @@ func (p *progress) start(v int) {
 	if p.begun[v] == nil {
 		now := time.Now()
 		p.begun[v] = &now
-		if !p.shown.has(p.g.Vertices[v].Digest) {
+		if !p.shown.Has(p.g.Vertices[v].Digest) {
 			p.b.Events.Add(&controlapi.StatusResponse{Vertexes: []*controlapi.Vertex{p.vertex(v)}})
 		}
 	}
@@ -139,7 +109,7 @@ func (p *progress) command(v int, reply string) {
 }
 
 func (p *progress) log(v int, stream int64, line string) {
-	if p.shown.has(p.g.Vertices[v].Digest) {
+	if p.shown.Has(p.g.Vertices[v].Digest) {
 		return
 	}
 	p.b.Events.Add(&controlapi.StatusResponse{Logs: []*controlapi.VertexLog{{
@@ -149,13 +119,13 @@ func (p *progress) log(v int, stream int64, line string) {
 
 func (p *progress) settled(v int) {
 	d := p.g.Vertices[v].Digest
-	if p.shown.has(d) {
+	if p.shown.Has(d) {
 		return
 	}
 	now, it := time.Now(), p.vertex(v)
 	it.Completed = &now
 	p.b.Events.Add(&controlapi.StatusResponse{Vertexes: []*controlapi.Vertex{it}})
-	p.shown.add(d)
+	p.shown.Add(d)
 }
 
 // failed shows a vertex as failed, and adds to the error which vertex it is.
@@ -182,7 +152,11 @@ func (p *progress) stopped(err error) {
 
 // warn shows a warning of a vertex.
 func (p *progress) warn(v int, short string, details []string) {
-	warning := &controlapi.VertexWarning{Vertex: p.g.Vertices[v].Digest, Level: 1, Short: []byte(short)}
+	p.warnOf(p.g.Vertices[v].Digest, short, details)
+}
+
+func (p *progress) warnOf(d digest.Digest, short string, details []string) {
+	warning := &controlapi.VertexWarning{Vertex: d, Level: 1, Short: []byte(short)}
 	for _, detail := range details {
 		warning.Detail = append(warning.Detail, []byte(detail))
 	}
@@ -191,8 +165,12 @@ func (p *progress) warn(v int, short string, details []string) {
 
 // note shows a text as a warning of a vertex, once in a build.
 func (p *progress) note(v int, text string, details []string) {
-	if p.shown.note(p.g.Vertices[v].Digest.String() + " " + text) {
-		p.warn(v, text, details)
+	p.noteOf(p.g.Vertices[v].Digest, text, details)
+}
+
+func (p *progress) noteOf(d digest.Digest, text string, details []string) {
+	if p.shown.Note(d.String() + " " + text) {
+		p.warnOf(d, text, details)
 	}
 }
 

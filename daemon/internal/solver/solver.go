@@ -6,7 +6,7 @@ import (
 	"context"
 	"io"
 	"log"
-	"sync/atomic"
+	"slices"
 
 	"github.com/moby/buildkit/solver/errdefs"
 	"github.com/moby/buildkit/solver/pb"
@@ -19,6 +19,7 @@ import (
 	"llbm/daemon/internal/kept"
 	"llbm/daemon/internal/machine"
 	"llbm/daemon/internal/notes"
+	"llbm/daemon/internal/results"
 	"llbm/daemon/internal/sessions"
 	"llbm/daemon/internal/sources"
 	"llbm/daemon/internal/tree"
@@ -30,23 +31,19 @@ type Solver struct {
 	Workers  int
 	Sessions *sessions.Sessions
 	Keeper   *sources.Keeper
-	Kept     *kept.Folder // or nil
-	Notes    *notes.Table // or nil
-	Platform pb.Platform  // the worker's
-	Literal  bool         // whether definitions run by llbm's rules where they differ from BuildKit's
-	slots    chan struct{}
+	Kept     *kept.Folder     // or nil
+	Notes    *notes.Table     // or nil
+	Platform pb.Platform      // the worker's
+	Literal  bool             // whether definitions run by llbm's rules where they differ from BuildKit's
+	Rules    *machine.Program // llbm-rules, or nil
+
+	slots       chan struct{}
+	comparisons chan struct{}
 }
 
 // New returns a solver with at most some processes of the program at once.
 func New(program *machine.Program, workers, atOnce int, open *sessions.Sessions, keeper *sources.Keeper, folder *kept.Folder) *Solver {
-	return &Solver{Program: program, Workers: workers, Sessions: open, Keeper: keeper, Kept: folder, slots: make(chan struct{}, atOnce)}
-}
-
-// A Result is a tree, with the table of the contents that its tokens stand for.
-type Result struct {
-	Tree     tree.Tree
-	Contents *contents.Table
-	Def      *pb.Definition
+	return &Solver{comparisons: make(chan struct{}, atOnce), Program: program, Workers: workers, Sessions: open, Keeper: keeper, Kept: folder, slots: make(chan struct{}, atOnce)}
 }
 
 // slot waits until one more process of the program may run.
@@ -62,14 +59,23 @@ func (s *Solver) slot(ctx context.Context) (leave func(), err error) {
 // IsEmpty is whether a definition is the client's Scratch(), which has no entries.
 func IsEmpty(def *pb.Definition) bool { return def == nil || len(def.Def) == 0 }
 
+// Lazily returns the result of a definition, which is not solved yet. It is solved as long as the build lasts, whoever waits.
+func (s *Solver) Lazily(b *builds.Build, id string, def *pb.Definition, policies []*spb.Policy) *results.Lazy {
+	return results.Lazily(id, def, func() (*results.Result, error) { return s.Solve(b.Context, b, def, policies) })
+}
+
 // Solve runs a definition of a build. What the result holds is given up when the build ends.
 //
 // llbm shows each definition while it is worked on. A refusal ends the work, and nothing is returned before llbm has shown all.
-func (s *Solver) Solve(ctx context.Context, b *builds.Build, sent *pb.Definition, policies []*spb.Policy) (*Result, error) {
+func (s *Solver) Solve(ctx context.Context, b *builds.Build, sent *pb.Definition, policies []*spb.Policy) (*results.Result, error) {
 	if IsEmpty(sent) {
-		return &Result{Tree: tree.Empty(), Def: sent}, nil
+		return &results.Result{Tree: tree.Empty(), Def: sent}, nil
 	}
-	def, err := convert(ctx, sent, append(append([]*spb.Policy{}, b.Policies...), policies...))
+	_, given, err := b.Given(ctx)
+	if err != nil {
+		return nil, err
+	}
+	def, err := convert(ctx, sent, slices.Concat(given, policies))
 	if err != nil {
 		return nil, err
 	}
@@ -88,8 +94,8 @@ func (s *Solver) Solve(ctx context.Context, b *builds.Build, sent *pb.Definition
 	return result, nil
 }
 
-// work runs a definition by the rules that it is to be run by.
-func (s *Solver) work(c *checks, b *builds.Build, def, sent *pb.Definition) (*Result, error) {
+// work gathers the sources of a definition, rewrites it if it is to be run as BuildKit would, and runs it.
+func (s *Solver) work(c *checks, b *builds.Build, def, sent *pb.Definition) (*results.Result, error) {
 	g, err := c.load(def, sent)
 	if err != nil {
 		return nil, err
@@ -97,11 +103,6 @@ func (s *Solver) work(c *checks, b *builds.Build, def, sent *pb.Definition) (*Re
 	b.AddSteps(len(g.Vertices))
 	p := newProgress(b, g)
 	s.note(sent, g, p)
-	if !s.Literal {
-		if def, g, err = s.liken(c, def, sent, g, p); err != nil {
-			return nil, err
-		}
-	}
 	in, err := s.gather(c.ctx, b, g, p)
 	if err != nil {
 		return nil, err
@@ -117,11 +118,6 @@ func (s *Solver) work(c *checks, b *builds.Build, def, sent *pb.Definition) (*Re
 		}
 		p.change(g)
 	}
-	return s.run(c.ctx, b, def, g, in, p)
-}
-
-// run runs a definition in a session of llbm, and returns the result's tree.
-func (s *Solver) run(ctx context.Context, b *builds.Build, def *pb.Definition, g *graph.Graph, in *inputs, p *progress) (*Result, error) {
 	texts, table, err := in.texts(g)
 	defer func() {
 		for _, text := range texts {
@@ -131,23 +127,39 @@ func (s *Solver) run(ctx context.Context, b *builds.Build, def *pb.Definition, g
 	if err != nil {
 		return nil, err
 	}
-	c := compare(ctx, def, g, in, texts, p)
-	defer c.stop()
-	t, record, err := s.session(ctx, b, g, def, texts, p, c)
-	if s.Kept != nil {
-		s.keep(b, def, record, in, err)
-	}
+	result, err := s.run(c, b, def, sent, g, in, texts, p)
 	if err != nil {
 		table.Close()
 		return nil, err
 	}
-	return &Result{Tree: t, Contents: table}, nil
+	result.Contents = table
+	return result, nil
+}
+
+// run runs a definition in a session of llbm, and returns the result's tree. What BuildKit would make is compared beside it.
+func (s *Solver) run(
+	checks *checks, b *builds.Build, def, sent *pb.Definition, g *graph.Graph, in *inputs, texts []machine.Source, p *progress,
+) (*results.Result, error) {
+	c := s.compare(checks.ctx, def, g, in, texts, s.rewrites(g, p), p)
+	defer c.stop()
+	def, g, err := s.liken(checks, c, def, sent, g, p)
+	if err != nil {
+		return nil, err
+	}
+	t, record, err := s.session(checks.ctx, b, g, def, in.given(g, texts), p, c)
+	if s.Kept != nil {
+		s.keep(b, def, record, in, err)
+	}
+	if err != nil {
+		return nil, err
+	}
+	return &results.Result{Tree: t}, nil
 }
 
 // session does the events that llbm chooses, up to the end or to the first vertex that fails. The record is returned if it
 // is kept.
 func (s *Solver) session(
-	ctx context.Context, b *builds.Build, g *graph.Graph, def *pb.Definition, texts []machine.Source, p *progress, c *comparison,
+	ctx context.Context, b *builds.Build, g *graph.Graph, def *pb.Definition, texts []machine.Source, p *progress, c *comparing,
 ) (tree.Tree, []byte, error) {
 	entries, err := graph.Entries(def)
 	if err != nil {
@@ -165,8 +177,7 @@ func (s *Solver) session(
 	if err != nil {
 		return nil, nil, err
 	}
-	written := b.Share("written", func() any { return new(atomic.Int64) }).(*atomic.Int64)
-	run, err := s.Program.Step(ctx, file, texts, s.Workers, written)
+	run, err := s.Program.Step(ctx, file, texts, s.Workers, &b.Written)
 	if err != nil {
 		leave()
 		return nil, nil, err
@@ -193,13 +204,13 @@ func (s *Solver) session(
 		}
 		if v, failed := p.event(event); failed {
 			err := p.failed(v, s.failure(run, p, v))
-			c.end(run)
+			c.end(run, g)
 			return nil, record.Bytes(), err
 		}
 	}
 	t, err := run.Tree(g.Result, g.Output)
 	if err == nil {
-		c.end(run)
+		c.end(run, g)
 	}
 	return t, record.Bytes(), err
 }

@@ -5,12 +5,13 @@ import itertools
 import os
 import select
 import signal
-import tarfile
 from collections.abc import Iterable, Iterator
 from typing import BinaryIO, NamedTuple
 
 from llbm_tools.building.entry_writing import Files, entry_at, finish_directories, make_directories, not_written
 from llbm_tools.building.result_texts import Checked, Line, Part, lines_in
+from llbm_tools.images.archive_writing import BLOCK, blocks_of
+from llbm_tools.images.archive_writing import END as END_OF_ARCHIVE
 from llbm_tools.streams import FAILED, PIECE, REFUSED, Failed, Refused
 from llbm_tools.trees.references import Copier, Table, write_all
 from llbm_tools.trees.tar_of_tree import header_of
@@ -18,7 +19,6 @@ from llbm_tools.trees.tar_of_tree import header_of
 MOST_WORKERS = 8
 FILES_OF_A_WORKER = 1000
 SIGNALS = (signal.SIGINT, signal.SIGTERM, signal.SIGHUP)
-BLOCK = 512
 END = b"\n"
 
 
@@ -192,8 +192,7 @@ def write_archive(text: str, place: str, table: Table | None, time: int, most: i
                         write_member(line, archive, copier, time)
                     except OSError as fault:
                         raise not_written(line.path, fault) from fault
-            archive.write(bytes(2 * BLOCK))
-            archive.write(bytes(-archive.tell() % tarfile.RECORDSIZE))
+            write_all(archive.fileno(), END_OF_ARCHIVE)
     copier.close()
 
 
@@ -202,6 +201,6 @@ def write_member(line: Line, archive: BinaryIO, copier: Copier, time: int) -> No
     header = header_of(entry_at(line), time)
     content = binascii.unhexlify(line.content or b"")
     header.size = copier.size(content)
-    write_all(archive.fileno(), header.tobuf(tarfile.PAX_FORMAT, "utf-8", "surrogateescape"))
+    write_all(archive.fileno(), blocks_of(header))
     copier.copy(content, archive.fileno())
     write_all(archive.fileno(), bytes(-header.size % BLOCK))

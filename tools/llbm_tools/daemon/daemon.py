@@ -46,8 +46,9 @@ def go_of(packages: pathlib.Path, offline: bool) -> Go:
 
 
 def build_daemon(go: Go, to: pathlib.Path) -> None:
-    """Builds the daemon."""
+    """Builds the daemon, and beside it the program with BuildKit's rules."""
     go.build(f"{MODULE}/cmd/llbmd", to, *STATIC)
+    go.build(f"{MODULE}/cmd/llbm-rules", to.with_name("llbm-rules"), *STATIC)
 
 
 def build_clients(go: Go, folder: pathlib.Path) -> None:

@@ -3,7 +3,6 @@
 The texts of the trees are removed with the session.
 """
 
-import contextlib
 import difflib
 import functools
 import os

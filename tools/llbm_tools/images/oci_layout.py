@@ -14,6 +14,7 @@ import re
 import tarfile
 from typing import BinaryIO, cast
 
+from llbm_tools.images import archive_writing
 from llbm_tools.streams import PIECE, Refused
 
 WHITEOUT = ".wh."
@@ -39,6 +40,9 @@ MEMBERS_OF_CONFIG = {
 }  # fmt: skip
 
 Object = dict[str, object]
+
+# What else than JSON asks for is escaped.
+ESCAPED = {ord(one): f"\\u{ord(one):04x}" for one in "<>&\u2028\u2029"}
 
 
 def is_kind(kind: str, value: object) -> bool:
@@ -74,13 +78,18 @@ def config_in(data: bytes, where: str) -> bytes:
     if "history" in config:
         steps = cast(list[object], config["history"])
         config["history"] = [checked(step, MEMBERS_OF_STEP, f"{where}: history") for step in steps]
-    return as_json(config)
+    return config_json(config)
 
 
-def as_json(held: object) -> bytes:
-    """Returns a value as JSON, always with the same bytes."""
-    text = json.dumps(held, ensure_ascii=False, allow_nan=False, separators=(",", ":"), sort_keys=True)
-    return text.encode("utf-8")
+def as_json(held: object, sort_keys: bool = False) -> bytes:
+    """Returns a value as JSON, with the bytes that Go's package encoding/json writes."""
+    text = json.dumps(held, ensure_ascii=False, allow_nan=False, separators=(",", ":"), sort_keys=sort_keys)
+    return text.translate(ESCAPED).encode("utf-8")
+
+
+def config_json(config: object) -> bytes:
+    """Returns a configuration as JSON; the members of all its objects are in the order of their names."""
+    return as_json(config, sort_keys=True)
 
 
 def time_text(time: int) -> str:
@@ -176,27 +185,27 @@ def write(layer: BinaryIO, output: BinaryIO, given: bytes, time: int, is_bound: 
     check_names(layer)
     digest, size = digest_in(layer), size_of(layer)
     config = whole_config(given, digest, time, is_bound)
-    config_data = as_json(config)
+    config_data = config_json(config)
     config_named, config_path = described(CONFIG_TYPE, config_data)
     layers = [descriptor(LAYER_TYPE, digest, size)]
     manifest: Object = {"schemaVersion": 2, "mediaType": MANIFEST_TYPE, "config": config_named, "layers": layers}
     manifest_data = as_json(manifest)
     manifest_named, manifest_path = described(MANIFEST_TYPE, manifest_data)
-    manifest_named["platform"] = {name: config[name] for name in PLATFORM if config.get(name)}
     manifest_named["annotations"] = {CREATED: time_text(time)}
+    manifest_named["platform"] = {name: config[name] for name in PLATFORM if config.get(name)}
     index = as_json({"schemaVersion": 2, "mediaType": INDEX_TYPE, "manifests": [manifest_named]})
-    with tarfile.open(fileobj=output, mode="w:", format=tarfile.PAX_FORMAT) as archive:
-        for path, data in (
-            ("index.json", index), ("oci-layout", as_json({"imageLayoutVersion": "1.0.0"})),
-            (manifest_path, manifest_data), (config_path, config_data),
-        ):  # fmt: skip
-            add(archive, path, io.BytesIO(data), len(data), time)
-        layer.seek(0)
-        add(archive, blob_path(digest), layer, size, time)
+    for path, data in (
+        ("index.json", index), ("oci-layout", as_json({"imageLayoutVersion": "1.0.0"})),
+        (manifest_path, manifest_data), (config_path, config_data),
+    ):  # fmt: skip
+        add(output, path, io.BytesIO(data), len(data), time)
+    layer.seek(0)
+    add(output, blob_path(digest), layer, size, time)
+    output.write(archive_writing.END)
 
 
-def add(archive: tarfile.TarFile, path: str, content: BinaryIO, size: int, time: int) -> None:
+def add(archive: BinaryIO, path: str, content: BinaryIO, size: int, time: int) -> None:
     """Adds a file to the archive."""
     header = tarfile.TarInfo(path)
     header.size, header.mode, header.mtime = size, 0o644, time
-    archive.addfile(header, content)
+    archive_writing.add(archive, header, content)

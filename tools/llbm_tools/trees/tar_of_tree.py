@@ -3,12 +3,12 @@
 In: a tree text on standard input; the whole text is checked before anything is written, and its first faulty line is
 named on standard error with `line N` at its end, counted from 1.
 
-Out: the archive, in the new file ARCHIVE, or on standard output if none is named. It is in the pax format of
-POSIX.1-2001, with an extended header only for a path or a number that needs one. Entries are in path order, the root
-first, as `./`, and the others without a leading `/`. Each has the mode, the user and the group of its line, no user
-names, and the time of --mtime, or else of the environment variable SOURCE_DATE_EPOCH, or else 0. The archive is packed
-if the name of ARCHIVE ends in .tar.gz, .tgz, .tar.bz2, .tar.xz or .tar.zst, or as --pack says (gzip, bzip2, xz or zstd,
-the last by the program `zstd` if this Python cannot). ARCHIVE appears complete, at the end.
+Out: the archive, in the new file ARCHIVE, or on standard output if none is named. It is in GNU's form of tar, with a
+header of its own for a name of over 100 bytes. Entries are in path order, the root first, as `./`, and the others
+without a leading `/`. Each has the mode, the user and the group of its line, no user names, and the time of --mtime, or
+else of the environment variable SOURCE_DATE_EPOCH, or else 0. The archive is packed if the name of ARCHIVE ends in
+.tar.gz, .tgz, .tar.bz2, .tar.xz or .tar.zst, or as --pack says (gzip, bzip2, xz or zstd, the last by the program `zstd`
+if this Python cannot). ARCHIVE appears complete, at the end.
 
 Exit status: 0 the archive is written; 2 the text or the command line is refused, or ARCHIVE already exists; 3 a read or
 a write failed (named on standard error); 130 interrupted. If it is not 0, no ARCHIVE is made.
@@ -20,7 +20,7 @@ import io
 import tarfile
 from typing import BinaryIO
 
-from llbm_tools.images import packing
+from llbm_tools.images import archive_writing, packing
 from llbm_tools.inputs import input_lines
 from llbm_tools.streams import exit_status, temporary_file, write_new_file, write_output
 from llbm_tools.trees import times
@@ -37,13 +37,12 @@ def header_of(entry: Entry, time: int) -> tarfile.TarInfo:
 
 def write(text: BinaryIO, output: BinaryIO, time: int) -> None:
     """Writes the archive of a valid tree text."""
-    with tarfile.open(fileobj=output, mode="w:", format=tarfile.PAX_FORMAT, encoding="utf-8") as archive:
-        for entry in map(entry_of, text):
-            header = header_of(entry, time)
-            content = binascii.unhexlify(entry.content or b"")
-            header.size = len(content)
-            archive.addfile(header, io.BytesIO(content))
-            archive.members.clear()  # type: ignore[attr-defined]
+    for entry in map(entry_of, text):
+        header = header_of(entry, time)
+        content = binascii.unhexlify(entry.content or b"")
+        header.size = len(content)
+        archive_writing.add(output, header, io.BytesIO(content))
+    output.write(archive_writing.END)
 
 
 def form_of(options: argparse.Namespace) -> packing.Form | None:

@@ -352,7 +352,7 @@ class TarOfTree(Folder):
             self.assertEqual((one.mtime, one.uname, one.gname, one.linkname, one.pax_headers), (0, "", "", "", {}))
         headers = [given[place : place + BLOCK] for place in (0, 512, 1024, 2048)]
         self.assertEqual([header[:4] for header in headers], [b"./\0\0", b"a/\0\0", b"a/b\0", b"a-b\0"])
-        self.assertEqual({header[257:265] for header in headers}, {b"ustar\00000"})
+        self.assertEqual({header[257:265] for header in headers}, {b"ustar  \0"})
         self.assertEqual((len(given) % BLOCK, given[-2 * BLOCK :]), (0, bytes(2 * BLOCK)))
 
     def test_the_same_text_makes_the_same_bytes(self):
@@ -409,8 +409,10 @@ class TarOfTree(Folder):
 
     @unittest.skipUnless(shutil.which("tar"), "there is no tar")
     def test_another_program_unpacks_the_archive(self):
+        deep = "/".join(["d" * 99, LONG])
         lines = ["d 0711 OWN /", "d 0555 OWN /a", "f 0640 OWN 6869 /a/b", f"d 0755 OWN /{LONG}"]
-        lines += [f"f 0600 OWN - /{LONG}/{LONG}"]
+        lines += [f"f 0600 OWN - /{LONG}/{LONG}", f"d 0755 OWN /{deep[:99]}", f"f 0640 OWN 6869 /{deep}"]
+        lines += ["f 1711 OWN 0a /\N{LATIN SMALL LETTER U WITH DIAERESIS}\N{GREEK SMALL LETTER ALPHA}"]
         self.pack(lines, self.at / "x.tar")
         os.mkdir(self.place(b"out"))
         words = ["tar", "-C", self.place(b"out"), "-p", "-xf", self.at / "x.tar"]
@@ -453,3 +455,15 @@ class TarOfTree(Folder):
         with open("/dev/full", "wb") as output:
             done = run_into(output, "tar-of-tree")
         self.assertEqual((done.returncode, done.stderr), (2, b"the text is empty: line 1\n"))
+
+    @unittest.skipUnless(shutil.which("tar"), "there is no tar")
+    def test_another_program_reads_numbers_of_any_size(self):
+        owners = ["0/0", "2097151/2097152", "4294967295/2097151"]
+        lines = ["d 0755 0 0 /", *(f"f 4755 {one.replace('/', ' ')} 6869 /f{n}" for n, one in enumerate(owners))]
+        archive = self.pack(lines, "--mtime", "8589934591")
+        words = ["tar", "--numeric-owner", "--utc", "--full-time", "-tvf", "-"]
+        done = subprocess.run(words, input=archive, capture_output=True, env={**os.environ, "LC_ALL": "C"})
+        self.assertEqual((done.returncode, done.stderr), (0, b""))
+        found = [line.split() for line in done.stdout.decode().splitlines()[1:]]
+        wanted = [["-rwsr-xr-x", one, "2", "2242-03-16", "12:56:31", f"f{n}"] for n, one in enumerate(owners)]
+        self.assertEqual(found, wanted)

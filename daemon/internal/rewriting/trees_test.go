@@ -1,0 +1,258 @@
+package rewriting
+
+import (
+	"bytes"
+	"context"
+	"fmt"
+	"math/rand"
+	"slices"
+	"strings"
+	"testing"
+
+	"github.com/moby/buildkit/solver/pb"
+	digest "github.com/opencontainers/go-digest"
+	"llbm/daemon/internal/graph"
+	"llbm/daemon/internal/rules"
+)
+
+// A builder makes a definition.
+type builder struct {
+	t   *testing.T
+	def *pb.Definition
+}
+
+func (b *builder) add(op *pb.Op) digest.Digest {
+	b.t.Helper()
+	entry, err := op.Marshal()
+	if err != nil {
+		b.t.Fatal(err)
+	}
+	b.def.Def = append(b.def.Def, entry)
+	return digest.FromBytes(entry)
+}
+
+// definition returns a definition of local sources and of ops; each op names as its inputs the sources and the ops before.
+func definition(t *testing.T, sources int, ops ...func(inputs []*pb.Input) *pb.Op) *pb.Definition {
+	t.Helper()
+	b := &builder{t, &pb.Definition{}}
+	var inputs []*pb.Input
+	for i := range sources {
+		source := &pb.SourceOp{Identifier: fmt.Sprintf("local://s%d", i)}
+		inputs = append(inputs, &pb.Input{Digest: b.add(&pb.Op{Op: &pb.Op_Source{Source: source}})})
+	}
+	for _, one := range ops {
+		inputs = append(inputs, &pb.Input{Digest: b.add(one(inputs))})
+	}
+	b.add(&pb.Op{Inputs: inputs[len(inputs)-1:]})
+	return b.def
+}
+
+// given has the trees of sources by their order.
+type given struct {
+	graph *graph.Graph
+	trees []*rules.Node
+}
+
+func (g given) Source(_ context.Context, v int) (here, there *rules.Node, err error) {
+	number := 0
+	if _, err := fmt.Sscanf(g.graph.Vertices[v].Op.GetSource().Identifier, "local://s%d", &number); err != nil {
+		return nil, nil, err
+	}
+	return g.trees[number], g.trees[number], nil
+}
+
+// run does a definition of sources, file ops and merges by some rules, and returns the result, nil if it fails.
+func run(t *testing.T, def *pb.Definition, trees []*rules.Node, like rules.Rules) *rules.Ref {
+	t.Helper()
+	g, err := graph.Read(def, def)
+	if err != nil {
+		t.Fatal(err)
+	}
+	outputs := make([][]*rules.Ref, len(g.Vertices))
+	for v := range g.Vertices {
+		var inputs []*rules.Ref
+		for i, input := range g.Vertices[v].Inputs {
+			inputs = append(inputs, outputs[input][g.Vertices[v].Op.Inputs[i].Index])
+		}
+		one, err := do(t, g, v, inputs, trees, like)
+		if err != nil {
+			return nil
+		}
+		outputs[v] = one
+	}
+	return outputs[g.Result][g.Output]
+}
+
+func do(t *testing.T, g *graph.Graph, v int, inputs []*rules.Ref, trees []*rules.Node, like rules.Rules) ([]*rules.Ref, error) {
+	t.Helper()
+	op := g.Vertices[v].Op
+	switch {
+	case op.GetSource() != nil:
+		here, _, err := given{g, trees}.Source(context.Background(), v)
+		return []*rules.Ref{rules.Based(here)}, err
+	case op.GetFile() != nil:
+		return rules.FileOp(context.Background(), op.GetFile(), inputs, like)
+	}
+	one, err := rules.Merge(context.Background(), op.GetMerge(), inputs, like)
+	return []*rules.Ref{one}, err
+}
+
+// rewritten returns a definition rewritten by its trees.
+func rewritten(t *testing.T, def *pb.Definition, trees []*rules.Node) (*pb.Definition, Rows) {
+	t.Helper()
+	g, err := graph.Read(def, def)
+	if err != nil {
+		t.Fatal(err)
+	}
+	new, rows, err := Definition(context.Background(), def, given{g, trees})
+	if err != nil {
+		t.Fatal(err)
+	}
+	return new, rows
+}
+
+// isSameResult is whether two results are equal, but for their roots' own entries.
+func isSameResult(a, b *rules.Ref) bool {
+	if a == nil || b == nil {
+		return a == b
+	}
+	return rules.EqualBelow(a.Tree(), b.Tree())
+}
+
+// hasOddName is whether a text of a definition has a control byte, which no name of llbm has.
+func hasOddName(def *pb.Definition) bool {
+	return slices.ContainsFunc(def.Def, func(entry []byte) bool { return bytes.Contains(entry, []byte(oddName)) })
+}
+
+// judge compares what BuildKit makes of a definition with what both make of it once it is rewritten by its trees.
+func judge(t *testing.T, number int, def *pb.Definition, trees []*rules.Node) (isRewritten, differs bool) {
+	t.Helper()
+	new, rows := rewritten(t, def, trees)
+	before, here, after := run(t, def, trees, rules.All), run(t, new, trees, rules.None), run(t, new, trees, rules.All)
+	describe := func() string {
+		var text strings.Builder
+		for row, entry := range def.Def {
+			one := &pb.Op{}
+			if err := one.Unmarshal(entry); err != nil {
+				t.Fatal(err)
+			}
+			fmt.Fprintf(&text, "\n%d %v %v", row, one.Op, rows[row])
+		}
+		if before != nil && here != nil {
+			lines, err := rules.Differences(context.Background(), before.Tree(), here.Tree(), 9)
+			fmt.Fprintf(&text, "\n%v %v", lines, err)
+		}
+		return text.String()
+	}
+	if !isSameResult(before, after) {
+		t.Errorf("case %d: BuildKit makes another tree: %s", number, describe())
+	}
+	if isSameResult(before, here) {
+		return len(rows) > 0, false
+	}
+	if !hasOddName(def) {
+		t.Errorf("case %d: llbm makes another tree: %s", number, describe())
+	}
+	return len(rows) > 0, true
+}
+
+func TestByTreesASingleActionEndsAsInBuildKit(t *testing.T) {
+	random := rand.New(rand.NewSource(2))
+	different, changed := 0, 0
+	for number := range 3_000 {
+		action := randomAction(random, number%2 == 0)
+		trees := []*rules.Node{randomTree(random), randomTree(random)}
+		def := definition(t, 2, func(inputs []*pb.Input) *pb.Op {
+			return &pb.Op{Op: &pb.Op_File{File: &pb.FileOp{Actions: []*pb.FileAction{action}}}, Inputs: inputs}
+		})
+		isRewritten, differs := judge(t, number, def, trees)
+		if isRewritten {
+			changed++
+		}
+		if differs {
+			different++
+		}
+	}
+	t.Logf("%d rewritten, %d different by names that llbm does not take", changed, different)
+}
+
+// randomOp returns a file op with several actions, or a merge.
+func randomOp(random *rand.Rand, inputs []*pb.Input, plain bool) *pb.Op {
+	made := &pb.Op{}
+	for n := 1 + random.Intn(3); n > 0; n-- {
+		made.Inputs = append(made.Inputs, pick(random, inputs...))
+	}
+	count := len(made.Inputs)
+	index := func(most int) pb.InputIndex { return pb.InputIndex(random.Intn(most+1) - 1) }
+	if random.Intn(3) == 0 {
+		merge := &pb.MergeOp{}
+		for i := range count + random.Intn(2) {
+			if one := pb.InputIndex(i); random.Intn(3) > 0 && i < count {
+				merge.Inputs = append(merge.Inputs, &pb.MergeInput{Input: one})
+			} else {
+				merge.Inputs = append(merge.Inputs, &pb.MergeInput{Input: index(count)})
+			}
+		}
+		made.Op = &pb.Op_Merge{Merge: merge}
+		return made
+	}
+	f := &pb.FileOp{}
+	actions := 1 + random.Intn(4)
+	for n := range actions {
+		a := randomAction(random, plain)
+		if a.Input, a.Output = pb.InputIndex(count+n-1), noOutput; random.Intn(3) == 0 {
+			a.Input = index(count + n)
+		}
+		switch {
+		case a.GetCopy() != nil:
+			a.SecondaryInput = index(count + n)
+		case random.Intn(12) == 0:
+			a.SecondaryInput = index(count + actions)
+		}
+		if n == actions-1 {
+			a.Output = 0
+		}
+		f.Actions = append(f.Actions, a)
+	}
+	made.Op = &pb.Op_File{File: f}
+	return made
+}
+
+// randomDefinition returns a definition of several ops, of which few fail in BuildKit.
+func randomDefinition(t *testing.T, random *rand.Rand, trees []*rules.Node, plain bool) *pb.Definition {
+	t.Helper()
+	var def *pb.Definition
+	var ops []func([]*pb.Input) *pb.Op
+	for n := 1 + random.Intn(4); n > 0; n-- {
+		for try := random.Intn(8); ; try-- {
+			seed := random.Int63()
+			more := append(slices.Clip(ops), func(inputs []*pb.Input) *pb.Op { return randomOp(rand.New(rand.NewSource(seed)), inputs, plain) })
+			def = definition(t, len(trees), more...)
+			if try <= 0 || run(t, def, trees, rules.All) != nil {
+				ops = more
+				break
+			}
+		}
+	}
+	return def
+}
+
+func TestByTreesADefinitionEndsAsInBuildKit(t *testing.T) {
+	random := rand.New(rand.NewSource(3))
+	different, changed, failed := 0, 0, 0
+	for number := range 1_500 {
+		trees := []*rules.Node{randomTree(random), randomTree(random)}
+		def := randomDefinition(t, random, trees, number%2 == 0)
+		isRewritten, differs := judge(t, number, def, trees)
+		if isRewritten {
+			changed++
+		}
+		if differs {
+			different++
+		}
+		if run(t, def, trees, rules.All) == nil {
+			failed++
+		}
+	}
+	t.Logf("%d rewritten, %d different by names that llbm does not take, %d fail", changed, different, failed)
+}
