@@ -59,9 +59,11 @@ func (s *session) execution(v int) error {
 	return nil
 }
 
-func (s *session) fails(v int, why string) {
+func (s *session) fails(v int, why string) { s.failsAt(v, fmt.Sprintf("vertex %d", v), why) }
+
+func (s *session) failsAt(v int, place, why string) {
 	if s.why == "" && !s.states[v].unknown {
-		s.why = fmt.Sprintf("vertex %d: %s", v, why)
+		s.why = place + ": " + why
 	}
 }
 

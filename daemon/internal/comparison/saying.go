@@ -23,16 +23,20 @@ func (s *session) static(v int) (dies bool, err error) {
 		said = append(said, one)
 		if rules.Breaks(one.Lines[0].Notes[0]) {
 			dies = true
-			s.dies(v, one.Lines[0])
+			s.dies(v, one)
 		}
 	}
 	return dies, s.steps(v, said)
 }
 
-// dies notes that BuildKit's daemon dies of a vertex.
-func (s *session) dies(v int, line rules.Line) {
+// dies notes that BuildKit's daemon dies of a vertex, or of an action of it.
+func (s *session) dies(v int, step rules.Step) {
+	place := fmt.Sprintf("vertex %d", v)
+	if step.Action >= 0 {
+		place = fmt.Sprintf("%s action %d", place, step.Action)
+	}
 	s.broken = true
-	s.fails(v, line.String())
+	s.failsAt(v, place, step.Lines[0].String())
 }
 
 // unknownInputs says which inputs of entries that are no vertices name no entry, of which BuildKit's daemon dies.
@@ -42,6 +46,9 @@ func (s *session) unknownInputs(sent *pb.Definition) error {
 	}
 	for _, one := range rules.UnknownInputs(sent) {
 		s.broken = true
+		if s.why == "" {
+			s.why = one.String()
+		}
 		step := &Step{Vertex: -1, Row: -1, Action: -1, Lines: []rules.Line{one}}
 		if err := s.talk.Write(Message{Step: step}); err != nil {
 			return err

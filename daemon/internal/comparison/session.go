@@ -275,7 +275,7 @@ func (s *session) vertex(v int) error {
 	case dies:
 		one.there, made.Steps = nil, nil
 	case made.Dies != nil && !s.request.Received:
-		s.dies(v, made.Dies.Lines[0])
+		s.dies(v, *made.Dies)
 		made.Steps = append(made.Steps, *made.Dies)
 	case made.Fails != "":
 		s.fails(v, made.Fails)

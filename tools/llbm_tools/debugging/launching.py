@@ -3,6 +3,7 @@
 The texts of the trees are removed with the session.
 """
 
+import contextlib
 import difflib
 import functools
 import os

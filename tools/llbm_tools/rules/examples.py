@@ -8,9 +8,13 @@ from llbm_tools.trees import maps
 from llbm_tools.trees.maps import Tree
 
 
+# When an adopted example agrees.
+ALWAYS, BY_TREES = "always", "trees"
+
+
 class Example(NamedTuple):
     """An example: its rule, what it shows, its definition and trees, and the lines of what is made of them, without
-    the root; None if that fails."""
+    the root; None if that fails. Once it is adopted for BuildKit both agree ALWAYS, BY_TREES or never."""
 
     rule: str
     shows: str
@@ -18,7 +22,7 @@ class Example(NamedTuple):
     sources: dict[str, Tree]
     buildkit: list[str] | None
     llbm: list[str] | None
-    agrees_adopted: bool
+    adopted: str
 
 
 def examples() -> list[Example]:
