@@ -58,6 +58,14 @@ func (p *progress) action(v, place int) int {
 	return place
 }
 
+// fails returns why BuildKit fails at a vertex, if its op was rewritten to one that fails.
+func (p *progress) fails(v int) string {
+	if row := p.rows[p.g.Vertices[v].Row]; row != nil {
+		return row.Fails
+	}
+	return ""
+}
+
 func (p *progress) vertex(v int) *controlapi.Vertex {
 	it := &p.g.Vertices[v]
 	return &controlapi.Vertex{Digest: it.Digest, Inputs: it.Needs, Name: it.Name, Started: p.begun[v], ProgressGroup: it.Group}
