@@ -66,9 +66,6 @@ func result(t *testing.T, def *pb.Definition, texts map[string]string, like rule
 	return outputs[g.Result][g.Output]
 }
 
-// What is not made equal by trees: names that llbm does not take, and sources that are not as BuildKit's client sends them.
-var unequal = map[string]bool{"mkfile of a name with a control byte": true, "LocalOwner": true, "Filters": true}
-
 func TestLeastExamplesEndAsInBuildKit(t *testing.T) {
 	all, err := examples.All()
 	if err != nil {
@@ -97,11 +94,7 @@ func TestLeastExamplesEndAsInBuildKit(t *testing.T) {
 				t.Errorf("%s: BuildKit makes another tree: %v", one.Shows, rows)
 			}
 			isEqual := isSameResult(result(t, new, one.Trees, rules.None), want)
-			expected := one.Adopted
-			if known {
-				expected = !unequal[one.Shows] && !unequal[one.Rule]
-			}
-			if isEqual != expected {
+			if expected := one.Adopted == examples.Always || known && one.Adopted == examples.ByTrees; isEqual != expected {
 				t.Errorf("%s: %s: with trees %t: equal %t: %v", one.Rule, one.Shows, known, isEqual, rows)
 			}
 		}
