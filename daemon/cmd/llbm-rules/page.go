@@ -88,8 +88,11 @@ func rowsOfExamples(of []examples.Example) [][]string {
 	var rows [][]string
 	for _, one := range of {
 		tool := "-"
-		if one.Adopted {
+		switch one.Adopted {
+		case examples.Always:
 			tool = adopt[one.Rule]
+		case examples.ByTrees:
+			tool = "makes both agree, given the trees"
 		}
 		there, here := beside(one.BuildKit, one.LLBM), beside(one.LLBM, one.BuildKit)
 		rows = append(rows, []string{"`" + one.Rule + "`", one.Shows, there, here, tool})

@@ -74,6 +74,7 @@ func (o *options) flags() *flag.FlagSet {
 	f.IntVar(&o.keepBuilds, "keep-builds", 20, "how many builds are kept")
 	f.Int64Var(&o.keepBytes, "keep-bytes", 1<<30, "how many `BYTES` the kept builds may have")
 	f.BoolVar(&o.Literal, "literal", false, "run definitions by llbm's rules also where BuildKit's differ and could be kept by rewriting ops")
+	f.BoolVar(&o.Strict, "strict", false, "fail a build of which BuildKit would make something else, instead of warning of that")
 	f.StringVar(&o.notes, "notes", "", "a `FILE` with fields without an effect, for warnings, instead of the table that is built in")
 	return f
 }

@@ -118,7 +118,7 @@ func compared(t testing.TB, request *Request, replies ...*Reply) ([]Message, err
 			return found, <-ended
 		}
 		found = append(found, m)
-		if len(m.Needs) > 0 || m.Execute != nil {
+		if m.Needs != nil || m.Execute != nil {
 			if len(replies) == 0 {
 				t.Fatal("a question without a reply")
 			}
@@ -134,15 +134,8 @@ func compared(t testing.TB, request *Request, replies ...*Reply) ([]Message, err
 func lines(found []Message) []string {
 	var out []string
 	for _, m := range found {
-		if m.Step == nil {
-			continue
-		}
-		place := fmt.Sprintf("entry %d", m.Row)
-		if m.Vertex != nil {
-			place = fmt.Sprintf("vertex %d action %d", *m.Vertex, m.Action)
-		}
-		for _, line := range m.Lines {
-			out = append(out, place+": "+line.String())
+		for _, line := range linesOf(m) {
+			out = append(out, fmt.Sprintf("vertex %d action %d: %s", m.Step.Vertex, m.Step.Action, line))
 		}
 	}
 	return out
@@ -162,7 +155,7 @@ func TestEachLeastExampleNamesItsRule(t *testing.T) {
 		t.Fatal(err)
 	}
 	for _, one := range all {
-		request := &Request{Sent: written(t, "sent", one.Definition), Sources: map[string]string{}, Tree: filepath.Join(t.TempDir(), "tree")}
+		request := &Request{Sent: written(t, "sent", one.Definition), Sources: map[string]string{}, Result: true, Tree: true, Folder: t.TempDir(), Paths: 20}
 		for name, text := range one.Trees {
 			request.Sources[name] = written(t, name, []byte(text))
 		}
@@ -177,8 +170,8 @@ func TestEachLeastExampleNamesItsRule(t *testing.T) {
 		if !named && (one.BuildKit != nil || one.LLBM != nil) || end.Agree && fmt.Sprint(one.BuildKit) != fmt.Sprint(one.LLBM) {
 			t.Errorf("%s, %s: %q, %+v", one.Rule, one.Shows, lines(found), end)
 		}
-		text, err := os.ReadFile(request.Tree)
-		if got := strings.Split(strings.TrimSuffix(string(text), "\n"), "\n")[1:]; one.BuildKit != nil && (err != nil || !slices.Equal(got, one.BuildKit)) {
+		text, _ := os.ReadFile(end.Tree)
+		if got := strings.Split(strings.TrimSuffix(string(text), "\n"), "\n")[1:]; one.BuildKit != nil && !slices.Equal(got, one.BuildKit) {
 			t.Errorf("%s, %s: %q, and not %q", one.Rule, one.Shows, got, one.BuildKit)
 		}
 		if (one.BuildKit == nil) != (end.Fails != "") {
@@ -191,7 +184,7 @@ func linesOf(m Message) []rules.Line {
 	if m.Step == nil {
 		return nil
 	}
-	return m.Lines
+	return m.Step.Lines
 }
 
 // What is run is made by the trees of the sources, and then nothing differs.
@@ -246,7 +239,7 @@ func TestExecutionsAreAskedFor(t *testing.T) {
 	here := written(t, "here", []byte("d 0755 0 0 /\nf 0755 0 0 31 /a\nf 0644 0 0 31 /b\n"))
 	there := written(t, "there", []byte("d 0755 0 0 /\nf 0604 0 0 31 /a\nf 0644 0 0 31 /b\n"))
 	sent := written(t, "sent", d.bytes(t, last))
-	request := &Request{Sent: sent, Sources: map[string]string{"s": tree}}
+	request := &Request{Sent: sent, Sources: map[string]string{"s": tree}, Executes: true, Result: true, Folder: t.TempDir(), Paths: 20}
 	found, err := compared(t, request, &Reply{Vertex: 2, Outputs: []string{here}}, &Reply{Vertex: 2, Outputs: []string{there}})
 	if end := endOf(t, found, err); end.Agree || end.Words != "the results differ at 2 paths" {
 		t.Error(end)
@@ -256,13 +249,13 @@ func TestExecutionsAreAskedFor(t *testing.T) {
 		!strings.Contains(got, "vertex 3 action 0: /b has mode 0644 (here 0600): MkfileOver") {
 		t.Error(got)
 	}
-	request.Received = true
+	request.Received, request.Executes, request.Result = true, false, false
 	found, err = compared(t, request, &Reply{Vertex: 2, Outputs: []string{here}})
 	endOf(t, found, err)
 	if got := lines(found); len(got) != 2 || got[1] != "vertex 2 action -1: "+Unknown+": Execution" {
 		t.Errorf("%q", got)
 	}
-	for _, reply := range []*Reply{{Vertex: 2, Failed: true}, {Vertex: 2, Unknown: "it mounts a cache"}} {
+	for _, reply := range []*Reply{{Vertex: 2, Failed: true}, {Vertex: 2, Unknown: true}} {
 		if found, err := compared(t, request, reply); endOf(t, found, err) == nil {
 			t.Error(found)
 		}

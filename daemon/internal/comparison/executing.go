@@ -1,10 +1,10 @@
 package comparison
 
 import (
+	"errors"
 	"fmt"
 	"os"
 	"path/filepath"
-	"slices"
 	"strconv"
 
 	"llbm/daemon/internal/rules"
@@ -13,59 +13,23 @@ import (
 // Unknown are the words for an execution whose inputs differ.
 const Unknown = "its inputs differ, so what it makes in BuildKit is not known"
 
-// isToBeAsked is whether it has to be asked what an execution made.
-func (s *session) isToBeAsked(v int) bool {
-	_, here := s.inputs(v)
-	return here != nil && s.states[v].needed && s.states[v].reply == nil
-}
+// errLater is that it is not known yet what an execution made.
+var errLater = errors.New("later")
 
-// ask asks what one of the executions made that are waited for, and returns the one that is answered.
-func (s *session) ask() (int, error) {
-	asked := map[int]int{}
-	question := Message{}
-	for _, v := range s.waiting {
-		r := s.inRun[s.sent.Vertices[v].Row]
-		asked[r], question.Needs = v, append(question.Needs, r)
-	}
-	reply, err := s.answered(question)
-	if err != nil {
-		return 0, err
-	}
-	v, ok := asked[reply.Vertex]
-	if !ok {
-		return 0, refuse("it was not asked what vertex %d made", reply.Vertex)
-	}
-	s.waiting = slices.DeleteFunc(s.waiting, func(one int) bool { return one == v })
-	s.states[v].reply = reply
-	return v, nil
-}
-
-func (s *session) answered(question Message) (*Reply, error) {
-	if err := s.talk.Write(question); err != nil {
-		return nil, err
-	}
-	reply := &Reply{}
-	if err := s.talk.Read(reply); err != nil {
-		return nil, fmt.Errorf("no reply: %w", err)
-	}
-	return reply, nil
-}
-
-// execution takes what an execution made. Where its inputs differ, that is what it makes here; what it makes in BuildKit is not known,
+// execution takes what an execution made. Where its inputs differ, that is what it makes here; in BuildKit it is not known,
 // unless it can be done on these inputs.
 func (s *session) execution(v int) error {
-	s.runs = true
-	if err := s.static(v); err != nil {
-		return err
-	}
-	one := &s.states[v]
-	exec := s.sent.Vertices[v].Op.GetExec()
+	it, one := &s.sent.Vertices[v], &s.states[v]
+	exec := it.Op.GetExec()
 	there, here := s.inputs(v)
 	one.unknown = s.isUnknown(v)
+	if here == nil && there == nil {
+		return nil
+	}
 	var outputs []*rules.Node
 	var err error
 	if here != nil {
-		if outputs, err = s.outputs(v, one.reply, here); err != nil {
+		if outputs, err = s.outputs(v, nil, here); err != nil {
 			return err
 		}
 		one.here = outputs
@@ -74,15 +38,20 @@ func (s *session) execution(v int) error {
 		return nil
 	}
 	if here == nil || !agree(there, here) {
-		if s.request.Received {
+		if !s.request.Executes {
 			one.unknown = true
 			return s.steps(v, []rules.Step{{Action: -1, Lines: []rules.Line{{Words: Unknown, Notes: []string{rules.Execution}}}}})
 		}
-		if outputs, err = s.execute(v, there); err != nil {
+		var files []string
+		if files, err = s.write(there); err != nil {
+			return err
+		}
+		if outputs, err = s.outputs(v, files, trees(there)); err != nil {
 			return err
 		}
 	}
 	if outputs == nil {
+		one.unknown = one.unknown || s.isUnknown(v)
 		s.fails(v, "its script fails")
 		return nil
 	}
@@ -90,64 +59,65 @@ func (s *session) execution(v int) error {
 	return nil
 }
 
-// execute asks what an execution makes of BuildKit's inputs.
-func (s *session) execute(v int, there []*rules.Ref) ([]*rules.Node, error) {
-	files, err := s.write(there)
-	if err != nil {
-		return nil, err
-	}
-	r := s.inRun[s.sent.Vertices[v].Row]
-	reply, err := s.answered(Message{Execute: &r, Inputs: files})
-	if err != nil {
-		return nil, err
-	}
-	for _, file := range files {
-		_ = os.Remove(file)
-	}
-	if reply.Vertex != r {
-		return nil, refuse("the reply is of vertex %d, and not of %d", reply.Vertex, r)
-	}
-	return s.outputs(v, reply, trees(there))
-}
+func (s *session) fails(v int, why string) { s.failsAt(v, fmt.Sprintf("vertex %d", v), why) }
 
-// fails says why BuildKit has no result, if nothing else did before.
-func (s *session) fails(v int, why string) {
+func (s *session) failsAt(v int, place, why string) {
 	if s.why == "" && !s.states[v].unknown {
-		s.why = fmt.Sprintf("vertex %d: %s", v, why)
+		s.why = place + ": " + why
 	}
 }
 
 func agree(there []*rules.Ref, here []*rules.Node) bool {
-	return slices.EqualFunc(trees(there), here, rules.Equal)
+	if len(there) != len(here) {
+		return false
+	}
+	for i := range there {
+		if !rules.Equal(there[i].Tree(), here[i]) {
+			return false
+		}
+	}
+	return true
 }
 
 func trees(refs []*rules.Ref) []*rules.Node {
-	out := []*rules.Node{}
+	var out []*rules.Node
 	for _, one := range refs {
 		out = append(out, one.Tree())
 	}
 	return out
 }
 
-// outputs returns the outputs of an execution that a reply has, nil if it failed or if this is not known. Those that nothing needs
-// are empty.
-func (s *session) outputs(v int, reply *Reply, inputs []*rules.Node) ([]*rules.Node, error) {
-	exec := s.sent.Vertices[v].Op.GetExec()
-	count := rules.Outputs(exec)
-	switch {
-	case reply == nil:
-		return slices.Repeat([]*rules.Node{rules.Empty()}, count), nil
-	case reply.Unknown != "":
+// outputs asks for the outputs of an execution: as it was done here, or on the inputs in some files. They are nil if it failed.
+func (s *session) outputs(v int, files []string, inputs []*rules.Node) ([]*rules.Node, error) {
+	it := &s.sent.Vertices[v]
+	exec := it.Op.GetExec()
+	if !s.states[v].needed && files == nil {
+		out := []*rules.Node{}
+		for range rules.Outputs(exec) {
+			out = append(out, rules.Empty())
+		}
+		return out, nil
+	}
+	reply, err := s.ask(v, files)
+	if err != nil {
+		return nil, err
+	}
+	if reply.Later && files == nil {
+		return nil, errLater
+	}
+	if reply.Unknown {
 		s.states[v].unknown = true
 		return nil, nil
-	case reply.Failed:
-		return nil, nil
-	case len(reply.Outputs) != count:
-		return nil, refuse("vertex %d has %d outputs, and not %d", reply.Vertex, count, len(reply.Outputs))
 	}
-	out := []*rules.Node{}
-	for number, near := range rules.Bases(exec, inputs) {
-		t, err := s.read(reply.Outputs[number], near, nil)
+	if reply.Failed {
+		return nil, nil
+	}
+	if len(reply.Outputs) != rules.Outputs(exec) {
+		return nil, refuse("vertex %d has %d outputs, and not %d", reply.Vertex, rules.Outputs(exec), len(reply.Outputs))
+	}
+	near, out := rules.Bases(exec, inputs), []*rules.Node{}
+	for number, file := range reply.Outputs {
+		t, err := s.read(file, near[number], nil)
 		if err != nil {
 			return nil, err
 		}
@@ -156,32 +126,45 @@ func (s *session) outputs(v int, reply *Reply, inputs []*rules.Node) ([]*rules.N
 	return out, nil
 }
 
-// write writes trees into new files.
-func (s *session) write(refs []*rules.Ref) (files []string, err error) {
-	if s.folder == "" {
-		if s.folder, err = os.MkdirTemp("", "llbm-rules-"); err != nil {
+// ask asks what an execution made, or makes of inputs.
+func (s *session) ask(v int, files []string) (*Reply, error) {
+	row := s.sent.Vertices[v].Row
+	question := &Question{Vertex: s.inRun[row], Row: row, Inputs: files}
+	message := Message{Needs: question}
+	if files != nil {
+		message = Message{Execute: question}
+	}
+	if err := s.talk.Write(message); err != nil {
+		return nil, err
+	}
+	reply := &Reply{}
+	if err := s.talk.Read(reply); err != nil {
+		return nil, fmt.Errorf("no reply: %w", err)
+	}
+	if reply.Vertex != question.Vertex {
+		return nil, refuse("the reply is of vertex %d, and not of %d", reply.Vertex, question.Vertex)
+	}
+	return reply, nil
+}
+
+// write writes trees into files of the folder.
+func (s *session) write(refs []*rules.Ref) ([]string, error) {
+	files := []string{}
+	for _, one := range refs {
+		name := filepath.Join(s.request.Folder, "tree-"+strconv.Itoa(s.files))
+		s.files++
+		to, err := os.Create(name)
+		if err != nil {
 			return nil, err
 		}
-	}
-	for _, one := range refs {
-		name := filepath.Join(s.folder, strconv.Itoa(s.files))
-		s.files++
-		if err := s.writeTo(name, one.Tree()); err != nil {
+		err = one.Tree().Write(s.ctx, to)
+		if closed := to.Close(); err == nil {
+			err = closed
+		}
+		if err != nil {
 			return nil, err
 		}
 		files = append(files, name)
 	}
 	return files, nil
-}
-
-func (s *session) writeTo(name string, t *rules.Node) error {
-	to, err := os.Create(name)
-	if err != nil {
-		return err
-	}
-	err = t.Write(s.ctx, to)
-	if closed := to.Close(); err == nil {
-		err = closed
-	}
-	return err
 }

@@ -1,9 +1,9 @@
 // Package comparison says where BuildKit would end otherwise, vertex by vertex: it does a definition as it was sent by BuildKit's
 // rules, and as it runs by those of llbm, side by side, and compares what they make. What executions make it is told.
 //
-// A comparison is a process (`llbm-rules compare`), so that it can be bounded and killed. It reads a Request and writes Messages,
-// each a line of JSON. Where it can't go on without the outputs of executions it asks for them, and reads a Reply. Trees are in
-// files, as texts of docs/FORMATS.md.
+// A comparison is a process (`llbm-rules compare`), so that it can be bounded and killed. It reads a Request, a line of JSON, and
+// writes lines of JSON, each of which is a Message. It asks for what executions made, and reads a Reply for each question. Trees
+// are in files, as the text of docs/FORMATS.md.
 package comparison
 
 import (
@@ -17,33 +17,28 @@ import (
 
 // A Request says what is compared.
 type Request struct {
-	// Sent is the file of the definition as it was sent, and Run that of the definition that runs: the same one if it is absent, or
-	// one that is to be made by the trees of the sources if Rewrite is set.
-	Sent    string `json:"sent"`
-	Run     string `json:"run,omitempty"`
-	Rewrite bool   `json:"rewrite,omitempty"`
-	// Sources are the files of the sources' trees by their names, and Vertices by vertices of the definition as it was sent.
-	Sources  map[string]string `json:"sources,omitempty"`
-	Vertices map[int]string    `json:"vertices,omitempty"`
-	// Links are the files in sources, by such vertices, that have other names in their source.
-	Links map[int][]string `json:"links,omitempty"`
-	// Received says that the trees are what clients sent to llbmd. It says itself what depends on no tree, and it does not compare
-	// results. Otherwise they are what BuildKit's client would read, by its rules; and executions can be done on other inputs.
-	Received bool `json:"received,omitempty"`
-	// Paths is how many paths of a step are named that have the same rules, at most; 0 is 20.
-	Paths int `json:"paths,omitempty"`
-	// Tree is the file that gets BuildKit's result.
-	Tree string `json:"tree,omitempty"`
+	Sent     string            `json:"sent"`               // the file of the definition as it was sent
+	Run      string            `json:"run,omitempty"`      // that of the definition that runs; it is the same one if this is absent
+	Rewrite  bool              `json:"rewrite,omitempty"`  // whether what runs is to be made, by the trees of the sources
+	Sources  map[string]string `json:"sources,omitempty"`  // the files of sources' trees by their names
+	Vertices map[int]string    `json:"vertices,omitempty"` // the same by vertices of the definition as it was sent
+	Links    map[int][]string  `json:"links,omitempty"`    // files of such sources that have other names, which are hard links
+	Received bool              `json:"received,omitempty"` // whether the trees are what BuildKit's client sent
+	Executes bool              `json:"executes,omitempty"` // whether executions can be done on other inputs
+	Folder   string            `json:"folder,omitempty"`   // where trees are written
+	Paths    int               `json:"paths,omitempty"`    // how many paths with the same rules a step has at most
+	Result   bool              `json:"result,omitempty"`   // whether the results are compared too
+	Tree     bool              `json:"tree,omitempty"`     // whether BuildKit's result is written
+	Made     string            `json:"made,omitempty"`     // the file of the result that llbm made, which is checked
 }
 
-// A Message is a line of a comparison. It has a step, what is to run, a question or the end.
+// A Message is one of a comparison: only one of its fields is set.
 type Message struct {
-	*Step
-	Run     *Run     `json:"run,omitempty"`
-	Needs   []int    `json:"needs,omitempty"`   // executions whose outputs are needed to go on: a reply is to be of one of them
-	Execute *int     `json:"execute,omitempty"` // an execution whose inputs differ in BuildKit
-	Inputs  []string `json:"inputs,omitempty"`  // the files of these inputs
-	End     *End     `json:"end,omitempty"`
+	Run     *Run      `json:"run,omitempty"`
+	Step    *Step     `json:"step,omitempty"`
+	Needs   *Question `json:"needs,omitempty"`
+	Execute *Question `json:"execute,omitempty"`
+	End     *End      `json:"end,omitempty"`
 }
 
 // A Run is the definition that is to run. It comes before all questions.
@@ -52,30 +47,39 @@ type Run struct {
 	Rows       rewriting.Rows `json:"rows"`
 }
 
-// A Step is an action of a vertex that ends otherwise, or a vertex as a whole (-1), or an entry that is no vertex. Vertices are those
-// of the definition as it was sent; in questions and replies they are those of the definition that runs.
+// A Step is an action of a vertex that ends otherwise, or a vertex as a whole (-1). The vertex is one of the definition as it was
+// sent, the row its entry; both are -1 for an entry that is no vertex.
 type Step struct {
-	Vertex *int         `json:"vertex,omitempty"`
+	Vertex int          `json:"vertex"`
 	Row    int          `json:"row"`
 	Action int          `json:"action"`
 	Lines  []rules.Line `json:"lines"`
-	More   int          `json:"more,omitempty"`   // how many paths have no line
-	Beyond bool         `json:"beyond,omitempty"` // whether there are still more
+	More   bool         `json:"more,omitempty"` // whether there are paths that no line counts
 }
 
-// A Reply has what an execution made: its outputs in files, or that it failed, or why this is not known.
+// A Question asks what an execution made, or what it makes of inputs in files. The vertex is one of the definition that runs.
+type Question struct {
+	Vertex int      `json:"vertex"`
+	Row    int      `json:"row"`
+	Inputs []string `json:"inputs,omitempty"`
+}
+
+// A Reply has what an execution made: its outputs in files, or that it failed, or that this is not known, or not yet: then it is
+// asked again after the others.
 type Reply struct {
 	Vertex  int      `json:"vertex"`
 	Outputs []string `json:"outputs,omitempty"`
 	Failed  bool     `json:"failed,omitempty"`
-	Unknown string   `json:"unknown,omitempty"`
+	Unknown bool     `json:"unknown,omitempty"`
+	Later   bool     `json:"later,omitempty"`
 }
 
-// An End is the last message.
+// An End is the last message. It has words if the results are compared.
 type End struct {
-	Agree bool   `json:"agree"`           // whether the results agree
-	Words string `json:"words,omitempty"` // the same in words
+	Agree bool   `json:"agree"`
+	Words string `json:"words,omitempty"`
 	Fails string `json:"fails,omitempty"` // why BuildKit has no result
+	Tree  string `json:"tree,omitempty"`  // the file of BuildKit's result, if it was asked for
 }
 
 // mostOfLine bounds a line of JSON.

@@ -2,32 +2,55 @@ package comparison
 
 import (
 	"fmt"
+	"slices"
 	"strings"
 
 	"github.com/moby/buildkit/solver/pb"
 	"llbm/daemon/internal/rules"
 )
 
-// static says what can be said of a vertex without its trees.
-func (s *session) static(v int) error {
-	steps := rules.Static(s.sent.Vertices[v].Op)
-	for _, one := range steps {
-		s.broken = s.broken || rules.Breaks(one.Lines[0].Notes[0])
+// static says what can be said of a vertex without its trees, and returns whether BuildKit's daemon dies of the vertex as a whole.
+// llbmd says this itself.
+func (s *session) static(v int) (dies bool, err error) {
+	if s.request.Received {
+		return false, nil
 	}
+	var said []rules.Step
+	for _, one := range rules.Static(s.sent.Vertices[v].Op) {
+		if one.Action >= 0 {
+			continue // it is said where the action is done
+		}
+		said = append(said, one)
+		if rules.Breaks(one.Lines[0].Notes[0]) {
+			dies = true
+			s.dies(v, one)
+		}
+	}
+	return dies, s.steps(v, said)
+}
+
+// dies notes that BuildKit's daemon dies of a vertex, or of an action of it.
+func (s *session) dies(v int, step rules.Step) {
+	place := fmt.Sprintf("vertex %d", v)
+	if step.Action >= 0 {
+		place = fmt.Sprintf("%s action %d", place, step.Action)
+	}
+	s.broken = true
+	s.failsAt(v, place, step.Lines[0].String())
+}
+
+// unknownInputs says which inputs of entries that are no vertices name no entry, of which BuildKit's daemon dies.
+func (s *session) unknownInputs(sent *pb.Definition) error {
 	if s.request.Received {
 		return nil
 	}
-	return s.steps(v, steps)
-}
-
-// outside says what can be said of entries that are no vertices.
-func (s *session) outside(def *pb.Definition) error {
-	for _, line := range rules.UnknownInputs(def) {
+	for _, one := range rules.UnknownInputs(sent) {
 		s.broken = true
-		if s.request.Received {
-			continue
+		if s.why == "" {
+			s.why = one.String()
 		}
-		if err := s.talk.Write(Message{Step: &Step{Row: line.Row, Action: -1, Lines: []rules.Line{line.Line}}}); err != nil {
+		step := &Step{Vertex: -1, Row: -1, Action: -1, Lines: []rules.Line{one}}
+		if err := s.talk.Write(Message{Step: step}); err != nil {
 			return err
 		}
 	}
@@ -37,10 +60,7 @@ func (s *session) outside(def *pb.Definition) error {
 // steps says steps of a vertex.
 func (s *session) steps(v int, steps []rules.Step) error {
 	for _, one := range steps {
-		step := &Step{Vertex: &v, Row: s.sent.Vertices[v].Row, Action: one.Action, Lines: s.chosen(one.Lines), Beyond: one.More}
-		for _, line := range step.Lines {
-			step.More += line.More
-		}
+		step := &Step{Vertex: v, Row: s.sent.Vertices[v].Row, Action: one.Action, Lines: s.chosen(one.Lines), More: one.More}
 		if err := s.talk.Write(Message{Step: step}); err != nil {
 			return err
 		}
@@ -48,15 +68,9 @@ func (s *session) steps(v int, steps []rules.Step) error {
 	return nil
 }
 
-// usualPaths is how many paths with the same rules are named if nothing else is asked for.
-const usualPaths = 20
-
 // chosen returns the first lines with the same rules. The first of these counts those that are left out.
 func (s *session) chosen(lines []rules.Line) []rules.Line {
-	most := s.request.Paths
-	if most < 1 {
-		most = usualPaths
-	}
+	most := max(1, s.request.Paths)
 	var out []rules.Line
 	first, count := map[string]int{}, map[string]int{}
 	for _, one := range lines {
@@ -70,7 +84,7 @@ func (s *session) chosen(lines []rules.Line) []rules.Line {
 		}
 		out = append(out, one)
 	}
-	return out
+	return slices.Clip(out)
 }
 
 // mostDiffering is how many paths of results are counted.
@@ -79,7 +93,7 @@ const mostDiffering = 1000
 // end says whether the results agree, if this is asked for.
 func (s *session) end() error {
 	end := &End{}
-	if s.request.Received {
+	if !s.request.Result && !s.request.Tree {
 		return s.talk.Write(Message{End: end})
 	}
 	one, index := &s.states[s.sent.Result], s.sent.Output
@@ -90,18 +104,35 @@ func (s *session) end() error {
 	if index < len(one.here) {
 		here = one.here[index]
 	}
+	if err := s.checkMade(here); err != nil {
+		return err
+	}
 	var err error
 	if end.Words, end.Agree, err = s.verdict(there, here, one.unknown); err != nil {
 		return err
 	}
 	if there == nil {
 		end.Fails = s.why
-	} else if s.request.Tree != "" {
-		if err := s.writeTo(s.request.Tree, there); err != nil {
+	} else if s.request.Tree {
+		files, err := s.write([]*rules.Ref{one.there[index]})
+		if err != nil {
 			return err
 		}
+		end.Tree = files[0]
 	}
 	return s.talk.Write(Message{End: end})
+}
+
+// checkMade refuses a result of llbm that its rules here do not make: then the comparison is worth nothing.
+func (s *session) checkMade(here *rules.Node) error {
+	if s.request.Made == "" || here == nil {
+		return nil
+	}
+	made, err := s.read(s.request.Made, here, nil)
+	if err == nil && !rules.Equal(made, here) {
+		err = refuse("the result is not what the rules of docs/FORMATS.md make")
+	}
+	return err
 }
 
 // verdict returns in words whether two results agree.

@@ -29,7 +29,6 @@ type state struct {
 	users   int  // which have not been done yet
 	waits   int  // for inputs that have not been done yet
 	needed  bool // whether the trees are looked at
-	reply   *Reply
 }
 
 // A session compares the entries of two definitions, which have the same rows.
@@ -50,9 +49,8 @@ type session struct {
 	broken  bool   // whether something breaks BuildKit's daemon
 	runs    bool   // whether there is an execution
 	why     string // why BuildKit fails
-	layered bool   // whether there is a merge, which needs layers
-	folder  string // of inputs for executions, if there are any
 	files   int
+	layered bool // whether there is a merge, which needs layers
 }
 
 // Serve compares what a request on a reader names.
@@ -75,13 +73,8 @@ func Serve(ctx context.Context, talk *Talk) error {
 	if s.run, err = graph.Read(run, sent); err != nil {
 		return Refused{err}
 	}
-	defer func() {
-		if s.folder != "" {
-			_ = os.RemoveAll(s.folder)
-		}
-	}()
 	s.prepare()
-	if err := s.outside(sent); err != nil {
+	if err := s.unknownInputs(sent); err != nil {
 		return err
 	}
 	if err := s.all(); err != nil {
@@ -145,7 +138,7 @@ func (s *session) prepare() {
 		it := &s.sent.Vertices[v]
 		s.inSent[it.Row], s.layered = v, s.layered || it.Op.GetMerge() != nil
 		for _, input := range it.Inputs {
-			s.states[input].needed = s.states[input].needed || !s.request.Received || it.Op.GetExec() == nil
+			s.states[input].needed = s.states[input].needed || s.request.Executes || it.Op.GetExec() == nil
 			s.states[input].users++
 			s.states[v].waits++
 			s.users[input] = append(s.users[input], v)
@@ -154,7 +147,7 @@ func (s *session) prepare() {
 			heap.Push(&s.ready, v)
 		}
 	}
-	if !s.request.Received {
+	if s.request.Result || s.request.Tree {
 		s.states[s.sent.Result].needed = true
 		s.states[s.sent.Result].users++
 	}
@@ -166,32 +159,35 @@ func (s *session) all() error {
 		if err := s.ctx.Err(); err != nil {
 			return err
 		}
-		v, err := s.next()
-		if err != nil {
-			return err
+		if s.ready.Len() == 0 {
+			v := s.waiting[0]
+			s.waiting = s.waiting[1:]
+			err := s.execution(v)
+			if err == errLater {
+				s.waiting = append(s.waiting, v)
+				continue
+			}
+			if err != nil {
+				return err
+			}
+			s.done(v)
+			continue
 		}
-		if s.sent.Vertices[v].Op.GetExec() == nil {
-			err = s.vertex(v)
-		} else if s.isToBeAsked(v) {
+		v := heap.Pop(&s.ready).(int)
+		if s.sent.Vertices[v].Op.GetExec() != nil {
+			s.runs = true
+			if _, err := s.static(v); err != nil {
+				return err
+			}
 			s.waiting = append(s.waiting, v)
 			continue
-		} else {
-			err = s.execution(v)
 		}
-		if err != nil {
+		if err := s.vertex(v); err != nil {
 			return err
 		}
 		s.done(v)
 	}
 	return nil
-}
-
-// next returns a vertex that can be done: an execution of which it was asked what it made, if there is no other one.
-func (s *session) next() (int, error) {
-	if s.ready.Len() > 0 {
-		return heap.Pop(&s.ready).(int), nil
-	}
-	return s.ask()
 }
 
 // done lets those go on that wait for a vertex. What a vertex made is forgotten after its last user.
@@ -248,16 +244,19 @@ func (s *session) isUnknown(v int) bool {
 
 // vertex does a vertex that is no execution.
 func (s *session) vertex(v int) error {
-	if err := s.static(v); err != nil {
+	dies, err := s.static(v)
+	if err != nil {
 		return err
 	}
 	it := &s.sent.Vertices[v]
 	var made *rules.Compared
-	var err error
 	if it.Op.GetSource() != nil {
 		made, err = s.source(v)
 	} else {
 		there, here := s.inputs(v)
+		if dies {
+			there = nil
+		}
 		var run *pb.Op
 		var from []int
 		if r, ok := s.inRun[it.Row]; ok {
@@ -276,11 +275,14 @@ func (s *session) vertex(v int) error {
 	if !s.layered {
 		one.there = rules.WithoutLayers(one.there)
 	}
-	if made.Fails != "" {
+	switch {
+	case dies:
+		one.there, made.Steps = nil, nil
+	case made.Dies != nil && !s.request.Received:
+		s.dies(v, *made.Dies)
+		made.Steps = append(made.Steps, *made.Dies)
+	case made.Fails != "":
 		s.fails(v, made.Fails)
-	}
-	if len(rules.Breaking(it.Op)) > 0 { // that BuildKit's daemon dies is all that counts
-		return nil
 	}
 	return s.steps(v, made.Steps)
 }

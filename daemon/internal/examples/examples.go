@@ -4,7 +4,8 @@
 // An example has the trees of local sources, by name, without their roots unless they matter, and the sources' attributes, if they
 // have some; ops by name, each on sources and ops before it; and what BuildKit and llbm make of the last op, without the root, or
 // null where it fails. A mode is octal, and an owner a list of a user and a group. Actions are a chain from the first input; a copy
-// takes its sources from the second one; the last action is the output.
+// takes its sources from the second one; the last action is the output. `adopted` says when `adopt --like-buildkit` makes both agree:
+// `always`, or `trees`, given the trees of the sources.
 package examples
 
 import (
@@ -18,6 +19,12 @@ import (
 
 	"github.com/moby/buildkit/solver/pb"
 	digest "github.com/opencontainers/go-digest"
+)
+
+// When both agree once an example is adopted; nothing is never.
+const (
+	Always  = "always"
+	ByTrees = "trees"
 )
 
 //go:embed examples.json
@@ -37,7 +44,7 @@ type Example struct {
 	Trees      map[string]string `json:"trees"`
 	BuildKit   []string          `json:"buildkit"`
 	LLBM       []string          `json:"llbm"`
-	Adopted    bool              `json:"adopted"` // whether both agree once it is adopted for BuildKit
+	Adopted    string            `json:"adopted"` // when both agree once it is adopted for BuildKit: always, by its trees, or not
 }
 
 // A written is an example as the file has it.
@@ -47,7 +54,7 @@ type written struct {
 	Attributes     map[string]map[string]string
 	Ops            ordered[op]
 	BuildKit, LLBM []string
-	Adopted        bool
+	Adopted        string
 }
 
 type op struct {

@@ -63,6 +63,7 @@ type Compared struct {
 	Here  []*Node
 	Steps []Step
 	Fails string // why BuildKit fails, if it does
+	Dies  *Step  // of what its daemon dies where it fails, if it does
 }
 
 // Compare does a vertex, which is no source and no execution, as it was sent and as it runs. Of a file op it is given which action

@@ -46,7 +46,7 @@ func compareFileOps(ctx context.Context, sent, run *pb.FileOp, from []int, there
 	}
 	c := &Compared{There: f.outputsThere, Here: f.outputsHere}
 	if f.faultThere != nil {
-		c.Fails = f.faultThere.Error()
+		c.Fails, c.Dies = f.faultThere.Error(), diesOf(sent, f.faultThere.Action)
 	}
 	if there == nil || here == nil {
 		return c, nil

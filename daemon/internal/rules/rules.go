@@ -65,6 +65,7 @@ type Text struct {
 	BuildKit string `json:"buildkit"`
 	LLBM     string `json:"llbm"`
 	Adopt    string `json:"adopt"`
+	ByTrees  bool   `json:"by_trees,omitempty"` // whether adopting makes both agree, given the trees
 	Advice   string `json:"advice,omitempty"`
 }
 
@@ -74,10 +75,14 @@ func (t Text) String() string {
 
 // Sentences returns the text with what to do about it.
 func (t Text) Sentences() string {
-	if t.Advice != "" {
-		return t.String() + " What to do: " + t.Advice
+	todo := t.Advice
+	if todo == "" {
+		todo = "`tools/adopt --like-buildkit` " + t.Adopt + "."
 	}
-	return t.String() + " What to do: `tools/adopt --like-buildkit` " + t.Adopt + "."
+	if t.ByTrees && t.Advice != "" {
+		todo += " Given the trees, `tools/adopt --like-buildkit` makes both agree."
+	}
+	return t.String() + " What to do: " + todo
 }
 
 // table has the texts of the rules, in their order, and of the notes without a rule.

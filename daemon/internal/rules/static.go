@@ -48,19 +48,24 @@ func Static(op *pb.Op) []Step {
 	return out
 }
 
-// An EntryLine is a line of an entry of a definition.
-type EntryLine struct {
-	Row int
-	Line
+// diesOf returns the step of an action that fails, if BuildKit's daemon dies of it.
+func diesOf(op *pb.FileOp, number int) *Step {
+	if number < 0 {
+		return nil
+	}
+	if rm := op.Actions[number].GetRm(); rm == nil || !leavesTree(rm) {
+		return nil
+	}
+	return &Step{Action: number, Lines: []Line{lineOfNote(RmAboveRoot)}}
 }
 
 // UnknownInputs returns a line for each input of an entry that names no entry.
-func UnknownInputs(def *pb.Definition) []EntryLine {
+func UnknownInputs(def *pb.Definition) []Line {
 	known := map[digest.Digest]bool{}
 	for _, entry := range def.Def {
 		known[digest.FromBytes(entry)] = true
 	}
-	var out []EntryLine
+	var out []Line
 	for row, entry := range def.Def {
 		op := &pb.Op{}
 		if op.Unmarshal(entry) != nil {
@@ -70,7 +75,7 @@ func UnknownInputs(def *pb.Definition) []EntryLine {
 			if !known[input.Digest] {
 				line := lineOfNote(UnknownInput)
 				line.Words = fmt.Sprintf("entry %d input %d: %s", row, i, line.Words)
-				out = append(out, EntryLine{row, line})
+				out = append(out, line)
 			}
 		}
 	}

@@ -63,6 +63,7 @@ type Options struct {
 	Kept       *kept.Folder
 	Notes      *notes.Table
 	Literal    bool
+	Strict     bool
 }
 
 // A Daemon is what serves clients, with what all their builds share.
@@ -99,7 +100,7 @@ func New(ctx context.Context, o Options) (*Daemon, error) {
 	if solver.Rules, err = findRules(o.Rules, o.Limits); err != nil {
 		return nil, err
 	}
-	solver.Notes, solver.Platform, solver.Literal = o.Notes, workers[0].Platforms[0], o.Literal
+	solver.Notes, solver.Platform, solver.Literal, solver.Strict = o.Notes, workers[0].Platforms[0], o.Literal, o.Strict
 	bridge := &gateway.Gateway{Builds: all, Solver: solver, Frontends: o.Frontends, Workers: workers}
 	o.Frontends.Gateway, o.Frontends.Limits = bridge, o.Limits
 	o.Frontends.Server = func() *grpc.Server { return grpc.NewServer(serverOptions(nil)...) }

@@ -9,6 +9,8 @@ import (
 	"time"
 
 	"github.com/moby/buildkit/solver/pb"
+	"google.golang.org/grpc/codes"
+	"google.golang.org/grpc/status"
 	"llbm/daemon/internal/comparison"
 	"llbm/daemon/internal/graph"
 	"llbm/daemon/internal/machine"
@@ -34,12 +36,15 @@ type comparing struct {
 	talk   *comparison.Talk
 	child  *machine.Talk
 	run    chan *comparison.Run
-	asked  chan int      // an execution whose outputs the child needs
+	asked  chan *comparison.Question
 	done   chan struct{} // is closed when nothing more is said
 	why    string        // why not all was compared
 	files  []*os.File
 	left   int // how many bytes of outputs may still be read
-	leave  func()
+	strict bool
+	// refusal is why the build fails, if it is strict: the first way in which BuildKit ends otherwise.
+	refusal error
+	leave   func()
 }
 
 // isCompared is whether a graph has something to compare.
@@ -57,8 +62,9 @@ func isCompared(g *graph.Graph) bool {
 func (s *Solver) compare(
 	ctx context.Context, def *pb.Definition, g *graph.Graph, in *inputs, texts []machine.Source, rewrites bool, p *progress,
 ) *comparing {
-	c := &comparing{p: p, g: g, run: make(chan *comparison.Run, 1), asked: make(chan int), done: make(chan struct{}), left: mostAside}
+	c := &comparing{p: p, g: g, run: make(chan *comparison.Run, 1), asked: make(chan *comparison.Question), done: make(chan struct{}), left: mostAside}
 	c.ctx, c.cancel = context.WithCancel(ctx)
+	c.strict = s.Strict || p.b.Strict
 	c.static(def)
 	if !isCompared(g) {
 		close(c.done)
@@ -124,11 +130,11 @@ func (c *comparing) file(name string, data []byte) (string, error) {
 func (c *comparing) static(def *pb.Definition) {
 	for v := range c.g.Vertices {
 		for _, step := range rules.Static(c.g.Vertices[v].Op) {
-			c.show(&comparison.Step{Vertex: &v, Action: step.Action, Lines: step.Lines})
+			c.show(&comparison.Step{Vertex: v, Action: step.Action, Lines: step.Lines})
 		}
 	}
 	for _, line := range rules.UnknownInputs(def) {
-		c.show(&comparison.Step{Vertex: &c.g.Result, Action: -1, Lines: []rules.Line{line.Line}})
+		c.show(&comparison.Step{Vertex: c.g.Result, Action: -1, Lines: []rules.Line{line}})
 	}
 }
 
@@ -149,11 +155,11 @@ func (c *comparing) listen() {
 		switch {
 		case m.Run != nil:
 			c.run <- m.Run
-		case m.Step != nil && m.Vertex != nil:
+		case m.Step != nil:
 			c.show(m.Step)
-		case len(m.Needs) > 0:
+		case m.Needs != nil:
 			select {
-			case c.asked <- m.Needs[0]:
+			case c.asked <- m.Needs:
 			case <-c.ctx.Done():
 				return
 			}
@@ -210,8 +216,8 @@ func (c *comparing) end(run *machine.Run, g *graph.Graph) {
 	defer timer.Stop()
 	for {
 		select {
-		case v := <-c.asked:
-			if err := c.answer(run, g, v); err != nil {
+		case question := <-c.asked:
+			if err := c.answer(run, g, question); err != nil {
 				c.cancel()
 				<-c.done
 				c.why = err.Error()
@@ -230,30 +236,35 @@ func (c *comparing) end(run *machine.Run, g *graph.Graph) {
 
 // conclude shows, once in a build, that not all was compared.
 func (c *comparing) conclude() {
-	if c.why == "" || c.p.b.Context.Err() != nil || !c.p.shown.Note("not all was compared") {
+	if c.why == "" || c.p.b.Context.Err() != nil {
 		return
 	}
-	c.p.warnOf(c.g.Vertices[c.g.Result].Digest, "not all was compared with what BuildKit would make: "+c.why, nil)
+	text := "not all was compared with what BuildKit would make: " + c.why
+	c.refuse(c.g.Result, text)
+	if c.p.shown.Note("not all was compared") {
+		c.p.warnOf(c.g.Vertices[c.g.Result].Digest, text, nil)
+	}
 }
 
 // answer tells the child what an execution made.
-func (c *comparing) answer(run *machine.Run, g *graph.Graph, v int) error {
-	if v < 0 || v >= len(g.Vertices) {
-		return fmt.Errorf("there is no vertex %d", v)
+func (c *comparing) answer(run *machine.Run, g *graph.Graph, question *comparison.Question) error {
+	reply := &comparison.Reply{Vertex: question.Vertex, Outputs: []string{}}
+	if question.Vertex < 0 || question.Vertex >= len(g.Vertices) {
+		return fmt.Errorf("there is no vertex %d", question.Vertex)
 	}
-	reply := &comparison.Reply{Vertex: v}
-	c.close() // the child has read the files before
-	for index := range rules.Outputs(g.Vertices[v].Op.GetExec()) {
+	c.close() // the child has read them
+	for index := range rules.Outputs(g.Vertices[question.Vertex].Op.GetExec()) {
 		path, err := c.file("output", nil)
 		if err != nil {
 			return err
 		}
-		size, err := run.Aside(v, index, len(g.Vertices), c.left, c.files[len(c.files)-1])
+		size, err := run.Aside(question.Vertex, index, len(g.Vertices), c.left, c.files[len(c.files)-1])
 		if err != nil {
 			return err
 		}
 		if size == 0 {
-			return c.talk.Write(&comparison.Reply{Vertex: v, Failed: true})
+			reply = &comparison.Reply{Vertex: question.Vertex, Failed: true}
+			break
 		}
 		c.left -= size
 		reply.Outputs = append(reply.Outputs, path)
@@ -297,13 +308,24 @@ func (c *comparing) differs(s *comparison.Step, lines []rules.Line) {
 	}
 	short := place + lines[0].String()
 	switch {
-	case s.Beyond:
+	case s.More:
 		short += fmt.Sprintf(", and more than %d more", more)
 	case more > 0:
 		short += fmt.Sprintf(", and %d more", more)
 	}
-	if line := lines[0]; line.Notes[0] == rules.Execution && line.Words != comparison.Unknown && !c.p.shown.Note(line.Words) {
-		return // the words are the same for all executions
+	if line := lines[0]; line.Notes[0] == rules.Execution && line.Words != comparison.Unknown {
+		if !c.p.shown.Note(line.Words) {
+			return // the words are the same for all executions
+		}
+	} else {
+		c.refuse(s.Vertex, short)
 	}
-	c.p.noteOf(c.g.Vertices[*s.Vertex].Digest, short, details)
+	c.p.noteOf(c.g.Vertices[s.Vertex].Digest, short, details)
+}
+
+// refuse lets a strict build fail, once it has run.
+func (c *comparing) refuse(v int, text string) {
+	if c.strict && c.refusal == nil {
+		c.refusal = c.g.Wrap(v, status.Error(codes.FailedPrecondition, "the build is strict: "+text))
+	}
 }

@@ -29,16 +29,19 @@ func (s *Solver) failure(run *machine.Run, p *progress, v int) error {
 			line = one
 		}
 	}
-	op := g.Vertices[v].Op
+	op, sent := g.Vertices[v].Op, g.Vertices[v].Sent
 	var number, place, code int
 	if n, _ := fmt.Sscanf(line, "%d failed action %d fault %d", &number, &place, &code); n == 3 && place < len(op.GetFile().GetActions()) {
-		why := p.fails(v)
+		action, why := p.action(v, place), p.fails(v)
 		if why == "" {
 			why = reason(run, g, v, place, code)
 		}
-		text := fmt.Sprintf("llbm: failed %d action %d fault %d %s: %s", number, p.action(v, place), code, machine.Name(code), why)
-		subject := &errdefs.Solve_File{File: &errdefs.FileAction{Index: int64(p.action(v, place))}}
-		return failed(op, subject, status.Error(codes.Unknown, text))
+		if action < 0 {
+			return failed(sent, nil, status.Errorf(codes.Unknown, "llbm: failed %d fault %d %s: %s", number, code, machine.Name(code), why))
+		}
+		text := fmt.Sprintf("llbm: failed %d action %d fault %d %s: %s", number, action, code, machine.Name(code), why)
+		subject := &errdefs.Solve_File{File: &errdefs.FileAction{Index: int64(action)}}
+		return failed(sent, subject, status.Error(codes.Unknown, text))
 	}
 	text := "llbm: failed " + strings.Replace(line, " failed", "", 1)
 	if n, _ := fmt.Sscanf(line, "%d failed command %d status %d", &number, &place, &code); n == 3 {
@@ -49,7 +52,7 @@ func (s *Solver) failure(run *machine.Run, p *progress, v int) error {
 			}
 		}
 	}
-	return failed(op, nil, status.Error(codes.Unknown, text))
+	return failed(sent, nil, status.Error(codes.Unknown, text))
 }
 
 // causes say what a fault of a file action means.

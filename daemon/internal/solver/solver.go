@@ -35,6 +35,7 @@ type Solver struct {
 	Notes    *notes.Table     // or nil
 	Platform pb.Platform      // the worker's
 	Literal  bool             // whether definitions run by llbm's rules where they differ from BuildKit's
+	Strict   bool             // whether a build fails of which BuildKit would make something else
 	Rules    *machine.Program // llbm-rules, or nil
 
 	slots       chan struct{}
@@ -211,6 +212,7 @@ func (s *Solver) session(
 	t, err := run.Tree(g.Result, g.Output)
 	if err == nil {
 		c.end(run, g)
+		err = c.refusal
 	}
 	return t, record.Bytes(), err
 }

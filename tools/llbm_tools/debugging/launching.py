@@ -1,9 +1,9 @@
 """Starts what a launch request asks for: the program, the definition with its text, and the trees of its local sources.
 
-The program reads all its files before it answers the first command, so the temporary files are removed after the
-launch.
+The texts of the trees are removed with the session.
 """
 
+import contextlib
 import difflib
 import functools
 import os
@@ -42,8 +42,8 @@ Say = Callable[[str], None]
 
 
 class Launched(NamedTuple):
-    """A session at its beginning, its graph, its entries for explanations, the name and the file of its text, and the
-    files that the definition was made from.
+    """A session at its beginning, its graph, its entries for explanations, the name and the file of its text, the
+    files that the definition was made from, and the files with the trees of its local sources, by name.
     """
 
     session: Session
@@ -52,6 +52,7 @@ class Launched(NamedTuple):
     name: str
     file: str | None
     origins: Origins
+    sources: dict[str, str]
 
 
 @functools.cache
@@ -203,7 +204,8 @@ def start(arguments: Object, folder: str, say: Say, program_argument: str) -> La
     path, place = argument(arguments, "definition", str, ""), argument(arguments, "text", str, "")
     origins = origins_of(data, given, os.path.dirname(os.path.abspath(path or place)))
     name, text_file = f"{os.path.basename(path)}.text", os.path.abspath(place) if place else None
-    return Launched(session, graph, named_entries, name, text_file, origins)
+    trees = dict(word.split("=", 1) for word in words)
+    return Launched(session, graph, named_entries, name, text_file, origins, trees)
 
 
 def launch(arguments: Object, say: Say, program_argument: str = "the argument llbm") -> Launched:
@@ -212,8 +214,11 @@ def launch(arguments: Object, say: Say, program_argument: str = "the argument ll
     `program_argument` is how the caller names the program.
     """
     try:
-        with tempfile.TemporaryDirectory(prefix="llbm-debug-") as folder:
-            return start(arguments, folder, say, program_argument)
+        with contextlib.ExitStack() as kept:
+            folder = kept.enter_context(tempfile.TemporaryDirectory(prefix="llbm-debug-"))
+            launched = start(arguments, folder, say, program_argument)
+            launched.session.kept.push(kept.pop_all())
+            return launched
     except OSError as fault:
         raise Refused(os_error_text(fault)) from fault
     except ValueError as fault:

@@ -17,7 +17,7 @@ LEAD = re.compile(r"\s*(?:BuildKit: |(?:=> )*(?:#\d+ )?WARN: |- )?")
 NOTE = re.compile(r"note (\d+) (\S+)(?: (.*))?")
 STEP = re.compile(r"(?:vertex (\d+)(?: action (\d+))?|action (\d+)|entry (\d+) input (\d+)): (.*)")
 NAMES = re.compile(r"[A-Z]\w*(?:, [A-Z]\w*)*")
-MORE = re.compile(r"and [0-9,]+ more paths?")
+MORE = re.compile(r"and (?:at least )?[0-9,]+ more paths?")
 COUNTED = re.compile(r", and [0-9]+ more$")
 FIELD = re.compile(r"(\w+)(?: of (action|mount) (\d+)| (.*))? has no effect: .*")
 SENTENCE = re.compile(r"(\w+): .*\. In BuildKit: .*")
@@ -77,6 +77,12 @@ def notes() -> dict[str, list[str]]:
     for one in program.answers("texts"):
         found.setdefault(one["name"], []).append(one["words"])
     return found
+
+
+def line_of(name: str) -> str:
+    """Returns what is said of a name as the words of a line."""
+    one = next(one for one in program.answers("texts") if one["name"] == name)
+    return f"{one['buildkit']} (here {one['llbm']}): {name}"
 
 
 def texts_of(name: str) -> list[str]:

@@ -4,6 +4,6 @@
 INHERITED = "its inputs differ"
 
 
-def more_paths(count: int) -> str:
+def more_paths(count: int, at_least: bool = False) -> str:
     """Returns how many paths are not shown, in words."""
-    return f"and {count:,} more path{'' if count == 1 else 's'}"
+    return f"and {'at least ' if at_least else ''}{count:,} more path{'' if count == 1 else 's'}"

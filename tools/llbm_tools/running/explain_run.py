@@ -93,7 +93,9 @@ def blocked_lines(session: Session, views: Views) -> Iterator[str]:
 def run_lines(launched: launching.Launched, options: argparse.Namespace) -> Iterator[str]:
     """Yields the lines of a whole run."""
     session, views = launched.session, Views(launched)
-    watch = Watch(session, launched.graph, launched.entries.data)
+    watch = Watch(session, launched.graph, launched.entries.data, None if options.summary else launched.sources)
+    if watch.missing():
+        common.say(watch.missing())
     if not options.summary:
         yield from (f"BuildKit: {line}" for line in watch.outside())
     while event := session.event("next"):

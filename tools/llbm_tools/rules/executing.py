@@ -1,24 +1,20 @@
 """Runs one execution by the program, on trees that are given."""
 
-import os
 import subprocess
-import tempfile
 
-from llbm_tools.buildkit import files
-from llbm_tools.buildkit.files import Tree
-from llbm_tools.buildkit.refs import Ref
-from llbm_tools.buildkit.solving import Graph
-from llbm_tools.llb import messages, op_rules
+from llbm_tools.llb import definition, messages, op_rules
+from llbm_tools.llb.definition import Graph
 from llbm_tools.llb.messages import made
 from llbm_tools.llb.rewriting import changed, placed
 from llbm_tools.llb.wire import record_of
+from llbm_tools.rules.comparison import Outputs, Tree
 from llbm_tools.streams import Refused
 
 FAILED = 1
 INPUTS = 1
 
 
-class Unknown(Refused):
+class NotKnown(Refused):
     """What an execution makes is not known; the message says why."""
 
 
@@ -42,19 +38,13 @@ class Program:
         last = messages.encoded(made("Op", inputs=(messages.edge(entry, output),)))
         return messages.definition_of([*sources, entry, last])
 
-    def run(self, vertex: int, inputs: list[Ref]) -> list[Tree] | None:
-        """Returns the outputs of an execution on these inputs, or None if its script fails."""
-        op = self.graph.ops[vertex]
+    def run(self, vertex: int, files: list[str]) -> Outputs:
+        """Returns the outputs of an execution on inputs in files, or None if its script fails."""
+        op = definition.op_of(self.graph.rows[vertex], self.entries[self.graph.rows[vertex]])
         if op_rules.has_mount(op, op_rules.CACHE):
-            raise Unknown(f"vertex {vertex} mounts a cache, and its inputs differ in BuildKit: its outputs are unknown")
-        with tempfile.TemporaryDirectory(prefix="llbm-executing-") as folder:
-            words = []
-            for number, ref in enumerate(inputs):
-                place = os.path.join(folder, str(number))
-                with open(place, "wb") as file:
-                    file.writelines(files.lines_of(ref.tree))
-                words.append(f"{number}={place}")
-            found = [self.output(vertex, output, words) for output in range(self.graph.outputs(vertex))]
+            raise NotKnown(f"vertex {vertex} mounts a cache, and its inputs differ in BuildKit: its outputs are unknown")
+        words = [f"{number}={file}" for number, file in enumerate(files)]
+        found = [self.output(vertex, output, words) for output in range(op_rules.count_of(op) or 0)]
         return None if None in found else [one for one in found if one is not None]
 
     def output(self, vertex: int, output: int, words: list[str]) -> Tree | None:
@@ -65,5 +55,5 @@ class Program:
         if done.returncode == FAILED:
             return None
         if done.returncode:
-            raise Unknown(f"vertex {vertex}: {done.stderr.decode('utf-8', 'backslashreplace').strip()}")
-        return files.tree_of(done.stdout.splitlines(keepends=True))
+            raise NotKnown(f"vertex {vertex}: {done.stderr.decode('utf-8', 'backslashreplace').strip()}")
+        return done.stdout.splitlines(keepends=True)

@@ -4,13 +4,13 @@ The kinds: plain ones; wild ones, with odd names, modes, owners and numbers; tho
 of merges and several outputs; and plain ones with filters of their sources.
 """
 
+import posixpath
 import random
 from typing import NamedTuple
 
-from llbm_tools.buildkit import making
-from llbm_tools.buildkit.files import Entry, Path, Tree
 from llbm_tools.llb import messages
 from llbm_tools.llb.messages import Message, made
+from llbm_tools.trees.maps import Entry, Path, Tree
 
 PLAIN, WILD, LAYERS, FILTERS = "plain", "wild", "layers", "filters"
 KINDS = (PLAIN, WILD, LAYERS, FILTERS)
@@ -174,7 +174,7 @@ class Maker:
         """Returns an rm; none that leaves the tree, since BuildKit's daemon would remove its own state."""
         wild = self.chance(0.4)
         path = self.pattern() if wild and self.chance(0.8) else self.path()
-        if not wild and making.leaves_tree(path):
+        if not wild and posixpath.basename(posixpath.normpath(path)) == "..":
             path = "/a"
         return "rm", made("FileActionRm", path=path, allowNotFound=self.chance(0.6), allowWildcard=wild)
 

@@ -1,12 +1,12 @@
-"""Tests of the options of `lint` and `adopt` for BuildKit's rules, and of `as-buildkit`."""
+"""Tests of the tools that use BuildKit's rules: the options of `lint` and `adopt`, `as-buildkit`, and `explain-run`."""
 
 import unittest
 
-from llbm_tools.buildkit import files
-from llbm_tools.buildkit.examples import examples
 from llbm_tools.debugging import happened, launching, views
 from llbm_tools.llb import messages
 from llbm_tools.llb.messages import made
+from llbm_tools.rules.examples import examples
+from llbm_tools.trees import maps
 from tests import base
 from tests.base import Folder, run
 
@@ -30,7 +30,15 @@ def source(**attributes):
     return made("Op", source=made("SourceOp", identifier="local://p", attrs=given))
 
 
-class Fields(Folder):
+class WithRules(Folder):
+    """A test that needs the program with BuildKit's rules."""
+
+    def setUp(self):
+        super().setUp()
+        base.skip_without_rules(self)
+
+
+class Fields(WithRules):
     """The notes of `lint` for fields that have no effect."""
 
     def notes(self, data, *options, status=0):
@@ -90,7 +98,7 @@ class Fields(Folder):
         self.assertEqual(self.notes(data, status=1), ["fault 88 0 Source", "note 0 Platform"])
 
 
-class Deaths(Folder):
+class Deaths(WithRules):
     """What BuildKit's daemon dies of."""
 
     def notes(self, data):
@@ -145,7 +153,7 @@ class Deaths(Folder):
             self.assertEqual("1 RmAboveRoot action 0" in self.notes(data), expected, path)
 
 
-class WithProgram(Folder):
+class WithProgram(WithRules):
     """A test that runs tools with the program."""
 
     def setUp(self):
@@ -336,7 +344,7 @@ class AsBuildkit(WithProgram):
 
     def tree(self, name, tree):
         """Writes the text of a tree, and returns its path."""
-        return self.file(name.encode(), b"".join(files.lines_of(tree))).decode()
+        return self.file(name.encode(), b"".join(maps.lines_of(tree))).decode()
 
     def test_it_names_the_path_what_is_there_and_the_rule(self):
         for shows, lines in [
@@ -422,7 +430,7 @@ class AsBuildkit(WithProgram):
     def test_a_session_that_goes_back_and_on_has_the_same_lines(self):
         one = example("merge of a tree and of one from which something was removed")
         launched = self.launched(one)
-        watch = happened.Watch(launched.session, launched.graph, one.data)
+        watch = happened.Watch(launched.session, launched.graph, one.data, launched.sources)
         seen = []
         for _ in range(2):
             while launched.session.event("next"):

@@ -1,13 +1,14 @@
 """Tests of the table `fields.json`: its keys and numbers are those of BuildKit's sources, where these are."""
 
+import json
 import os
 import pathlib
 import re
 import unittest
 
-from llbm_tools.buildkit import fields
 from llbm_tools.daemon import debian_packages, go_building
 from llbm_tools.daemon.go_building import BUILDKIT
+from llbm_tools.page.assets import FIELDS
 
 DEBIAN = pathlib.Path("/", go_building.CODE)
 # The member of a message that each note is about, by the note's name and number.
@@ -36,6 +37,11 @@ KEYS = {
     "FollowPaths": "AttrFollowPaths", "SessionID": "AttrLocalSessionID",
 }  # fmt: skip
 WITHOUT_EFFECT = ["AttrLocalUniqueID", "AttrSharedKeyHint", "AttrLocalDiffer"]
+
+
+def table():
+    """Returns the table."""
+    return json.loads(FIELDS.read_text("utf-8"))
 
 
 def source(name):
@@ -69,7 +75,7 @@ class Table(unittest.TestCase):
         return message, known[message].get(last, (None, None))[1]
 
     def test_its_numbers_lead_to_the_fields_that_are_meant(self):
-        given = fields.table()
+        given = table()
         rows = [("Op", row) for row in given["fields"]] + [("OpMetadata", row) for row in given["metadata"]]
         for start, row in rows:
             key = row["name"], row["numbers"][-1]
@@ -82,7 +88,7 @@ class Table(unittest.TestCase):
 
     def test_its_keys_are_those_of_attributes_of_local_sources(self):
         known = dict(re.findall(r'^const (\w+) = "(.*)"$', source("attr.go"), re.M))
-        given = fields.table()
+        given = table()
         keys = {row["name"]: row["key"] for row in given["attributes"]}
         self.assertEqual(keys, {name: known[constant] for name, constant in KEYS.items()})
         self.assertEqual(given["attributes_without_effect"], [known[name] for name in WITHOUT_EFFECT])
