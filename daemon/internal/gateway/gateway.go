@@ -24,9 +24,10 @@ import (
 
 // A Frontend is asked to solve a build.
 type Frontend struct {
-	Name    string
-	Options map[string]string
-	Inputs  map[string]*pb.Definition
+	Name     string
+	Options  map[string]string
+	Inputs   map[string]*pb.Definition
+	IsCalled bool // whether another frontend that is a child calls it
 }
 
 // Frontends run frontends by their names.
@@ -100,7 +101,9 @@ func (g *Gateway) Solve(ctx context.Context, req *gatewaypb.SolveRequest) (*gate
 	switch {
 	case req.Frontend != "":
 		defer b.Free(req.Size())
-		r, err = g.Frontends.Run(ctx, b, Frontend{Name: req.Frontend, Options: req.FrontendOpt, Inputs: req.FrontendInputs})
+		r, err = g.Frontends.Run(ctx, b, Frontend{
+			Name: req.Frontend, Options: req.FrontendOpt, Inputs: req.FrontendInputs, IsCalled: g.only != nil,
+		})
 	case solver.IsEmpty(req.Definition):
 		r = &Returned{Single: results.Empty()}
 	default:

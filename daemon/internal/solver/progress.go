@@ -81,9 +81,11 @@ func (p *progress) event(e machine.Event) (int, bool) {
 		p.running[e.Worker] = e.Vertex
 		p.start(e.Vertex)
 	case machine.Step:
-		p.command(v, e.Reply)
+		if e.Ran != nil {
+			p.command(v, e.Ran)
+		}
 	case machine.Settle:
-		if strings.HasSuffix(e.Reply, " failed") {
+		if e.Failed {
 			return v, true
 		}
 		p.settled(v)
@@ -93,15 +95,14 @@ func (p *progress) event(e machine.Event) (int, bool) {
 }
 
 // command shows a command that ran, with its status if it is not 0.
-func (p *progress) command(v int, reply string) {
-	var number, code int
+func (p *progress) command(v int, ran *machine.Ran) {
 	calls := plan.Calls(p.g.Vertices[v].Op)
-	if n, _ := fmt.Sscanf(reply, "ran %d %d", &number, &code); n != 2 || number >= len(calls) {
+	if ran.Command >= len(calls) {
 		return
 	}
-	line, stream := strings.Join(calls[number], " "), int64(1)
-	if code != 0 {
-		line, stream = fmt.Sprintf("%s: status %d", line, code), 2
+	line, stream := strings.Join(calls[ran.Command], " "), int64(1)
+	if ran.Status != 0 {
+		line, stream = fmt.Sprintf("%s: status %d", line, ran.Status), 2
 	}
 	p.log(v, stream, line)
 }
