@@ -60,9 +60,6 @@ func RequestOf(op *pb.SourceOp) (Request, error) {
 	return r, err
 }
 
-// Filters returns the patterns as one text, which is the same for the same patterns.
-func (r Request) Filters() string { return r.filters }
-
 // headers are what the client's end reads its filters from. What is not ASCII is escaped, as newer clients expect it.
 func (r Request) headers() metadata.MD {
 	md := metadata.Pairs("dir-name", r.Name)
