@@ -26,6 +26,7 @@ It serves its own user and root, ends at SIGTERM or SIGINT, and writes messages 
 type options struct {
 	server.Options
 	address    string
+	version    bool
 	notes      string
 	keep       string
 	keepBuilds int
@@ -49,6 +50,8 @@ func parse(words []string, help io.Writer) (*options, error) {
 		return nil, err
 	case flags.NArg() > 0:
 		return nil, fmt.Errorf("%q is no option", flags.Arg(0))
+	case o.version:
+		return o, nil
 	}
 	return o, o.check()
 }
@@ -74,6 +77,7 @@ func (o *options) flags() *flag.FlagSet {
 	f.Int64Var(&o.keepBytes, "keep-bytes", 1<<30, "how many `BYTES` the kept builds may have")
 	f.BoolVar(&o.Literal, "literal", false, "run definitions by llbm's rules also where BuildKit's differ and could be kept by rewriting ops")
 	f.StringVar(&o.notes, "notes", "", "a `FILE` with fields without an effect, for warnings, instead of the table that is built in")
+	f.BoolVar(&o.version, "version", false, "print the version, and end")
 	return f
 }
 

@@ -3,6 +3,7 @@ package main
 import (
 	"errors"
 	"flag"
+	"regexp"
 	"strings"
 	"testing"
 	"time"
@@ -43,6 +44,16 @@ func TestOptionsAreRead(t *testing.T) {
 	given := o.address == "unix://s" && o.Idle == time.Second && o.Literal && o.keep == "k" && o.keepBuilds == 3
 	if !given || o.Limits != (machine.Limits{}) || o.Workers != 1 {
 		t.Errorf("%+v", o)
+	}
+}
+
+func TestTheVersionIsOneLineAndNeedsNoSocket(t *testing.T) {
+	o, err := parse([]string{"-version"}, nil)
+	if err != nil || !o.version {
+		t.Fatal(err)
+	}
+	if line := versions(); !regexp.MustCompile(`^llbmd v[0-9.]+\+llbm, built with \S.*$`).MatchString(line) {
+		t.Error(line)
 	}
 }
 

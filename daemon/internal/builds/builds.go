@@ -3,7 +3,9 @@ package builds
 
 import (
 	"context"
+	"slices"
 	"sync"
+	"sync/atomic"
 	"time"
 
 	gateway "github.com/moby/buildkit/frontend/gateway/pb"
@@ -11,6 +13,8 @@ import (
 	spb "github.com/moby/buildkit/sourcepolicy/pb"
 	"google.golang.org/grpc/codes"
 	"google.golang.org/grpc/status"
+	"llbm/daemon/internal/results"
+	"llbm/daemon/internal/sources"
 )
 
 const (
@@ -22,6 +26,9 @@ const (
 	mostResults = 1024
 	// mostFrontends bounds the frontends of a build that run at once, one calling the other.
 	mostFrontends = 8
+	// mostOfBuild bounds the bytes of messages, definitions and progress that a build holds in memory, and mostOfAll those of all.
+	mostOfBuild = 256 << 20
+	mostOfAll   = 1 << 30
 )
 
 // A Build is one call of Solve, up to a short time after its end.
@@ -30,46 +37,73 @@ type Build struct {
 	User         uint32
 	Context      context.Context // ends with the call of Solve
 	Events       *Events
-	Policies     []*spb.Policy
-	Inputs       map[string]*pb.Definition
 	Returned     chan *gateway.ReturnRequest
+	Shown        *Shown
+	Sources      sources.Once
+	Written      atomic.Int64 // how many bytes llbm wrote
 
+	all  *Builds
+	held int64 // in bytes; the lock of all builds guards it, and isOver
+	// isOver is whether nothing more can be held.
+	isOver bool
+
+	given     chan struct{} // is closed once these are there
+	inputs    map[string]*pb.Definition
+	policies  []*spb.Policy
 	mu        sync.Mutex
-	results   map[string]any
-	shared    map[string]any
+	results   map[string]*results.Lazy
 	frontends int
 	steps     int
 	closers   []func()
 	ended     bool
 }
 
-// AddResult keeps a result for the build's frontends by a name, which may be used until the build ends.
-func (b *Build) AddResult(name string, result any) error {
+var errEnded = status.Error(codes.Canceled, "the build has ended")
+
+// Give says what the build was asked for with: inputs for frontends, and policies for sources. It is called once.
+func (b *Build) Give(inputs map[string]*pb.Definition, policies []*spb.Policy) {
+	b.inputs, b.policies = inputs, policies
+	close(b.given)
+}
+
+// Given waits for what the build was asked for with.
+func (b *Build) Given(ctx context.Context) (map[string]*pb.Definition, []*spb.Policy, error) {
+	select {
+	case <-b.given:
+		return b.inputs, b.policies, nil
+	case <-b.Context.Done():
+		return nil, nil, errEnded
+	case <-ctx.Done():
+		return nil, nil, status.FromContextError(ctx.Err()).Err()
+	}
+}
+
+// AddResult keeps a result for the build's frontends by its ID, which may be used until the build ends.
+func (b *Build) AddResult(result *results.Lazy) error {
 	b.mu.Lock()
 	defer b.mu.Unlock()
+	if b.ended {
+		return errEnded
+	}
 	if len(b.results) >= mostResults {
 		return status.Errorf(codes.ResourceExhausted, "the build has %d results, and no more may be kept", mostResults)
 	}
-	b.results[name] = result
+	b.results[result.ID] = result
 	return nil
 }
 
-// Result returns the result with a name, or nil.
-func (b *Build) Result(name string) any {
+// Result returns the result with an ID, or nil.
+func (b *Build) Result(id string) *results.Lazy {
 	b.mu.Lock()
 	defer b.mu.Unlock()
-	return b.results[name]
+	return b.results[id]
 }
 
-// Share returns the build's value for a key, which is made at the first use.
-func (b *Build) Share(key string, make func() any) any {
-	b.mu.Lock()
-	defer b.mu.Unlock()
-	if _, ok := b.shared[key]; !ok {
-		b.shared[key] = make()
-	}
-	return b.shared[key]
-}
+// Hold counts bytes that the build holds in memory from now on, until they are freed or the build ends.
+func (b *Build) Hold(n int) error { return b.all.hold(b, int64(n)) }
+
+// Free ends the hold of bytes.
+func (b *Build) Free(n int) { b.all.free(b, int64(n)) }
 
 // AddSteps counts vertices that the build has to work on.
 func (b *Build) AddSteps(n int) {
@@ -120,6 +154,8 @@ type Builds struct {
 	added   chan struct{} // is closed when a build is added
 	byRef   map[string]*Build
 	running int
+	ended   []*Build // those that have ended, the first one first
+	held    int64    // by all, in bytes
 }
 
 // New keeps at most some builds at once.
@@ -148,9 +184,10 @@ func (bs *Builds) Start(ctx context.Context, user uint32, ref, session string) (
 		return nil, status.Errorf(codes.ResourceExhausted, "%d builds run, and no more may", bs.most)
 	}
 	b := &Build{
-		Ref: ref, Session: session, User: user, Context: ctx, Events: newEvents(), Returned: make(chan *gateway.ReturnRequest, 1),
-		results: map[string]any{}, shared: map[string]any{},
+		Ref: ref, Session: session, User: user, Context: ctx, Returned: make(chan *gateway.ReturnRequest, 1), Shown: newShown(), all: bs,
+		given: make(chan struct{}), results: map[string]*results.Lazy{},
 	}
+	b.Events = newEvents(b.Hold)
 	bs.byRef[ref] = b
 	bs.running++
 	close(bs.added)
@@ -162,20 +199,70 @@ func (bs *Builds) Start(ctx context.Context, user uint32, ref, session string) (
 func (bs *Builds) End(b *Build) {
 	b.mu.Lock()
 	closers := b.closers
-	b.closers, b.results, b.shared, b.ended = nil, map[string]any{}, map[string]any{}, true
+	b.closers, b.results, b.ended = nil, nil, true
 	b.mu.Unlock()
 	for _, closer := range closers {
 		closer()
 	}
-	b.Events.end()
+	b.Sources.Forget()
+	// Nothing but the progress is kept.
+	rest := &Build{Ref: b.Ref, User: b.User, Context: b.Context, Events: b.Events, held: int64(b.Events.end()), all: bs, isOver: true, ended: true}
 	bs.mu.Lock()
+	b.isOver = true
 	bs.running--
+	bs.held -= b.held - rest.held
+	bs.byRef[b.Ref] = rest
+	bs.ended = append(bs.ended, rest)
+	if len(bs.ended) > bs.most {
+		bs.forget(0)
+	}
 	bs.mu.Unlock()
 	time.AfterFunc(lateness, func() {
 		bs.mu.Lock()
-		delete(bs.byRef, b.Ref)
-		bs.mu.Unlock()
+		defer bs.mu.Unlock()
+		if place := slices.Index(bs.ended, rest); place >= 0 {
+			bs.forget(place)
+		}
 	})
+}
+
+// forget gives up the progress of a build that has ended.
+func (bs *Builds) forget(place int) {
+	b := bs.ended[place]
+	bs.ended = slices.Delete(bs.ended, place, place+1)
+	delete(bs.byRef, b.Ref)
+	bs.held -= b.held
+}
+
+// hold counts bytes of a build. Builds that have ended give up their progress if there is no room for them.
+func (bs *Builds) hold(b *Build, n int64) error {
+	bs.mu.Lock()
+	defer bs.mu.Unlock()
+	if b.isOver {
+		return errEnded
+	}
+	if b.held+n > mostOfBuild {
+		return status.Errorf(codes.ResourceExhausted, "the build holds %d bytes in memory, and with %d more it would hold more than %d", b.held, n, mostOfBuild)
+	}
+	for bs.held+n > mostOfAll && len(bs.ended) > 0 {
+		bs.forget(0)
+	}
+	if bs.held+n > mostOfAll {
+		return status.Errorf(codes.ResourceExhausted, "all builds hold %d bytes in memory, and with %d more they would hold more than %d", bs.held, n, mostOfAll)
+	}
+	b.held += n
+	bs.held += n
+	return nil
+}
+
+// free ends the hold of bytes of a build, unless it has ended, which did that.
+func (bs *Builds) free(b *Build, n int64) {
+	bs.mu.Lock()
+	defer bs.mu.Unlock()
+	if !b.isOver {
+		b.held -= n
+		bs.held -= n
+	}
 }
 
 // Get returns a user's build, which may start a little later.

@@ -2,14 +2,17 @@ package builds
 
 import (
 	"context"
+	"errors"
 	"fmt"
 	"strings"
 	"testing"
 	"time"
 
 	controlapi "github.com/moby/buildkit/api/services/control"
+	"github.com/moby/buildkit/solver/pb"
 	"google.golang.org/grpc/codes"
 	"google.golang.org/grpc/status"
+	"llbm/daemon/internal/results"
 )
 
 func TestABuildIsItsUsersAlone(t *testing.T) {
@@ -61,26 +64,131 @@ func TestBuildsAndResultsAreBounded(t *testing.T) {
 	}
 	closed := false
 	first.OnEnd(func() { closed = true })
-	for i := 0; i < mostResults; i++ {
-		if err := first.AddResult(fmt.Sprint(i), i); err != nil {
+	for i := range mostResults {
+		if err := first.AddResult(results.Lazily(fmt.Sprint(i), nil, nil)); err != nil {
 			t.Fatal(err)
 		}
 	}
-	if err := first.AddResult("one more", 0); status.Code(err) != codes.ResourceExhausted {
+	if err := first.AddResult(results.Lazily("one more", nil, nil)); status.Code(err) != codes.ResourceExhausted {
 		t.Error(err)
 	}
-	if first.Result("7") != 7 || first.Result("none") != nil {
+	if first.Result("7").ID != "7" || first.Result("none") != nil {
 		t.Error(first.Result("7"))
 	}
 	all.End(first)
 	if !closed || first.Result("7") != nil || all.Running() != 1 {
 		t.Error(closed, first.Result("7"), all.Running())
 	}
+	if err := first.AddResult(results.Lazily("late", nil, nil)); status.Code(err) != codes.Canceled {
+		t.Error(err)
+	}
 	closed = false
 	if first.OnEnd(func() { closed = true }); !closed {
 		t.Error("what a build gets after its end is not given up")
 	}
 	if _, err := all.Start(context.Background(), 0, "c", ""); err != nil {
+		t.Error(err)
+	}
+}
+
+// started starts builds.
+func started(t *testing.T, all *Builds, refs ...string) []*Build {
+	t.Helper()
+	var out []*Build
+	for _, ref := range refs {
+		b, err := all.Start(context.Background(), 0, ref, "")
+		if err != nil {
+			t.Fatal(err)
+		}
+		out = append(out, b)
+	}
+	return out
+}
+
+func TestWhatABuildHoldsInMemoryIsBounded(t *testing.T) {
+	b := started(t, New(1), "a")[0]
+	if err := b.Hold(mostOfBuild - 1); err != nil {
+		t.Fatal(err)
+	}
+	err := b.Hold(2)
+	if status.Code(err) != codes.ResourceExhausted || !strings.Contains(err.Error(), "the build holds 268435455 bytes in memory") {
+		t.Error(err)
+	}
+	b.Free(1)
+	if err := b.Hold(2); err != nil {
+		t.Error(err)
+	}
+}
+
+func TestWhatAllBuildsHoldInMemoryIsBounded(t *testing.T) {
+	all := New(10)
+	several := started(t, all, "a", "b", "c", "d", "e")
+	for _, b := range several[:4] {
+		if err := b.Hold(mostOfAll / 4); err != nil {
+			t.Fatal(err)
+		}
+	}
+	last := several[4]
+	if err := last.Hold(1); status.Code(err) != codes.ResourceExhausted || !strings.Contains(err.Error(), "all builds hold") {
+		t.Error(err)
+	}
+	all.End(several[0])
+	if err := last.Hold(mostOfAll / 4); err != nil {
+		t.Error("an ended build holds memory:", err)
+	}
+	several[0].Free(mostOfAll / 4) // too late
+	if err := last.Hold(1); status.Code(err) != codes.ResourceExhausted {
+		t.Error(err)
+	}
+}
+
+func TestEndedBuildsGiveUpTheirProgressForOthers(t *testing.T) {
+	all := New(100)
+	var first *Build
+	for n := range mostOfAll/mostOfEvents + 1 {
+		b := started(t, all, fmt.Sprint(n))[0]
+		b.Events.Add(&controlapi.StatusResponse{})
+		b.Events.bytes = mostOfEvents // as if it were so much
+		if err := b.Hold(mostOfEvents); err != nil {
+			t.Fatal(n, err)
+		}
+		if first == nil {
+			first = b
+		}
+		all.End(b)
+	}
+	ctx, cancel := context.WithCancel(context.Background())
+	cancel()
+	if _, err := all.Get(ctx, 0, first.Ref); err == nil {
+		t.Error("the first build is there")
+	}
+	if _, err := all.Get(ctx, 0, "7"); err != nil {
+		t.Error(err)
+	}
+}
+
+func TestABuildIsGivenItsInputsBeforeTheyAreRead(t *testing.T) {
+	all := New(10)
+	b := started(t, all, "a")[0]
+	got := make(chan error)
+	go func() {
+		inputs, _, err := b.Given(context.Background())
+		if err == nil && inputs["x"] == nil {
+			err = errors.New("no input")
+		}
+		got <- err
+	}()
+	b.Give(map[string]*pb.Definition{"x": {}}, nil)
+	if err := <-got; err != nil {
+		t.Error(err)
+	}
+	ctx, cancel := context.WithCancel(context.Background())
+	never, err := all.Start(ctx, 0, "never", "")
+	if err != nil {
+		t.Fatal(err)
+	}
+	cancel()
+	if _, _, err := never.Given(context.Background()); status.Code(err) != codes.Canceled {
 		t.Error(err)
 	}
 }
@@ -105,7 +213,7 @@ func followed(t *testing.T, e *Events) string {
 }
 
 func TestEachFollowerSeesAllEvents(t *testing.T) {
-	e := newEvents()
+	e := newEvents(func(int) error { return nil })
 	e.Add(logged("a"))
 	early := make(chan string)
 	go func() { early <- followed(t, e) }()
@@ -118,7 +226,7 @@ func TestEachFollowerSeesAllEvents(t *testing.T) {
 }
 
 func TestProgressIsBounded(t *testing.T) {
-	e := newEvents()
+	e := newEvents(func(int) error { return nil })
 	for i := 0; i < 40; i++ {
 		e.Add(logged(strings.Repeat("x", 1<<20)))
 	}

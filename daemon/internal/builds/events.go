@@ -24,9 +24,11 @@ type Events struct {
 	bytes int
 	full  bool
 	ended bool
+	hold  func(int) error
 }
 
-func newEvents() *Events { return &Events{grew: make(chan struct{})} }
+// newEvents returns the progress of a build, which holds its bytes by a function.
+func newEvents(hold func(int) error) *Events { return &Events{grew: make(chan struct{}), hold: hold} }
 
 // Add adds an event.
 func (e *Events) Add(event *controlapi.StatusResponse) {
@@ -35,10 +37,13 @@ func (e *Events) Add(event *controlapi.StatusResponse) {
 	if e.ended || e.full {
 		return
 	}
-	e.all = append(e.all, event)
-	if e.bytes += event.Size(); e.bytes > mostOfEvents {
+	size := event.Size()
+	if e.bytes+size > mostOfEvents || e.hold(size) != nil {
 		e.full = true
 		e.all = append(e.all, cutOff(event))
+	} else {
+		e.bytes += size
+		e.all = append(e.all, event)
 	}
 	e.wake()
 }
@@ -62,11 +67,13 @@ func (e *Events) wake() {
 	e.grew = make(chan struct{})
 }
 
-func (e *Events) end() {
+// end ends the progress, and returns how many bytes it has.
+func (e *Events) end() int {
 	e.mu.Lock()
 	defer e.mu.Unlock()
 	e.ended = true
 	e.wake()
+	return e.bytes
 }
 
 // Follow hands all events, from the first, to a function, several as one, until the build has ended or the context is done.

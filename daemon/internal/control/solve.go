@@ -45,6 +45,9 @@ func (c *Control) Solve(ctx context.Context, req *controlapi.SolveRequest) (*con
 	}
 	defer c.Builds.End(b)
 	defer cancel()
+	if err := b.Hold(req.Size()); err != nil {
+		return nil, err
+	}
 	modern(req)
 	if req.Internal {
 		return c.solve(ctx, b, req)
@@ -107,10 +110,11 @@ func (c *Control) solve(ctx context.Context, b *builds.Build, req *controlapi.So
 		}
 		exporters = append(exporters, e)
 	}
-	b.Inputs = req.FrontendInputs
+	var policies []*spb.Policy
 	if req.SourcePolicy != nil {
-		b.Policies = []*spb.Policy{req.SourcePolicy}
+		policies = append(policies, req.SourcePolicy)
 	}
+	b.Give(req.FrontendInputs, policies)
 	returned, err := c.result(ctx, b, req)
 	if err != nil {
 		return nil, err

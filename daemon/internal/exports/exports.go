@@ -19,13 +19,13 @@ import (
 	"google.golang.org/grpc/codes"
 	"google.golang.org/grpc/status"
 	"llbm/daemon/internal/contents"
-	"llbm/daemon/internal/solver"
+	"llbm/daemon/internal/results"
 )
 
 // Results are those of a build: one without an ID, or one for each platform.
 type Results struct {
-	Single   *solver.Result
-	ByID     map[string]*solver.Result
+	Single   *results.Result
+	ByID     map[string]*results.Result
 	Metadata map[string][]byte
 }
 
@@ -102,7 +102,7 @@ func (e *Exporter) Name() string {
 // named is a result with its platform.
 type named struct {
 	exptypes.Platform
-	result *solver.Result
+	result *results.Result
 }
 
 // unsaid is the platform of a result of which nobody says it, whatever host the daemon runs on.
@@ -157,8 +157,8 @@ func (m moving) Write(data []byte) (int, error) {
 }
 
 // Export sends results, and returns what the client is told of them.
-func (e *Exporter) Export(ctx context.Context, caller session.Caller, results *Results, watch Watch) (map[string]string, error) {
-	list, byID, err := results.list()
+func (e *Exporter) Export(ctx context.Context, caller session.Caller, all *Results, watch Watch) (map[string]string, error) {
+	list, byID, err := all.list()
 	if err != nil {
 		return nil, err
 	}
@@ -174,7 +174,7 @@ func (e *Exporter) Export(ctx context.Context, caller session.Caller, results *R
 			return fsutil.WriteTar(ctx, all, to)
 		})
 	default:
-		return e.oci(ctx, caller, list, byID, results.Metadata, watch)
+		return e.oci(ctx, caller, list, byID, all.Metadata, watch)
 	}
 }
 

@@ -10,12 +10,12 @@ import (
 	"time"
 
 	fstypes "github.com/tonistiigi/fsutil/types"
-	"llbm/daemon/internal/solver"
+	"llbm/daemon/internal/results"
 	"llbm/daemon/internal/tree"
 )
 
 // Stat is the message that clients read of an entry. Trees keep no times, so all have the same one.
-func Stat(r *solver.Result, e *tree.Entry, name string, when time.Time) (*fstypes.Stat, error) {
+func Stat(r *results.Result, e *tree.Entry, name string, when time.Time) (*fstypes.Stat, error) {
 	st := &fstypes.Stat{Path: name, Mode: uint32(e.GoMode()), Uid: e.UID, Gid: e.GID, ModTime: when.UnixNano()}
 	if !e.Dir {
 		content, err := r.Contents.Content(e.Content)
@@ -29,7 +29,7 @@ func Stat(r *solver.Result, e *tree.Entry, name string, when time.Time) (*fstype
 
 // files show a result to the sender of a diff copy, and to the writer of an archive.
 type files struct {
-	result *solver.Result
+	result *results.Result
 	when   time.Time
 	moved  func() // is called with each entry
 }

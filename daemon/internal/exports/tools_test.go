@@ -21,7 +21,7 @@ import (
 	digest "github.com/opencontainers/go-digest"
 	ocispecs "github.com/opencontainers/image-spec/specs-go/v1"
 	"llbm/daemon/internal/contents"
-	"llbm/daemon/internal/solver"
+	"llbm/daemon/internal/results"
 	"llbm/daemon/internal/tree"
 )
 
@@ -108,7 +108,7 @@ func (g given) image(t *testing.T, attrs map[string]string) []byte {
 	if err != nil {
 		t.Fatal(err)
 	}
-	result := &solver.Result{}
+	result := &results.Result{}
 	for _, line := range strings.Split(strings.TrimSuffix(g.Tree, "\n"), "\n") {
 		entry, err := tree.ParseLine([]byte(line))
 		if err != nil {
@@ -278,7 +278,7 @@ func TestValuesAreWrittenAsByTheTools(t *testing.T) {
 
 func TestANameThatRemovesIsRefused(t *testing.T) {
 	e := &Exporter{}
-	result := &solver.Result{Tree: tree.Tree{{Dir: true, Mode: 0o755}, {Path: "d", Dir: true}, {Path: "d/.wh.f"}}}
+	result := &results.Result{Tree: tree.Tree{{Dir: true, Mode: 0o755}, {Path: "d", Dir: true}, {Path: "d/.wh.f"}}}
 	err := writeLayer(context.Background(), files{result, e.when, func() {}}, new(bytes.Buffer))
 	if err == nil || !strings.Contains(err.Error(), "can't have a name that begins with .wh.: /d/.wh.f") {
 		t.Error(err)

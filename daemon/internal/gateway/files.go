@@ -9,14 +9,14 @@ import (
 	"google.golang.org/grpc/codes"
 	"google.golang.org/grpc/status"
 	"llbm/daemon/internal/exports"
-	"llbm/daemon/internal/solver"
+	"llbm/daemon/internal/results"
 	"llbm/daemon/internal/tree"
 )
 
 // mostOfFile bounds what one call reads of a file.
 const mostOfFile = 64 << 20
 
-func (g *Gateway) entry(ctx context.Context, id, name string) (*solver.Result, *tree.Entry, error) {
+func (g *Gateway) entry(ctx context.Context, id, name string) (*results.Result, *tree.Entry, error) {
 	r, err := g.solved(ctx, id)
 	if err != nil {
 		return nil, nil, err

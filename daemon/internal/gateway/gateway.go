@@ -18,14 +18,16 @@ import (
 	"llbm/daemon/internal/builds"
 	"llbm/daemon/internal/fields"
 	"llbm/daemon/internal/peers"
+	"llbm/daemon/internal/results"
 	"llbm/daemon/internal/solver"
 )
 
 // A Frontend is asked to solve a build.
 type Frontend struct {
-	Name    string
-	Options map[string]string
-	Inputs  map[string]*pb.Definition
+	Name     string
+	Options  map[string]string
+	Inputs   map[string]*pb.Definition
+	IsCalled bool // whether another frontend that is a child calls it
 }
 
 // Frontends run frontends by their names.
@@ -92,12 +94,18 @@ func (g *Gateway) Solve(ctx context.Context, req *gatewaypb.SolveRequest) (*gate
 	if err := refused(req); err != nil {
 		return nil, err
 	}
+	if err := b.Hold(req.Size()); err != nil {
+		return nil, err
+	}
 	var r *Returned
 	switch {
 	case req.Frontend != "":
-		r, err = g.Frontends.Run(ctx, b, Frontend{Name: req.Frontend, Options: req.FrontendOpt, Inputs: req.FrontendInputs})
+		defer b.Free(req.Size())
+		r, err = g.Frontends.Run(ctx, b, Frontend{
+			Name: req.Frontend, Options: req.FrontendOpt, Inputs: req.FrontendInputs, IsCalled: g.only != nil,
+		})
 	case solver.IsEmpty(req.Definition):
-		r = &Returned{Single: solver.Empty()}
+		r = &Returned{Single: results.Empty()}
 	default:
 		r, err = g.lazily(b, req.Definition, req.SourcePolicies)
 	}
@@ -131,23 +139,22 @@ func refused(req *gatewaypb.SolveRequest) error {
 }
 
 func (g *Gateway) lazily(b *builds.Build, def *pb.Definition, policies []*spb.Policy) (*Returned, error) {
-	id := fmt.Sprintf("%s-%d", b.Ref, lastID.Add(1))
-	lazy := g.Solver.Lazily(b, id, def, policies)
-	return &Returned{Single: lazy}, b.AddResult(id, lazy)
+	lazy := g.Solver.Lazily(b, fmt.Sprintf("%s-%d", b.Ref, lastID.Add(1)), def, policies)
+	return &Returned{Single: lazy}, b.AddResult(lazy)
 }
 
 // result returns a result of a build by its ID; without an ID it is the empty one.
-func result(b *builds.Build, id string) (*solver.Lazy, error) {
+func result(b *builds.Build, id string) (*results.Lazy, error) {
 	if id == "" {
-		return solver.Empty(), nil
+		return results.Empty(), nil
 	}
-	if lazy, ok := b.Result(id).(*solver.Lazy); ok {
+	if lazy := b.Result(id); lazy != nil {
 		return lazy, nil
 	}
 	return nil, status.Errorf(codes.NotFound, "no result %q", id)
 }
 
-func (g *Gateway) solved(ctx context.Context, id string) (*solver.Result, error) {
+func (g *Gateway) solved(ctx context.Context, id string) (*results.Result, error) {
 	b, err := g.build(ctx)
 	if err != nil {
 		return nil, err
@@ -174,7 +181,8 @@ func (g *Gateway) Inputs(ctx context.Context, _ *gatewaypb.InputsRequest) (*gate
 	if g.only != nil {
 		return &gatewaypb.InputsResponse{Definitions: g.only.inputs}, nil
 	}
-	return &gatewaypb.InputsResponse{Definitions: b.Inputs}, nil
+	inputs, _, err := b.Given(ctx)
+	return &gatewaypb.InputsResponse{Definitions: inputs}, err
 }
 
 // Warn shows a frontend's warning.
@@ -198,6 +206,9 @@ func (g *Gateway) Warn(ctx context.Context, req *gatewaypb.WarnRequest) (*gatewa
 func (g *Gateway) Return(ctx context.Context, req *gatewaypb.ReturnRequest) (*gatewaypb.ReturnResponse, error) {
 	b, err := g.build(ctx)
 	if err != nil {
+		return nil, err
+	}
+	if err := b.Hold(req.Size()); err != nil {
 		return nil, err
 	}
 	to := b.Returned

@@ -11,13 +11,13 @@ import (
 	"google.golang.org/protobuf/types/known/anypb"
 	"llbm/daemon/internal/builds"
 	"llbm/daemon/internal/exports"
-	"llbm/daemon/internal/solver"
+	"llbm/daemon/internal/results"
 )
 
 // A Returned is what a frontend makes of a build: one result, or one for each ID, and metadata.
 type Returned struct {
-	Single   *solver.Lazy
-	ByID     map[string]*solver.Lazy
+	Single   *results.Lazy
+	ByID     map[string]*results.Lazy
 	Metadata map[string][]byte
 }
 
@@ -67,7 +67,7 @@ func read(b *builds.Build, given *gatewaypb.Result) (*Returned, error) {
 		r.Single, err = result(b, id)
 		return r, err
 	}
-	r.ByID = map[string]*solver.Lazy{}
+	r.ByID = map[string]*results.Lazy{}
 	for key, id := range ids {
 		if r.ByID[key], err = result(b, id); err != nil {
 			return nil, err
@@ -84,7 +84,7 @@ func (r *Returned) Results(ctx context.Context) (*exports.Results, error) {
 		out.Single, err = r.Single.Result(ctx)
 		return out, err
 	}
-	out.ByID = map[string]*solver.Result{}
+	out.ByID = map[string]*results.Result{}
 	for key, lazy := range r.ByID {
 		if out.ByID[key], err = lazy.Result(ctx); err != nil {
 			return nil, err

@@ -44,6 +44,8 @@ const (
 	mostSessions = 1024
 	mostHistory  = 64
 	mostStreams  = 4096
+	// mostFrontends bounds the frontends that clients ask for and that run at once.
+	mostFrontends = 32
 )
 
 // Options are those of the command line.
@@ -95,7 +97,7 @@ func New(ctx context.Context, o Options) (*Daemon, error) {
 	solver := solver.New(program, o.Workers, o.AtOnce, open, keeper, o.Kept)
 	solver.Notes, solver.Platform, solver.Literal = o.Notes, workers[0].Platforms[0], o.Literal
 	bridge := &gateway.Gateway{Builds: all, Solver: solver, Frontends: o.Frontends, Workers: workers}
-	o.Frontends.Gateway, o.Frontends.Limits = bridge, o.Limits
+	o.Frontends.Gateway, o.Frontends.Limits, o.Frontends.AtOnce = bridge, o.Limits, mostFrontends
 	o.Frontends.Server = func() *grpc.Server { return grpc.NewServer(serverOptions(nil)...) }
 	g := grpc.NewServer(serverOptions(peers.Credentials())...)
 	controlapi.RegisterControlServer(g, &control.Control{

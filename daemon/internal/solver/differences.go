@@ -132,7 +132,7 @@ func (p *progress) differs(s differences.Step, lines []differences.Line) {
 	if more := len(lines) - 1 + s.More; more > 0 {
 		short += fmt.Sprintf(", and %d more", more)
 	}
-	if line := lines[0]; line.Texts[0].Name == differences.Execution && line.Words != differences.Unknown && !p.shown.note(line.Words) {
+	if line := lines[0]; line.Texts[0].Name == differences.Execution && line.Words != differences.Unknown && !p.shown.Note(line.Words) {
 		return // the words are the same for all executions
 	}
 	p.note(s.Vertex, short, details)

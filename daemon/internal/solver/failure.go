@@ -2,7 +2,6 @@ package solver
 
 import (
 	"fmt"
-	"strconv"
 	"strings"
 
 	"github.com/moby/buildkit/solver/errdefs"
@@ -19,31 +18,24 @@ import (
 // with what the action or the command is, and the reason where it is known.
 func (s *Solver) failure(run *machine.Run, p *progress, v int) error {
 	g := p.g
-	lines, err := run.Status(len(g.Vertices))
+	failure, err := run.Failure(v, len(g.Vertices))
 	if err != nil {
 		return err
 	}
-	line := ""
-	for _, one := range lines {
-		if strings.HasPrefix(one, strconv.Itoa(v)+" failed") {
-			line = one
+	op, place, code := g.Vertices[v].Op, failure.Place, failure.Code
+	if !failure.IsCommand {
+		text := fmt.Sprintf("llbm: failed %d action %d fault %d %s", v, p.action(v, place), code, machine.Name(code))
+		if place < len(op.GetFile().GetActions()) {
+			text += ": " + reason(run, g, v, place, code)
 		}
-	}
-	op := g.Vertices[v].Op
-	var number, place, code int
-	if n, _ := fmt.Sscanf(line, "%d failed action %d fault %d", &number, &place, &code); n == 3 && place < len(op.GetFile().GetActions()) {
-		why := reason(run, g, v, place, code)
-		text := fmt.Sprintf("llbm: failed %d action %d fault %d %s: %s", number, p.action(v, place), code, machine.Name(code), why)
 		subject := &errdefs.Solve_File{File: &errdefs.FileAction{Index: int64(p.action(v, place))}}
 		return failed(op, subject, status.Error(codes.Unknown, text))
 	}
-	text := "llbm: failed " + strings.Replace(line, " failed", "", 1)
-	if n, _ := fmt.Sscanf(line, "%d failed command %d status %d", &number, &place, &code); n == 3 {
-		if calls := plan.Calls(op); place < len(calls) {
-			text += ": " + strings.Join(calls[place], " ")
-			if why := notRead(run, g, v, place, calls[place]); why != "" {
-				text += ": " + why
-			}
+	text := fmt.Sprintf("llbm: failed %d command %d status %d", v, place, code)
+	if calls := plan.Calls(op); place < len(calls) {
+		text += ": " + strings.Join(calls[place], " ")
+		if why := notRead(run, g, v, place, calls[place]); why != "" {
+			text += ": " + why
 		}
 	}
 	return failed(op, nil, status.Error(codes.Unknown, text))

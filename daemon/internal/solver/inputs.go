@@ -6,7 +6,6 @@ import (
 	"fmt"
 	"io"
 	"regexp"
-	"sync"
 
 	"github.com/moby/buildkit/solver/pb"
 	"golang.org/x/sync/errgroup"
@@ -31,7 +30,7 @@ type input struct {
 	given    string // the name that llbm knows it by
 	request  sources.Request
 	session  string
-	key      string
+	key      sources.Key
 	vertices []int
 	base     bool // whether something builds on it
 	manifest *sources.Manifest
@@ -39,13 +38,9 @@ type input struct {
 
 type inputs struct {
 	all     []*input
-	byKey   map[string]*input
+	byKey   map[sources.Key]*input
 	build   *builds.Build
 	renamed bool
-}
-
-func keyOf(session string, r sources.Request) string {
-	return fmt.Sprintf("%s\x00%s\x00%s\x00%v", session, r.Name, r.Filters(), r.ByMetadata)
 }
 
 func sessionOf(b *builds.Build, source *pb.SourceOp) string {
@@ -57,7 +52,7 @@ func sessionOf(b *builds.Build, source *pb.SourceOp) string {
 
 // gather fetches the local sources of a graph, all at once. Each is fetched once in a build.
 func (s *Solver) gather(ctx context.Context, b *builds.Build, g *graph.Graph, p *progress) (*inputs, error) {
-	in := &inputs{byKey: map[string]*input{}, build: b}
+	in := &inputs{byKey: map[sources.Key]*input{}, build: b}
 	names, bases := map[string]bool{}, bases(g)
 	for v := range g.Vertices {
 		source := g.Vertices[v].Op.GetSource()
@@ -72,7 +67,7 @@ func (s *Solver) gather(ctx context.Context, b *builds.Build, g *graph.Graph, p 
 			return nil, p.failed(v, err)
 		}
 		session := sessionOf(b, source)
-		key := keyOf(session, request)
+		key := request.Key(session)
 		one, ok := in.byKey[key]
 		if !ok {
 			one = &input{given: request.Name, request: request, session: session, key: key}
@@ -106,30 +101,19 @@ func (s *Solver) gather(ctx context.Context, b *builds.Build, g *graph.Graph, p 
 	return in, nil
 }
 
-// A fetched source is shared by the results of a build.
-type fetched struct {
-	mu       sync.Mutex
-	manifest *sources.Manifest
-}
-
 // fetch returns a source of a build with a hold of it.
 func (s *Solver) fetch(ctx context.Context, b *builds.Build, one *input, p *progress) (*sources.Manifest, error) {
 	v := one.vertices[0]
-	shared := b.Share("source\x00"+one.key, func() any { return &fetched{} }).(*fetched)
-	shared.mu.Lock()
-	defer shared.mu.Unlock()
-	if shared.manifest == nil {
-		manifest, err := s.transfer(ctx, b, one, p)
-		if err != nil {
-			return nil, p.failed(v, err)
-		}
-		shared.manifest = manifest
+	manifest, isNew, err := b.Sources.Get(one.key, func() (*sources.Manifest, error) { return s.transfer(ctx, b, one, p) })
+	if err != nil {
+		return nil, p.failed(v, err)
+	}
+	if isNew {
 		b.OnEnd(manifest.Drop)
 	} else if one.base {
 		s.forget(ctx, b, one)
 	}
-	shared.manifest.Hold()
-	return shared.manifest, nil
+	return manifest, nil
 }
 
 // forget lets a source be read anew in the next build, if an earlier definition of this build had it as no base.
@@ -188,7 +172,7 @@ func (in *inputs) rename(def *pb.Definition) (*pb.Definition, error) {
 		if err != nil {
 			return false, nil // the result does not depend on this one: those that it depends on were read before
 		}
-		one, ok := in.byKey[keyOf(sessionOf(in.build, source), request)]
+		one, ok := in.byKey[request.Key(sessionOf(in.build, source))]
 		if !ok || one.given == request.Name {
 			return false, nil
 		}

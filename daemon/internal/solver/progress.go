@@ -7,7 +7,6 @@ import (
 	"time"
 
 	controlapi "github.com/moby/buildkit/api/services/control"
-	digest "github.com/opencontainers/go-digest"
 	"llbm/daemon/internal/builds"
 	"llbm/daemon/internal/graph"
 	"llbm/daemon/internal/machine"
@@ -22,48 +21,18 @@ const often = 100 * time.Millisecond
 type progress struct {
 	b       *builds.Build
 	g       *graph.Graph
-	shown   *shown
+	shown   *builds.Shown
 	mu      sync.Mutex
 	begun   []*time.Time
 	running map[int]int   // the vertex of each worker
 	actions map[int][]int // which action each action of a rewritten row was
 }
 
-// shown are the vertices of a build that have been shown as done, and the notes that have been shown; what two results need
-// is shown once.
-type shown struct {
-	mu    sync.Mutex
-	done  map[digest.Digest]bool
-	noted map[string]bool
-}
-
-func (s *shown) has(d digest.Digest) bool {
-	s.mu.Lock()
-	defer s.mu.Unlock()
-	return s.done[d]
-}
-
-func (s *shown) add(d digest.Digest) {
-	s.mu.Lock()
-	defer s.mu.Unlock()
-	s.done[d] = true
-}
-
-// note returns whether a note is still to be shown; it is shown from now on.
-func (s *shown) note(key string) bool {
-	s.mu.Lock()
-	defer s.mu.Unlock()
-	before := s.noted[key]
-	s.noted[key] = true
-	return !before
-}
-
 func newProgress(b *builds.Build, g *graph.Graph) *progress {
-	p := &progress{b: b, g: g, begun: make([]*time.Time, len(g.Vertices)), running: map[int]int{}}
-	p.shown = b.Share("shown", func() any { return &shown{done: map[digest.Digest]bool{}, noted: map[string]bool{}} }).(*shown)
+	p := &progress{b: b, g: g, shown: b.Shown, begun: make([]*time.Time, len(g.Vertices)), running: map[int]int{}}
 	event := &controlapi.StatusResponse{}
 	for v := range g.Vertices {
-		if !p.shown.has(g.Vertices[v].Digest) {
+		if !p.shown.Has(g.Vertices[v].Digest) {
 			event.Vertexes = append(event.Vertexes, p.vertex(v))
 		}
 	}
@@ -96,7 +65,7 @@ func (p *progress) start(v int) {
 	if p.begun[v] == nil {
 		now := time.Now()
 		p.begun[v] = &now
-		if !p.shown.has(p.g.Vertices[v].Digest) {
+		if !p.shown.Has(p.g.Vertices[v].Digest) {
 			p.b.Events.Add(&controlapi.StatusResponse{Vertexes: []*controlapi.Vertex{p.vertex(v)}})
 		}
 	}
@@ -112,9 +81,11 @@ func (p *progress) event(e machine.Event) (int, bool) {
 		p.running[e.Worker] = e.Vertex
 		p.start(e.Vertex)
 	case machine.Step:
-		p.command(v, e.Reply)
+		if e.Ran != nil {
+			p.command(v, e.Ran)
+		}
 	case machine.Settle:
-		if strings.HasSuffix(e.Reply, " failed") {
+		if e.Failed {
 			return v, true
 		}
 		p.settled(v)
@@ -124,21 +95,20 @@ func (p *progress) event(e machine.Event) (int, bool) {
 }
 
 // command shows a command that ran, with its status if it is not 0.
-func (p *progress) command(v int, reply string) {
-	var number, code int
+func (p *progress) command(v int, ran *machine.Ran) {
 	calls := plan.Calls(p.g.Vertices[v].Op)
-	if n, _ := fmt.Sscanf(reply, "ran %d %d", &number, &code); n != 2 || number >= len(calls) {
+	if ran.Command >= len(calls) {
 		return
 	}
-	line, stream := strings.Join(calls[number], " "), int64(1)
-	if code != 0 {
-		line, stream = fmt.Sprintf("%s: status %d", line, code), 2
+	line, stream := strings.Join(calls[ran.Command], " "), int64(1)
+	if ran.Status != 0 {
+		line, stream = fmt.Sprintf("%s: status %d", line, ran.Status), 2
 	}
 	p.log(v, stream, line)
 }
 
 func (p *progress) log(v int, stream int64, line string) {
-	if p.shown.has(p.g.Vertices[v].Digest) {
+	if p.shown.Has(p.g.Vertices[v].Digest) {
 		return
 	}
 	p.b.Events.Add(&controlapi.StatusResponse{Logs: []*controlapi.VertexLog{{
@@ -148,13 +118,13 @@ func (p *progress) log(v int, stream int64, line string) {
 
 func (p *progress) settled(v int) {
 	d := p.g.Vertices[v].Digest
-	if p.shown.has(d) {
+	if p.shown.Has(d) {
 		return
 	}
 	now, it := time.Now(), p.vertex(v)
 	it.Completed = &now
 	p.b.Events.Add(&controlapi.StatusResponse{Vertexes: []*controlapi.Vertex{it}})
-	p.shown.add(d)
+	p.shown.Add(d)
 }
 
 // failed shows a vertex as failed, and adds to the error which vertex it is.
@@ -190,7 +160,7 @@ func (p *progress) warn(v int, short string, details []string) {
 
 // note shows a text as a warning of a vertex, once in a build.
 func (p *progress) note(v int, text string, details []string) {
-	if p.shown.note(p.g.Vertices[v].Digest.String() + " " + text) {
+	if p.shown.Note(p.g.Vertices[v].Digest.String() + " " + text) {
 		p.warn(v, text, details)
 	}
 }

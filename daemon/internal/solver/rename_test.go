@@ -47,8 +47,8 @@ func TestRenamedSourcesAreThoseOfTheStories(t *testing.T) {
 	if err != nil {
 		t.Fatal(err)
 	}
-	one := &input{given: "source-0", request: request, key: keyOf("", request)}
-	in := &inputs{byKey: map[string]*input{one.key: one}, build: &builds.Build{}, renamed: true}
+	one := &input{given: "source-0", request: request, key: request.Key("")}
+	in := &inputs{byKey: map[sources.Key]*input{one.key: one}, build: &builds.Build{}, renamed: true}
 	renamed, err := in.rename(def)
 	if err != nil {
 		t.Fatal(err)

@@ -6,7 +6,7 @@ import (
 	"context"
 	"io"
 	"log"
-	"sync/atomic"
+	"slices"
 
 	"github.com/moby/buildkit/solver/errdefs"
 	"github.com/moby/buildkit/solver/pb"
@@ -20,6 +20,7 @@ import (
 	"llbm/daemon/internal/machine"
 	"llbm/daemon/internal/messages"
 	"llbm/daemon/internal/notes"
+	"llbm/daemon/internal/results"
 	"llbm/daemon/internal/sessions"
 	"llbm/daemon/internal/sources"
 	"llbm/daemon/internal/tree"
@@ -43,13 +44,6 @@ func New(program *machine.Program, workers, atOnce int, open *sessions.Sessions,
 	return &Solver{Program: program, Workers: workers, Sessions: open, Keeper: keeper, Kept: folder, slots: make(chan struct{}, atOnce)}
 }
 
-// A Result is a tree, with the table of the contents that its tokens stand for.
-type Result struct {
-	Tree     tree.Tree
-	Contents *contents.Table
-	Def      *pb.Definition
-}
-
 // slot waits until one more process of the program may run.
 func (s *Solver) slot(ctx context.Context) (leave func(), err error) {
 	select {
@@ -63,14 +57,23 @@ func (s *Solver) slot(ctx context.Context) (leave func(), err error) {
 // IsEmpty is whether a definition is the client's Scratch(), which has no entries.
 func IsEmpty(def *pb.Definition) bool { return def == nil || len(def.Def) == 0 }
 
+// Lazily returns the result of a definition, which is not solved yet. It is solved as long as the build lasts, whoever waits.
+func (s *Solver) Lazily(b *builds.Build, id string, def *pb.Definition, policies []*spb.Policy) *results.Lazy {
+	return results.Lazily(id, def, func() (*results.Result, error) { return s.Solve(b.Context, b, def, policies) })
+}
+
 // Solve runs a definition of a build. What the result holds is given up when the build ends.
 //
 // llbm shows each definition while it is worked on. A refusal ends the work, and nothing is returned before llbm has shown all.
-func (s *Solver) Solve(ctx context.Context, b *builds.Build, sent *pb.Definition, policies []*spb.Policy) (*Result, error) {
+func (s *Solver) Solve(ctx context.Context, b *builds.Build, sent *pb.Definition, policies []*spb.Policy) (*results.Result, error) {
 	if IsEmpty(sent) {
-		return &Result{Tree: tree.Empty(), Def: sent}, nil
+		return &results.Result{Tree: tree.Empty(), Def: sent}, nil
 	}
-	def, err := convert(ctx, sent, append(append([]*spb.Policy{}, b.Policies...), policies...))
+	_, given, err := b.Given(ctx)
+	if err != nil {
+		return nil, err
+	}
+	def, err := convert(ctx, sent, slices.Concat(given, policies))
 	if err != nil {
 		return nil, err
 	}
@@ -90,7 +93,7 @@ func (s *Solver) Solve(ctx context.Context, b *builds.Build, sent *pb.Definition
 }
 
 // work runs a definition by the rules that it is to be run by.
-func (s *Solver) work(c *checks, b *builds.Build, def, sent *pb.Definition) (*Result, error) {
+func (s *Solver) work(c *checks, b *builds.Build, def, sent *pb.Definition) (*results.Result, error) {
 	g, err := c.load(def, sent)
 	if err != nil {
 		return nil, err
@@ -122,7 +125,7 @@ func (s *Solver) work(c *checks, b *builds.Build, def, sent *pb.Definition) (*Re
 }
 
 // run runs a definition in a session of llbm, and returns the result's tree.
-func (s *Solver) run(ctx context.Context, b *builds.Build, def *pb.Definition, g *graph.Graph, in *inputs, p *progress) (*Result, error) {
+func (s *Solver) run(ctx context.Context, b *builds.Build, def *pb.Definition, g *graph.Graph, in *inputs, p *progress) (*results.Result, error) {
 	texts, table, err := in.texts(g)
 	defer func() {
 		for _, text := range texts {
@@ -142,7 +145,7 @@ func (s *Solver) run(ctx context.Context, b *builds.Build, def *pb.Definition, g
 		table.Close()
 		return nil, err
 	}
-	return &Result{Tree: t, Contents: table}, nil
+	return &results.Result{Tree: t, Contents: table}, nil
 }
 
 // session does the events that llbm chooses, up to the end or to the first vertex that fails. The record is returned if it
@@ -166,8 +169,7 @@ func (s *Solver) session(
 	if err != nil {
 		return nil, nil, err
 	}
-	written := b.Share("written", func() any { return new(atomic.Int64) }).(*atomic.Int64)
-	run, err := s.Program.Step(ctx, file, texts, s.Workers, written)
+	run, err := s.Program.Step(ctx, file, texts, s.Workers, &b.Written)
 	if err != nil {
 		leave()
 		return nil, nil, err

@@ -74,9 +74,6 @@ func RequestOf(op *pb.SourceOp) (Request, error) {
 	return r, err
 }
 
-// Filters returns the patterns as one text, which is the same for the same patterns.
-func (r Request) Filters() string { return r.filters }
-
 // words returns what the source is, for a person.
 func (r Request) words() string {
 	words := "local source for " + r.Name
