@@ -2,15 +2,19 @@ package server
 
 import (
 	"context"
+	"errors"
 	"io"
 	"io/fs"
 	"strings"
 	"sync"
 	"sync/atomic"
 	"testing"
+	"unicode/utf8"
 
+	controlapi "github.com/moby/buildkit/api/services/control"
 	"github.com/moby/buildkit/client"
 	"github.com/moby/buildkit/client/llb"
+	"github.com/moby/buildkit/solver/errdefs"
 	"github.com/tonistiigi/fsutil"
 	fstypes "github.com/tonistiigi/fsutil/types"
 	"google.golang.org/grpc/codes"
@@ -21,6 +25,7 @@ import (
 type folder struct {
 	files []file
 	walks *atomic.Int64
+	fault error // what walking it ends with
 }
 
 type file struct {
@@ -46,7 +51,7 @@ func (f folder) Walk(_ context.Context, _ string, to fs.WalkDirFunc) error {
 			return err
 		}
 	}
-	return nil
+	return f.fault
 }
 
 func (f folder) Open(path string) (io.ReadCloser, error) {
@@ -202,6 +207,49 @@ func TestASourceThatIsNotLocalIsRefusedBeforeATransfer(t *testing.T) {
 		}
 		if from.walks.Load() > 0 {
 			t.Errorf("%s: the local source was asked for", name)
+		}
+	}
+}
+
+func TestTextsOfClientsThatAreNotUTF8AreShown(t *testing.T) {
+	d := started(t, nil)
+	for name, c := range map[string]struct {
+		state llb.State
+		code  codes.Code
+		want  string
+	}{
+		"an error of a source": {llb.Local("context"), codes.Unknown, "no \uFFFD way"},
+		"a path of an action":  {llb.Scratch().File(llb.Rm("/\xff")), codes.InvalidArgument, "(rm /\uFFFD)"},
+	} {
+		ch := make(chan *client.SolveStatus)
+		var done sync.WaitGroup
+		done.Add(1)
+		go func() {
+			defer done.Done()
+			for event := range ch {
+				for _, v := range event.Vertexes {
+					if !utf8.ValidString(v.Name) || !utf8.ValidString(v.Error) {
+						t.Errorf("%s: %q %q", name, v.Name, v.Error)
+					}
+				}
+			}
+		}()
+		from := folder{fault: errors.New("no \xff way")}
+		_, err := d.Solve(context.Background(), marshal(t, c.state), client.SolveOpt{LocalMounts: map[string]fsutil.FS{"context": from}}, ch)
+		done.Wait()
+		var vertex *errdefs.VertexError
+		if status.Code(unwrapped(err)) != c.code || !strings.Contains(err.Error(), c.want) || !errors.As(err, &vertex) {
+			t.Errorf("%s: %v, of %v", name, err, vertex)
+		}
+	}
+}
+
+func TestARefIsBounded(t *testing.T) {
+	d := started(t, nil)
+	for _, ref := range []string{strings.Repeat("x", 257), "\xff"} {
+		_, err := d.ControlClient().Solve(context.Background(), &controlapi.SolveRequest{Ref: ref})
+		if status.Code(err) != codes.InvalidArgument || !strings.Contains(err.Error(), "is no ref of a build") {
+			t.Error(err)
 		}
 	}
 }
