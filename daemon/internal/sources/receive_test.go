@@ -299,6 +299,31 @@ func TestTheEntriesAndTheirPathsAreBounded(t *testing.T) {
 	}
 }
 
+func TestWhatASourceHoldsInMemoryIsCounted(t *testing.T) {
+	held, calls := 0, 0
+	hold := func(n int) error {
+		calls++
+		if held+n > 1<<20 {
+			return status.Error(codes.ResourceExhausted, "the build holds too much")
+		}
+		held += n
+		return nil
+	}
+	packets := []*fstypes.Packet{}
+	for i := range 10_000 {
+		packets = append(packets, stat(fmt.Sprintf("%08d", i), 0o644, 0))
+	}
+	m, err := Receive(sends(nil, append(packets[:5_000:5_000], last)...), newStore(t, 100), Options{Hold: hold})
+	if err != nil || held < m.memory || held > m.memory+heldAtOnce || calls > 10 {
+		t.Error(held, calls, err)
+	}
+	held = 1 << 19
+	_, err = Receive(sends(nil, append(packets, last)...), newStore(t, 100), Options{Name: "context", Hold: hold})
+	if status.Code(err) != codes.ResourceExhausted || status.Convert(err).Message() != "local source context: the build holds too much" {
+		t.Error(err)
+	}
+}
+
 func TestSomeTimesTellAChange(t *testing.T) {
 	began := time.Unix(1_600_000_000, 5)
 	for name, c := range map[string]struct {
