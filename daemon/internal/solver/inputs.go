@@ -138,14 +138,17 @@ func (s *Solver) transfer(ctx context.Context, b *builds.Build, one *input, p *p
 	}
 	bar.done(manifest.Sent)
 	if manifest.Unread > 0 {
-		p.log(v, 1, fmt.Sprintf("local source %s: %d files are as in an earlier build, by their sizes and times", name, manifest.Unread))
+		p.log(v, 1, fmt.Sprintf("local source %s: %d of its files were not read: their sizes and times are as in an earlier build", name, manifest.Unread))
 	}
 	if manifest.Left > 0 {
 		p.warn(v, fmt.Sprintf("local source %s: %d entries are left out, as llbm has only directories and files", name, manifest.Left), manifest.LeftOut)
 	}
 	if manifest.Attributed > 0 {
-		p.warn(v, fmt.Sprintf("local source %s: the extended attributes of %d entries are lost, which BuildKit keeps: the first is /%s",
-			name, manifest.Attributed, manifest.FirstAttributed), nil)
+		text := fmt.Sprintf("local source %s: extended attributes are lost, which BuildKit keeps: of /%s", name, manifest.FirstAttributed)
+		if more := manifest.Attributed - 1; more > 0 {
+			text += fmt.Sprintf(" and %d more", more)
+		}
+		p.warn(v, text, nil)
 	}
 	return manifest, nil
 }
