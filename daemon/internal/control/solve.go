@@ -42,12 +42,22 @@ func (c *Control) Solve(ctx context.Context, req *controlapi.SolveRequest) (*con
 		return nil, err
 	}
 	modern(req)
+	solve := c.recorded
 	if req.Internal {
-		return c.solve(ctx, b, req)
+		solve = c.solve
 	}
-	record := c.History.Start(user, req)
+	response, err := solve(ctx, b, req)
+	if err != nil && b.Session != "" {
+		c.Sessions.Settle(ctx, user, b.Session)
+	}
+	return response, err
+}
+
+// recorded solves a request that is in the history.
+func (c *Control) recorded(ctx context.Context, b *builds.Build, req *controlapi.SolveRequest) (*controlapi.SolveResponse, error) {
+	record := c.History.Start(b.User, req)
 	response, err := c.solve(ctx, b, req)
-	c.History.End(user, record, response.GetExporterResponse(), b.Steps(), err)
+	c.History.End(b.User, record, response.GetExporterResponse(), b.Steps(), err)
 	return response, err
 }
 
