@@ -172,8 +172,11 @@ func (c *Control) export(ctx context.Context, b *builds.Build, e *exports.Export
 	idle := time.AfterFunc(c.Idle, func() { cancel(errIdle) })
 	defer idle.Stop()
 	moved := func() { idle.Reset(c.Idle) }
+	warn := func(short string) {
+		b.Events.Add(&controlapi.StatusResponse{Warnings: []*controlapi.VertexWarning{{Vertex: vertex.Digest, Level: 1, Short: []byte(short)}}})
+	}
 	var last time.Time
-	told, err := e.Export(ctx, caller, results, exports.Watch{Moved: moved, Sent: func(n int64) {
+	told, err := e.Export(ctx, caller, results, exports.Watch{Moved: moved, Warn: warn, Sent: func(n int64) {
 		moved()
 		if now := time.Now(); now.Sub(last) > 100*time.Millisecond {
 			last = now
