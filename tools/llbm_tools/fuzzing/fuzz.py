@@ -1,6 +1,6 @@
 """Runs the program llbm on random inputs, and prints which rule an input breaks.
 
-In: SECONDS, the duration; --cases N ends after N cases if that is sooner. The program is --llbm PROGRAM, or else
+In: SECONDS, the duration, or --cases N, the number of cases; with both it ends by what is sooner. The program is --llbm PROGRAM, or else
 crates/llbm/out/llbm of the repository, or else its out/llbm-unproved, which is named on standard error as not proved.
 The inputs are the examples of the repository and random definitions, texts of entries, texts of trees and sessions;
 half of the definitions are changed at random, in most cases so that digests and inputs match again. --seed N makes the
@@ -24,6 +24,7 @@ do not exist; 3 a read or a write failed; 130 interrupted.
 
 import argparse
 import contextlib
+import math
 import multiprocessing
 import multiprocessing.connection
 import os
@@ -56,7 +57,7 @@ def work(options: argparse.Namespace, job: int, folder: str, sender: multiproces
     os.chdir(folder)
     limited.limit_runs(options.memory)
     cases = fuzz_cases.Cases(limited.Runner(options.llbm, options.patience), options.seed, EXAMPLES)
-    end = time.monotonic() + options.seconds
+    end = time.monotonic() + options.seconds if options.seconds else math.inf
     count = 0
     for number in range(job, options.cases, options.jobs):
         if time.monotonic() >= end:
@@ -158,15 +159,19 @@ def parse_options() -> argparse.Namespace:
         description="Runs the program llbm on random inputs, and prints which rule an input breaks.", allow_abbrev=False
     )
     add, seed = parser.add_argument, random.randrange(1 << 32)
-    add("seconds", metavar="SECONDS", type=number_from(1, 1_000_000), help="the duration")
+    add("seconds", nargs="?", metavar="SECONDS", type=number_from(1, 1_000_000), help="the duration (no limit)")
     add("--llbm", metavar="PROGRAM", help="the program llbm")
     add("--seed", metavar="N", type=number_from(0, FOREVER), default=seed, help="the seed of the cases (random)")
-    add("--cases", metavar="N", type=number_from(1, FOREVER), default=FOREVER, help="run at most N cases")
+    add("--cases", metavar="N", type=number_from(1, FOREVER), help="run at most N cases (no limit)")
     add("--keep", metavar="FOLDER", type=pathlib.Path, help="the folder for findings (a new temporary folder)")
     add("--jobs", metavar="N", type=number_from(1, MOST_JOBS), default=1, help="the number of processes (1)")
     add("--patience", metavar="SECONDS", type=number_from(1, 1000), default=PATIENCE, help="the limit of a run (60)")
     add("--memory", metavar="MEGABYTES", type=number_from(0, 1 << 20), help="the limit of a run; 0 for none (4096)")
-    return parser.parse_args()
+    options = parser.parse_args()
+    if not options.seconds and not options.cases:
+        parser.error("SECONDS or --cases N says when to end")
+    options.cases = options.cases or FOREVER
+    return options
 
 
 def main() -> int:

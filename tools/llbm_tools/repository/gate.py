@@ -10,7 +10,7 @@ PROGRAM alone: `tools/transcripts` on the files of tests/ and the pages of the e
 `tools/against-buildkit --start`, which compares llbm with BuildKit's own daemon for a minute and is skipped where that
 can't be built or run, `tools/test`, which tests the built daemon too, `tools/page-tests` on the page, if it was made,
 `tools/transcripts` on the pages with commands (README.md, and docs/ARCHITECTURE.md, BUILDKIT.md, FORMATS.md and
-TOOLS.md), and `tools/fuzz`, for a minute or for --fuzz SECONDS, with the seed 1 or --seed N.
+TOOLS.md), and `tools/fuzz` on a fixed number of cases or on --fuzz N, with the seed 1 or --seed N.
 
 `rt ci` gets RT_JOBS, unless it is set: the number of checks at a time, one on each processor, as many as the free
 memory holds. Then each check has one process. Without RT_JOBS a check may have several, which together take up to half
@@ -18,7 +18,7 @@ as much processor time again.
 
 With --quick nothing is proved, and no wrong body is tried. `tools/unproved-program` compiles the program, and `rt try
 --test` the tests of the crates of tests, as many at a time as there are processors, or --jobs N; the other parts follow
-on the program without proof, with `tools/fuzz` for 20 seconds. `rt ci`, `tools/refuse`, `tools/library` and
+on the program without proof, with fewer cases of `tools/fuzz`. `rt ci`, `tools/refuse`, `tools/library` and
 `tools/bindings` are left out, since nothing builds a static library without a proof.
 
 Out: on standard output a line for each part, its output, and its counts; after all parts the processor minutes that
@@ -58,8 +58,9 @@ TRANSCRIPTS = ("tests", "examples/README.md", "examples/from-buildkit/README.md"
 TESTED = ("llb_refusals", "llb_examples", "llbm")
 # Tests that need more than the 60 seconds that `rt try` gives each, or may need them on a host with other work.
 TOO_LONG = {"chain::a_chain_of_65535_vertices_is_evaluated_run_and_walked", "crowds::runs_by_any_number_of_workers_end"}
-MINUTE = 60
-SHORT = 20
+# How many cases of `tools/fuzz` are run: about a minute of the proved program, and half a minute of the one without proof.
+CASES = 8000
+FEWER = 500
 # How long random definitions are compared with BuildKit's daemon; the stored ones take about as long.
 BESIDE = 40
 PAUSE = 0.2
@@ -306,7 +307,7 @@ def parts_without_program() -> Iterator[Part]:
     yield tool("floors")
 
 
-def parts_with(programs: list[str], fuzz: int, seed: str, *tried: str) -> Iterator[Part]:
+def parts_with(programs: list[str], cases: int, seed: str, *tried: str) -> Iterator[Part]:
     """Yields the parts that run programs; those of the tools run the first one."""
     for program in programs:
         yield tool("transcripts", *tried, "--llbm", program, *TRANSCRIPTS)
@@ -316,7 +317,7 @@ def parts_with(programs: list[str], fuzz: int, seed: str, *tried: str) -> Iterat
     yield tool("test", "--llbm", first)
     yield tool("page-tests", "--llbm", first)
     yield tool("transcripts", "--llbm", first, *PAGES)
-    yield tool("fuzz", str(fuzz), "--llbm", first, "--seed", seed)
+    yield tool("fuzz", "--cases", str(cases), "--llbm", first, "--seed", seed)
 
 
 def parts_of_page() -> Iterator[Part]:
@@ -335,7 +336,7 @@ def parts(options: argparse.Namespace) -> Iterator[Part]:
     yield tool("bindings")
     yield from parts_of_page()
     programs = [os.path.abspath(options.llbm)] if options.llbm else list(map(str, PROGRAMS))
-    yield from parts_with(programs, options.fuzz or MINUTE, options.seed)
+    yield from parts_with(programs, options.fuzz or CASES, options.seed)
 
 
 def quick_parts() -> list[Part]:
@@ -349,7 +350,7 @@ def run_quick(options: argparse.Namespace) -> Iterator[Counts]:
     yield from run_together(quick_parts(), options.jobs)
     for part in parts_without_program():
         yield run_part(part, [])
-    for part in parts_with([str(paths.UNPROVED)], options.fuzz or SHORT, options.seed, "--unproved"):
+    for part in parts_with([str(paths.UNPROVED)], options.fuzz or FEWER, options.seed, "--unproved"):
         yield run_part(part, [])
     yield Counts(0, 0, len(LEFT_OUT))
 
@@ -366,7 +367,7 @@ def parse_options() -> argparse.Namespace:
     parser.add_argument("--after", action="store_true", help="leave out `rt ci`, in a checkout where it has run")
     parser.add_argument("--quick", action="store_true", help="all tests without proofs, on a program without proof")
     parser.add_argument("--llbm", metavar="PROGRAM", help="test only this program")
-    parser.add_argument("--fuzz", metavar="SECONDS", type=int, help="the duration of `tools/fuzz`")
+    parser.add_argument("--fuzz", metavar="N", type=int, help="how many cases of `tools/fuzz` are run")
     parser.add_argument("--seed", metavar="N", default="1", help="the seed of `tools/fuzz`")
     jobs = len(os.sched_getaffinity(0))
     parser.add_argument("--jobs", metavar="N", type=int, default=jobs, help="how many parts compile at a time")

@@ -6,14 +6,19 @@ proves the crate, the crate's tests, or an edit that has to be refused. A proces
 is not seen. Processor time is steadier than the clock on a machine that others use too.
 
 Out: what the command prints; then on standard output a table with a line for each crate, the dearest first, `(other)`
-for the processes that are not the prover's, and a line for all; and a last line with all processor minutes and those
-on the clock:
+for the processes that are not the prover's, and a line for all; and lines with all processor minutes, those on the
+clock, and the minutes in units:
 
     crate            proof   tests   edits     sum   processor minutes
     llb_tree           7.5     0.0     6.1    13.6
     (other)            1.2     0.0     0.0     1.2
     all                8.7     0.0     6.1    14.8
     14.8 processor minutes, 4.1 on the clock with 4 processors
+    9.5 units of 1.56 minutes
+
+A unit is what the proofs of eight crates take in the same run: llb_wire, llb_ops, llb_tree, llb_mount, llb_cache,
+llb_asm, llb_applet and llb_loader. A slow host has longer minutes, but not more units. The line is left out if one of
+the eight was not proved in the run.
 
 Exit status: that of the command, or 128 and the number of the signal that ended it; 2 if it does not start; 130
 interrupted.
@@ -42,6 +47,8 @@ MINUTE = 60
 KINDS = ("proof", "tests", "edits")
 PROOF, TESTS, EDITS = KINDS
 OTHER = "(other)"
+# The crates whose proofs are one unit of processor time.
+UNIT = ("llb_wire", "llb_ops", "llb_tree", "llb_mount", "llb_cache", "llb_asm", "llb_applet", "llb_loader")
 CRATE, IS_TEST, EDIT = "--crate-name", "--test", "rt-edit-"
 PROVER = "rattle"
 
@@ -146,13 +153,22 @@ def line_of(name: str, row: dict[str, float]) -> str:
 
 
 def lines_of(table: dict[str, dict[str, float]], clock: float) -> list[str]:
-    """Returns the lines of a table, the dearest crate first, and a line with the sum and the minutes on the clock."""
+    """Returns the lines of a table, the dearest crate first, and lines with the sum in minutes and in units."""
     head = f"{'crate':14} " + " ".join(f"{word:>7}" for word in [*KINDS, "sum"]) + "   processor minutes"
     rows = sorted(table.items(), key=lambda each: (-sum(each[1].values()), each[0]))
     whole = {kind: sum(row[kind] for row in table.values()) for kind in KINDS}
     count = len(os.sched_getaffinity(0))
     last = f"{sum(whole.values()):.1f} processor minutes, {clock:.1f} on the clock with {count} processors"
-    return [head, *(line_of(name, row) for name, row in rows), line_of("all", whole), last]
+    return [head, *(line_of(name, row) for name, row in rows), line_of("all", whole), last, *units_of(table)]
+
+
+def units_of(table: dict[str, dict[str, float]]) -> list[str]:
+    """Returns a line with the sum of a table in units, if all crates of a unit were proved."""
+    proofs = [table.get(crate, {}).get(PROOF, 0.0) for crate in UNIT]
+    if not all(proofs):
+        return []
+    whole = sum(sum(row.values()) for row in table.values())
+    return [f"{whole / sum(proofs):.1f} units of {sum(proofs):.2f} minutes"]
 
 
 @contextlib.contextmanager

@@ -70,7 +70,7 @@ class Gate(base.WithPrograms):
             for program in programs:
                 self.assertIn(gate.tool("transcripts", "--llbm", program, *gate.TRANSCRIPTS).command, commands)
             self.assertIn(gate.tool("transcripts", "--llbm", programs[0], *gate.PAGES).command, commands)
-            self.assertEqual(commands[-1][2:], ["7", "--llbm", programs[0], "--seed", "3"])
+            self.assertEqual(commands[-1][2:], ["--cases", "7", "--llbm", programs[0], "--seed", "3"])
             daemon = gate.tool("daemon-tests", "--llbm", programs[0]).command
             beside = gate.tool("against-buildkit", "--start", "--seconds", "40", "--llbm", programs[0]).command
             test = gate.tool("test", "--llbm", programs[0]).command

@@ -74,6 +74,14 @@ class Lines(unittest.TestCase):
             "7.8 processor minutes, 6.5 on the clock with 2 processors",
         ])
 
+    def test_a_unit_is_the_proofs_of_eight_crates(self):
+        table = {crate: {"proof": 0.5, "tests": 1.0, "edits": 2.5} for crate in minutes.UNIT}
+        table["llb_board"] = {"proof": 4.0, "tests": 0.0, "edits": 2.0}
+        self.assertEqual(minutes.units_of(table), ["9.5 units of 4.00 minutes"])
+        for row in [{"proof": 0.0, "tests": 1.0, "edits": 1.0}, None]:
+            lacks = {**table, "llb_mount": row} if row else {name: table[name] for name in table if name != "llb_mount"}
+            self.assertEqual(minutes.units_of(lacks), [])
+
 
 class Minutes(Folder):
     """The tool with programs."""
