@@ -66,7 +66,7 @@ func (o *options) flags() *flag.FlagSet {
 	f.IntVar(&o.AtOnce, "builds", runtime.NumCPU(), "how many builds run at once; others wait")
 	f.Var(o.Frontends, "frontend", "`NAME=PROGRAM`: a frontend that speaks the gateway on its standard input and output; may be repeated")
 	f.StringVar(&o.Store, "store", os.TempDir(), "the `FOLDER` for contents of sources; they have no names there, so nothing is left")
-	f.Int64Var(&o.StoreBytes, "store-bytes", 10<<30, "how many `BYTES` the contents may have")
+	f.Int64Var(&o.StoreBytes, "store-bytes", 0, "how many `BYTES` the contents may have; 0 is half of what is free there at the start, 64 MiB to 10 GiB")
 	f.DurationVar(&o.Idle, "idle", time.Minute, "how long a client may send nothing while it sends a source, or take nothing of a result")
 	f.BoolVar(&o.LeaveOut, "leave-out", false, "leave links, devices and sockets out of sources, with a warning, instead of refusing them")
 	f.Int64Var(&o.Limits.Memory, "memory", 4<<30, "how many `BYTES` of memory a build or a frontend may take; 0 is no bound")
@@ -95,7 +95,7 @@ func (o *options) check() error {
 	}{
 		{"workers", int64(o.Workers), 1, server.MostWorkers},
 		{"builds", int64(o.AtOnce), 1, math.MaxInt64},
-		{"store-bytes", o.StoreBytes, 1, math.MaxInt64},
+		{"store-bytes", o.StoreBytes, 0, math.MaxInt64},
 		{"memory", o.Limits.Memory, 0, math.MaxInt64},
 		{"output", o.Limits.Output, 0, math.MaxInt64},
 		{"keep-builds", int64(o.keepBuilds), 1, math.MaxInt64},

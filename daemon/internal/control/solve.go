@@ -6,6 +6,7 @@ import (
 	"errors"
 	"strings"
 	"time"
+	"unicode/utf8"
 
 	controlapi "github.com/moby/buildkit/api/services/control"
 	spb "github.com/moby/buildkit/sourcepolicy/pb"
@@ -22,6 +23,9 @@ import (
 
 const keyEpoch = "source-date-epoch"
 
+// mostOfRef bounds the names that clients give their builds.
+const mostOfRef = 256
+
 var errIdle = errors.New("nothing was taken")
 
 // Solve does one build. The build is there from the first moment, so that a refusal reaches all who wait for it.
@@ -29,6 +33,9 @@ func (c *Control) Solve(ctx context.Context, req *controlapi.SolveRequest) (*con
 	user, err := userOf(ctx)
 	if err != nil {
 		return nil, err
+	}
+	if len(req.Ref) > mostOfRef || !utf8.ValidString(req.Ref) {
+		return nil, status.Errorf(codes.InvalidArgument, "%.80q is no ref of a build: one is of UTF-8, and has at most %d bytes", req.Ref, mostOfRef)
 	}
 	ctx, cancel := context.WithCancel(ctx)
 	b, err := c.Builds.Start(ctx, user, req.Ref, req.Session)
@@ -57,7 +64,7 @@ func (c *Control) Solve(ctx context.Context, req *controlapi.SolveRequest) (*con
 func (c *Control) recorded(ctx context.Context, b *builds.Build, req *controlapi.SolveRequest) (*controlapi.SolveResponse, error) {
 	record := c.History.Start(b.User, req)
 	response, err := c.solve(ctx, b, req)
-	c.History.End(b.User, record, response.GetExporterResponse(), b.Steps(), err)
+	c.History.End(record, response.GetExporterResponse(), b.Steps(), err)
 	return response, err
 }
 

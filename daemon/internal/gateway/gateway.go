@@ -20,6 +20,7 @@ import (
 	"llbm/daemon/internal/peers"
 	"llbm/daemon/internal/results"
 	"llbm/daemon/internal/solver"
+	"llbm/daemon/internal/sources"
 )
 
 // A Frontend is asked to solve a build.
@@ -225,7 +226,7 @@ func (g *Gateway) Return(ctx context.Context, req *gatewaypb.ReturnRequest) (*ga
 
 // ResolveImageConfig is refused as a source of an image is.
 func (g *Gateway) ResolveImageConfig(_ context.Context, req *gatewaypb.ResolveImageConfigRequest) (*gatewaypb.ResolveImageConfigResponse, error) {
-	return nil, status.Errorf(codes.Unimplemented, "llbm: fault 88 Source: %s is an image, and llbm has no registries", req.Ref)
+	return nil, status.Errorf(codes.Unimplemented, "llbm: fault 88 Source: %s is an image: %s", req.Ref, sources.Instead("docker-image://"+req.Ref))
 }
 
 // ResolveSourceMeta is refused as the source is.

@@ -15,6 +15,7 @@ import (
 	digest "github.com/opencontainers/go-digest"
 	"google.golang.org/grpc/status"
 	"llbm/daemon/internal/machine"
+	"llbm/daemon/internal/messages"
 )
 
 // A Vertex is a line of `llbm show`, with the entry that it is.
@@ -288,8 +289,9 @@ func located(def *pb.Definition, d digest.Digest, err error) error {
 	return err
 }
 
-// WrapRow adds to a refusal of llbm which names a row, as `llbm: fault 88 k ..`, what the client knows of this row.
-func WrapRow(sent *pb.Definition, err error) error {
+// WrapRow adds to a refusal of llbm which names a row, as `llbm: fault 88 k ..`, what the client knows of this row, and what advice
+// there is about its op.
+func WrapRow(sent *pb.Definition, err error, advice func(*pb.Op) string) error {
 	var refusal *machine.Refusal
 	if !errors.As(err, &refusal) || refusal.Number < 82 || refusal.Number == 83 || refusal.Number > 90 {
 		return err
@@ -302,7 +304,11 @@ func WrapRow(sent *pb.Definition, err error) error {
 	d := digest.FromBytes(sent.Def[k])
 	op := &pb.Op{}
 	if op.Unmarshal(sent.Def[k]) == nil {
-		err = status.Errorf(st.Code(), "%s (%s)", st.Message(), Describe(sent.Metadata[d], op))
+		text := fmt.Sprintf("%s (%s)", st.Message(), Describe(sent.Metadata[d], op))
+		if more := advice(op); more != "" {
+			text += ": " + more
+		}
+		err = status.Error(st.Code(), messages.Text(text))
 	}
 	return located(sent, d, errdefs.WrapVertex(err, d))
 }

@@ -116,7 +116,7 @@ func serverOptions(c credentials.TransportCredentials) []grpc.ServerOption {
 		grpc.MaxRecvMsgSize(mostMessage), grpc.MaxSendMsgSize(mostMessage), grpc.MaxConcurrentStreams(mostStreams),
 	}
 	if c != nil {
-		options = append(options, grpc.Creds(c))
+		options = append(options, grpc.Creds(c), grpc.InTapHandle(peers.Tap))
 	}
 	return options
 }

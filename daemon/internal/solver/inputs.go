@@ -6,7 +6,6 @@ import (
 	"fmt"
 	"io"
 	"regexp"
-	"strings"
 
 	"github.com/moby/buildkit/solver/pb"
 	"golang.org/x/sync/errgroup"
@@ -19,8 +18,6 @@ import (
 	"llbm/daemon/internal/plan"
 	"llbm/daemon/internal/sources"
 )
-
-const local = "local://"
 
 // mostOfText is the longest text of a tree that llbm takes.
 const mostOfText = 64 << 20
@@ -35,6 +32,7 @@ type input struct {
 	session  string
 	key      sources.Key
 	vertices []int
+	base     bool // whether something builds on it
 	manifest *sources.Manifest
 }
 
@@ -55,11 +53,14 @@ func sessionOf(b *builds.Build, source *pb.SourceOp) string {
 // gather fetches the local sources of a graph, all at once. Each is fetched once in a build.
 func (s *Solver) gather(ctx context.Context, b *builds.Build, g *graph.Graph, p *progress) (*inputs, error) {
 	in := &inputs{byKey: map[sources.Key]*input{}, build: b}
-	names := map[string]bool{}
+	names, bases := map[string]bool{}, bases(g)
 	for v := range g.Vertices {
 		source := g.Vertices[v].Op.GetSource()
 		if source == nil {
 			continue
+		}
+		if !sources.IsLocal(source) {
+			return nil, status.Errorf(codes.Unimplemented, "llbm: fault 88 %d Source", g.Vertices[v].Row) // as llbm is about to say
 		}
 		request, err := sources.RequestOf(source)
 		if err != nil {
@@ -78,6 +79,7 @@ func (s *Solver) gather(ctx context.Context, b *builds.Build, g *graph.Graph, p 
 			in.all = append(in.all, one)
 		}
 		one.vertices = append(one.vertices, v)
+		one.base = one.base || bases[v]
 	}
 	group, ctx := errgroup.WithContext(ctx)
 	for i, one := range in.all {
@@ -102,33 +104,47 @@ func (s *Solver) gather(ctx context.Context, b *builds.Build, g *graph.Graph, p 
 // fetch returns a source of a build with a hold of it.
 func (s *Solver) fetch(ctx context.Context, b *builds.Build, one *input, p *progress) (*sources.Manifest, error) {
 	v := one.vertices[0]
-	manifest, isNew, err := b.Sources.Get(one.key, func() (*sources.Manifest, error) {
-		return s.transfer(ctx, b, one.session, v, one.request, p)
-	})
+	manifest, isNew, err := b.Sources.Get(one.key, func() (*sources.Manifest, error) { return s.transfer(ctx, b, one, p) })
 	if err != nil {
 		return nil, p.failed(v, err)
 	}
 	if isNew {
 		b.OnEnd(manifest.Drop)
+	} else if one.base {
+		s.forget(ctx, b, one)
 	}
 	return manifest, nil
 }
 
-func (s *Solver) transfer(
-	ctx context.Context, b *builds.Build, session string, v int, request sources.Request, p *progress,
-) (*sources.Manifest, error) {
-	caller, err := s.Sessions.Get(ctx, b.User, session)
+// forget lets a source be read anew in the next build, if an earlier definition of this build had it as no base.
+func (s *Solver) forget(ctx context.Context, b *builds.Build, one *input) {
+	if caller, err := s.Sessions.Get(ctx, b.User, one.session); err == nil {
+		s.Keeper.Forget(b.User, caller, one.request)
+	}
+}
+
+// transfer fetches a source, and shows what is to be known of it.
+func (s *Solver) transfer(ctx context.Context, b *builds.Build, one *input, p *progress) (*sources.Manifest, error) {
+	caller, err := s.Sessions.Get(ctx, b.User, one.session)
 	if err != nil {
 		return nil, err
 	}
-	bar := p.bar(v, "transferring "+request.Name+":")
-	manifest, err := s.Keeper.Fetch(ctx, b.User, caller, request, bar.at)
+	name, v := one.request.Name, one.vertices[0]
+	bar := p.bar(v, "transferring "+name+":")
+	manifest, err := s.Keeper.Fetch(ctx, b.User, caller, one.request, one.base, bar.at)
 	if err != nil {
 		return nil, err
 	}
 	bar.done(manifest.Sent)
+	if manifest.Unread > 0 {
+		p.log(v, 1, fmt.Sprintf("local source %s: %d files are as in an earlier build, by their sizes and times", name, manifest.Unread))
+	}
 	if manifest.Left > 0 {
-		p.warn(v, fmt.Sprintf("local source %s: %d entries are left out, as llbm has only directories and files", request.Name, manifest.Left), manifest.LeftOut)
+		p.warn(v, fmt.Sprintf("local source %s: %d entries are left out, as llbm has only directories and files", name, manifest.Left), manifest.LeftOut)
+	}
+	if manifest.Attributed > 0 {
+		p.warn(v, fmt.Sprintf("local source %s: the extended attributes of %d entries are lost, which BuildKit keeps: the first is /%s",
+			name, manifest.Attributed, manifest.FirstAttributed), nil)
 	}
 	return manifest, nil
 }
@@ -149,7 +165,7 @@ func (in *inputs) rename(def *pb.Definition) (*pb.Definition, error) {
 	}
 	return graph.Rewrite(def, func(_ int, op *pb.Op) (bool, error) {
 		source := op.GetSource()
-		if source == nil || !strings.HasPrefix(source.Identifier, local) {
+		if source == nil || !sources.IsLocal(source) {
 			return false, nil
 		}
 		request, err := sources.RequestOf(source)
@@ -160,7 +176,7 @@ func (in *inputs) rename(def *pb.Definition) (*pb.Definition, error) {
 		if !ok || one.given == request.Name {
 			return false, nil
 		}
-		source.Identifier = local + one.given
+		source.Identifier = sources.Scheme + one.given
 		return true, nil
 	})
 }

@@ -58,7 +58,7 @@ func (p *progress) action(v, place int) int {
 
 func (p *progress) vertex(v int) *controlapi.Vertex {
 	it := &p.g.Vertices[v]
-	return &controlapi.Vertex{Digest: it.Digest, Inputs: it.Needs, Name: it.Name, Started: p.begun[v], ProgressGroup: it.Group}
+	return &controlapi.Vertex{Digest: it.Digest, Inputs: it.Needs, Name: messages.Text(it.Name), Started: p.begun[v], ProgressGroup: it.Group}
 }
 
 func (p *progress) start(v int) {
@@ -112,7 +112,7 @@ func (p *progress) log(v int, stream int64, line string) {
 		return
 	}
 	p.b.Events.Add(&controlapi.StatusResponse{Logs: []*controlapi.VertexLog{{
-		Vertex: p.g.Vertices[v].Digest, Timestamp: time.Now(), Stream: stream, Msg: []byte(line + "\n"),
+		Vertex: p.g.Vertices[v].Digest, Timestamp: time.Now(), Stream: stream, Msg: []byte(messages.Text(line) + "\n"),
 	}}})
 }
 
@@ -151,9 +151,9 @@ func (p *progress) stopped(err error) {
 
 // warn shows a warning of a vertex.
 func (p *progress) warn(v int, short string, details []string) {
-	warning := &controlapi.VertexWarning{Vertex: p.g.Vertices[v].Digest, Level: 1, Short: []byte(short)}
+	warning := &controlapi.VertexWarning{Vertex: p.g.Vertices[v].Digest, Level: 1, Short: []byte(messages.Text(short))}
 	for _, detail := range details {
-		warning.Detail = append(warning.Detail, []byte(detail))
+		warning.Detail = append(warning.Detail, []byte(messages.Text(detail)))
 	}
 	p.b.Events.Add(&controlapi.StatusResponse{Warnings: []*controlapi.VertexWarning{warning}})
 }
@@ -195,6 +195,6 @@ func (b *bar) done(n int64) {
 func (b *bar) show(n int64, completed *time.Time) {
 	b.last = time.Now()
 	b.p.b.Events.Add(&controlapi.StatusResponse{Statuses: []*controlapi.VertexStatus{{
-		ID: b.name, Vertex: b.p.g.Vertices[b.v].Digest, Current: n, Timestamp: b.last, Started: &b.begun, Completed: completed,
+		ID: messages.Text(b.name), Vertex: b.p.g.Vertices[b.v].Digest, Current: n, Timestamp: b.last, Started: &b.begun, Completed: completed,
 	}}})
 }

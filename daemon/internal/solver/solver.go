@@ -18,6 +18,7 @@ import (
 	"llbm/daemon/internal/graph"
 	"llbm/daemon/internal/kept"
 	"llbm/daemon/internal/machine"
+	"llbm/daemon/internal/messages"
 	"llbm/daemon/internal/notes"
 	"llbm/daemon/internal/results"
 	"llbm/daemon/internal/sessions"
@@ -225,7 +226,7 @@ func (s *Solver) keep(b *builds.Build, def *pb.Definition, record []byte, in *in
 		}})
 	}
 	if err := s.Kept.Add(solved); err != nil {
-		log.Printf("llbmd: build %q is not kept: %v", b.Ref, err)
+		log.Printf("llbmd: build %q is not kept: %s", b.Ref, messages.Of(err))
 	}
 }
 
