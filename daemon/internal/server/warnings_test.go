@@ -60,7 +60,7 @@ func TestFieldsWithoutAnEffectAreWarnings(t *testing.T) {
 		t.Fatal(err)
 	}
 	d := started(t, func(o *Options) { o.Notes = table })
-	run := llb.Scratch().Run(llb.Args([]string{"true"}), llb.Dir("/"), llb.User("app"), llb.Network(llb.NetModeHost))
+	run := llb.Scratch().Run(llb.Args([]string{"true"}), llb.Dir("/"), llb.User("app"), llb.Network(llb.NetModeNone))
 	want := "User has no effect: the user of the process\nNetwork has no effect: the network of the process\n" + anExecution
 	if got, err := d.warnings(t, run.Root(), client.SolveOpt{}); got != want || err != nil {
 		t.Errorf("%q %v", got, err)
