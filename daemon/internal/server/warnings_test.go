@@ -270,3 +270,18 @@ func TestPathsWithOneCauseAreOneWarning(t *testing.T) {
 }
 
 func modeOf(mode os.FileMode) *os.FileMode { return &mode }
+
+func TestLayersThatBuildKitWouldMakeAreAWarning(t *testing.T) {
+	d := started(t, nil)
+	one := llb.Scratch().File(llb.Mkfile("/a", 0o600, nil))
+	for want, state := range map[string]llb.State{
+		"": one,
+		"the image has one layer, where BuildKit makes up to 2: one for each step that changes files": one.File(llb.Mkfile("/b", 0o600, nil)),
+	} {
+		var archive buffer
+		got, err := d.warnings(t, state, client.SolveOpt{Exports: []client.ExportEntry{toTar("oci", &archive, nil)}})
+		if got != want || err != nil {
+			t.Errorf("%q %v", got, err)
+		}
+	}
+}
