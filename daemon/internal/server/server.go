@@ -46,6 +46,8 @@ const (
 	mostSessions = 1024
 	mostHistory  = 64
 	mostStreams  = 4096
+	// mostFrontends bounds the frontends that clients ask for and that run at once.
+	mostFrontends = 32
 )
 
 // Options are those of the command line.
@@ -102,7 +104,7 @@ func New(ctx context.Context, o Options) (*Daemon, error) {
 	}
 	solver.Notes, solver.Platform, solver.Literal, solver.Strict = o.Notes, workers[0].Platforms[0], o.Literal, o.Strict
 	bridge := &gateway.Gateway{Builds: all, Solver: solver, Frontends: o.Frontends, Workers: workers}
-	o.Frontends.Gateway, o.Frontends.Limits = bridge, o.Limits
+	o.Frontends.Gateway, o.Frontends.Limits, o.Frontends.AtOnce = bridge, o.Limits, mostFrontends
 	o.Frontends.Server = func() *grpc.Server { return grpc.NewServer(serverOptions(nil)...) }
 	g := grpc.NewServer(serverOptions(peers.Credentials())...)
 	controlapi.RegisterControlServer(g, &control.Control{
@@ -140,7 +142,7 @@ func serverOptions(c credentials.TransportCredentials) []grpc.ServerOption {
 		grpc.MaxRecvMsgSize(mostMessage), grpc.MaxSendMsgSize(mostMessage), grpc.MaxConcurrentStreams(mostStreams),
 	}
 	if c != nil {
-		options = append(options, grpc.Creds(c))
+		options = append(options, grpc.Creds(c), grpc.InTapHandle(peers.Tap))
 	}
 	return options
 }

@@ -5,6 +5,7 @@ import (
 	"errors"
 	"fmt"
 	"os"
+	"slices"
 	"strings"
 	"time"
 
@@ -106,10 +107,13 @@ func (s *Solver) begin(c *comparing, def *pb.Definition, in *inputs, texts []mac
 		return err
 	}
 	c.talk = comparison.NewTalk(c.child, c.child.In)
-	request := &comparison.Request{Sent: file, Rewrite: rewrites, Received: true, Paths: mostDetails, Vertices: map[int]string{}}
+	request := &comparison.Request{Sent: file, Rewrite: rewrites, Received: true, Paths: mostDetails, Vertices: map[int]string{}, Links: map[int][]string{}}
 	for i, one := range in.all {
 		for _, v := range one.vertices {
 			request.Vertices[v] = machine.PathOf(texts[i].Text)
+			if linked := slices.Concat(one.manifest.HardLinks()...); len(linked) > 0 {
+				request.Links[v] = linked
+			}
 		}
 	}
 	return c.talk.Write(request)

@@ -18,6 +18,7 @@ import (
 	"llbm/daemon/internal/graph"
 	"llbm/daemon/internal/kept"
 	"llbm/daemon/internal/machine"
+	"llbm/daemon/internal/messages"
 	"llbm/daemon/internal/notes"
 	"llbm/daemon/internal/results"
 	"llbm/daemon/internal/sessions"
@@ -104,6 +105,11 @@ func (s *Solver) work(c *checks, b *builds.Build, def, sent *pb.Definition) (*re
 	b.AddSteps(len(g.Vertices))
 	p := newProgress(b, g)
 	s.note(sent, g, p)
+	if !s.Literal {
+		if err := refuse(g); err != nil {
+			return nil, err
+		}
+	}
 	in, err := s.gather(c.ctx, b, g, p)
 	if err != nil {
 		return nil, err
@@ -236,7 +242,7 @@ func (s *Solver) keep(b *builds.Build, def *pb.Definition, record []byte, in *in
 		}})
 	}
 	if err := s.Kept.Add(solved); err != nil {
-		log.Printf("llbmd: build %q is not kept: %v", b.Ref, err)
+		log.Printf("llbmd: build %q is not kept: %s", b.Ref, messages.Of(err))
 	}
 }
 
