@@ -74,7 +74,7 @@ func Serve(ctx context.Context, talk *Talk) error {
 		return Refused{err}
 	}
 	s.prepare()
-	if err := s.unknownInputs(sent); err != nil {
+	if err := s.outside(sent); err != nil {
 		return err
 	}
 	if err := s.all(); err != nil {

@@ -137,6 +137,10 @@ func (c *comparing) static(def *pb.Definition) {
 			c.show(&comparison.Step{Vertex: v, Action: step.Action, Lines: step.Lines})
 		}
 	}
+	if v := rules.Deep(c.g.Vertices); v >= 0 {
+		step := rules.StepOfNote(rules.Depth)
+		c.show(&comparison.Step{Vertex: v, Action: step.Action, Lines: step.Lines})
+	}
 	for _, line := range rules.UnknownInputs(def) {
 		c.show(&comparison.Step{Vertex: c.g.Result, Action: -1, Lines: []rules.Line{line}})
 	}
