@@ -23,7 +23,9 @@ var names = []string{"a", "b", "c", "d", "ab", `m\x`, "mx", "a b", `\`, "é"}
 const oddName = "a\x01"
 
 // randomTree returns a small tree with files, directories, some with the set-group bit, and owners.
-func randomTree(random *rand.Rand) *rules.Node {
+func randomTree(random *rand.Rand) *rules.Node { return rules.Of(randomEntries(random)) }
+
+func randomEntries(random *rand.Rand) tree.Tree {
 	entries := tree.Tree{{Dir: true, Mode: pick(random, uint32(0o755), 0o755, 0o700, 0o2755)}}
 	var fill func(path string, depth int)
 	fill = func(path string, depth int) {
@@ -45,7 +47,7 @@ func randomTree(random *rand.Rand) *rules.Node {
 		}
 	}
 	fill("", 0)
-	return rules.Of(entries)
+	return entries
 }
 
 // A texts makes texts of paths and patterns.
