@@ -5,11 +5,14 @@ import (
 	"context"
 	"errors"
 	"flag"
+	"fmt"
 	"log"
 	"os"
 	"os/signal"
+	"runtime"
 	"syscall"
 
+	"llbm/daemon/internal/control"
 	"llbm/daemon/internal/kept"
 	"llbm/daemon/internal/notes"
 	"llbm/daemon/internal/server"
@@ -28,9 +31,18 @@ func main() {
 		log.Printf("llbmd: %v", err)
 		os.Exit(badOptions)
 	}
+	if o.version {
+		fmt.Println(versions())
+		return
+	}
 	if err := run(o); err != nil {
 		log.Fatalf("llbmd: %v", err)
 	}
+}
+
+// versions are those of the daemon, as clients are told it, and of Go.
+func versions() string {
+	return fmt.Sprintf("%s %s, built with %s", control.Version.Package, control.Version.Version, runtime.Version())
 }
 
 // noted reads the table of fields without an effect: that in a file, or the one that is built in.

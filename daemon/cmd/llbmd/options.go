@@ -26,6 +26,7 @@ It serves its own user and root, ends at SIGTERM or SIGINT, and writes messages 
 type options struct {
 	server.Options
 	address    string
+	version    bool
 	notes      string
 	keep       string
 	keepBuilds int
@@ -49,6 +50,8 @@ func parse(words []string, help io.Writer) (*options, error) {
 		return nil, err
 	case flags.NArg() > 0:
 		return nil, fmt.Errorf("%q is no option", flags.Arg(0))
+	case o.version:
+		return o, nil
 	}
 	return o, o.check()
 }
@@ -64,7 +67,7 @@ func (o *options) flags() *flag.FlagSet {
 	f.IntVar(&o.AtOnce, "builds", runtime.NumCPU(), "how many builds run at once; others wait")
 	f.Var(o.Frontends, "frontend", "`NAME=PROGRAM`: a frontend that speaks the gateway on its standard input and output; may be repeated")
 	f.StringVar(&o.Store, "store", os.TempDir(), "the `FOLDER` for contents of sources; they have no names there, so nothing is left")
-	f.Int64Var(&o.StoreBytes, "store-bytes", 10<<30, "how many `BYTES` the contents may have")
+	f.Int64Var(&o.StoreBytes, "store-bytes", 0, "how many `BYTES` the contents may have; 0 is half of what is free there at the start, 64 MiB to 10 GiB")
 	f.DurationVar(&o.Idle, "idle", time.Minute, "how long a client may send nothing while it sends a source, or take nothing of a result")
 	f.BoolVar(&o.LeaveOut, "leave-out", false, "leave links, devices and sockets out of sources, with a warning, instead of refusing them")
 	f.Int64Var(&o.Limits.Memory, "memory", 4<<30, "how many `BYTES` of memory a build or a frontend may take; 0 is no bound")
@@ -74,7 +77,9 @@ func (o *options) flags() *flag.FlagSet {
 	f.IntVar(&o.keepBuilds, "keep-builds", 20, "how many builds are kept")
 	f.Int64Var(&o.keepBytes, "keep-bytes", 1<<30, "how many `BYTES` the kept builds may have")
 	f.BoolVar(&o.Literal, "literal", false, "run definitions by llbm's rules also where BuildKit's differ and could be kept by rewriting ops")
+	f.BoolVar(&o.Strict, "strict", false, "fail a build of which BuildKit would make something else, instead of warning of that")
 	f.StringVar(&o.notes, "notes", "", "a `FILE` with fields without an effect, for warnings, instead of the table that is built in")
+	f.BoolVar(&o.version, "version", false, "print the version, and end")
 	return f
 }
 
@@ -92,7 +97,7 @@ func (o *options) check() error {
 	}{
 		{"workers", int64(o.Workers), 1, server.MostWorkers},
 		{"builds", int64(o.AtOnce), 1, math.MaxInt64},
-		{"store-bytes", o.StoreBytes, 1, math.MaxInt64},
+		{"store-bytes", o.StoreBytes, 0, math.MaxInt64},
 		{"memory", o.Limits.Memory, 0, math.MaxInt64},
 		{"output", o.Limits.Output, 0, math.MaxInt64},
 		{"keep-builds", int64(o.keepBuilds), 1, math.MaxInt64},

@@ -39,10 +39,16 @@ func (s *session) dies(v int, step rules.Step) {
 	s.failsAt(v, place, step.Lines[0].String())
 }
 
-// unknownInputs says which inputs of entries that are no vertices name no entry, of which BuildKit's daemon dies.
-func (s *session) unknownInputs(sent *pb.Definition) error {
+// outside says what is not about a vertex by itself: that a result has many layers, and which inputs of entries that are no vertices
+// name no entry, of which BuildKit's daemon dies. llbmd says this itself.
+func (s *session) outside(sent *pb.Definition) error {
 	if s.request.Received {
 		return nil
+	}
+	if v := rules.Deep(s.sent.Vertices); v >= 0 {
+		if err := s.steps(v, []rules.Step{rules.StepOfNote(rules.Depth)}); err != nil {
+			return err
+		}
 	}
 	for _, one := range rules.UnknownInputs(sent) {
 		s.broken = true

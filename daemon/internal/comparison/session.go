@@ -50,6 +50,7 @@ type session struct {
 	runs    bool   // whether there is an execution
 	why     string // why BuildKit fails
 	files   int
+	layered bool // whether there is a merge, which needs layers
 }
 
 // Serve compares what a request on a reader names.
@@ -73,7 +74,7 @@ func Serve(ctx context.Context, talk *Talk) error {
 		return Refused{err}
 	}
 	s.prepare()
-	if err := s.unknownInputs(sent); err != nil {
+	if err := s.outside(sent); err != nil {
 		return err
 	}
 	if err := s.all(); err != nil {
@@ -135,7 +136,7 @@ func (s *session) prepare() {
 	}
 	for v := range s.sent.Vertices {
 		it := &s.sent.Vertices[v]
-		s.inSent[it.Row] = v
+		s.inSent[it.Row], s.layered = v, s.layered || it.Op.GetMerge() != nil
 		for _, input := range it.Inputs {
 			s.states[input].needed = s.states[input].needed || s.request.Executes || it.Op.GetExec() == nil
 			s.states[input].users++
@@ -271,6 +272,9 @@ func (s *session) vertex(v int) error {
 	}
 	one := &s.states[v]
 	one.there, one.here, one.unknown = made.There, made.Here, s.isUnknown(v)
+	if !s.layered {
+		one.there = rules.WithoutLayers(one.there)
+	}
 	switch {
 	case dies:
 		one.there, made.Steps = nil, nil

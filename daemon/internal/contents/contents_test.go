@@ -7,6 +7,7 @@ import (
 	"strings"
 	"testing"
 
+	"golang.org/x/sys/unix"
 	"google.golang.org/grpc/codes"
 	"google.golang.org/grpc/status"
 )
@@ -119,6 +120,68 @@ func TestAFullStoreIsFreedBeforeItRefuses(t *testing.T) {
 	}
 	if _, err := other.Reserve(11); status.Code(err) != codes.ResourceExhausted || freed != 1 {
 		t.Error(err, freed)
+	}
+}
+
+// A smallDisk has room for some bytes, together with others.
+type smallDisk struct {
+	disk
+	room *int
+}
+
+func (d smallDisk) WriteAt(data []byte, at int64) (int, error) {
+	if *d.room < len(data) {
+		return 0, &os.PathError{Op: "write", Path: "small", Err: unix.ENOSPC}
+	}
+	*d.room -= len(data)
+	return d.disk.WriteAt(data, at)
+}
+
+func (d smallDisk) Close() error {
+	*d.room = 8
+	return d.disk.Close()
+}
+
+func TestAFullDiskIsFreedBeforeItRefuses(t *testing.T) {
+	store, pack, _ := stored(t, 100)
+	room := 8
+	pack.file = smallDisk{pack.file, &room}
+	if _, err := pack.Write([]byte("12345678")); err != nil {
+		t.Fatal(err)
+	}
+	freed := 0
+	store.WhenFull(func() bool {
+		if freed++; freed == 1 {
+			pack.Drop()
+		}
+		return freed == 1
+	})
+	other, _ := store.NewPack()
+	other.file = smallDisk{other.file, &room}
+	if _, err := other.Write([]byte("abcdefg")); err != nil || freed != 1 {
+		t.Error(err, freed)
+	}
+	got := make([]byte, 7)
+	if _, err := other.All().ReadAt(got, 0); err != nil || string(got) != "abcdefg" {
+		t.Errorf("%q %v", got, err)
+	}
+	if _, err := other.Write([]byte("12")); status.Code(err) != codes.ResourceExhausted || freed != 2 {
+		t.Error(err, freed)
+	}
+}
+
+func TestAStoreSuitsItsDisk(t *testing.T) {
+	for free, want := range map[int64]int64{0: 64 << 20, 1 << 30: 1 << 29, 1 << 40: 10 << 30} {
+		if got := byDefault(free); got != want {
+			t.Error(free, got)
+		}
+	}
+	store, err := New(t.TempDir(), 0)
+	if err != nil || store.most < leastByDefault || store.most > mostByDefault {
+		t.Error(store, err)
+	}
+	if _, err := New("/nonexistent", 0); err == nil {
+		t.Error("there is a store in a folder that is not there")
 	}
 }
 

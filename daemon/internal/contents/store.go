@@ -8,12 +8,19 @@ package contents
 import (
 	"errors"
 	"fmt"
+	"io"
 	"os"
 	"sync"
 
 	"golang.org/x/sys/unix"
 	"google.golang.org/grpc/codes"
 	"google.golang.org/grpc/status"
+)
+
+// The bounds of a store whose size is not given: half of what is free on its disk, but no more and no less than these bytes.
+const (
+	mostByDefault  = 10 << 30
+	leastByDefault = 64 << 20
 )
 
 // A Store bounds what its packs take on disk. Nothing of it has a name, so nothing is left when the process ends.
@@ -25,8 +32,15 @@ type Store struct {
 	free   func() bool
 }
 
-// New makes a store of at most some bytes in a folder.
+// New makes a store of at most some bytes in a folder; 0 is a size that suits its disk.
 func New(folder string, most int64) (*Store, error) {
+	if most == 0 {
+		var disk unix.Statfs_t
+		if err := unix.Statfs(folder, &disk); err != nil {
+			return nil, fmt.Errorf("the store: %w", &os.PathError{Op: "statfs", Path: folder, Err: err})
+		}
+		most = byDefault(int64(disk.Bavail) * disk.Bsize)
+	}
 	s := &Store{folder: folder, most: most, free: func() bool { return false }}
 	file, err := s.file()
 	if err != nil {
@@ -34,6 +48,9 @@ func New(folder string, most int64) (*Store, error) {
 	}
 	return s, file.Close()
 }
+
+// byDefault returns the size of a store on a disk with some free bytes.
+func byDefault(free int64) int64 { return max(leastByDefault, min(mostByDefault, free/2)) }
 
 // WhenFull sets what frees room in a full store: it gives up something that no build uses, or returns false.
 func (s *Store) WhenFull(free func() bool) { s.free = free }
@@ -76,10 +93,41 @@ func (s *Store) take(size int64) error {
 	}
 }
 
+// trying does what needs room on the disk, or one more open file. Where there is none, what no build uses is given up, and it is tried
+// again; a lack that stays is a status of gRPC.
+func (s *Store) trying(what func() error) error {
+	for {
+		err := what()
+		if !isLack(err) {
+			return err
+		}
+		if !s.free() {
+			return status.Errorf(codes.ResourceExhausted, "the store of contents: %v", err)
+		}
+	}
+}
+
+func isLack(err error) bool {
+	for _, one := range []error{unix.ENOSPC, unix.EDQUOT, unix.EMFILE, unix.ENFILE, unix.EFBIG} {
+		if errors.Is(err, one) {
+			return true
+		}
+	}
+	return false
+}
+
+// A disk is the file of a pack.
+type disk interface {
+	io.ReaderAt
+	io.WriterAt
+	io.Closer
+	Truncate(size int64) error
+}
+
 // A Pack is a file with contents, one after the other. It is closed once nobody holds it.
 type Pack struct {
 	store   *Store
-	file    *os.File
+	file    disk
 	mu      sync.Mutex
 	size    int64
 	holders int
@@ -87,9 +135,13 @@ type Pack struct {
 
 // NewPack makes an empty pack, which its caller holds.
 func (s *Store) NewPack() (*Pack, error) {
-	file, err := s.file()
+	var file *os.File
+	err := s.trying(func() (err error) {
+		file, err = s.file()
+		return err
+	})
 	if err != nil {
-		return nil, exhausted(err)
+		return nil, err
 	}
 	return &Pack{store: s, file: file, holders: 1}, nil
 }
@@ -108,6 +160,7 @@ func (p *Pack) Drop() {
 	last, size := p.holders == 0, p.size
 	p.mu.Unlock()
 	if last {
+		_ = p.file.Truncate(0) // a process that is just being started has the file open too
 		_ = p.file.Close()
 		p.store.mu.Lock()
 		p.store.used -= size
@@ -133,25 +186,20 @@ type Ref struct {
 	Start, Size int64
 }
 
-// WriteAt writes a part of the content; a full disk is a status of gRPC.
+// WriteAt writes a part of the content; a disk that stays full is a status of gRPC.
 func (r Ref) WriteAt(data []byte, at int64) error {
 	if at < 0 || at+int64(len(data)) > r.Size {
 		return fmt.Errorf("bytes %d to %d of a content of %d", at, at+int64(len(data)), r.Size)
 	}
-	_, err := r.Pack.file.WriteAt(data, r.Start+at)
-	return exhausted(err)
+	return r.Pack.store.trying(func() error {
+		_, err := r.Pack.file.WriteAt(data, r.Start+at)
+		return err
+	})
 }
 
 // ReadAt reads a part of the content.
 func (r Ref) ReadAt(data []byte, at int64) (int, error) {
 	return r.Pack.file.ReadAt(data, r.Start+at)
-}
-
-func exhausted(err error) error {
-	if errors.Is(err, unix.ENOSPC) || errors.Is(err, unix.EDQUOT) || errors.Is(err, unix.EMFILE) || errors.Is(err, unix.ENFILE) || errors.Is(err, unix.EFBIG) {
-		return status.Errorf(codes.ResourceExhausted, "the store of contents: %v", err)
-	}
-	return err
 }
 
 // Write adds bytes at the end of the pack, which has one writer.

@@ -17,6 +17,7 @@ import (
 	"llbm/daemon/internal/contents"
 	"llbm/daemon/internal/gateway"
 	"llbm/daemon/internal/history"
+	"llbm/daemon/internal/messages"
 	"llbm/daemon/internal/peers"
 	"llbm/daemon/internal/sessions"
 	"llbm/daemon/internal/solver"
@@ -81,7 +82,7 @@ func noFilters(filters []string) error {
 func record(u sources.Usage) *controlapi.UsageRecord {
 	used := u.Used
 	return &controlapi.UsageRecord{
-		ID: u.ID, Size_: u.Bytes, CreatedAt: u.Created, LastUsedAt: &used, UsageCount: int64(u.Times), Description: "local source for " + u.Name,
+		ID: u.ID, Size_: u.Bytes, CreatedAt: u.Created, LastUsedAt: &used, UsageCount: int64(u.Times), Description: u.Words,
 		RecordType: "source.local", Mutable: true,
 	}
 }
@@ -188,7 +189,7 @@ func answer(metadata map[string][]byte) map[string]string {
 	out := map[string]string{}
 	for k, v := range metadata {
 		if strings.HasPrefix(k, "frontend.") {
-			out[k] = string(v)
+			out[messages.Text(k)] = messages.Text(string(v))
 		}
 	}
 	return out

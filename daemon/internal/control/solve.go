@@ -4,8 +4,10 @@ import (
 	"context"
 	"crypto/rand"
 	"errors"
+	"strconv"
 	"strings"
 	"time"
+	"unicode/utf8"
 
 	controlapi "github.com/moby/buildkit/api/services/control"
 	spb "github.com/moby/buildkit/sourcepolicy/pb"
@@ -22,6 +24,9 @@ import (
 
 const keyEpoch = "source-date-epoch"
 
+// mostOfRef bounds the names that clients give their builds.
+const mostOfRef = 256
+
 var errIdle = errors.New("nothing was taken")
 
 // Solve does one build. The build is there from the first moment, so that a refusal reaches all who wait for it.
@@ -29,6 +34,9 @@ func (c *Control) Solve(ctx context.Context, req *controlapi.SolveRequest) (*con
 	user, err := userOf(ctx)
 	if err != nil {
 		return nil, err
+	}
+	if len(req.Ref) > mostOfRef || !utf8.ValidString(req.Ref) {
+		return nil, status.Errorf(codes.InvalidArgument, "%.80q is no ref of a build: one is of UTF-8, and has at most %d bytes", req.Ref, mostOfRef)
 	}
 	ctx, cancel := context.WithCancel(ctx)
 	b, err := c.Builds.Start(ctx, user, req.Ref, req.Session)
@@ -42,12 +50,22 @@ func (c *Control) Solve(ctx context.Context, req *controlapi.SolveRequest) (*con
 		return nil, err
 	}
 	modern(req)
+	solve := c.recorded
 	if req.Internal {
-		return c.solve(ctx, b, req)
+		solve = c.solve
 	}
-	record := c.History.Start(user, req)
+	response, err := solve(ctx, b, req)
+	if err != nil && b.Session != "" {
+		c.Sessions.Settle(ctx, user, b.Session)
+	}
+	return response, err
+}
+
+// recorded solves a request that is in the history.
+func (c *Control) recorded(ctx context.Context, b *builds.Build, req *controlapi.SolveRequest) (*controlapi.SolveResponse, error) {
+	record := c.History.Start(b.User, req)
 	response, err := c.solve(ctx, b, req)
-	c.History.End(user, record, response.GetExporterResponse(), b.Steps(), err)
+	c.History.End(record, response.GetExporterResponse(), b.Steps(), err)
 	return response, err
 }
 
@@ -91,7 +109,22 @@ func refused(req *controlapi.SolveRequest) error {
 	return fields.Refuse("SolveRequest", req.XXX_unrecognized)
 }
 
-func (c *Control) solve(ctx context.Context, b *builds.Build, req *controlapi.SolveRequest) (*controlapi.SolveResponse, error) {
+// keyStrict is the option by which a client asks for a build that fails where BuildKit would make something else.
+const keyStrict = "llbm:strict"
+
+func isStrict(options map[string]string) (bool, error) {
+	value, ok := options[keyStrict]
+	if !ok {
+		return false, nil
+	}
+	strict, err := strconv.ParseBool(value)
+	if err != nil {
+		return false, status.Errorf(codes.InvalidArgument, "%s=%s: it is true or false", keyStrict, value)
+	}
+	return strict, nil
+}
+
+func (c *Control) solve(ctx context.Context, b *builds.Build, req *controlapi.SolveRequest) (_ *controlapi.SolveResponse, err error) {
 	if err := refused(req); err != nil {
 		return nil, err
 	}
@@ -106,6 +139,9 @@ func (c *Control) solve(ctx context.Context, b *builds.Build, req *controlapi.So
 	var policies []*spb.Policy
 	if req.SourcePolicy != nil {
 		policies = append(policies, req.SourcePolicy)
+	}
+	if b.Strict, err = isStrict(req.FrontendAttrs); err != nil {
+		return nil, err
 	}
 	b.Give(req.FrontendInputs, policies)
 	returned, err := c.result(ctx, b, req)
@@ -162,8 +198,11 @@ func (c *Control) export(ctx context.Context, b *builds.Build, e *exports.Export
 	idle := time.AfterFunc(c.Idle, func() { cancel(errIdle) })
 	defer idle.Stop()
 	moved := func() { idle.Reset(c.Idle) }
+	warn := func(short string) {
+		b.Events.Add(&controlapi.StatusResponse{Warnings: []*controlapi.VertexWarning{{Vertex: vertex.Digest, Level: 1, Short: []byte(short)}}})
+	}
 	var last time.Time
-	told, err := e.Export(ctx, caller, results, exports.Watch{Moved: moved, Sent: func(n int64) {
+	told, err := e.Export(ctx, caller, results, exports.Watch{Moved: moved, Warn: warn, Sent: func(n int64) {
 		moved()
 		if now := time.Now(); now.Sub(last) > 100*time.Millisecond {
 			last = now

@@ -4,9 +4,12 @@ import (
 	"bytes"
 	"context"
 	"errors"
+	"fmt"
 	"io"
 	"net"
+	"os"
 	"os/exec"
+	"strings"
 	"sync"
 	"syscall"
 	"time"
@@ -57,9 +60,15 @@ func untilEnded(pid int) {
 
 func (f *Frontends) try(ctx context.Context, program string, env []string) (*child, *exec.Cmd, error) {
 	c := &child{messages: &messages{}, ended: make(chan struct{})}
+	opened, err := unix.Open(program, unix.O_PATH|unix.O_CLOEXEC, 0)
+	if err != nil {
+		return nil, nil, &os.PathError{Op: "open", Path: program, Err: err}
+	}
+	file := os.NewFile(uintptr(opened), program)
+	defer file.Close()
 	words := f.command(program)
 	cmd := exec.CommandContext(ctx, words[0], words[1:]...)
-	cmd.Env, cmd.Dir, cmd.Stderr = env, "/", c.messages
+	cmd.Env, cmd.Dir, cmd.Stderr, cmd.ExtraFiles = env, "/", c.messages, []*os.File{file}
 	cmd.SysProcAttr = f.attributes()
 	cmd.WaitDelay = patience
 	cmd.Cancel = func() error { return syscall.Kill(-cmd.Process.Pid, syscall.SIGKILL) }
@@ -101,6 +110,18 @@ func (c *child) await(ctx context.Context, b *builds.Build, returned <-chan *gat
 }
 
 var errEnded = errors.New("the frontend ended without a result")
+
+// ending says how a frontend ended that has no result.
+func (c *child) ending() string {
+	how := "exit status 0"
+	if c.failed != nil {
+		how = c.failed.Error()
+	}
+	if said := strings.TrimSpace(c.messages.String()); said != "" {
+		return fmt.Sprintf("(%s): %.2000s", how, said)
+	}
+	return fmt.Sprintf("(%s), and wrote nothing to standard error", how)
+}
 
 // messages keeps the first bytes that the frontend writes to standard error.
 type messages struct {

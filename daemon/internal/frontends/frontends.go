@@ -12,6 +12,7 @@ import (
 	"path/filepath"
 	"sort"
 	"strings"
+	"sync"
 	"sync/atomic"
 	"syscall"
 	"time"
@@ -33,6 +34,8 @@ const (
 	nobody       = 65534
 	mostFiles    = 256
 	mostMessages = 1 << 16
+	// mostOfOption is the longest text that Linux hands to a program in its environment (MAX_ARG_STRLEN, less the zero at its end).
+	mostOfOption = 32*4096 - 1
 	// images is the frontend of BuildKit that runs a frontend's image, which its option `source` names.
 	images = "gateway.v0"
 )
@@ -40,10 +43,13 @@ const (
 // Frontends are programs by name.
 type Frontends struct {
 	Programs map[string]string
+	AtOnce   int // how many that clients ask for run at once; others wait
 	Limits   machine.Limits
 	Gateway  *gateway.Gateway
 	Server   func() *grpc.Server // makes the server of a child's connection
 	shared   atomic.Bool         // whether a network of its own can't be had for a child
+	once     sync.Once
+	slots    chan struct{}
 }
 
 // Set adds NAME=PROGRAM.
@@ -59,11 +65,23 @@ func (f *Frontends) Set(text string) error {
 	if err != nil {
 		return err
 	}
+	if err := executable(program, os.Getuid()); err != nil {
+		return err
+	}
 	if f.Programs == nil {
 		f.Programs = map[string]string{}
 	}
 	f.Programs[name] = program
 	return nil
+}
+
+// executable refuses a program that its mode keeps from the user as whom frontends run if the daemon is root.
+func executable(program string, user int) error {
+	found, err := os.Stat(program)
+	if err == nil && user == 0 && found.Mode()&0o001 == 0 {
+		return fmt.Errorf("user %d, as whom frontends of root run, may not execute it: chmod a+rx %s", nobody, program)
+	}
+	return err
 }
 
 // String lists the names.
@@ -93,7 +111,11 @@ func (f *Frontends) Run(ctx context.Context, b *builds.Build, frontend gateway.F
 	if err != nil {
 		return nil, err
 	}
-	leave, err := b.EnterFrontend()
+	env, err := environment(b, frontend, f.Gateway.Workers)
+	if err != nil {
+		return nil, err
+	}
+	leave, err := f.enter(ctx, b, frontend)
 	if err != nil {
 		return nil, err
 	}
@@ -101,9 +123,9 @@ func (f *Frontends) Run(ctx context.Context, b *builds.Build, frontend gateway.F
 	ctx, cancel := context.WithCancel(ctx)
 	defer cancel()
 	bridge, returned := f.Gateway.For(b, frontend)
-	c, err := f.start(ctx, program, environment(b, frontend, f.Gateway.Workers))
+	c, err := f.start(ctx, program, env)
 	if err != nil {
-		return nil, status.Errorf(codes.Internal, "frontend %s: %v", frontend.Name, err)
+		return nil, notStarted(frontend.Name, env, err)
 	}
 	server := f.Server()
 	gatewaypb.RegisterLLBBridgeServer(server, bridge)
@@ -119,13 +141,41 @@ func (f *Frontends) Run(ctx context.Context, b *builds.Build, frontend gateway.F
 	<-served
 	<-c.ended
 	if errors.Is(err, errEnded) {
-		return nil, status.Errorf(codes.Unknown, "frontend %s: %v (%v): %.2000s", frontend.Name, err, c.failed, strings.TrimSpace(c.messages.String()))
+		return nil, status.Errorf(codes.Unknown, "frontend %s, %s, ended without a result %s", frontend.Name, program, c.ending())
 	}
 	return result, err
 }
 
-// environment is all that a frontend is told, in the form that BuildKit has for it.
-func environment(b *builds.Build, frontend gateway.Frontend, workers []*apitypes.WorkerRecord) []string {
+// enter waits until one more frontend may run. One that a frontend calls does not wait, as its caller waits for it; a build has few.
+func (f *Frontends) enter(ctx context.Context, b *builds.Build, frontend gateway.Frontend) (leave func(), err error) {
+	ended, err := b.EnterFrontend()
+	if err != nil || frontend.IsCalled {
+		return ended, err
+	}
+	f.once.Do(func() { f.slots = make(chan struct{}, max(1, f.AtOnce)) })
+	select {
+	case f.slots <- struct{}{}:
+		return func() { <-f.slots; ended() }, nil
+	case <-ctx.Done():
+		ended()
+		return nil, status.FromContextError(ctx.Err()).Err()
+	}
+}
+
+// notStarted returns why a frontend could not be started.
+func notStarted(name string, env []string, err error) error {
+	if !errors.Is(err, syscall.E2BIG) {
+		return status.Errorf(codes.Internal, "frontend %s: %v", name, err)
+	}
+	size := 0
+	for _, one := range env {
+		size += len(one) + 1
+	}
+	return status.Errorf(codes.InvalidArgument, "frontend %s: its options have %d bytes together, more than the kernel hands to a program", name, size)
+}
+
+// environment is all that a frontend is told, in the form that BuildKit has for it. An option that no program can be given is refused.
+func environment(b *builds.Build, frontend gateway.Frontend, workers []*apitypes.WorkerRecord) ([]string, error) {
 	type platform struct {
 		Architecture string `json:"architecture"`
 		OS           string `json:"os"`
@@ -151,9 +201,15 @@ func environment(b *builds.Build, frontend gateway.Frontend, workers []*apitypes
 	}
 	sort.Strings(keys)
 	for i, k := range keys {
-		env = append(env, fmt.Sprintf("BUILDKIT_FRONTEND_OPT_%d=%s=%s", i, k, frontend.Options[k]))
+		option := fmt.Sprintf("BUILDKIT_FRONTEND_OPT_%d=%s=%s", i, k, frontend.Options[k])
+		if len(option) > mostOfOption {
+			return nil, status.Errorf(codes.InvalidArgument,
+				"frontend %s: the option %.100s has %d bytes, and an option has at most %d with its name: a file of a source has room for more",
+				frontend.Name, k, len(frontend.Options[k]), mostOfOption)
+		}
+		env = append(env, option)
 	}
-	return env
+	return env, nil
 }
 
 // attributes give a child nothing of the daemon's rights: its own process group, user nobody if the daemon is root, no new
@@ -177,7 +233,8 @@ func (f *Frontends) attributes() *syscall.SysProcAttr {
 }
 
 // command is what runs a program within its bounds. A shell sets them, as only the child itself may once it has another
-// user; it becomes the program, or ends if a bound can't be set.
+// user; it becomes the program, or ends if a bound can't be set. The other user may not be let into a folder on the program's
+// path: then the program is what the daemon has opened, as descriptor 3.
 func (f *Frontends) command(program string) []string {
 	bounds := []string{"ulimit -c 0", "ulimit -f 0", fmt.Sprintf("ulimit -n %d", mostFiles)}
 	if f.Limits.Memory > 0 {
@@ -186,5 +243,5 @@ func (f *Frontends) command(program string) []string {
 	if f.Limits.Time > 0 {
 		bounds = append(bounds, fmt.Sprintf("ulimit -t %d", (f.Limits.Time+time.Second-1)/time.Second))
 	}
-	return []string{"/bin/sh", "-c", strings.Join(bounds, " && ") + ` && exec "$0"`, program}
+	return []string{"/bin/sh", "-c", strings.Join(bounds, " && ") + ` && { [ ! -x "$0" ] || exec "$0" 3<&-; } && exec /proc/self/fd/3`, program}
 }

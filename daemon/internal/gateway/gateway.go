@@ -20,13 +20,15 @@ import (
 	"llbm/daemon/internal/peers"
 	"llbm/daemon/internal/results"
 	"llbm/daemon/internal/solver"
+	"llbm/daemon/internal/sources"
 )
 
 // A Frontend is asked to solve a build.
 type Frontend struct {
-	Name    string
-	Options map[string]string
-	Inputs  map[string]*pb.Definition
+	Name     string
+	Options  map[string]string
+	Inputs   map[string]*pb.Definition
+	IsCalled bool // whether another frontend that is a child calls it
 }
 
 // Frontends run frontends by their names.
@@ -100,7 +102,9 @@ func (g *Gateway) Solve(ctx context.Context, req *gatewaypb.SolveRequest) (*gate
 	switch {
 	case req.Frontend != "":
 		defer b.Free(req.Size())
-		r, err = g.Frontends.Run(ctx, b, Frontend{Name: req.Frontend, Options: req.FrontendOpt, Inputs: req.FrontendInputs})
+		r, err = g.Frontends.Run(ctx, b, Frontend{
+			Name: req.Frontend, Options: req.FrontendOpt, Inputs: req.FrontendInputs, IsCalled: g.only != nil,
+		})
 	case solver.IsEmpty(req.Definition):
 		r = &Returned{Single: results.Empty()}
 	default:
@@ -222,7 +226,7 @@ func (g *Gateway) Return(ctx context.Context, req *gatewaypb.ReturnRequest) (*ga
 
 // ResolveImageConfig is refused as a source of an image is.
 func (g *Gateway) ResolveImageConfig(_ context.Context, req *gatewaypb.ResolveImageConfigRequest) (*gatewaypb.ResolveImageConfigResponse, error) {
-	return nil, status.Errorf(codes.Unimplemented, "llbm: fault 88 Source: %s is an image, and llbm has no registries", req.Ref)
+	return nil, status.Errorf(codes.Unimplemented, "llbm: fault 88 Source: %s is an image: %s", req.Ref, sources.Instead("docker-image://"+req.Ref))
 }
 
 // ResolveSourceMeta is refused as the source is.

@@ -4,6 +4,7 @@ package graph
 import (
 	"bytes"
 	"container/heap"
+	"errors"
 	"fmt"
 	"sort"
 	"strconv"
@@ -13,6 +14,8 @@ import (
 	"github.com/moby/buildkit/solver/pb"
 	digest "github.com/opencontainers/go-digest"
 	"google.golang.org/grpc/status"
+	"llbm/daemon/internal/machine"
+	"llbm/daemon/internal/messages"
 )
 
 // A Vertex is a line of `llbm show`, with the entry that it is.
@@ -286,17 +289,26 @@ func located(def *pb.Definition, d digest.Digest, err error) error {
 	return err
 }
 
-// WrapRow adds to a refusal of llbm which names a row, as `llbm: fault 88 k ..`, what the client knows of this row.
-func WrapRow(sent *pb.Definition, err error) error {
-	var number, k int
-	st, _ := status.FromError(err)
-	if n, _ := fmt.Sscanf(st.Message(), "llbm: fault %d %d", &number, &k); n != 2 || number < 82 || number == 83 || number > 90 || k >= len(sent.Def) {
+// WrapRow adds to a refusal of llbm which names a row, as `llbm: fault 88 k ..`, what the client knows of this row, and what advice
+// there is about its op.
+func WrapRow(sent *pb.Definition, err error, advice func(*pb.Op) string) error {
+	var refusal *machine.Refusal
+	if !errors.As(err, &refusal) || refusal.Number < 82 || refusal.Number == 83 || refusal.Number > 90 {
 		return err
 	}
+	k := refusal.Second
+	if k < 0 || k >= len(sent.Def) {
+		return err
+	}
+	st := refusal.GRPCStatus()
 	d := digest.FromBytes(sent.Def[k])
 	op := &pb.Op{}
 	if op.Unmarshal(sent.Def[k]) == nil {
-		err = status.Errorf(st.Code(), "%s (%s)", st.Message(), Describe(sent.Metadata[d], op))
+		text := fmt.Sprintf("%s (%s)", st.Message(), Describe(sent.Metadata[d], op))
+		if more := advice(op); more != "" {
+			text += ": " + more
+		}
+		err = status.Error(st.Code(), messages.Text(text))
 	}
 	return located(sent, d, errdefs.WrapVertex(err, d))
 }

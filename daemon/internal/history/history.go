@@ -3,6 +3,9 @@ package history
 
 import (
 	"context"
+	"fmt"
+	"slices"
+	"sort"
 	"sync"
 	"time"
 
@@ -14,20 +17,32 @@ import (
 	"llbm/daemon/internal/messages"
 )
 
-// mostPending bounds the events that wait for a listener; one that is slower is given up.
-const mostPending = 1024
+const (
+	// mostPending bounds the events that wait for a listener; one that is slower is given up.
+	mostPending = 1024
+	// mostOfAttributes bounds the bytes of a record's attributes: those of the build, of its exporters and of what these returned.
+	mostOfAttributes = 64 << 10
+	// overhead is what one more attribute or exporter counts besides its texts.
+	overhead = 32
+	// mostOfText bounds each other text of a record, in bytes.
+	mostOfText = 8 << 10
+	// leftOut is the attribute that says that others are missing.
+	leftOut = "llbmd:left-out"
+)
 
-// A History has at most some records, and forgets the oldest that is not pinned.
+// A History has at most some records of builds that have ended, and forgets the oldest that is not pinned; at most half of them
+// may be pinned. The builds that run have records too.
 type History struct {
 	most      int
 	mu        sync.Mutex
-	records   []*record
+	records   []*Record
 	listeners map[*listener]bool
 }
 
-type record struct {
+// A Record is that of one build. What listeners have seen of it does not change.
+type Record struct {
 	user uint32
-	*controlapi.BuildHistoryRecord
+	now  *controlapi.BuildHistoryRecord
 }
 
 type listener struct {
@@ -40,58 +55,101 @@ type listener struct {
 func New(most int) *History { return &History{most: most, listeners: map[*listener]bool{}} }
 
 // Start adds the record of a build that begins.
-func (h *History) Start(user uint32, req *controlapi.SolveRequest) *controlapi.BuildHistoryRecord {
-	now := time.Now()
-	r := &controlapi.BuildHistoryRecord{
-		Ref: req.Ref, Frontend: req.Frontend, FrontendAttrs: req.FrontendAttrs, Exporters: req.Exporters, CreatedAt: &now, Generation: 1,
+func (h *History) Start(user uint32, req *controlapi.SolveRequest) *Record {
+	now, room := time.Now(), mostOfAttributes
+	first := &controlapi.BuildHistoryRecord{
+		Ref: req.Ref, Frontend: cut(req.Frontend), FrontendAttrs: bounded(req.FrontendAttrs, &room), CreatedAt: &now, Generation: 1,
+	}
+	for _, e := range req.Exporters {
+		if room -= overhead + len(e.Type); room < 0 {
+			break
+		}
+		first.Exporters = append(first.Exporters, &controlapi.Exporter{Type: messages.Text(e.Type), Attrs: bounded(e.Attrs, &room)})
 	}
 	h.mu.Lock()
 	defer h.mu.Unlock()
-	h.records = append(h.records, &record{user, r})
-	for i := 0; len(h.records) > h.most && i < len(h.records); {
-		if h.records[i].Pinned || h.records[i].CompletedAt == nil {
+	r := &Record{user, first}
+	h.records = append(h.records, r)
+	h.tell(r, controlapi.BuildHistoryEventType_STARTED)
+	return r
+}
+
+// bounded returns attributes of which as many are left out as have no room, from the last name on; one more says how many these are.
+func bounded(attributes map[string]string, room *int) map[string]string {
+	if attributes == nil {
+		return nil
+	}
+	out, names := map[string]string{}, make([]string, 0, len(attributes))
+	for name := range attributes {
+		names = append(names, name)
+	}
+	sort.Strings(names)
+	for i, name := range names {
+		if *room -= overhead + len(name) + len(attributes[name]); *room < 0 {
+			out[leftOut] = fmt.Sprintf("%d attributes: a record has at most %d bytes of them", len(names)-i, mostOfAttributes)
+			break
+		}
+		out[messages.Text(name)] = messages.Text(attributes[name])
+	}
+	return out
+}
+
+// cut returns a text of UTF-8 that is not too long.
+func cut(text string) string {
+	if len(text) > mostOfText {
+		text = text[:mostOfText] + ".."
+	}
+	return messages.Text(text)
+}
+
+// End completes the record of a build.
+func (h *History) End(r *Record, response map[string]string, steps int, err error) {
+	h.mu.Lock()
+	defer h.mu.Unlock()
+	now, room, done := time.Now(), mostOfAttributes, *r.now
+	done.CompletedAt, done.NumTotalSteps, done.NumCompletedSteps = &now, int32(steps), int32(steps)
+	done.ExporterResponse = bounded(response, &room)
+	done.Generation++
+	if err != nil {
+		done.Error = &spb.Status{Code: int32(grpcerrors.Code(err)), Message: cut(messages.Of(err))}
+	}
+	r.now = &done
+	h.tell(r, controlapi.BuildHistoryEventType_COMPLETE)
+	h.shorten()
+}
+
+// shorten forgets the oldest builds that have ended and are not pinned, as long as there are too many that have ended.
+func (h *History) shorten() {
+	ended := 0
+	for _, r := range h.records {
+		if r.now.CompletedAt != nil {
+			ended++
+		}
+	}
+	for i := 0; ended > h.most && i < len(h.records); {
+		if r := h.records[i].now; r.Pinned || r.CompletedAt == nil {
 			i++
 			continue
 		}
 		h.forget(i)
+		ended--
 	}
-	h.tell(user, controlapi.BuildHistoryEventType_STARTED, r)
-	return r
-}
-
-// End completes the record of a build.
-func (h *History) End(user uint32, r *controlapi.BuildHistoryRecord, response map[string]string, steps int, err error) {
-	h.mu.Lock()
-	defer h.mu.Unlock()
-	now := time.Now()
-	done := *r
-	done.CompletedAt, done.ExporterResponse, done.NumTotalSteps, done.NumCompletedSteps = &now, response, int32(steps), int32(steps)
-	done.Generation++
-	if err != nil {
-		done.Error = &spb.Status{Code: int32(grpcerrors.Code(err)), Message: messages.Of(err)}
-	}
-	for _, one := range h.records {
-		if one.BuildHistoryRecord == r {
-			one.BuildHistoryRecord = &done
-		}
-	}
-	h.tell(user, controlapi.BuildHistoryEventType_COMPLETE, &done)
 }
 
 // forget drops a record.
 func (h *History) forget(i int) {
-	one := h.records[i]
+	r := h.records[i]
 	h.records = append(h.records[:i:i], h.records[i+1:]...)
-	h.tell(one.user, controlapi.BuildHistoryEventType_DELETED, one.BuildHistoryRecord)
+	h.tell(r, controlapi.BuildHistoryEventType_DELETED)
 }
 
-func (h *History) tell(user uint32, kind controlapi.BuildHistoryEventType, r *controlapi.BuildHistoryRecord) {
+func (h *History) tell(r *Record, kind controlapi.BuildHistoryEventType) {
 	for l := range h.listeners {
-		if l.user != user || l.ref != "" && l.ref != r.Ref {
+		if l.user != r.user || l.ref != "" && l.ref != r.now.Ref {
 			continue
 		}
 		select {
-		case l.events <- &controlapi.BuildHistoryEvent{Type: kind, Record: r}:
+		case l.events <- &controlapi.BuildHistoryEvent{Type: kind, Record: r.now}:
 		default:
 			delete(h.listeners, l)
 			close(l.events)
@@ -103,22 +161,32 @@ func (h *History) tell(user uint32, kind controlapi.BuildHistoryEventType, r *co
 func (h *History) Update(user uint32, req *controlapi.UpdateBuildHistoryRequest) error {
 	h.mu.Lock()
 	defer h.mu.Unlock()
-	for i, one := range h.records {
-		if one.user != user || one.Ref != req.Ref {
-			continue
-		}
-		if req.Delete {
-			h.forget(i)
-			return nil
-		}
-		changed := *one.BuildHistoryRecord
-		changed.Pinned = req.Pinned
-		changed.Generation++
-		one.BuildHistoryRecord = &changed
-		h.tell(user, controlapi.BuildHistoryEventType_COMPLETE, &changed)
+	i := slices.IndexFunc(h.records, func(r *Record) bool { return r.user == user && r.now.Ref == req.Ref })
+	switch {
+	case i < 0:
+		return status.Errorf(codes.NotFound, "no build %.80q is in the history", req.Ref)
+	case req.Delete:
+		h.forget(i)
 		return nil
+	case req.Pinned && !h.records[i].now.Pinned && h.pinned() >= h.most/2:
+		return status.Errorf(codes.ResourceExhausted, "%d builds of the history are pinned, and no more may be", h.most/2)
 	}
-	return status.Errorf(codes.NotFound, "no build %q is in the history", req.Ref)
+	changed := *h.records[i].now
+	changed.Pinned = req.Pinned
+	changed.Generation++
+	h.records[i].now = &changed
+	h.tell(h.records[i], controlapi.BuildHistoryEventType_COMPLETE)
+	return nil
+}
+
+func (h *History) pinned() int {
+	n := 0
+	for _, r := range h.records {
+		if r.now.Pinned {
+			n++
+		}
+	}
+	return n
 }
 
 // Listen sends the records that there are and then, unless the request asks for an early exit, what happens to them.
@@ -126,15 +194,15 @@ func (h *History) Listen(ctx context.Context, user uint32, req *controlapi.Build
 	l := &listener{user: user, ref: req.Ref, events: make(chan *controlapi.BuildHistoryEvent, mostPending)}
 	h.mu.Lock()
 	var now []*controlapi.BuildHistoryEvent
-	for _, one := range h.records {
-		if one.user != user || req.Ref != "" && one.Ref != req.Ref || req.ActiveOnly && one.CompletedAt != nil {
+	for _, r := range h.records {
+		if r.user != user || req.Ref != "" && r.now.Ref != req.Ref || req.ActiveOnly && r.now.CompletedAt != nil {
 			continue
 		}
 		kind := controlapi.BuildHistoryEventType_COMPLETE
-		if one.CompletedAt == nil {
+		if r.now.CompletedAt == nil {
 			kind = controlapi.BuildHistoryEventType_STARTED
 		}
-		now = append(now, &controlapi.BuildHistoryEvent{Type: kind, Record: one.BuildHistoryRecord})
+		now = append(now, &controlapi.BuildHistoryEvent{Type: kind, Record: r.now})
 	}
 	if !req.EarlyExit {
 		h.listeners[l] = true

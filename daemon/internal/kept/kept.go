@@ -21,6 +21,8 @@ import (
 	"strings"
 	"sync"
 	"time"
+
+	"golang.org/x/sys/unix"
 )
 
 const (
@@ -33,8 +35,9 @@ const (
 // MostOfRecord bounds the bytes of a record that is kept.
 const MostOfRecord = 64 << 20
 
-// A Folder has the last builds, within bounds.
+// A Folder has the last builds, within bounds. One process at a time has it.
 type Folder struct {
+	lock       *os.File
 	path       string
 	mostBuilds int
 	mostBytes  int64
@@ -66,38 +69,68 @@ func Open(path string, mostBuilds int, mostBytes int64) (*Folder, error) {
 	if _, err := os.Stat(filepath.Join(path, marker)); errors.Is(err, fs.ErrNotExist) && len(entries) > 0 {
 		return nil, fmt.Errorf("%s: is not empty, and is no folder of kept builds", path)
 	}
-	if err := os.WriteFile(filepath.Join(path, marker), nil, 0o600); err != nil {
+	lock, err := locked(filepath.Join(path, marker))
+	if err != nil {
 		return nil, err
 	}
-	f := &Folder{path: path, mostBuilds: mostBuilds, mostBytes: mostBytes, solving: map[string]*build{}}
+	f := &Folder{lock: lock, path: path, mostBuilds: mostBuilds, mostBytes: mostBytes, solving: map[string]*build{}}
+	if err := f.read(); err != nil {
+		_ = f.Close()
+		return nil, err
+	}
+	return f, nil
+}
+
+// locked opens a file that no other process has locked, and locks it until it is closed.
+func locked(path string) (*os.File, error) {
+	file, err := os.OpenFile(path, os.O_RDWR|os.O_CREATE, 0o600)
+	if err != nil {
+		return nil, err
+	}
+	if err := unix.Flock(int(file.Fd()), unix.LOCK_EX|unix.LOCK_NB); err != nil {
+		_ = file.Close()
+		if errors.Is(err, unix.EWOULDBLOCK) {
+			return nil, fmt.Errorf("%s: another llbmd keeps its builds there", filepath.Dir(path))
+		}
+		return nil, fmt.Errorf("%s: %w", path, err)
+	}
+	return file, nil
+}
+
+// Close lets another process have the folder.
+func (f *Folder) Close() error { return f.lock.Close() }
+
+// read finds the builds that are there, and removes what a build that was not kept whole has left.
+func (f *Folder) read() error {
+	entries, err := os.ReadDir(f.path)
+	if err != nil {
+		return err
+	}
 	for _, entry := range entries {
-		if !entry.IsDir() {
-			continue
-		}
-		if strings.HasPrefix(entry.Name(), unseen) {
-			if err := os.RemoveAll(filepath.Join(path, entry.Name())); err != nil {
-				return nil, err
+		switch {
+		case !entry.IsDir():
+		case strings.HasPrefix(entry.Name(), unseen):
+			if err := os.RemoveAll(filepath.Join(f.path, entry.Name())); err != nil {
+				return err
 			}
-			continue
-		}
-		if err := f.find(entry); err != nil {
-			return nil, err
+		default:
+			if err := f.find(entry); err != nil {
+				return err
+			}
 		}
 	}
 	sort.Slice(f.builds, func(i, j int) bool { return f.builds[i].when.Before(f.builds[j].when) })
-	return f, f.shorten(nil)
+	return f.shorten(nil)
 }
 
-// find counts what a kept build takes.
+// find counts what a kept build takes. An empty folder is removed: the process ended before the build was kept.
 func (f *Folder) find(entry fs.DirEntry) error {
 	info, err := entry.Info()
 	if err != nil {
 		return err
 	}
 	b := &build{name: entry.Name(), when: info.ModTime()}
-	f.builds = append(f.builds, b)
-	f.solving[b.name] = b
-	return filepath.WalkDir(filepath.Join(f.path, b.name), func(_ string, entry fs.DirEntry, err error) error {
+	err = filepath.WalkDir(filepath.Join(f.path, b.name), func(_ string, entry fs.DirEntry, err error) error {
 		if err != nil {
 			return err
 		}
@@ -110,6 +143,16 @@ func (f *Folder) find(entry fs.DirEntry) error {
 		}
 		return err
 	})
+	if err != nil {
+		return err
+	}
+	if b.count == 0 {
+		_ = os.Remove(filepath.Join(f.path, b.name)) // it fails where something is in it, which no daemon has put there
+		return nil
+	}
+	f.builds = append(f.builds, b)
+	f.solving[b.name] = b
+	return nil
 }
 
 // A Source is a local source, and what writes the text of its tree.
@@ -138,7 +181,7 @@ func Name(ref string) string {
 	return "sha256-" + hex.EncodeToString(sum[:])
 }
 
-// Add keeps what a build has solved, and drops the oldest builds that are beyond the bounds.
+// Add keeps what a build has solved, whole or not at all, and drops the oldest builds that are beyond the bounds.
 func (f *Folder) Add(s Solved) error {
 	folder, err := os.MkdirTemp(f.path, unseen)
 	if err != nil {
@@ -151,30 +194,45 @@ func (f *Folder) Add(s Solved) error {
 	b, ok := f.solving[name]
 	if !ok {
 		b = &build{name: name, when: time.Now()}
-		if err := os.Mkdir(filepath.Join(f.path, name), 0o700); err != nil && !errors.Is(err, fs.ErrExist) {
-			return err
-		}
-		f.builds = append(f.builds, b)
-		f.solving[name] = b
 	}
-	b.count++
-	at := filepath.Join(f.path, name, strconv.Itoa(b.count))
-	size, err := write(folder, at, s)
+	number := strconv.Itoa(b.count + 1)
+	size, err := write(folder, filepath.Join(f.path, name, number), s)
 	if err != nil {
 		return err
 	}
+	if err := f.place(folder, name, number); err != nil {
+		if !ok {
+			err = errors.Join(err, os.RemoveAll(filepath.Join(f.path, name)))
+		}
+		return err
+	}
+	b.count++
 	b.bytes += size
+	if !ok {
+		f.builds = append(f.builds, b)
+		f.solving[name] = b
+	}
+	return f.shorten(b)
+}
+
+// place moves a folder to its place, and turns the link to the last one to it. There is a last one at each moment.
+func (f *Folder) place(folder, name, number string) error {
+	build := filepath.Join(f.path, name)
+	if err := os.Mkdir(build, 0o700); err != nil && !errors.Is(err, fs.ErrExist) {
+		return err
+	}
+	link := filepath.Join(folder, last)
+	if err := os.Symlink(number, link); err != nil {
+		return err
+	}
+	at := filepath.Join(build, number)
 	if err := os.Rename(folder, at); err != nil {
 		return err
 	}
-	link := filepath.Join(f.path, name, last)
-	if err := os.Remove(link); err != nil && !errors.Is(err, fs.ErrNotExist) {
-		return err
+	if err := os.Rename(filepath.Join(at, last), filepath.Join(build, last)); err != nil {
+		return errors.Join(err, os.RemoveAll(at))
 	}
-	if err := os.Symlink(strconv.Itoa(b.count), link); err != nil {
-		return err
-	}
-	return f.shorten(b)
+	return nil
 }
 
 // write writes what is kept into a folder that will be at another path, and returns how many bytes it has.

@@ -26,6 +26,7 @@ func opened(t *testing.T, path string, builds int, bytes int64) *Folder {
 	if err != nil {
 		t.Fatal(err)
 	}
+	t.Cleanup(func() { _ = f.Close() })
 	return f
 }
 
@@ -96,6 +97,9 @@ func TestTheOldestBuildsAreDropped(t *testing.T) {
 	if got := names(t, path); got != "b c" {
 		t.Error(got)
 	}
+	if err := f.Close(); err != nil {
+		t.Error(err)
+	}
 	f = opened(t, path, 1, 1<<20)
 	if got := names(t, path); got != "c" {
 		t.Error(got)
@@ -144,12 +148,55 @@ func TestAFolderWithOtherThingsIsRefused(t *testing.T) {
 
 func TestHalfABuildIsRemovedAtTheNextStart(t *testing.T) {
 	path := t.TempDir()
-	opened(t, path, 1, 1<<20)
-	if err := os.Mkdir(filepath.Join(path, unseen+"123"), 0o700); err != nil {
-		t.Fatal(err)
+	_ = opened(t, path, 1, 1<<20).Close()
+	for _, name := range []string{unseen + "123", "empty"} {
+		if err := os.Mkdir(filepath.Join(path, name), 0o700); err != nil {
+			t.Fatal(err)
+		}
 	}
 	opened(t, path, 1, 1<<20)
 	if got := names(t, path); got != "" {
 		t.Error(got)
 	}
+}
+
+func TestABuildThatIsNotKeptWholeLeavesNothing(t *testing.T) {
+	path := t.TempDir()
+	f := opened(t, path, 2, 1<<20)
+	full := errors.New("no space left on device")
+	bad := Solved{Ref: "bad", Sources: []Source{{"context", func(io.Writer) error { return full }}}}
+	if err := f.Add(solved("good", "x")); err != nil {
+		t.Fatal(err)
+	}
+	for range 3 {
+		if err := f.Add(bad); !errors.Is(err, full) {
+			t.Error(err)
+		}
+	}
+	bad.Ref = "good"
+	if err := f.Add(bad); !errors.Is(err, full) {
+		t.Error(err)
+	}
+	if got, parts := names(t, path), names(t, filepath.Join(path, "good")); got != "good" || parts != "1 last" {
+		t.Error(got, parts)
+	}
+	// What was not kept does not count: there is room for one more build.
+	if err := f.Add(solved("other", "x")); err != nil || names(t, path) != "good other" {
+		t.Error(err, names(t, path))
+	}
+	if err := f.Add(solved("good", "second")); err != nil || read(t, path, "good/last/0.tree") != "second" || names(t, filepath.Join(path, "good")) != "1 2 last" {
+		t.Error(err, names(t, filepath.Join(path, "good")))
+	}
+}
+
+func TestAFolderOfAnotherDaemonIsRefused(t *testing.T) {
+	path := t.TempDir()
+	f := opened(t, path, 1, 1<<20)
+	if _, err := Open(path, 1, 1<<20); err == nil || err.Error() != path+": another llbmd keeps its builds there" {
+		t.Error(err)
+	}
+	if err := f.Close(); err != nil {
+		t.Error(err)
+	}
+	opened(t, path, 1, 1<<20)
 }

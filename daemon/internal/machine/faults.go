@@ -2,8 +2,11 @@ package machine
 
 import (
 	"context"
+	"errors"
 	"fmt"
+	"os/exec"
 	"strings"
+	"syscall"
 
 	"google.golang.org/grpc/codes"
 	"google.golang.org/grpc/status"
@@ -28,11 +31,23 @@ var memory = map[int]bool{14: true, 34: true, 91: true, 92: true, 123: true, 141
 // board is the fault of a session whose cause is a fault of its board.
 const board = 171
 
-// Fault returns the status of gRPC for a line `fault N ..` of llbm. Its message begins with `llbm: ` and the line, and has
-// the fault's name.
+// A Refusal is a fault of llbm as an error of gRPC.
+type Refusal struct {
+	Number int
+	Second int // the number after that of the fault, or -1; of a fault of a definition it is mostly a row
+	status *status.Status
+}
+
+func (r *Refusal) Error() string { return r.status.Err().Error() }
+
+// GRPCStatus returns the error as gRPC has it.
+func (r *Refusal) GRPCStatus() *status.Status { return r.status }
+
+// Fault returns the error for a line `fault N ..` of llbm. Its message begins with `llbm: ` and the line, and has the fault's
+// name.
 func Fault(line string) error {
-	var number, cause int
-	if n, _ := fmt.Sscanf(line, "fault %d %d", &number, &cause); n == 0 {
+	number, cause, ok := parseFault(line)
+	if !ok {
 		return status.Errorf(codes.Internal, "llbm: %s", line)
 	}
 	code := codes.InvalidArgument
@@ -52,7 +67,7 @@ func Fault(line string) error {
 	if number == board && memory[cause] {
 		line += ": memory was refused"
 	}
-	return status.Errorf(code, "llbm: %s", line)
+	return &Refusal{Number: number, Second: cause, status: status.Newf(code, "llbm: %s", line)}
 }
 
 // faultIn returns the first line of the program's messages that is a fault, or nothing.
@@ -81,5 +96,17 @@ func (p *Program) ended(ctx context.Context, messages string, err error) error {
 	if outOfMemory(messages, err) {
 		return status.Errorf(codes.ResourceExhausted, "llbm: the build needs more memory than %d bytes", p.Limits.Memory)
 	}
-	return status.Errorf(codes.Internal, "llbm: %v: %.500s", err, strings.TrimSpace(messages))
+	return status.Errorf(codes.Internal, "llbm: the program ended early (%v)%s", err, lastWords(messages, err))
+}
+
+// lastWords says what is known of a program that ended early.
+func lastWords(messages string, err error) string {
+	if said := strings.TrimSpace(messages); said != "" {
+		return fmt.Sprintf(": %.500s", said)
+	}
+	var exit *exec.ExitError
+	if errors.As(err, &exit) && exit.Sys().(syscall.WaitStatus).Signal() == syscall.SIGKILL {
+		return ": the kernel kills programs so where memory is short"
+	}
+	return ", and wrote nothing to standard error"
 }

@@ -38,7 +38,8 @@ var (
 const (
 	// mostMessages bounds what is kept of standard error.
 	mostMessages = 1 << 16
-	// patience bounds the wait for the last output of a process that has ended. On a busy host it may take seconds to be read.
+	// patience bounds the wait for the last output of a process that has ended, which on a busy host may take seconds to be read,
+	// and for a program that is asked for its version.
 	patience = time.Minute
 )
 
@@ -62,8 +63,8 @@ func Find(ctx context.Context, path string, limits Limits) (*Program, error) {
 		return nil, err
 	}
 	// The version comes with the status 2, and after a line with a fault.
-	said, err := exec.CommandContext(ctx, path, "--version").CombinedOutput()
-	for _, line := range strings.Split(string(said), "\n") {
+	said, err := versionOf(ctx, path)
+	for _, line := range strings.Split(said, "\n") {
 		if strings.HasPrefix(line, "llbm ") {
 			return &Program{Path: path, Version: line, Proved: !strings.Contains(line, "not proved"), Limits: limits}, nil
 		}
@@ -72,6 +73,22 @@ func Find(ctx context.Context, path string, limits Limits) (*Program, error) {
 		return nil, fmt.Errorf("%s --version prints no version of llbm: %.80q: %w", path, said, err)
 	}
 	return nil, fmt.Errorf("%s --version prints no version of llbm: %.80q", path, said)
+}
+
+// versionOf returns what a program prints with --version. It may be any program, so it is killed if it does not end.
+func versionOf(ctx context.Context, path string) (string, error) {
+	ctx, cancel := context.WithTimeout(ctx, patience)
+	defer cancel()
+	var said bounded
+	cmd := exec.CommandContext(ctx, path, "--version")
+	cmd.Stdout, cmd.Stderr = &said, &said
+	cmd.SysProcAttr = &syscall.SysProcAttr{Setpgid: true}
+	cmd.Cancel = func() error { return syscall.Kill(-cmd.Process.Pid, syscall.SIGKILL) }
+	err := cmd.Run()
+	if errors.Is(ctx.Err(), context.DeadlineExceeded) {
+		err = errors.New("it does not end")
+	}
+	return said.String(), err
 }
 
 // A process is one run of the program, bounded.
@@ -379,21 +396,23 @@ func (r *Run) settle() error {
 	return nil
 }
 
-// Status returns the lines of the command `status`, one for each vertex.
-func (r *Run) Status(vertices int) ([]string, error) {
+// Failure returns how a vertex failed, of a board with some vertices.
+func (r *Run) Failure(vertex, vertices int) (found Failure, err error) {
 	if err := r.settle(); err != nil {
-		return nil, err
+		return found, err
 	}
 	r.ask("status\n")
-	lines := make([]string, vertices)
-	for i := range lines {
-		line, err := r.read()
-		if err != nil {
-			return nil, err
+	err = fmt.Errorf("llbm: it does not say how vertex %d failed", vertex)
+	for range vertices {
+		line, broken := r.read()
+		if broken != nil {
+			return found, broken
 		}
-		lines[i] = string(line)
+		if failure, ok := parseFailure(string(line)); ok && failure.Vertex == vertex {
+			found, err = failure, nil
+		}
 	}
-	return lines, nil
+	return found, err
 }
 
 // Tree returns the tree of an output of a board that is complete.

@@ -7,6 +7,7 @@ import (
 	"strconv"
 	"strings"
 	"testing"
+	"time"
 
 	"google.golang.org/grpc/codes"
 	"google.golang.org/grpc/status"
@@ -44,6 +45,29 @@ func TestAProgramThatIsNotLlbmIsRefusedInPlainWords(t *testing.T) {
 	}
 }
 
+func TestAProgramThatDoesNotEndIsNotWaitedFor(t *testing.T) {
+	path := script(t, "echo so\nsleep 1000")
+	ctx, cancel := context.WithTimeout(context.Background(), time.Millisecond)
+	defer cancel()
+	_, err := Find(ctx, path, Limits{})
+	if err == nil || !strings.HasSuffix(err.Error(), ": it does not end") {
+		t.Error(err)
+	}
+}
+
+func TestAProgramThatEndsEarlySaysHow(t *testing.T) {
+	for text, want := range map[string]string{
+		"kill -9 $$":               "llbm: the program ended early (signal: killed): the kernel kills programs so where memory is short",
+		"exit 5":                   "llbm: the program ended early (exit status 5), and wrote nothing to standard error",
+		"echo oh >&2; kill -15 $$": "llbm: the program ended early (signal: terminated): oh",
+	} {
+		program := &Program{Path: script(t, text), Proved: true}
+		if _, err := program.Show(context.Background(), nil); status.Convert(err).Message() != want {
+			t.Errorf("%q: %v", text, err)
+		}
+	}
+}
+
 // page is the list of faults in the repository, if this folder is in one.
 func page(t *testing.T) string {
 	t.Helper()
@@ -76,26 +100,6 @@ func TestNamesAreThoseOfThePage(t *testing.T) {
 	for number, name := range names {
 		if !strings.Contains(named[number], "::"+name+"`") {
 			t.Errorf("%d %s: %s", number, name, named[number])
-		}
-	}
-}
-
-func TestEventsAreRead(t *testing.T) {
-	for line, want := range map[string]Event{
-		"1 claim 0 2 -> exec 6":      {Kind: Claim, Vertex: 2, Reply: "exec 6"},
-		"12 step 3 -> ran 1 0":       {Kind: Step, Worker: 3, Reply: "ran 1 0"},
-		"14 settle 0 -> 2 failed":    {Kind: Settle, Reply: "2 failed"},
-		"9 step 0 -> a -> b":         {Kind: Step, Reply: "a -> b"},
-		"100 claim 63 65535 -> file": {Kind: Claim, Worker: 63, Vertex: 65535, Reply: "file"},
-	} {
-		want.Line = line
-		if got, err := parseEvent(line); err != nil || got != want {
-			t.Errorf("%q: %+v %v", line, got, err)
-		}
-	}
-	for _, line := range []string{"", "end", "1 claim 0 -> x", "1 step 0 1 -> x", "1 step x -> y", "1 back 0 -> y", "1 step 0"} {
-		if got, err := parseEvent(line); err == nil {
-			t.Errorf("%q: %+v", line, got)
 		}
 	}
 }

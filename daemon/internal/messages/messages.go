@@ -17,7 +17,7 @@ func Of(err error) string {
 		return ""
 	}
 	st := status.Convert(grpcerrors.ToGRPC(context.Background(), err))
-	return without(st.Code(), st.Message())
+	return Text(without(st.Code(), st.Message()))
 }
 
 // Plain returns an error of gRPC with its plain message; its code and its details stay.
@@ -27,7 +27,7 @@ func Plain(err error) error {
 		return err
 	}
 	proto := st.Proto()
-	proto.Message = without(st.Code(), st.Message())
+	proto.Message = Text(without(st.Code(), st.Message()))
 	return status.ErrorProto(proto)
 }
 
@@ -46,3 +46,7 @@ func without(code codes.Code, message string) string {
 	}
 	return strings.TrimPrefix(message, colon)
 }
+
+// Text returns a text without what is not UTF-8, as each text of a status, of progress and of the log has to be: messages of gRPC
+// with other bytes can't be sent.
+func Text(text string) string { return strings.ToValidUTF8(text, "\uFFFD") }

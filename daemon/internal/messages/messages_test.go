@@ -41,3 +41,15 @@ func TestWhatIsNotTheCodeStays(t *testing.T) {
 		t.Error("an error without a code changed")
 	}
 }
+
+func TestATextThatIsNotUTF8CanBeSent(t *testing.T) {
+	err := status.Error(codes.InvalidArgument, "no way: \xff\xfe/\xc3")
+	for name, got := range map[string]string{"plain": status.Convert(Plain(err)).Message(), "of": Of(err), "text": Text("no way: \xff\xfe/\xc3")} {
+		if got != "no way: \uFFFD/\uFFFD" {
+			t.Errorf("%s: %q", name, got)
+		}
+	}
+	if got := Text("ü\x00"); got != "ü\x00" {
+		t.Errorf("%q", got)
+	}
+}

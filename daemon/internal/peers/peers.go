@@ -5,19 +5,29 @@ import (
 	"context"
 	"errors"
 	"fmt"
+	"log"
 	"net"
 	"os"
 	"strings"
 	"sync"
+	"sync/atomic"
 	"syscall"
 	"time"
 
+	"google.golang.org/grpc/codes"
 	"google.golang.org/grpc/credentials"
 	"google.golang.org/grpc/peer"
+	"google.golang.org/grpc/status"
+	"google.golang.org/grpc/tap"
 )
 
-// patience bounds the wait for a server that may still listen on a socket.
-const patience = time.Second
+const (
+	// patience bounds the wait for a server that may still listen on a socket.
+	patience = time.Second
+	// mostRefused bounds the connections of refused users whose calls are answered, and farewell how long each of them lasts.
+	mostRefused = 16
+	farewell    = 10 * time.Second
+)
 
 var umask sync.Mutex
 
@@ -55,8 +65,11 @@ func Listen(path string) (net.Listener, error) {
 	return net.Listen("unix", path)
 }
 
-// Info is the user at the other end of a connection.
-type Info struct{ UID uint32 }
+// Info is the user at the other end of a connection, and whether this one is served.
+type Info struct {
+	UID    uint32
+	served bool
+}
 
 // AuthType names the way in which the user is known: by the kernel.
 func (Info) AuthType() string { return "SO_PEERCRED" }
@@ -64,40 +77,74 @@ func (Info) AuthType() string { return "SO_PEERCRED" }
 // User returns the user whose call a context belongs to.
 func User(ctx context.Context) (uint32, error) {
 	if p, ok := peer.FromContext(ctx); ok {
-		if info, ok := p.AuthInfo.(Info); ok {
+		if info, ok := p.AuthInfo.(Info); ok && info.served {
 			return info.UID, nil
 		}
 	}
 	return 0, errors.New("the call has no user")
 }
 
-// Credentials refuse connections of users other than the daemon's and root, and keep the user for User.
-func Credentials() credentials.TransportCredentials { return kernel{uint32(os.Getuid())} }
+// Tap refuses each call of a user that is not served, before anything of it is read. It is to be used with Credentials.
+func Tap(ctx context.Context, _ *tap.Info) (context.Context, error) {
+	if p, ok := peer.FromContext(ctx); ok {
+		if info, ok := p.AuthInfo.(Info); ok && !info.served {
+			return nil, status.Errorf(codes.PermissionDenied, "user %d is not served by this llbmd: its own user, %d, and root are", info.UID, os.Getuid())
+		}
+	}
+	return ctx, nil
+}
 
-type kernel struct{ own uint32 }
+// Credentials know users other than the daemon's and root, which are refused, and keep the user for User.
+func Credentials() credentials.TransportCredentials {
+	return &kernel{own: uint32(os.Getuid()), answered: make(chan struct{}, mostRefused)}
+}
 
-func (k kernel) ServerHandshake(conn net.Conn) (net.Conn, credentials.AuthInfo, error) {
+type kernel struct {
+	own      uint32
+	refused  atomic.Int64
+	answered chan struct{} // has an element for each connection of a refused user
+}
+
+func (k *kernel) ServerHandshake(conn net.Conn) (net.Conn, credentials.AuthInfo, error) {
 	uid, err := userOf(conn)
 	if err != nil {
 		return nil, nil, err
 	}
-	if uid != k.own && uid != 0 {
-		return nil, nil, fmt.Errorf("user %d is not served", uid)
-	}
-	return conn, Info{uid}, nil
+	return k.admit(conn, uid)
 }
 
-func (kernel) ClientHandshake(context.Context, string, net.Conn) (net.Conn, credentials.AuthInfo, error) {
+// admit admits a user. Another one stays connected for a short time, in which Tap can say why it is refused. The log has a line for
+// the first of these connections, the second, the fourth and so on, so that nobody can fill it.
+func (k *kernel) admit(conn net.Conn, uid uint32) (net.Conn, credentials.AuthInfo, error) {
+	if uid == k.own || uid == 0 {
+		return conn, Info{uid, true}, nil
+	}
+	if n := k.refused.Add(1); n&(n-1) == 0 {
+		log.Printf("llbmd: user %d is refused, as connection %d that is: user %d and root are served", uid, n, k.own)
+	}
+	select {
+	case k.answered <- struct{}{}:
+		time.AfterFunc(farewell, func() {
+			_ = conn.Close()
+			<-k.answered
+		})
+		return conn, Info{uid, false}, nil
+	default:
+		return nil, nil, fmt.Errorf("user %d is not served", uid)
+	}
+}
+
+func (*kernel) ClientHandshake(context.Context, string, net.Conn) (net.Conn, credentials.AuthInfo, error) {
 	return nil, nil, errors.New("these credentials are a server's")
 }
 
-func (kernel) Info() credentials.ProtocolInfo {
+func (*kernel) Info() credentials.ProtocolInfo {
 	return credentials.ProtocolInfo{SecurityProtocol: "unix socket"}
 }
 
-func (k kernel) Clone() credentials.TransportCredentials { return k }
+func (k *kernel) Clone() credentials.TransportCredentials { return k }
 
-func (kernel) OverrideServerName(string) error { return nil }
+func (*kernel) OverrideServerName(string) error { return nil }
 
 func userOf(conn net.Conn) (uint32, error) {
 	socket, ok := conn.(syscall.Conn)

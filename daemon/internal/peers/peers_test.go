@@ -1,14 +1,20 @@
 package peers
 
 import (
+	"bytes"
 	"context"
 	"errors"
+	"log"
 	"net"
 	"os"
 	"path/filepath"
+	"strings"
 	"testing"
 
 	"golang.org/x/sys/unix"
+	"google.golang.org/grpc/codes"
+	"google.golang.org/grpc/peer"
+	"google.golang.org/grpc/status"
 )
 
 func TestAnAddressIsAPath(t *testing.T) {
@@ -91,5 +97,44 @@ func TestASocketOfABusyServerIsNotReplaced(t *testing.T) {
 func TestACallWithoutAPeerHasNoUser(t *testing.T) {
 	if _, err := User(context.Background()); err == nil {
 		t.Error("it has one")
+	}
+}
+
+func TestARefusedUserIsToldAndLogged(t *testing.T) {
+	var lines bytes.Buffer
+	log.SetOutput(&lines)
+	defer log.SetOutput(os.Stderr)
+	k := &kernel{own: 1000, answered: make(chan struct{}, 2)}
+	for _, uid := range []uint32{0, 1000} {
+		_, info, err := k.admit(nil, uid)
+		ctx := peer.NewContext(context.Background(), &peer.Peer{AuthInfo: info})
+		if got, userErr := User(ctx); err != nil || userErr != nil || got != uid {
+			t.Error(uid, got, err, userErr)
+		}
+		if _, err := Tap(ctx, nil); err != nil {
+			t.Error(uid, err)
+		}
+	}
+	for i := range 4 {
+		here, there := net.Pipe()
+		defer there.Close()
+		_, info, err := k.admit(here, 1234)
+		if i >= 2 {
+			if err == nil {
+				t.Error("more connections are answered than may be")
+			}
+			continue
+		}
+		ctx := peer.NewContext(context.Background(), &peer.Peer{AuthInfo: info})
+		if _, err := User(ctx); err == nil {
+			t.Error("a refused user is one")
+		}
+		_, tapped := Tap(ctx, nil)
+		if status.Code(tapped) != codes.PermissionDenied || !strings.HasPrefix(status.Convert(tapped).Message(), "user 1234 is not served") {
+			t.Error(err, tapped)
+		}
+	}
+	if got := strings.Count(lines.String(), "user 1234 is refused"); got != 3 { // the first, the second and the fourth
+		t.Error(lines.String())
 	}
 }

@@ -2,6 +2,7 @@ package rewriting
 
 import (
 	"fmt"
+	"strings"
 
 	"github.com/moby/buildkit/solver/pb"
 	"llbm/daemon/internal/paths"
@@ -24,6 +25,8 @@ type fileOp struct {
 	sent  []*pb.FileAction // is not changed
 	new   []*pb.FileAction
 	place map[int]pb.InputIndex // the new result of each action as sent, as an input
+	// isWhole is whether an output needs each action.
+	isWhole bool
 }
 
 func newFileOp(op *pb.Op) *fileOp {
@@ -114,6 +117,7 @@ func (f *fileOp) treeless() {
 		f.fail(one.action, one.why)
 		return
 	}
+	f.isWhole = len(order) == len(f.sent)
 	for _, number := range order {
 		f.add(number)
 	}
@@ -130,10 +134,36 @@ func (f *fileOp) add(number int) {
 	}
 	base, second, output := f.placeOf(action.Input), f.placeOf(action.SecondaryInput), action.Output
 	if c := action.GetCopy(); c != nil {
+		second = f.aside(number, c, second)
 		base = f.before(number, c, base)
 	}
 	f.place[number] = f.put(number, action, base, second)
 	action.Output = output
+}
+
+// aside copies the source of a copy to a tree of its own first, where BuildKit and llbm read the source's text in two ways: one that
+// ends in `/.` is what is in a directory, and no file; and before a wildcard a backslash is a character of a name. It
+// returns what the copy then copies from.
+func (f *fileOp) aside(number int, c *pb.FileActionCopy, second pb.InputIndex) pb.InputIndex {
+	parts, first := paths.Names(c.Src), *c
+	wild := paths.Wild(parts)
+	first.Dest, first.Mode, first.Owner, first.DirCopyContents, first.CreateDestPath = "/source", keptMode, nil, false, false
+	isDirectory := strings.HasSuffix(c.Dest, "/") || len(paths.Names(c.Dest)) == 0
+	switch {
+	case !c.AllowWildcard && strings.HasSuffix(c.Src, "/.") && len(parts) > 0 && isDirectory:
+		f.change(number, "dirCopyContents")
+		c.Src, c.DirCopyContents = first.Dest, true
+		copied := f.put(number, &pb.FileAction{Action: &pb.FileAction_Copy{Copy: &first}}, nothing, second)
+		mkdir := &pb.FileActionMkDir{Path: first.Dest, Mode: newMode, MakeParents: true, Timestamp: -1} // it fails for a file
+		return f.put(number, &pb.FileAction{Action: &pb.FileAction_Mkdir{Mkdir: mkdir}}, copied, nothing)
+	case f.isWhole && c.AllowWildcard && wild < len(parts) && strings.Contains(paths.Text(parts[:wild], ""), `\`) &&
+		paths.IsPattern(strings.Join(parts[wild:], "/")): // BuildKit looks into an input for what is none
+		f.change(number, "a copy of what is before the wildcard")
+		first.Src, first.AllowWildcard, first.AllowEmptyWildcard = paths.Text(parts[:wild], ""), false, false
+		c.Src = first.Dest + paths.Text(parts[wild:], "")
+		return f.put(number, &pb.FileAction{Action: &pb.FileAction_Copy{Copy: &first}}, nothing, second)
+	}
+	return second
 }
 
 // before puts an mkdir before a copy where BuildKit makes a directory, and returns what the copy then works on.

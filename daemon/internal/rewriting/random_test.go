@@ -23,9 +23,7 @@ var names = []string{"a", "b", "c", "d", "ab", `m\x`, "mx", "a b", `\`, "é"}
 const oddName = "a\x01"
 
 // randomTree returns a small tree with files, directories, some with the set-group bit, and owners.
-func randomTree(random *rand.Rand) *rules.Node { return rules.Of(randomEntries(random)) }
-
-func randomEntries(random *rand.Rand) tree.Tree {
+func randomTree(random *rand.Rand) *rules.Node {
 	entries := tree.Tree{{Dir: true, Mode: pick(random, uint32(0o755), 0o755, 0o700, 0o2755)}}
 	var fill func(path string, depth int)
 	fill = func(path string, depth int) {
@@ -47,13 +45,14 @@ func randomEntries(random *rand.Rand) tree.Tree {
 		}
 	}
 	fill("", 0)
-	return entries
+	return rules.Of(entries)
 }
 
 // A texts makes texts of paths and patterns.
 type texts struct {
 	random *rand.Rand
-	plain  bool // without backslashes
+	plain  bool        // without backslashes
+	near   *rules.Node // a tree from which many paths are
 }
 
 func (t texts) part(wild bool) string {
@@ -75,10 +74,17 @@ func (t texts) part(wild bool) string {
 
 func (t texts) text(wild bool) string {
 	var parts []string
-	for n := 1 + t.random.Intn(3); n > 0; n-- {
+	for n := t.near; flag(t.random) && len(n.Names()) > 0; n = n.Child(parts[len(parts)-1]) {
+		parts = append(parts, pick(t.random, n.Names()...))
+	}
+	for n := t.random.Intn(3); n > 0 || len(parts) == 0; n-- {
 		parts = append(parts, t.part(wild))
 	}
-	return pick(t.random, "/", "/", "/", "") + strings.Join(parts, "/") + pick(t.random, "", "", "", "/", "/.", "/..")
+	text := pick(t.random, "/", "/", "/", "") + strings.Join(parts, "/") + pick(t.random, "", "", "", "/", "/.", "/..")
+	if t.plain {
+		text = strings.ReplaceAll(text, `\`, "a")
+	}
+	return text
 }
 
 func randomOwner(random *rand.Rand) *pb.ChownOpt {
@@ -97,9 +103,9 @@ func randomOwner(random *rand.Rand) *pb.ChownOpt {
 	return &pb.ChownOpt{User: one(), Group: one()}
 }
 
-// randomAction returns an action of any kind, with any flags.
-func randomAction(random *rand.Rand, plain bool) *pb.FileAction {
-	t := texts{random, plain}
+// randomAction returns an action of any kind, with any flags, for trees that are like these two.
+func randomAction(random *rand.Rand, plain bool, base, second *rules.Node) *pb.FileAction {
+	t := texts{random, plain, base}
 	mode := pick(random, int32(0o755), 0o644, 0o4755, 0o1777, -1, 0)
 	a := &pb.FileAction{Input: 0, SecondaryInput: nothing, Output: 0}
 	switch random.Intn(6) {
@@ -114,7 +120,7 @@ func randomAction(random *rand.Rand, plain bool) *pb.FileAction {
 		wild := random.Intn(3) > 0
 		a.SecondaryInput = 1
 		a.Action = &pb.FileAction_Copy{Copy: &pb.FileActionCopy{
-			Src: t.text(wild), Dest: t.text(false), Mode: pick(random, keptMode, keptMode, mode), Owner: randomOwner(random), DirCopyContents: flag(random),
+			Src: texts{random, plain, second}.text(wild), Dest: t.text(false), Mode: pick(random, keptMode, keptMode, mode), Owner: randomOwner(random), DirCopyContents: flag(random),
 			CreateDestPath: flag(random), AllowWildcard: wild, AllowEmptyWildcard: flag(random), Timestamp: pick(random, int64(-1), 0),
 		}}
 	}
@@ -165,8 +171,8 @@ func TestWithoutTreesNoRewritingChangesWhatBuildKitMakes(t *testing.T) {
 	random := rand.New(rand.NewSource(1))
 	rewritten, wrong, equalBefore, equalAfter := 0, 0, 0, 0
 	for number := range 8_000 {
-		action := randomAction(random, number%2 == 0)
 		inputs := []*rules.Node{randomTree(random), randomTree(random)}
+		action := randomAction(random, number%2 == 0, inputs[0], inputs[1])
 		given := op(action)
 		f := newFileOp(given)
 		f.treeless()
@@ -189,4 +195,58 @@ func TestWithoutTreesNoRewritingChangesWhatBuildKitMakes(t *testing.T) {
 		}
 	}
 	t.Logf("%d rewritten, %d wrong, %d equal before and %d after", rewritten, wrong, equalBefore, equalAfter)
+}
+
+// randomActions returns the actions of a file op with some inputs. Some are not needed, and some have a second input that does not
+// exist or is done later.
+func randomActions(random *rand.Rand, count int, plain bool, trees []*rules.Node) []*pb.FileAction {
+	index := func(most int) pb.InputIndex { return pb.InputIndex(random.Intn(most+1) - 1) }
+	var found []*pb.FileAction
+	actions := 1 + random.Intn(4)
+	for n := range actions {
+		a := randomAction(random, plain, pick(random, trees...), pick(random, trees...))
+		if a.Input, a.Output = pb.InputIndex(count+n-1), noOutput; random.Intn(3) == 0 {
+			a.Input = index(count + n)
+		}
+		switch {
+		case a.GetCopy() != nil:
+			a.SecondaryInput = index(count + n)
+		case random.Intn(12) == 0:
+			a.SecondaryInput = index(count + actions)
+		}
+		if n == actions-1 {
+			a.Output = 0
+		}
+		found = append(found, a)
+	}
+	return found
+}
+
+func TestWithoutTreesNoRewrittenOpChangesWhatBuildKitMakes(t *testing.T) {
+	random := rand.New(rand.NewSource(5))
+	rewritten, wrong, fail := 0, 0, 0
+	for number := range 4_000 {
+		inputs := []*rules.Node{randomTree(random), randomTree(random)}
+		var given *pb.Op
+		var before []*rules.Ref
+		for try := random.Intn(12); try >= 0 && before == nil; try-- { // most fail
+			given = op(randomActions(random, len(inputs), number%2 == 0, inputs)...)
+			before = made(t, given.GetFile(), inputs, rules.All)
+		}
+		f := newFileOp(given)
+		f.treeless()
+		if before == nil {
+			fail++
+		}
+		if len(f.Changes) == 0 {
+			continue
+		}
+		rewritten++
+		if !areSame(t, before, made(t, &pb.FileOp{Actions: f.new}, inputs, rules.All), inputs[1]) {
+			if wrong++; wrong < 10 {
+				t.Errorf("case %d: %v became %v (%v)", number, given.GetFile(), f.new, f.Changes)
+			}
+		}
+	}
+	t.Logf("%d rewritten, %d wrong, %d fail", rewritten, wrong, fail)
 }

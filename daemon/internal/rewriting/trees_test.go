@@ -160,8 +160,8 @@ func TestByTreesASingleActionEndsAsInBuildKit(t *testing.T) {
 	random := rand.New(rand.NewSource(2))
 	different, changed := 0, 0
 	for number := range 3_000 {
-		action := randomAction(random, number%2 == 0)
 		trees := []*rules.Node{randomTree(random), randomTree(random)}
+		action := randomAction(random, number%2 == 0, trees[0], trees[1])
 		def := definition(t, 2, func(inputs []*pb.Input) *pb.Op {
 			return &pb.Op{Op: &pb.Op_File{File: &pb.FileOp{Actions: []*pb.FileAction{action}}}, Inputs: inputs}
 		})
@@ -177,7 +177,7 @@ func TestByTreesASingleActionEndsAsInBuildKit(t *testing.T) {
 }
 
 // randomOp returns a file op with several actions, or a merge.
-func randomOp(random *rand.Rand, inputs []*pb.Input, plain bool) *pb.Op {
+func randomOp(random *rand.Rand, inputs []*pb.Input, plain bool, trees []*rules.Node) *pb.Op {
 	made := &pb.Op{}
 	for n := 1 + random.Intn(3); n > 0; n-- {
 		made.Inputs = append(made.Inputs, pick(random, inputs...))
@@ -196,25 +196,7 @@ func randomOp(random *rand.Rand, inputs []*pb.Input, plain bool) *pb.Op {
 		made.Op = &pb.Op_Merge{Merge: merge}
 		return made
 	}
-	f := &pb.FileOp{}
-	actions := 1 + random.Intn(4)
-	for n := range actions {
-		a := randomAction(random, plain)
-		if a.Input, a.Output = pb.InputIndex(count+n-1), noOutput; random.Intn(3) == 0 {
-			a.Input = index(count + n)
-		}
-		switch {
-		case a.GetCopy() != nil:
-			a.SecondaryInput = index(count + n)
-		case random.Intn(12) == 0:
-			a.SecondaryInput = index(count + actions)
-		}
-		if n == actions-1 {
-			a.Output = 0
-		}
-		f.Actions = append(f.Actions, a)
-	}
-	made.Op = &pb.Op_File{File: f}
+	made.Op = &pb.Op_File{File: &pb.FileOp{Actions: randomActions(random, count, plain, trees)}}
 	return made
 }
 
@@ -226,7 +208,7 @@ func randomDefinition(t *testing.T, random *rand.Rand, trees []*rules.Node, plai
 	for n := 1 + random.Intn(4); n > 0; n-- {
 		for try := random.Intn(8); ; try-- {
 			seed := random.Int63()
-			more := append(slices.Clip(ops), func(inputs []*pb.Input) *pb.Op { return randomOp(rand.New(rand.NewSource(seed)), inputs, plain) })
+			more := append(slices.Clip(ops), func(inputs []*pb.Input) *pb.Op { return randomOp(rand.New(rand.NewSource(seed)), inputs, plain, trees) })
 			def = definition(t, len(trees), more...)
 			if try <= 0 || run(t, def, trees, rules.All) != nil {
 				ops = more

@@ -86,11 +86,19 @@ func failed(err error) (*ActionFails, bool) {
 	return one, ok
 }
 
+// WithoutLayers returns refs whose layers nothing needs, so that these can be forgotten; nil of nil.
+func WithoutLayers(refs []*Ref) []*Ref {
+	if refs == nil {
+		return nil
+	}
+	return asRefs(asTrees(refs))
+}
+
 // asRefs returns trees without layers.
 func asRefs(trees []*Node) []*Ref {
 	out := []*Ref{}
 	for _, t := range trees {
-		out = append(out, &Ref{tree: t})
+		out = append(out, Based(t))
 	}
 	return out
 }

@@ -97,9 +97,11 @@ func (f *sideBySide) steps() ([]Step, error) {
 	return f.whole()
 }
 
-// whole returns the step of the op if its outputs differ.
+// whole returns the step of the op if its inputs agree, and its outputs do not.
 func (f *sideBySide) whole() ([]Step, error) {
-	before := pairsOf(asTrees(f.inputsThere), f.inputsHere)
+	if len(pairsOf(asTrees(f.inputsThere), f.inputsHere)) > 0 {
+		return nil, nil
+	}
 	for i := range max(len(f.outputsThere), len(f.outputsHere)) {
 		var one pair
 		if i < len(f.outputsThere) {
@@ -109,11 +111,11 @@ func (f *sideBySide) whole() ([]Step, error) {
 			one.here = f.outputsHere[i]
 		}
 		s := &search{ctx: f.ctx, most: mostLines}
-		if err := s.below("", one, before); err != nil {
+		if err := s.below("", one, nil); err != nil {
 			return nil, err
 		}
 		if len(s.found) > 0 {
-			return []Step{stepOf(-1, s, len(before) > 0, func(difference) []Rule { return nil })}, nil
+			return []Step{stepOf(-1, s, false, func(difference) []Rule { return nil })}, nil
 		}
 	}
 	return nil, nil
@@ -142,7 +144,7 @@ func (f *sideBySide) action(number int) (Step, error) {
 	switch {
 	case f.faultThere != nil && f.faultHere != nil:
 	case f.faultThere != nil && f.faultThere.Action == number:
-		s.Lines = []Line{f.lineOfFault("fails: "+f.faultThere.Error(), f.causesOfFault(number, there, here), number)}
+		s.Lines = []Line{f.lineOfFault("fails: "+f.faultThere.Error(), f.causesOfFault(number, here), number)}
 	case f.faultHere != nil && f.sentAs(f.faultHere.Action) == number && !isThere:
 		s.Lines = []Line{lineOf("is not done (here it fails)", []Rule{UnusedAction})}
 	case f.faultHere != nil && f.sentAs(f.faultHere.Action) == number:
@@ -182,21 +184,26 @@ func (f *sideBySide) causesOf(number int, there, here *step) *causes {
 	return causesOfAction(f.ctx, f.sent.Actions[number], there, here)
 }
 
-// causesOfFault returns the rules by which an action fails in BuildKit: its own, or one of the op.
-func (f *sideBySide) causesOfFault(number int, there, here *step) []Rule {
-	if there.base == nil { // it was not done
-		if fault, ok := failed(checkSelected(f.sent.Actions, f.inputsThere)); ok && fault.Action == number {
-			return []Rule{Selected}
-		}
-		if fault, ok := failed(checkSecondInputs(f.sent.Actions, len(f.inputsThere))); ok && fault.Action == number {
-			return []Rule{SecondInput}
-		}
-		there = f.there.failed
+// causesOfFault returns the rules by which an action fails in BuildKit: its own, on the trees that it failed on or, if BuildKit did
+// not come to it, that llbm has; or else one of the op.
+func (f *sideBySide) causesOfFault(number int, here *step) []Rule {
+	on := f.there.failed
+	if on == nil {
+		on = here
 	}
-	if there == nil {
-		return nil
+	if on == nil {
+		on = &step{base: Empty(), second: Empty()}
 	}
-	return f.causesOf(number, there, here).ofFault()
+	if found := f.causesOf(number, on, here).ofFault(); len(found) > 0 {
+		return found
+	}
+	if fault, ok := failed(checkSelected(f.sent.Actions, f.inputsThere)); ok && fault.Action == number {
+		return []Rule{Selected}
+	}
+	if fault, ok := failed(checkSecondInputs(f.sent.Actions, len(f.inputsThere))); ok && fault.Action == number {
+		return []Rule{SecondInput}
+	}
+	return nil
 }
 
 // writesLinked is whether an action writes into a file that has other names.

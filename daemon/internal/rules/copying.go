@@ -25,7 +25,7 @@ type copier struct {
 // A laying is what the result of a copy depends on, besides the action: what is there, what is copied, and the directory that
 // it is copied into. A tree that has itself many times is copied once.
 type laying struct {
-	old, from *Node
+	old, from persistent.Sum
 	setGroup  bool
 	group     uint32
 	isSource  bool
@@ -187,7 +187,7 @@ func (c *copier) lay(path, source []string, old, from *Node, in entry, isSource 
 	if !from.dir {
 		return shared(newNode(one, persistent.Map[*Node]{}), old), nil
 	}
-	key := laying{old, from, inherits(in, c.like), in.group, isSource}
+	key := laying{old.Sum(), from.Sum(), inherits(in, c.like), in.group, isSource}
 	if found := c.laid[key]; found != nil {
 		return found, nil
 	}

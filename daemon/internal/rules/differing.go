@@ -154,7 +154,8 @@ func (s *search) at(path string, after pair, before []pair) error {
 		}
 		isEntry = isEntry && !sameEntries(was, after)
 	}
-	if from, ok := s.there["/"+path]; ok && from == s.here["/"+path] {
+	from, isGrafted := s.there["/"+path]
+	if isGrafted = isGrafted && from == s.here["/"+path]; isGrafted && from != "/" {
 		return nil
 	}
 	if isEntry {
@@ -165,7 +166,7 @@ func (s *search) at(path string, after pair, before []pair) error {
 		s.found = append(s.found, difference{path, after})
 	}
 	key := keyOf(after, before)
-	if s.withoutFound[key] {
+	if isGrafted || s.withoutFound[key] { // of a root that was copied only the entry is new, as no result showed it
 		return nil
 	}
 	count := len(s.found)

@@ -2,27 +2,36 @@ package rules
 
 import "llbm/daemon/internal/persistent"
 
-// A Ref is a tree with the change that all its layers make of a tree that they are laid over. BuildKit's merges lay layers.
+// A Ref is a tree with its layers: it is a change of another one, or of nothing, or a merge of others. BuildKit's merges lay layers.
 type Ref struct {
-	tree   *Node
-	change *change // nil if the tree is not known to be one of layers
+	tree    *Node
+	base    *Ref
+	change  *change // of all its layers, once a merge has asked for it
+	isKnown bool
 }
 
 // Tree returns the ref's tree.
 func (r *Ref) Tree() *Node { return r.tree }
 
 // Based returns a tree that is one layer.
-func Based(t *Node) *Ref { return &Ref{t, changeOf(nil, t)} }
+func Based(t *Node) *Ref { return &Ref{tree: t} }
 
 // On returns a tree that is a change of another one, or of nothing.
-func On(base *Ref, t *Node) *Ref {
-	if base == nil {
-		return Based(t)
+func On(base *Ref, t *Node) *Ref { return &Ref{tree: t, base: base} }
+
+// layers returns the change that all layers of a ref make of a tree that they are laid over.
+func (r *Ref) layers() *change {
+	if r.isKnown {
+		return r.change
 	}
-	if base.change == nil {
-		return &Ref{tree: t}
+	l := newLayering()
+	if r.base == nil {
+		r.change = l.changeOf(nil, r.tree)
+	} else {
+		r.change = l.composed(r.base.layers(), l.changeOf(r.base.tree, r.tree))
 	}
-	return &Ref{t, composed(base.change, changeOf(base.tree, t))}
+	r.base, r.isKnown = nil, true
+	return r.change
 }
 
 // A change is what layers do at a path: they put a tree there, or remove what is there (puts, with a node or none), or they
@@ -56,62 +65,96 @@ func inDirectory(one entry, below persistent.Map[*change]) *change {
 	return &change{entry: one, below: below, sum: persistent.SumOf(append(append([]byte{1}, self[:]...), sum[:]...))}
 }
 
+// A layering remembers what it made of the same nodes and changes, since a tree may have one node many times.
+type layering struct {
+	changes  map[sums]*change
+	composes map[sums]*change
+	applies  map[sums]*Node
+}
+
+// sums are those of two nodes or changes.
+type sums [2]persistent.Sum
+
+func newLayering() *layering {
+	return &layering{map[sums]*change{}, map[sums]*change{}, map[sums]*Node{}}
+}
+
 // changeOf returns the layer that makes one node of another one, or of none. A change below a directory brings its entry with
 // it.
-func changeOf(lower, upper *Node) *change {
+func (l *layering) changeOf(lower, upper *Node) *change {
 	switch {
 	case Equal(lower, upper):
 		return nil
 	case upper == nil || !upper.dir:
 		return putting(upper)
 	}
+	key := sums{lower.Sum(), upper.Sum()}
+	if known := l.changes[key]; known != nil {
+		return known
+	}
 	var below persistent.Builder[*change]
 	for name, pair := range persistent.Differing(lower.children(), upper.below) {
-		below.Add(name, changeOf(pair.A, pair.B))
+		below.Add(name, l.changeOf(pair.A, pair.B))
 	}
-	return inDirectory(upper.entry, below.Map())
+	l.changes[key] = inDirectory(upper.entry, below.Map())
+	return l.changes[key]
 }
 
 // composed returns a change that is made after another one.
-func composed(first, second *change) *change {
+func (l *layering) composed(first, second *change) *change {
 	switch {
 	case second == nil || first.Sum() == second.Sum():
 		return first
 	case first == nil || second.puts:
 		return second
-	case first.puts:
-		return putting(second.applied(first.node))
 	}
-	below, _ := persistent.Union(first.below, second.below, func(a, b *change) (*change, error) { return composed(a, b), nil })
-	if below == second.below && first.entry == second.entry {
-		return second
+	key := sums{first.Sum(), second.Sum()}
+	if known := l.composes[key]; known != nil {
+		return known
 	}
-	return inDirectory(second.entry, below)
+	made := second
+	if first.puts {
+		made = putting(l.applied(second, first.node))
+	} else {
+		below, _ := persistent.Union(first.below, second.below, func(a, b *change) (*change, error) { return l.composed(a, b), nil })
+		if below != second.below {
+			made = inDirectory(second.entry, below)
+		}
+	}
+	l.composes[key] = made
+	return made
 }
 
-// applied returns what the change makes of a node, or of none.
-func (c *change) applied(old *Node) *Node {
+// applied returns what a change makes of a node, or of none.
+func (l *layering) applied(c *change, old *Node) *Node {
 	if c.puts {
 		return c.node
 	}
-	if !old.IsDir() || old.below.Len() == 0 {
-		var below persistent.Builder[*Node]
-		for name, one := range c.below.All() {
-			if after := one.applied(nil); after != nil {
-				below.Add(name, after)
-			}
-		}
-		return newNode(c.entry, below.Map())
+	key := sums{c.Sum(), old.Sum()}
+	if known := l.applies[key]; known != nil {
+		return known
 	}
-	below := old.below
+	l.applies[key] = newNode(c.entry, l.appliedBelow(c, old.children()))
+	return l.applies[key]
+}
+
+func (l *layering) appliedBelow(c *change, old persistent.Map[*Node]) persistent.Map[*Node] {
+	var fresh persistent.Builder[*Node]
+	after := old
 	for name, one := range c.below.All() {
-		if after := one.applied(below.Get(name)); after != nil {
-			below = below.Put(name, after)
-		} else {
-			below = below.Delete(name)
+		switch made := l.applied(one, old.Get(name)); {
+		case made == nil:
+			after = after.Delete(name)
+		case old.Len() == 0:
+			fresh.Add(name, made)
+		default:
+			after = after.Put(name, made)
 		}
 	}
-	return newNode(c.entry, below)
+	if old.Len() == 0 {
+		return fresh.Map()
+	}
+	return after
 }
 
 // merged returns the merge of one or more trees: their layers, one over the other, below a root that stays as it is. One tree
@@ -120,22 +163,29 @@ func merged(refs []*Ref) *Ref {
 	if len(refs) == 1 {
 		return refs[0]
 	}
+	l := newLayering()
 	var all *change
 	for _, one := range refs {
-		all = composed(all, one.change)
+		all = l.composed(all, one.layers())
 	}
 	t := Empty()
 	if all != nil {
-		t = t.over(all.applied(t).below)
+		t = t.over(l.applied(all, t).below)
 	}
-	return &Ref{t, all}
+	return &Ref{tree: t, change: all, isKnown: true}
 }
 
 // laid returns one tree laid over another, as llbm does it.
-func laid(lower, upper *Node) *Node {
+func laid(lower, upper *Node) *Node { return laidWith(lower, upper, map[sums]*Node{}) }
+
+func laidWith(lower, upper *Node, known map[sums]*Node) *Node {
 	if Equal(lower, upper) || !lower.IsDir() || !upper.dir {
 		return upper
 	}
-	below, _ := persistent.Union(lower.below, upper.below, func(a, b *Node) (*Node, error) { return laid(a, b), nil })
-	return upper.over(below)
+	key := sums{lower.Sum(), upper.Sum()}
+	if known[key] == nil {
+		below, _ := persistent.Union(lower.below, upper.below, func(a, b *Node) (*Node, error) { return laidWith(a, b, known), nil })
+		known[key] = upper.over(below)
+	}
+	return known[key]
 }

@@ -35,5 +35,5 @@ func Merge(ctx context.Context, op *pb.MergeOp, inputs []*Ref, like Rules) (*Ref
 		}
 		t = laid(t, one.tree)
 	}
-	return &Ref{tree: t}, nil
+	return Based(t), nil
 }

@@ -48,6 +48,9 @@ func Possible(ctx context.Context, vertices []graph.Vertex) ([]Possibility, erro
 		}
 		values[v] = outputs
 	}
+	if v := Deep(vertices); v >= 0 {
+		found = append(found, Possibility{Vertex: v, Action: -1, Name: Depth})
+	}
 	return found, nil
 }
 

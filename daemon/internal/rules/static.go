@@ -2,6 +2,7 @@ package rules
 
 import (
 	"fmt"
+	"slices"
 
 	"github.com/moby/buildkit/solver/pb"
 	digest "github.com/opencontainers/go-digest"
@@ -14,6 +15,7 @@ const (
 	ShortMerge   = "ShortMerge"
 	UnknownInput = "UnknownInput"
 	RmAboveRoot  = "RmAboveRoot"
+	Refused      = "Refused"
 )
 
 // Breaks is whether BuildKit's daemon dies of what a note names.
@@ -33,8 +35,11 @@ func Static(op *pb.Op) []Step {
 	add := func(action int, name string) {
 		out = append(out, Step{Action: action, Lines: []Line{lineOfNote(name)}})
 	}
-	if op.GetExec() != nil {
+	if exec := op.GetExec(); exec != nil {
 		add(-1, Execution)
+		if why, _ := Refusal(exec); why != "" {
+			add(-1, Refused)
+		}
 	}
 	wanted := map[int]bool{-1: true}
 	for _, number := range needed(op.GetFile().GetActions(), len(op.Inputs), All) {
@@ -46,6 +51,24 @@ func Static(op *pb.Op) []Step {
 		}
 	}
 	return out
+}
+
+// StepOfNote returns a step of a vertex as a whole by a note.
+func StepOfNote(name string) Step { return Step{Action: -1, Lines: []Line{lineOfNote(name)}} }
+
+// Refusal returns why BuildKit refuses an execution as it loads a definition, in its words, and whether it is for lack of an
+// entitlement; or nothing.
+func Refusal(exec *pb.ExecOp) (why string, isDenied bool) {
+	isRoot := func(m *pb.Mount) bool { return m.Dest == pb.RootMount }
+	switch {
+	case !slices.ContainsFunc(exec.Mounts, isRoot):
+		return "invalid exec op with no rootfs", false
+	case exec.Network == pb.NetMode_HOST:
+		return "network.host is not allowed", true
+	case exec.Security == pb.SecurityMode_INSECURE:
+		return "security.insecure is not allowed", true
+	}
+	return "", false
 }
 
 // diesOf returns the step of an action that fails, if BuildKit's daemon dies of it.

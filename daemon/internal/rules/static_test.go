@@ -13,12 +13,14 @@ func rmOf(path string) *pb.FileAction {
 }
 
 func TestWhatKillsBuildKitsDaemonIsSaidWithoutTrees(t *testing.T) {
+	root := []*pb.Mount{{Dest: "/"}}
 	one, two := []*pb.Input{{Digest: "a"}}, []*pb.Input{{Digest: "a"}, {Digest: "b"}}
 	for want, op := range map[string]*pb.Op{
-		"":                 {Inputs: two, Op: &pb.Op_Merge{Merge: &pb.MergeOp{Inputs: []*pb.MergeInput{{Input: 0}, {Input: 1}}}}},
-		"-1 Execution ":    {Op: &pb.Op_Exec{Exec: &pb.ExecOp{}}},
-		"-1 SourceInputs ": {Inputs: one, Op: &pb.Op_Source{Source: &pb.SourceOp{}}},
-		"-1 ShortMerge ":   {Inputs: two, Op: &pb.Op_Merge{Merge: &pb.MergeOp{Inputs: []*pb.MergeInput{{Input: 1}}}}},
+		"":                         {Inputs: two, Op: &pb.Op_Merge{Merge: &pb.MergeOp{Inputs: []*pb.MergeInput{{Input: 0}, {Input: 1}}}}},
+		"-1 Execution ":            {Op: &pb.Op_Exec{Exec: &pb.ExecOp{Mounts: root}}},
+		"-1 Execution -1 Refused ": {Op: &pb.Op_Exec{Exec: &pb.ExecOp{Mounts: root, Security: pb.SecurityMode_INSECURE}}},
+		"-1 SourceInputs ":         {Inputs: one, Op: &pb.Op_Source{Source: &pb.SourceOp{}}},
+		"-1 ShortMerge ":           {Inputs: two, Op: &pb.Op_Merge{Merge: &pb.MergeOp{Inputs: []*pb.MergeInput{{Input: 1}}}}},
 		"1 RmAboveRoot 3 RmAboveRoot ": {Op: &pb.Op_File{File: &pb.FileOp{Actions: []*pb.FileAction{
 			rmOf("/.."), rmOf(".."), rmOf("a/.."), rmOf("a/../.."), rmOf("../a"),
 		}}}},

@@ -120,54 +120,6 @@ func TestOneNameWithTwoFiltersIsTwoSources(t *testing.T) {
 	}
 }
 
-func TestAnUnchangedSourceIsNotSentAgain(t *testing.T) {
-	d := started(t, nil)
-	dir := directory(t, map[string]string{"a": "same", "b": "old"})
-	opt := client.SolveOpt{LocalDirs: map[string]string{"context": dir}}
-	sent := func() int64 {
-		ch := make(chan *client.SolveStatus)
-		var bytes int64
-		var done sync.WaitGroup
-		done.Add(1)
-		go func() {
-			defer done.Done()
-			for event := range ch {
-				for _, s := range event.Statuses {
-					bytes = max(bytes, s.Current)
-				}
-			}
-		}()
-		_, err := d.Solve(context.Background(), marshal(t, llb.Local("context")), opt, ch)
-		done.Wait()
-		if err != nil {
-			t.Fatal(err)
-		}
-		return bytes
-	}
-	if first, again := sent(), sent(); first != 7 || again != 0 {
-		t.Error(first, again)
-	}
-	if err := os.WriteFile(filepath.Join(dir, "b"), []byte("newer"), 0o644); err != nil {
-		t.Fatal(err)
-	}
-	if changed := sent(); changed != 5 {
-		t.Error(changed)
-	}
-	usage, err := d.DiskUsage(context.Background())
-	if err != nil || len(usage) != 1 || usage[0].Size != 9 {
-		t.Errorf("%+v %v", usage, err)
-	}
-	if err := d.Prune(context.Background(), nil); err != nil {
-		t.Error(err)
-	}
-	if usage, err := d.DiskUsage(context.Background()); err != nil || len(usage) != 0 {
-		t.Errorf("%+v %v", usage, err)
-	}
-	if again := sent(); again != 9 {
-		t.Error(again)
-	}
-}
-
 func TestRefusalsHaveACodeAndLlbmsNumber(t *testing.T) {
 	d := started(t, nil)
 	file := llb.Scratch().File(llb.Mkfile("/a", 0o644, nil))

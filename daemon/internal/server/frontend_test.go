@@ -113,7 +113,8 @@ func TestAFrontendIsAChild(t *testing.T) {
 func TestARefusalThatCameThroughAFrontendHasItsCodeOnce(t *testing.T) {
 	d := withFrontend(t)
 	_, err := said(t, d, context.Background(), "image")
-	want := "failed to solve: Unimplemented: alpine: llbm: fault 88 Source: alpine is an image, and llbm has no registries"
+	want := "failed to solve: Unimplemented: alpine: llbm: fault 88 Source: alpine is an image: llbm has no registries; " +
+		"with the option --build-context alpine=DIRECTORY of docker buildx a directory takes its place"
 	if err == nil || err.Error() != want {
 		t.Errorf("%v, not %s", err, want)
 	}

@@ -5,7 +5,6 @@ import (
 	"fmt"
 	"io"
 	"io/fs"
-	"net"
 	"os"
 	"os/exec"
 	"path/filepath"
@@ -23,6 +22,7 @@ import (
 	"google.golang.org/grpc"
 	"google.golang.org/grpc/codes"
 	"google.golang.org/grpc/status"
+	"llbm/daemon/internal/messages"
 )
 
 // phases are those of a build in which its client may vanish. Each says when it has come.
@@ -225,23 +225,7 @@ func TestABuildIsBounded(t *testing.T) {
 }
 
 func TestAFullStoreRefusesABuildAndGoesOn(t *testing.T) {
-	d := started(t, func(o *Options) { o.StoreBytes = 1000 })
-	build := func(size int) error {
-		dirs := map[string]string{"context": directory(t, map[string]string{"a": strings.Repeat("x", size)})}
-		_, err := d.solved(t, llb.Local("context"), client.SolveOpt{LocalDirs: dirs})
-		return err
-	}
-	if err := build(600); err != nil {
-		t.Error(err)
-	}
-	if err := build(1001); status.Code(unwrapped(err)) != codes.ResourceExhausted || !strings.Contains(err.Error(), "full") {
-		t.Error(err)
-	}
-	for i := 0; i < 3; i++ { // what was kept of the builds before is given up
-		if err := build(900); err != nil {
-			t.Error(err)
-		}
-	}
+	goesOn(t, started(t, func(o *Options) { o.StoreBytes = 1 << 20 }), "full")
 }
 
 func TestAFullDiskRefusesABuildAndGoesOn(t *testing.T) {
@@ -250,17 +234,26 @@ func TestAFullDiskRefusesABuildAndGoesOn(t *testing.T) {
 		t.Skipf("no small disk can be made here: %v", err)
 	}
 	t.Cleanup(func() { _ = syscall.Unmount(folder, syscall.MNT_DETACH) })
-	d := started(t, func(o *Options) { o.Store = folder })
-	build := func(size int) error {
-		dirs := map[string]string{"context": directory(t, map[string]string{"a": strings.Repeat("x", size)})}
-		_, err := d.solved(t, llb.Local("context"), client.SolveOpt{LocalDirs: dirs})
+	goesOn(t, started(t, func(o *Options) { o.Store = folder }), "no space left")
+}
+
+// goesOn builds with sources on a daemon whose store has room for one MiB: what does not fit is refused, and what is kept of the builds
+// before is given up.
+func goesOn(t *testing.T, d *daemon, refusal string) {
+	t.Helper()
+	build := func(name string, size int) error {
+		dirs := map[string]string{name: directory(t, map[string]string{"a": strings.Repeat("x", size)})}
+		_, err := d.solved(t, llb.Scratch().File(llb.Copy(llb.Local(name), "a", "/a")), client.SolveOpt{LocalDirs: dirs, SharedKey: "key"})
 		return err
 	}
-	if err := build(2 << 20); status.Code(unwrapped(err)) != codes.ResourceExhausted || !strings.Contains(err.Error(), "no space left") {
-		t.Error(err)
-	}
-	if err := build(500 << 10); err != nil {
-		t.Error(err)
+	for i, size := range []int{700 << 10, 2 << 20, 500 << 10, 900 << 10, 800 << 10} {
+		err := build(fmt.Sprint("context", i), size)
+		if size < 1<<20 && err != nil {
+			t.Error(size, err)
+		}
+		if size > 1<<20 && (status.Code(unwrapped(err)) != codes.ResourceExhausted || !strings.Contains(err.Error(), refusal)) {
+			t.Error(size, err)
+		}
 	}
 }
 
@@ -300,7 +293,8 @@ func TestAnotherUserIsRefused(t *testing.T) {
 			t.Fatal(err)
 		}
 	}
-	for uid, want := range map[uint32]string{0: "served", 1234: "refused"} {
+	refused := "PermissionDenied: user 1234 is not served by this llbmd: its own user, 0, and root are"
+	for uid, want := range map[uint32]string{0: "served", 1234: refused} {
 		cmd := exec.Command(self(t, dialName), path)
 		cmd.SysProcAttr = &syscall.SysProcAttr{Credential: &syscall.Credential{Uid: uid, Gid: uid}}
 		out, err := cmd.CombinedOutput()
@@ -312,15 +306,14 @@ func TestAnotherUserIsRefused(t *testing.T) {
 
 // dial prints whether the daemon at a path serves this process.
 func dial(path string) {
-	conn, err := net.Dial("unix", path)
-	if err != nil {
-		fmt.Println(err)
-		return
+	ctx, cancel := context.WithTimeout(context.Background(), patience)
+	defer cancel()
+	c, err := client.New(ctx, "unix://"+path)
+	if err == nil {
+		_, err = c.ListWorkers(ctx)
 	}
-	// A server that serves sends its settings at once.
-	_ = conn.SetDeadline(time.Now().Add(patience))
-	if n, err := conn.Read(make([]byte, 1)); n != 1 || err != nil {
-		fmt.Println("refused")
+	if err != nil {
+		fmt.Printf("%s: %s\n", status.Code(unwrapped(err)), messages.Of(unwrapped(err)))
 		return
 	}
 	fmt.Println("served")

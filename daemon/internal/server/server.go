@@ -46,6 +46,8 @@ const (
 	mostSessions = 1024
 	mostHistory  = 64
 	mostStreams  = 4096
+	// mostFrontends bounds the frontends that clients ask for and that run at once.
+	mostFrontends = 32
 )
 
 // Options are those of the command line.
@@ -63,6 +65,7 @@ type Options struct {
 	Kept       *kept.Folder
 	Notes      *notes.Table
 	Literal    bool
+	Strict     bool
 }
 
 // A Daemon is what serves clients, with what all their builds share.
@@ -99,9 +102,9 @@ func New(ctx context.Context, o Options) (*Daemon, error) {
 	if solver.Rules, err = findRules(o.Rules, o.Limits); err != nil {
 		return nil, err
 	}
-	solver.Notes, solver.Platform, solver.Literal = o.Notes, workers[0].Platforms[0], o.Literal
+	solver.Notes, solver.Platform, solver.Literal, solver.Strict = o.Notes, workers[0].Platforms[0], o.Literal, o.Strict
 	bridge := &gateway.Gateway{Builds: all, Solver: solver, Frontends: o.Frontends, Workers: workers}
-	o.Frontends.Gateway, o.Frontends.Limits = bridge, o.Limits
+	o.Frontends.Gateway, o.Frontends.Limits, o.Frontends.AtOnce = bridge, o.Limits, mostFrontends
 	o.Frontends.Server = func() *grpc.Server { return grpc.NewServer(serverOptions(nil)...) }
 	g := grpc.NewServer(serverOptions(peers.Credentials())...)
 	controlapi.RegisterControlServer(g, &control.Control{
@@ -139,7 +142,7 @@ func serverOptions(c credentials.TransportCredentials) []grpc.ServerOption {
 		grpc.MaxRecvMsgSize(mostMessage), grpc.MaxSendMsgSize(mostMessage), grpc.MaxConcurrentStreams(mostStreams),
 	}
 	if c != nil {
-		options = append(options, grpc.Creds(c))
+		options = append(options, grpc.Creds(c), grpc.InTapHandle(peers.Tap))
 	}
 	return options
 }

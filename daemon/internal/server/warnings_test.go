@@ -60,7 +60,7 @@ func TestFieldsWithoutAnEffectAreWarnings(t *testing.T) {
 		t.Fatal(err)
 	}
 	d := started(t, func(o *Options) { o.Notes = table })
-	run := llb.Scratch().Run(llb.Args([]string{"true"}), llb.Dir("/"), llb.User("app"), llb.Network(llb.NetModeHost))
+	run := llb.Scratch().Run(llb.Args([]string{"true"}), llb.Dir("/"), llb.User("app"), llb.Network(llb.NetModeNone))
 	want := "User has no effect: the user of the process\nNetwork has no effect: the network of the process\n" + anExecution
 	if got, err := d.warnings(t, run.Root(), client.SolveOpt{}); got != want || err != nil {
 		t.Errorf("%q %v", got, err)
@@ -107,8 +107,10 @@ func TestFieldsOfNewerVersionsAreWarnings(t *testing.T) {
 	}
 }
 
+func literally(o *Options) { o.Literal = true }
+
 func TestWhatEndsOtherwiseInBuildKitIsAWarning(t *testing.T) {
-	d := started(t, nil)
+	d, literal := started(t, nil), started(t, literally)
 	file := llb.Scratch().File(llb.Mkfile("/a", 0o604, []byte("1")))
 	other := llb.Scratch().File(llb.Mkfile("/b", 0o644, nil))
 	removed := file.File(llb.Rm("/a")).File(llb.Mkfile("/c", 0o644, nil))
@@ -117,30 +119,34 @@ func TestWhatEndsOtherwiseInBuildKitIsAWarning(t *testing.T) {
 	from := llb.Scratch().File(llb.Mkdir("/d/e", 0o755, llb.WithParents(true)).Mkdir("/d/f", 0o755))
 	made := into.File(llb.Copy(from, "/d", "/"))
 	run := llb.Scratch().Run(llb.Args([]string{"write", "/f", "x"}), llb.Dir("/")).Root()
+	over := "action 0: /a has mode 0604 (here 0755): MkfileOver"
 	for name, one := range map[string]struct {
-		state llb.State
-		want  string
+		daemon *daemon
+		state  llb.State
+		want   string
 	}{
-		"nothing differs":              {llb.Merge([]llb.State{file, other}).File(llb.Copy(other, "/b", "/n/", &llb.CopyInfo{CreateDestPath: true})), ""},
-		"a file over a file":           {file.File(llb.Mkdir("/x", 0o755).Mkfile("/a", 0o755, nil)), "action 1: /a has mode 0604 (here 0755): MkfileOver"},
-		"a removal that counts":        {llb.Merge([]llb.State{again, removed}), "/a is missing (here a file): MergeLayers"},
-		"a removal of what is not":     {llb.Merge([]llb.State{other, removed}), ""},
-		"a removal that comes first":   {llb.Merge([]llb.State{removed, again}), ""},
-		"what follows of a difference": {file.File(llb.Mkfile("/a", 0o755, nil)).File(llb.Mkdir("/y", 0o755)), "action 0: /a has mode 0604 (here 0755): MkfileOver"},
-		"a directory over another one": {made, "action 0: /d/e has mode 0755 (here 0700): NestedDirectory"},
-		"over what an execution made":  {run.File(llb.Mkfile("/f", 0o600, nil)), anExecution + "\naction 0: /f has mode 0644 (here 0600): MkfileOver"},
+		"nothing differs": {
+			literal, llb.Merge([]llb.State{file, other}).File(llb.Copy(other, "/b", "/n/b", &llb.CopyInfo{CreateDestPath: true})), "",
+		},
+		"a file over a file":           {literal, file.File(llb.Mkdir("/x", 0o755).Mkfile("/a", 0o755, nil)), "action 1: /a has mode 0604 (here 0755): MkfileOver"},
+		"a removal that counts":        {literal, llb.Merge([]llb.State{again, removed}), "/a is missing (here a file): MergeLayers"},
+		"a removal of what is not":     {literal, llb.Merge([]llb.State{other, removed}), ""},
+		"a removal that comes first":   {literal, llb.Merge([]llb.State{removed, again}), ""},
+		"what follows of a difference": {literal, file.File(llb.Mkfile("/a", 0o755, nil)).File(llb.Mkdir("/y", 0o755)), over},
+		"a directory over another one": {literal, made, "action 0: /d/e has mode 0755 (here 0700): NestedDirectory"},
+		"over what an execution made":  {d, run.File(llb.Mkfile("/f", 0o600, nil)), anExecution + "\naction 0: /f has mode 0644 (here 0600): MkfileOver"},
 		"an action after one that is new": {
-			file.File(llb.Copy(other, "/b", "/new/").Mkfile("/a", 0o755, nil)), "action 1: /a has mode 0604 (here 0755): MkfileOver",
+			d, run.File(llb.Copy(other, "/b", "/new/").Mkfile("/f", 0o600, nil)), anExecution + "\naction 1: /f has mode 0644 (here 0600): MkfileOver",
 		},
 	} {
-		if got, err := d.warnings(t, one.state, client.SolveOpt{}); got != one.want || err != nil {
+		if got, err := one.daemon.warnings(t, one.state, client.SolveOpt{}); got != one.want || err != nil {
 			t.Errorf("%s: %q, not %q %v", name, got, one.want, err)
 		}
 	}
 }
 
 func TestAFailureThatBuildKitDoesNotHaveIsAWarning(t *testing.T) {
-	d := started(t, nil)
+	d := started(t, literally)
 	file := llb.Scratch().File(llb.Mkfile("/a", 0o604, nil))
 	got, err := d.warnings(t, file.File(llb.Mkdir("/a", 0o755)), client.SolveOpt{})
 	if err == nil || got != "action 0: does not fail (here: /a is a file): MkdirOver" {
@@ -163,8 +169,8 @@ func changed(t *testing.T, state llb.State, change func(*pb.Op) bool) *llb.Defin
 	return &llb.Definition{Def: out.Def}
 }
 
-// llbmd rewrites these ops to ones that BuildKit takes, and it dies of them or refuses them as they are.
-func TestWhatBuildKitRefusesIsAWarningAlsoWhereItIsRewritten(t *testing.T) {
+// Of the last one BuildKit's daemon dies, and llbmd rewrites it to one that it takes.
+func TestWhatBuildKitRefusesFailsOrIsAWarning(t *testing.T) {
 	file := llb.Scratch().File(llb.Mkfile("/a", 0o644, nil))
 	other := llb.Scratch().File(llb.Mkfile("/b", 0o644, nil))
 	merged := llb.Merge([]llb.State{file, other, llb.Scratch().File(llb.Mkfile("/c", 0o644, nil))})
@@ -188,29 +194,24 @@ func TestWhatBuildKitRefusesIsAWarningAlsoWhereItIsRewritten(t *testing.T) {
 		}
 		return op.GetMerge() != nil
 	})
+	dies := "its daemon dies (here lays what is listed): ShortMerge"
+	loop := "the second input depends on the action"
 	for name, one := range map[string]struct {
-		def                  *llb.Definition
-		want, wantsLiterally string
+		def         *llb.Definition
+		literal     bool
+		want, fails string
 	}{
-		"the action itself as its second input": {
-			second, "action 0: fails: the second input depends on the action: SecondInput",
-			"action 0: fails: the second input depends on the action: SecondInput",
-		},
-		"a copy of what is missing that is not done": {selected, "action 2: fails: /missing is missing: Selected", ""},
-		"a merge that lists too few": {
-			short, "its daemon dies (here lays what is listed): ShortMerge", "its daemon dies (here lays what is listed): ShortMerge",
-		},
+		"the action itself as its second input":      {second, true, "action 0: fails: " + loop + ": SecondInput", ""},
+		"the same, rewritten":                        {second, false, "", "action 0 fault 21 NotFound: " + loop},
+		"a copy of what is missing that is not done": {selected, true, "", "action 2 fault 21 NotFound: "},
+		"a copy that is not done, rewritten":         {selected, false, "", "action 2 fault 21 NotFound: "},
+		"a merge that lists too few":                 {short, true, dies, ""},
+		"a merge that lists too few, rewritten":      {short, false, dies, ""},
 	} {
-		for _, literal := range []bool{false, true} {
-			d := started(t, func(o *Options) { o.Literal = literal })
-			want := one.want
-			if literal {
-				want = one.wantsLiterally
-			}
-			got, err := d.warningsOf(t, one.def, client.SolveOpt{})
-			if !strings.Contains(got, want) || (err != nil) != (want == "") {
-				t.Errorf("%s, literal %t: %q, not %q %v", name, literal, got, want, err)
-			}
+		d := started(t, func(o *Options) { o.Literal = one.literal })
+		got, err := d.warningsOf(t, one.def, client.SolveOpt{})
+		if !strings.HasPrefix(got, one.want) || (got == "") != (one.want == "") || (err != nil) != (one.fails != "") || err != nil && !strings.Contains(err.Error(), one.fails) {
+			t.Errorf("%s: %q, not %q; %v", name, got, one.want, err)
 		}
 	}
 }
@@ -233,7 +234,7 @@ func TestAnInputThatNamesNothingAndIsNotNeededIsAWarning(t *testing.T) {
 }
 
 func TestAnExecutionOfWhatDiffersIsAWarning(t *testing.T) {
-	d := started(t, nil)
+	d := started(t, literally)
 	state := llb.Scratch().File(llb.Mkfile("/a", 0o604, nil)).File(llb.Mkfile("/a", 0o755, nil))
 	run := state.Run(llb.Args([]string{"true"}), llb.Dir("/")).Root().File(llb.Mkfile("/a", 0o600, nil))
 	want := anExecution + "\naction 0: /a has mode 0604 (here 0755): MkfileOver\nits inputs differ, so what it makes in BuildKit is not known: Execution"
@@ -243,7 +244,7 @@ func TestAnExecutionOfWhatDiffersIsAWarning(t *testing.T) {
 }
 
 func TestPathsWithOneCauseAreOneWarning(t *testing.T) {
-	d := started(t, nil)
+	d := started(t, literally)
 	files := map[string]string{}
 	for i := 0; i < 30; i++ {
 		files[fmt.Sprintf("d/%02d/f", i)] = "x"
@@ -270,3 +271,18 @@ func TestPathsWithOneCauseAreOneWarning(t *testing.T) {
 }
 
 func modeOf(mode os.FileMode) *os.FileMode { return &mode }
+
+func TestLayersThatBuildKitWouldMakeAreAWarning(t *testing.T) {
+	d := started(t, nil)
+	one := llb.Scratch().File(llb.Mkfile("/a", 0o600, nil))
+	for want, state := range map[string]llb.State{
+		"": one,
+		"the image has one layer, where BuildKit makes up to 2: one for each step that changes files": one.File(llb.Mkfile("/b", 0o600, nil)),
+	} {
+		var archive buffer
+		got, err := d.warnings(t, state, client.SolveOpt{Exports: []client.ExportEntry{toTar("oci", &archive, nil)}})
+		if got != want || err != nil {
+			t.Errorf("%q %v", got, err)
+		}
+	}
+}

@@ -8,6 +8,7 @@ import (
 	"google.golang.org/grpc/codes"
 	"google.golang.org/grpc/status"
 	"llbm/daemon/internal/graph"
+	"llbm/daemon/internal/sources"
 )
 
 // mostUnseen bounds the bytes of a definition that is worked on before llbm has shown it. The daemon's own reading of one has
@@ -36,7 +37,7 @@ func (c *checks) load(def, sent *pb.Definition) (*graph.Graph, error) {
 	if len(entries) > mostUnseen {
 		shown, err := c.solver.show(c.ctx, entries)
 		if err != nil {
-			return nil, graph.WrapRow(sent, err)
+			return nil, graph.WrapRow(sent, err, instead)
 		}
 		g, err := graph.Read(def, sent)
 		return g, compared(g, err, shown)
@@ -45,11 +46,19 @@ func (c *checks) load(def, sent *pb.Definition) (*graph.Graph, error) {
 	c.group.Go(func() error {
 		shown, refused := c.solver.show(c.ctx, entries)
 		if refused != nil {
-			return graph.WrapRow(sent, refused)
+			return graph.WrapRow(sent, refused, instead)
 		}
 		return compared(g, err, shown)
 	})
 	return g, err
+}
+
+// instead returns what can be done about a source that llbm has not.
+func instead(op *pb.Op) string {
+	if source := op.GetSource(); source != nil && !sources.IsLocal(source) {
+		return sources.Instead(source.Identifier)
+	}
+	return ""
 }
 
 // compared compares a graph, or why there is none, with what llbm shows of a definition that it does not refuse.

@@ -5,10 +5,13 @@ import (
 	"errors"
 	"fmt"
 	"os"
+	"slices"
 	"strings"
 	"time"
 
 	"github.com/moby/buildkit/solver/pb"
+	"google.golang.org/grpc/codes"
+	"google.golang.org/grpc/status"
 	"llbm/daemon/internal/comparison"
 	"llbm/daemon/internal/graph"
 	"llbm/daemon/internal/machine"
@@ -39,7 +42,10 @@ type comparing struct {
 	why    string        // why not all was compared
 	files  []*os.File
 	left   int // how many bytes of outputs may still be read
-	leave  func()
+	strict bool
+	// refusal is why the build fails, if it is strict: the first way in which BuildKit ends otherwise.
+	refusal error
+	leave   func()
 }
 
 // isCompared is whether a graph has something to compare.
@@ -59,6 +65,7 @@ func (s *Solver) compare(
 ) *comparing {
 	c := &comparing{p: p, g: g, run: make(chan *comparison.Run, 1), asked: make(chan *comparison.Question), done: make(chan struct{}), left: mostAside}
 	c.ctx, c.cancel = context.WithCancel(ctx)
+	c.strict = s.Strict || p.b.Strict
 	c.static(def)
 	if !isCompared(g) {
 		close(c.done)
@@ -100,10 +107,13 @@ func (s *Solver) begin(c *comparing, def *pb.Definition, in *inputs, texts []mac
 		return err
 	}
 	c.talk = comparison.NewTalk(c.child, c.child.In)
-	request := &comparison.Request{Sent: file, Rewrite: rewrites, Received: true, Paths: mostDetails, Vertices: map[int]string{}}
+	request := &comparison.Request{Sent: file, Rewrite: rewrites, Received: true, Paths: mostDetails, Vertices: map[int]string{}, Links: map[int][]string{}}
 	for i, one := range in.all {
 		for _, v := range one.vertices {
 			request.Vertices[v] = machine.PathOf(texts[i].Text)
+			if linked := slices.Concat(one.manifest.HardLinks()...); len(linked) > 0 {
+				request.Links[v] = linked
+			}
 		}
 	}
 	return c.talk.Write(request)
@@ -126,6 +136,10 @@ func (c *comparing) static(def *pb.Definition) {
 		for _, step := range rules.Static(c.g.Vertices[v].Op) {
 			c.show(&comparison.Step{Vertex: v, Action: step.Action, Lines: step.Lines})
 		}
+	}
+	if v := rules.Deep(c.g.Vertices); v >= 0 {
+		step := rules.StepOfNote(rules.Depth)
+		c.show(&comparison.Step{Vertex: v, Action: step.Action, Lines: step.Lines})
 	}
 	for _, line := range rules.UnknownInputs(def) {
 		c.show(&comparison.Step{Vertex: c.g.Result, Action: -1, Lines: []rules.Line{line}})
@@ -230,10 +244,14 @@ func (c *comparing) end(run *machine.Run, g *graph.Graph) {
 
 // conclude shows, once in a build, that not all was compared.
 func (c *comparing) conclude() {
-	if c.why == "" || c.p.b.Context.Err() != nil || !c.p.shown.Note("not all was compared") {
+	if c.why == "" || c.p.b.Context.Err() != nil {
 		return
 	}
-	c.p.warnOf(c.g.Vertices[c.g.Result].Digest, "not all was compared with what BuildKit would make: "+c.why, nil)
+	text := "not all was compared with what BuildKit would make: " + c.why
+	c.refuse(c.g.Result, text)
+	if c.p.shown.Note("not all was compared") {
+		c.p.warnOf(c.g.Vertices[c.g.Result].Digest, text, nil)
+	}
 }
 
 // answer tells the child what an execution made.
@@ -303,8 +321,19 @@ func (c *comparing) differs(s *comparison.Step, lines []rules.Line) {
 	case more > 0:
 		short += fmt.Sprintf(", and %d more", more)
 	}
-	if line := lines[0]; line.Notes[0] == rules.Execution && line.Words != comparison.Unknown && !c.p.shown.Note(line.Words) {
-		return // the words are the same for all executions
+	if line := lines[0]; line.Notes[0] == rules.Execution && line.Words != comparison.Unknown {
+		if !c.p.shown.Note(line.Words) {
+			return // the words are the same for all executions
+		}
+	} else {
+		c.refuse(s.Vertex, short)
 	}
 	c.p.noteOf(c.g.Vertices[s.Vertex].Digest, short, details)
+}
+
+// refuse lets a strict build fail, once it has run.
+func (c *comparing) refuse(v int, text string) {
+	if c.strict && c.refusal == nil {
+		c.refusal = c.g.Wrap(v, status.Error(codes.FailedPrecondition, "the build is strict: "+text))
+	}
 }

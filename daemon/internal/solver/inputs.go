@@ -21,8 +21,6 @@ import (
 	"llbm/daemon/internal/sources"
 )
 
-const local = "local://"
-
 // mostOfText is the longest text of a tree that llbm takes.
 const mostOfText = 64 << 20
 
@@ -36,6 +34,7 @@ type input struct {
 	session  string
 	key      sources.Key
 	vertices []int
+	base     bool // whether something builds on it
 	manifest *sources.Manifest
 }
 
@@ -44,6 +43,7 @@ type inputs struct {
 	byKey   map[sources.Key]*input
 	build   *builds.Build
 	renamed bool
+	held    int // the bytes of texts that count as the build's
 }
 
 func sessionOf(b *builds.Build, source *pb.SourceOp) string {
@@ -56,11 +56,14 @@ func sessionOf(b *builds.Build, source *pb.SourceOp) string {
 // gather fetches the local sources of a graph, all at once. Each is fetched once in a build.
 func (s *Solver) gather(ctx context.Context, b *builds.Build, g *graph.Graph, p *progress) (*inputs, error) {
 	in := &inputs{byKey: map[sources.Key]*input{}, build: b}
-	names := map[string]bool{}
+	names, bases := map[string]bool{}, bases(g)
 	for v := range g.Vertices {
 		source := g.Vertices[v].Op.GetSource()
 		if source == nil {
 			continue
+		}
+		if !sources.IsLocal(source) {
+			return nil, status.Errorf(codes.Unimplemented, "llbm: fault 88 %d Source", g.Vertices[v].Row) // as llbm is about to say
 		}
 		request, err := sources.RequestOf(source)
 		if err != nil {
@@ -79,6 +82,7 @@ func (s *Solver) gather(ctx context.Context, b *builds.Build, g *graph.Graph, p 
 			in.all = append(in.all, one)
 		}
 		one.vertices = append(one.vertices, v)
+		one.base = one.base || bases[v]
 	}
 	group, ctx := errgroup.WithContext(ctx)
 	for i, one := range in.all {
@@ -103,39 +107,57 @@ func (s *Solver) gather(ctx context.Context, b *builds.Build, g *graph.Graph, p 
 // fetch returns a source of a build with a hold of it.
 func (s *Solver) fetch(ctx context.Context, b *builds.Build, one *input, p *progress) (*sources.Manifest, error) {
 	v := one.vertices[0]
-	manifest, isNew, err := b.Sources.Get(one.key, func() (*sources.Manifest, error) {
-		return s.transfer(ctx, b, one.session, v, one.request, p)
-	})
+	manifest, isNew, err := b.Sources.Get(one.key, func() (*sources.Manifest, error) { return s.transfer(ctx, b, one, p) })
 	if err != nil {
 		return nil, p.failed(v, err)
 	}
 	if isNew {
 		b.OnEnd(manifest.Drop)
+	} else if one.base {
+		s.forget(ctx, b, one)
 	}
 	return manifest, nil
 }
 
-func (s *Solver) transfer(
-	ctx context.Context, b *builds.Build, session string, v int, request sources.Request, p *progress,
-) (*sources.Manifest, error) {
-	caller, err := s.Sessions.Get(ctx, b.User, session)
+// forget lets a source be read anew in the next build, if an earlier definition of this build had it as no base.
+func (s *Solver) forget(ctx context.Context, b *builds.Build, one *input) {
+	if caller, err := s.Sessions.Get(ctx, b.User, one.session); err == nil {
+		s.Keeper.Forget(b.User, caller, one.request)
+	}
+}
+
+// transfer fetches a source, and shows what is to be known of it.
+func (s *Solver) transfer(ctx context.Context, b *builds.Build, one *input, p *progress) (*sources.Manifest, error) {
+	caller, err := s.Sessions.Get(ctx, b.User, one.session)
 	if err != nil {
 		return nil, err
 	}
-	bar := p.bar(v, "transferring "+request.Name+":")
-	manifest, err := s.Keeper.Fetch(ctx, b.User, caller, request, bar.at)
+	name, v := one.request.Name, one.vertices[0]
+	bar := p.bar(v, "transferring "+name+":")
+	manifest, err := s.Keeper.Fetch(ctx, b.User, caller, sources.Transfer{Request: one.request, Anew: one.base, Progress: bar.at, Hold: b.Hold})
 	if err != nil {
 		return nil, err
 	}
 	bar.done(manifest.Sent)
+	if manifest.Unread > 0 {
+		p.log(v, 1, fmt.Sprintf("local source %s: %d of its files were not read: their sizes and times are as in an earlier build", name, manifest.Unread))
+	}
 	if manifest.Left > 0 {
-		p.warn(v, fmt.Sprintf("local source %s: %d entries are left out, as llbm has only directories and files", request.Name, manifest.Left), manifest.LeftOut)
+		p.warn(v, fmt.Sprintf("local source %s: %d entries are left out, as llbm has only directories and files", name, manifest.Left), manifest.LeftOut)
+	}
+	if manifest.Attributed > 0 {
+		text := fmt.Sprintf("local source %s: extended attributes are lost, which BuildKit keeps: of /%s", name, manifest.FirstAttributed)
+		if more := manifest.Attributed - 1; more > 0 {
+			text += fmt.Sprintf(" and %d more", more)
+		}
+		p.warn(v, text, nil)
 	}
 	return manifest, nil
 }
 
-// close gives up the holds of the sources.
+// close gives up the holds of the sources and of their texts, which are closed.
 func (in *inputs) close() {
+	in.build.Free(in.held)
 	for _, one := range in.all {
 		if one.manifest != nil {
 			one.manifest.Drop()
@@ -150,7 +172,7 @@ func (in *inputs) rename(def *pb.Definition) (*pb.Definition, error) {
 	}
 	return graph.Rewrite(def, func(_ int, op *pb.Op) (bool, error) {
 		source := op.GetSource()
-		if source == nil || !strings.HasPrefix(source.Identifier, local) {
+		if source == nil || !sources.IsLocal(source) {
 			return false, nil
 		}
 		request, err := sources.RequestOf(source)
@@ -161,7 +183,7 @@ func (in *inputs) rename(def *pb.Definition) (*pb.Definition, error) {
 		if !ok || one.given == request.Name {
 			return false, nil
 		}
-		source.Identifier = local + one.given
+		source.Identifier = sources.Scheme + one.given
 		return true, nil
 	})
 }
@@ -203,7 +225,7 @@ func (in *inputs) given(g *graph.Graph, texts []machine.Source) []machine.Source
 	needed := map[string]bool{}
 	for v := range g.Vertices {
 		if source := g.Vertices[v].Op.GetSource(); source != nil {
-			needed[strings.TrimPrefix(source.Identifier, local)] = true
+			needed[strings.TrimPrefix(source.Identifier, sources.Scheme)] = true
 		}
 	}
 	return slices.DeleteFunc(slices.Clone(texts), func(one machine.Source) bool { return !needed[one.Name] })
@@ -225,7 +247,7 @@ func (in *inputs) write(text func(*input, io.Writer) error) ([]machine.Source, e
 			return out, err
 		}
 		out = append(out, machine.Source{Name: one.given, Text: file})
-		if err := text(one, &limited{to: file, left: mostOfText}); err != nil {
+		if err := text(one, &limited{to: file, left: mostOfText, hold: in.hold}); err != nil {
 			if errors.Is(err, errTooLong) {
 				err = status.Errorf(codes.ResourceExhausted, "llbm: fault 185 TooLong: the text of local source %s", one.request.Name)
 			}
@@ -237,15 +259,28 @@ func (in *inputs) write(text func(*input, io.Writer) error) ([]machine.Source, e
 
 var errTooLong = errors.New("the text is too long")
 
-// limited refuses more bytes than llbm takes.
+// limited refuses more bytes than llbm takes, and counts them.
 type limited struct {
 	to   io.Writer
 	left int
+	hold func(n int) error
 }
 
 func (l *limited) Write(data []byte) (int, error) {
 	if l.left -= len(data); l.left < 0 {
 		return 0, errTooLong
 	}
+	if err := l.hold(len(data)); err != nil {
+		return 0, err
+	}
 	return l.to.Write(data)
+}
+
+// hold counts bytes of a text, which is in memory.
+func (in *inputs) hold(n int) error {
+	err := in.build.Hold(n)
+	if err == nil {
+		in.held += n
+	}
+	return err
 }

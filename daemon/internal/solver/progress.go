@@ -58,9 +58,17 @@ func (p *progress) action(v, place int) int {
 	return place
 }
 
+// fails returns why BuildKit fails at a vertex, if its op was rewritten to one that fails.
+func (p *progress) fails(v int) string {
+	if row := p.rows[p.g.Vertices[v].Row]; row != nil {
+		return row.Fails
+	}
+	return ""
+}
+
 func (p *progress) vertex(v int) *controlapi.Vertex {
 	it := &p.g.Vertices[v]
-	return &controlapi.Vertex{Digest: it.Digest, Inputs: it.Needs, Name: it.Name, Started: p.begun[v], ProgressGroup: it.Group}
+	return &controlapi.Vertex{Digest: it.Digest, Inputs: it.Needs, Name: messages.Text(it.Name), Started: p.begun[v], ProgressGroup: it.Group}
 }
 
 func (p *progress) start(v int) {
@@ -83,9 +91,11 @@ func (p *progress) event(e machine.Event) (int, bool) {
 		p.running[e.Worker] = e.Vertex
 		p.start(e.Vertex)
 	case machine.Step:
-		p.command(v, e.Reply)
+		if e.Ran != nil {
+			p.command(v, e.Ran)
+		}
 	case machine.Settle:
-		if strings.HasSuffix(e.Reply, " failed") {
+		if e.Failed {
 			return v, true
 		}
 		p.settled(v)
@@ -95,15 +105,14 @@ func (p *progress) event(e machine.Event) (int, bool) {
 }
 
 // command shows a command that ran, with its status if it is not 0.
-func (p *progress) command(v int, reply string) {
-	var number, code int
+func (p *progress) command(v int, ran *machine.Ran) {
 	calls := plan.Calls(p.g.Vertices[v].Op)
-	if n, _ := fmt.Sscanf(reply, "ran %d %d", &number, &code); n != 2 || number >= len(calls) {
+	if ran.Command >= len(calls) {
 		return
 	}
-	line, stream := strings.Join(calls[number], " "), int64(1)
-	if code != 0 {
-		line, stream = fmt.Sprintf("%s: status %d", line, code), 2
+	line, stream := strings.Join(calls[ran.Command], " "), int64(1)
+	if ran.Status != 0 {
+		line, stream = fmt.Sprintf("%s: status %d", line, ran.Status), 2
 	}
 	p.log(v, stream, line)
 }
@@ -113,7 +122,7 @@ func (p *progress) log(v int, stream int64, line string) {
 		return
 	}
 	p.b.Events.Add(&controlapi.StatusResponse{Logs: []*controlapi.VertexLog{{
-		Vertex: p.g.Vertices[v].Digest, Timestamp: time.Now(), Stream: stream, Msg: []byte(line + "\n"),
+		Vertex: p.g.Vertices[v].Digest, Timestamp: time.Now(), Stream: stream, Msg: []byte(messages.Text(line) + "\n"),
 	}}})
 }
 
@@ -156,9 +165,9 @@ func (p *progress) warn(v int, short string, details []string) {
 }
 
 func (p *progress) warnOf(d digest.Digest, short string, details []string) {
-	warning := &controlapi.VertexWarning{Vertex: d, Level: 1, Short: []byte(short)}
+	warning := &controlapi.VertexWarning{Vertex: d, Level: 1, Short: []byte(messages.Text(short))}
 	for _, detail := range details {
-		warning.Detail = append(warning.Detail, []byte(detail))
+		warning.Detail = append(warning.Detail, []byte(messages.Text(detail)))
 	}
 	p.b.Events.Add(&controlapi.StatusResponse{Warnings: []*controlapi.VertexWarning{warning}})
 }
@@ -204,6 +213,6 @@ func (b *bar) done(n int64) {
 func (b *bar) show(n int64, completed *time.Time) {
 	b.last = time.Now()
 	b.p.b.Events.Add(&controlapi.StatusResponse{Statuses: []*controlapi.VertexStatus{{
-		ID: b.name, Vertex: b.p.g.Vertices[b.v].Digest, Current: n, Timestamp: b.last, Started: &b.begun, Completed: completed,
+		ID: messages.Text(b.name), Vertex: b.p.g.Vertices[b.v].Digest, Current: n, Timestamp: b.last, Started: &b.begun, Completed: completed,
 	}}})
 }

@@ -43,7 +43,7 @@ func TestRenamedSourcesAreThoseOfTheStories(t *testing.T) {
 		t.Skip("the repository's crates are not there")
 	}
 	def, wanted := definitionIn(t, string(text), "BEFORE_RENAMING"), definitionIn(t, string(text), "RENAMED_BY_DAEMON")
-	request, err := sources.RequestOf(&pb.SourceOp{Identifier: local + "a=b"})
+	request, err := sources.RequestOf(&pb.SourceOp{Identifier: sources.Scheme + "a=b"})
 	if err != nil {
 		t.Fatal(err)
 	}

@@ -18,6 +18,7 @@ import (
 	"llbm/daemon/internal/graph"
 	"llbm/daemon/internal/kept"
 	"llbm/daemon/internal/machine"
+	"llbm/daemon/internal/messages"
 	"llbm/daemon/internal/notes"
 	"llbm/daemon/internal/results"
 	"llbm/daemon/internal/sessions"
@@ -35,6 +36,7 @@ type Solver struct {
 	Notes    *notes.Table     // or nil
 	Platform pb.Platform      // the worker's
 	Literal  bool             // whether definitions run by llbm's rules where they differ from BuildKit's
+	Strict   bool             // whether a build fails of which BuildKit would make something else
 	Rules    *machine.Program // llbm-rules, or nil
 
 	slots       chan struct{}
@@ -103,6 +105,11 @@ func (s *Solver) work(c *checks, b *builds.Build, def, sent *pb.Definition) (*re
 	b.AddSteps(len(g.Vertices))
 	p := newProgress(b, g)
 	s.note(sent, g, p)
+	if !s.Literal {
+		if err := refuse(g); err != nil {
+			return nil, err
+		}
+	}
 	in, err := s.gather(c.ctx, b, g, p)
 	if err != nil {
 		return nil, err
@@ -211,6 +218,7 @@ func (s *Solver) session(
 	t, err := run.Tree(g.Result, g.Output)
 	if err == nil {
 		c.end(run, g)
+		err = c.refusal
 	}
 	return t, record.Bytes(), err
 }
@@ -234,7 +242,7 @@ func (s *Solver) keep(b *builds.Build, def *pb.Definition, record []byte, in *in
 		}})
 	}
 	if err := s.Kept.Add(solved); err != nil {
-		log.Printf("llbmd: build %q is not kept: %v", b.Ref, err)
+		log.Printf("llbmd: build %q is not kept: %s", b.Ref, messages.Of(err))
 	}
 }
 

@@ -3,94 +3,39 @@ package sources
 import (
 	"container/list"
 	"context"
-	"encoding/json"
+	"crypto/sha256"
+	"encoding/hex"
 	"errors"
-	"net/url"
-	"strings"
+	"fmt"
 	"sync"
 	"time"
-	"unicode"
 
 	"github.com/moby/buildkit/session"
 	"github.com/moby/buildkit/session/filesync"
-	"github.com/moby/buildkit/solver/pb"
 	"google.golang.org/grpc/codes"
 	"google.golang.org/grpc/metadata"
 	"google.golang.org/grpc/status"
 	"llbm/daemon/internal/contents"
+	"llbm/daemon/internal/messages"
 )
 
-// mostKept bounds the sources that are kept after their builds.
-const mostKept = 64
+const (
+	// mostKept and mostOfKept bound the sources that are kept after their builds, and the memory of what is known of them.
+	mostKept   = 64
+	mostOfKept = 64 << 20
+	// mostOfDescription bounds what disk usage says of a source.
+	mostOfDescription = 200
+)
 
-// A Request is for one local source: a name with the client's filters.
-type Request struct {
-	Name             string
-	Include, Exclude []string
-	Follow           []string
-	SharedKeyHint    string
-	ByMetadata       bool // whether a file with the same metadata as before is taken as unchanged
-	filters          string
-}
-
-// RequestOf reads the identifier and the attributes of a source op.
-func RequestOf(op *pb.SourceOp) (Request, error) {
-	name := strings.TrimPrefix(op.Identifier, "local://")
-	r := Request{Name: name, SharedKeyHint: op.Attrs[pb.AttrSharedKeyHint], ByMetadata: true}
-	switch op.Attrs[pb.AttrLocalDiffer] {
-	case "", pb.AttrLocalDifferMetadata:
-	case pb.AttrLocalDifferNone:
-		r.ByMetadata = false
-	default:
-		return r, status.Errorf(codes.InvalidArgument, "local source %s: %s is %q", name, pb.AttrLocalDiffer, op.Attrs[pb.AttrLocalDiffer])
-	}
-	for attr, to := range map[string]*[]string{
-		pb.AttrIncludePatterns: &r.Include, pb.AttrExcludePatterns: &r.Exclude, pb.AttrFollowPaths: &r.Follow,
-	} {
-		text := op.Attrs[attr]
-		if text == "" {
-			continue
-		}
-		if err := json.Unmarshal([]byte(text), to); err != nil {
-			return r, status.Errorf(codes.InvalidArgument, "local source %s: %s: %v", name, attr, err)
-		}
-	}
-	filters, err := json.Marshal([][]string{r.Include, r.Exclude, r.Follow})
-	r.filters = string(filters)
-	return r, err
-}
-
-// headers are what the client's end reads its filters from. What is not ASCII is escaped, as newer clients expect it.
-func (r Request) headers() metadata.MD {
-	md := metadata.Pairs("dir-name", r.Name)
-	if !isASCII([]string{r.Name}) {
-		md = metadata.Pairs("dir-name", url.QueryEscape(r.Name), "dir-name-encoded", "1")
-	}
-	for key, patterns := range map[string][]string{"include-patterns": r.Include, "exclude-patterns": r.Exclude, "followpaths": r.Follow} {
-		if len(patterns) == 0 {
-			continue
-		}
-		if !isASCII(patterns) {
-			escaped := make([]string, len(patterns))
-			for i, pattern := range patterns {
-				escaped[i] = url.QueryEscape(pattern)
-			}
-			patterns = escaped
-			md.Set(key+"-encoded", "1")
-		}
-		md.Set(key, patterns...)
-	}
-	return md
-}
-
-func isASCII(texts []string) bool {
-	return !strings.ContainsFunc(strings.Join(texts, ""), func(c rune) bool { return c > unicode.MaxASCII })
-}
-
-// A key names a source that is kept. Sources of one user are not another's.
+// A key names a source that is kept. Sources of one user are not another's. The shared key is the client's name for itself and
+// its directory.
 type key struct {
-	user                         uint32
-	name, hint, session, filters string
+	user                        uint32
+	name, hint, shared, filters string
+}
+
+func keyOf(user uint32, caller session.Caller, r Request) key {
+	return key{user, r.Name, r.SharedKeyHint, caller.SharedKey(), r.filters}
 }
 
 type kept struct {
@@ -99,9 +44,14 @@ type kept struct {
 	created  time.Time
 	used     time.Time
 	times    int
+	words    string // what is said of the source
 }
 
 // A Keeper fetches sources, and keeps the last ones in a store.
+//
+// What is kept of a source spares the client to send a file again whose size, time, mode and owner are as before. It is used only
+// if the client's session has a shared key, by which the client says that it means the same directory: without one, directories
+// with one name would be taken for one.
 type Keeper struct {
 	store    *contents.Store
 	leaveOut bool
@@ -109,6 +59,7 @@ type Keeper struct {
 	mu       sync.Mutex
 	order    *list.List // of *kept, the last used first
 	byKey    map[key]*list.Element
+	memory   int // of all that is kept
 }
 
 // NewKeeper keeps sources in a store, and gives them up when it is full. A client that sends nothing for the idle time is
@@ -119,34 +70,46 @@ func NewKeeper(store *contents.Store, leaveOut bool, idle time.Duration) *Keeper
 	return k
 }
 
+// A Transfer is a source that a build wants.
+type Transfer struct {
+	Request
+	Anew     bool              // whether each file is read, and nothing is kept
+	Progress func(bytes int64) // is called with the bytes of contents that have come so far
+	Hold     func(n int) error // counts bytes of the build in memory, or refuses them
+}
+
 // Fetch copies a source from a session. The caller has to drop the manifest.
-func (k *Keeper) Fetch(ctx context.Context, user uint32, caller session.Caller, r Request, progress func(int64)) (*Manifest, error) {
+func (k *Keeper) Fetch(ctx context.Context, user uint32, caller session.Caller, r Transfer) (*Manifest, error) {
 	if !caller.Supports(session.MethodURL("moby.filesync.v1.FileSync", "diffcopy")) {
 		return nil, status.Errorf(codes.FailedPrecondition, "llbm: fault 121 %s (the client's session offers no local sources)", r.Name)
 	}
-	id := key{user, r.Name, r.SharedKeyHint, caller.SharedKey(), r.filters}
+	options := Options{Name: r.Name, LeaveOut: k.leaveOut, Progress: r.Progress, Hold: r.Hold}
+	id := keyOf(user, caller, r.Request)
+	if r.Anew || id.shared == "" {
+		k.forget(id)
+		return k.receive(ctx, caller, r.Request, options)
+	}
 	before := k.take(id)
 	defer func() {
 		if before != nil {
 			before.Drop()
 		}
 	}()
-	options := Options{Name: r.Name, LeaveOut: k.leaveOut, Progress: progress}
 	if r.ByMetadata {
 		options.Before = before
 	}
-	manifest, err := k.receive(ctx, caller, r, options)
+	manifest, err := k.receive(ctx, caller, r.Request, options)
 	if status.Code(err) == codes.ResourceExhausted && before != nil {
 		// What was kept of this source may be what fills the store.
 		k.forget(id)
 		before.Drop()
 		before, options.Before = nil, nil
-		manifest, err = k.receive(ctx, caller, r, options)
+		manifest, err = k.receive(ctx, caller, r.Request, options)
 	}
 	if err != nil {
 		return nil, err
 	}
-	k.keep(id, manifest)
+	k.keep(id, r.words(), manifest)
 	return manifest, nil
 }
 
@@ -199,16 +162,17 @@ func (k *Keeper) take(id key) *Manifest {
 }
 
 // keep keeps a manifest in the place of what was kept of its source.
-func (k *Keeper) keep(id key, manifest *Manifest) {
+func (k *Keeper) keep(id key, words string, manifest *Manifest) {
 	manifest.Hold()
 	k.mu.Lock()
-	one := &kept{key: id, manifest: manifest, created: time.Now(), used: time.Now()}
+	one := &kept{key: id, manifest: manifest, created: time.Now(), used: time.Now(), words: words}
 	var dropped []*kept
 	if at, ok := k.byKey[id]; ok {
 		dropped = append(dropped, k.remove(at))
 	}
 	k.byKey[id] = k.order.PushFront(one)
-	for k.order.Len() > mostKept {
+	k.memory += one.memory()
+	for k.order.Len() > mostKept || k.memory > mostOfKept {
 		dropped = append(dropped, k.remove(k.order.Back()))
 	}
 	k.mu.Unlock()
@@ -217,7 +181,11 @@ func (k *Keeper) keep(id key, manifest *Manifest) {
 	}
 }
 
-// forget gives up what is kept of a source.
+// Forget gives up what is kept of a source.
+func (k *Keeper) Forget(user uint32, caller session.Caller, r Request) {
+	k.forget(keyOf(user, caller, r))
+}
+
 func (k *Keeper) forget(id key) {
 	k.mu.Lock()
 	var dropped *kept
@@ -233,6 +201,7 @@ func (k *Keeper) forget(id key) {
 func (k *Keeper) remove(at *list.Element) *kept {
 	one := k.order.Remove(at).(*kept)
 	delete(k.byKey, one.key)
+	k.memory -= one.memory()
 	return one
 }
 
@@ -250,17 +219,27 @@ func (k *Keeper) dropLast() *kept {
 	return one
 }
 
-// A Usage is what one kept source takes.
+// A Usage is what one kept source takes, and what it is: its name and the client's filters.
 type Usage struct {
-	ID, Name      string
+	ID, Words     string
 	Bytes         int64
 	Created, Used time.Time
 	Times         int
 }
 
 func (one *kept) usage() Usage {
-	id := strings.Join([]string{one.key.name, one.key.hint, one.key.session, one.key.filters}, ":")
-	return Usage{ID: id, Name: one.key.name, Bytes: one.manifest.Bytes, Created: one.created, Used: one.used, Times: one.times}
+	return Usage{ID: one.key.id(), Words: one.words, Bytes: one.manifest.Bytes, Created: one.created, Used: one.used, Times: one.times}
+}
+
+// id returns a name of the source that is short, and that no other one has.
+func (id key) id() string {
+	sum := sha256.Sum256([]byte(fmt.Sprintf("%d %q %q %q %q", id.user, id.name, id.hint, id.shared, id.filters)))
+	return fmt.Sprintf("%.40s-%s", messages.Text(id.name), hex.EncodeToString(sum[:6]))
+}
+
+// memory returns what is held in memory of the source, about.
+func (one *kept) memory() int {
+	return one.manifest.memory + len(one.key.name) + len(one.key.hint) + len(one.key.shared) + len(one.key.filters)
 }
 
 // Usage returns what a user's kept sources take.

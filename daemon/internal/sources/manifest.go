@@ -6,7 +6,8 @@ import (
 	"bytes"
 	"fmt"
 	"io"
-	"sort"
+	"slices"
+	"time"
 
 	"llbm/daemon/internal/contents"
 	"llbm/daemon/internal/tree"
@@ -28,9 +29,41 @@ type Manifest struct {
 	Entries []Entry
 	Bytes   int64    // of all contents
 	Sent    int64    // of the contents that were sent this time
+	Unread  int      // how many files were taken as they were before, by what the client says of them
 	LeftOut []string // what was left out, up to a bound, and how many there were
 	Left    int
-	packs   map[*contents.Pack]bool
+	// Attributed is how many entries have extended attributes, which a tree of llbm has not, and FirstAttributed is the first.
+	Attributed      int
+	FirstAttributed string
+	links           []link
+	memory          int       // the bytes of the entries and their paths, about
+	began           time.Time // when the transfer began
+	packs           map[*contents.Pack]bool
+}
+
+// A link is a further name of a file: the place of its entry, and that of the file's first name.
+type link struct{ entry, target int32 }
+
+// HardLinks returns the names of each file that has several, the first name first. In BuildKit a write to one of them can be seen
+// at all of them; in llbm each is a file of its own.
+func (m *Manifest) HardLinks() [][]string {
+	var out [][]string
+	at := map[int32]int{}
+	for _, l := range m.links {
+		i, ok := at[l.target]
+		if !ok {
+			i, at[l.target] = len(out), len(out)
+			out = append(out, []string{m.Entries[l.target].Path})
+		}
+		out[i] = append(out[i], m.Entries[l.entry].Path)
+	}
+	return out
+}
+
+// isLink is whether an entry is a further name of a file. The links are in the order of their entries.
+func (m *Manifest) isLink(entry int) bool {
+	_, found := slices.BinarySearchFunc(m.links, int32(entry), func(l link, entry int32) int { return int(l.entry - entry) })
+	return found
 }
 
 // Hold keeps the contents until a Drop.
@@ -47,12 +80,9 @@ func (m *Manifest) Drop() {
 	}
 }
 
-func (m *Manifest) find(path string) *Entry {
-	i := sort.Search(len(m.Entries), func(i int) bool { return tree.Compare(m.Entries[i].Path, path) >= 0 })
-	if i < len(m.Entries) && m.Entries[i].Path == path {
-		return &m.Entries[i]
-	}
-	return nil
+// place returns the place of a path in the entries.
+func (m *Manifest) place(path string) (int, bool) {
+	return slices.BinarySearchFunc(m.Entries, path, func(e Entry, path string) int { return tree.Compare(e.Path, path) })
 }
 
 // WriteByReference writes the source's tree with a token of the table in the place of each content.

@@ -6,22 +6,37 @@ import (
 	"io"
 	"os"
 	"strings"
-	"sync"
+	"time"
 	"unicode/utf8"
+	"unsafe"
 
 	fstypes "github.com/tonistiigi/fsutil/types"
 	"google.golang.org/grpc/codes"
 	"google.golang.org/grpc/status"
 	"llbm/daemon/internal/contents"
+	"llbm/daemon/internal/messages"
 	"llbm/daemon/internal/tree"
 )
 
 const (
-	mostEntries = 2_000_000
 	mostNames   = 128
 	mostOfName  = 255
 	mostLeftOut = 10
 	mostPacks   = 16
+	// heldAtOnce is how many bytes at least are counted at once of what is held in memory.
+	heldAtOnce = 64 << 10
+	// mostOfMessage bounds what is shown of a client's error.
+	mostOfMessage = 1000
+	// settled is how much older than a transfer a file's time has to be to tell a later change from it. Clocks of file systems
+	// are as coarse as two seconds.
+	settled = 2 * time.Second
+)
+
+// The bounds of a source: its entries with those that are left out, and the bytes of their paths and of the names that hard links
+// have. llbm takes no longer text of a tree either.
+var (
+	mostEntries = 2_000_000
+	mostOfPaths = 64 << 20
 )
 
 // Stream is the receiver's end of a diff copy.
@@ -36,6 +51,8 @@ type Options struct {
 	Before   *Manifest     // what was sent before, or nil
 	LeaveOut bool          // links, devices and sockets are left out instead of refused
 	Progress func(n int64) // is called with the number of bytes that have come so far
+	// Hold counts bytes that are held in memory, or refuses them; nil does not count.
+	Hold func(n int) error
 }
 
 // Receive does the receiver's part of a diff copy. It asks for the contents of files that are not as they were before. The
@@ -47,19 +64,20 @@ func Receive(stream Stream, store *contents.Store, options Options) (*Manifest, 
 	}
 	r := &receiver{
 		Options: options, stream: stream, pack: pack, open: map[uint32]*file{}, parents: []string{""},
-		manifest: &Manifest{Name: options.Name, packs: map[*contents.Pack]bool{pack: true}}, requests: newQueue(stream),
+		manifest: &Manifest{Name: options.Name, began: time.Now(), packs: map[*contents.Pack]bool{pack: true}}, requests: newQueue(stream),
 	}
 	err = r.run()
 	if sendErr := r.requests.close(err == nil); err == nil {
 		err = sendErr
 	}
-	if err == nil {
-		err = r.finish()
-	}
 	if err != nil {
 		r.manifest.Drop()
 		return nil, err
 	}
+	for i := range r.manifest.Entries {
+		r.manifest.Bytes += r.manifest.Entries[i].Content.Size
+	}
+	r.manifest.memory = r.memory()
 	return r.manifest, nil
 }
 
@@ -80,17 +98,13 @@ type receiver struct {
 	last     string
 	number   uint32
 	before   int // the place in Before that comes next
+	paths    int // the bytes of all paths so far
+	held     int // the bytes in memory that Hold has counted
 	ended    bool
-	links    []link
-}
-
-type link struct {
-	entry  int
-	target string
 }
 
 func (r *receiver) refuse(code codes.Code, format string, words ...any) error {
-	return status.Errorf(code, "local source %s: %s", r.Name, fmt.Sprintf(format, words...))
+	return status.Error(code, messages.Text(fmt.Sprintf("local source %s: %s", r.Name, fmt.Sprintf(format, words...))))
 }
 
 // run receives packets up to the client's last one, after all contents have come.
@@ -111,7 +125,7 @@ func (r *receiver) run() error {
 		var err error
 		switch p.Type {
 		case fstypes.PACKET_ERR:
-			err = r.refuse(codes.Unknown, "%s", p.Data)
+			err = r.refuse(codes.Unknown, "%.*s", mostOfMessage, p.Data)
 		case fstypes.PACKET_STAT:
 			err = r.stat(p.Stat)
 		case fstypes.PACKET_DATA:
@@ -141,26 +155,77 @@ func (r *receiver) stat(st *fstypes.Stat) error {
 	}
 	id := r.number
 	r.number++
-	if len(r.manifest.Entries) >= mostEntries {
-		return r.refuse(codes.ResourceExhausted, "more than %d entries", mostEntries)
-	}
 	mode := os.FileMode(st.Mode)
+	if err := r.count(st); err != nil {
+		return err
+	}
 	if err := r.checkPath(st.Path, mode.IsDir()); err != nil {
 		return err
 	}
 	if !mode.IsDir() && !mode.IsRegular() {
 		return r.leaveOut(st.Path, mode)
 	}
+	r.attributes(st)
 	e := Entry{Path: st.Path, Dir: mode.IsDir(), Mode: tree.UnixMode(mode), UID: st.Uid, GID: st.Gid, Modified: st.ModTime}
 	r.manifest.Entries = append(r.manifest.Entries, e)
 	if e.Dir {
 		return nil
 	}
 	if st.Linkname != "" {
-		r.links = append(r.links, link{len(r.manifest.Entries) - 1, st.Linkname})
-		return nil
+		return r.link(st.Linkname)
 	}
 	return r.content(id, st.Size_)
+}
+
+// count counts an entry, whether it is taken or left out.
+func (r *receiver) count(st *fstypes.Stat) error {
+	if int(r.number) > mostEntries {
+		return r.refuse(codes.ResourceExhausted, "more than %d entries", mostEntries)
+	}
+	if r.paths += len(st.Path) + len(st.Linkname); r.paths > mostOfPaths {
+		return r.refuse(codes.ResourceExhausted, "its paths have more than %d bytes", mostOfPaths)
+	}
+	more := r.memory() - r.held
+	if r.Hold == nil || more <= 0 {
+		return nil
+	}
+	more = max(more, heldAtOnce)
+	r.held += more
+	if err := r.Hold(more); err != nil {
+		return r.refuse(status.Code(err), "%s", status.Convert(err).Message())
+	}
+	return nil
+}
+
+// memory returns how many bytes the entries have in memory, about.
+func (r *receiver) memory() int { return r.paths + int(r.number)*int(unsafe.Sizeof(Entry{})) }
+
+// attributes counts an entry with extended attributes. The label that SELinux gives to each file of a host is none of these.
+func (r *receiver) attributes(st *fstypes.Stat) {
+	for name := range st.Xattrs {
+		if name == "security.selinux" {
+			continue
+		}
+		if r.manifest.Attributed++; r.manifest.Attributed == 1 {
+			r.manifest.FirstAttributed = fmt.Sprintf("%s (%.100s)", st.Path, name)
+		}
+		return
+	}
+}
+
+// link makes the last entry a further name of a file that came before.
+func (r *receiver) link(target string) error {
+	place := len(r.manifest.Entries) - 1
+	i, ok := r.manifest.place(target)
+	if !ok || r.manifest.Entries[i].Dir || i == place {
+		return r.refuse(codes.InvalidArgument, "%s: a link to %.80q, which is no file that came before it", r.manifest.Entries[place].Path, target)
+	}
+	if r.manifest.isLink(i) {
+		return r.refuse(codes.InvalidArgument, "%s: a link to %.80q, which is a link", r.manifest.Entries[place].Path, target)
+	}
+	r.manifest.Entries[place].Content = r.manifest.Entries[i].Content
+	r.manifest.links = append(r.manifest.links, link{int32(place), int32(i)})
+	return nil
 }
 
 // content makes room for the content of the last entry and asks for it, unless it is as it was before.
@@ -180,6 +245,7 @@ func (r *receiver) content(id uint32, size int64) error {
 				r.manifest.packs[old.Content.Pack] = true
 			}
 			e.Content = old.Content
+			r.manifest.Unread++
 			return nil
 		}
 	}
@@ -192,7 +258,8 @@ func (r *receiver) content(id uint32, size int64) error {
 	return nil
 }
 
-// same returns the entry of before that a file is the same as, by all that the client says of it.
+// same returns the entry of before that a file is the same as, by all that the client says of it, if its time tells a change:
+// one of whole seconds is mostly one that a tool has set, and a file may have changed within the tick in which it was read.
 func (r *receiver) same(e *Entry, size int64) *Entry {
 	if r.Before == nil {
 		return nil
@@ -205,7 +272,8 @@ func (r *receiver) same(e *Entry, size int64) *Entry {
 	}
 	old := &r.Before.Entries[r.before]
 	is := old.Path == e.Path && !old.Dir && old.Content.Size == size && old.Modified == e.Modified && old.Mode == e.Mode && old.UID == e.UID && old.GID == e.GID
-	if !is {
+	tells := e.Modified%int64(time.Second) != 0 && e.Modified < r.Before.began.Add(-settled).UnixNano()
+	if !is || !tells {
 		return nil
 	}
 	return old
@@ -291,85 +359,4 @@ func (r *receiver) leaveOut(path string, mode os.FileMode) error {
 		r.manifest.LeftOut = append(r.manifest.LeftOut, path+" ("+kind+")")
 	}
 	return nil
-}
-
-// finish gives hard links their contents, and counts bytes.
-func (r *receiver) finish() error {
-	for _, l := range r.links {
-		target := r.manifest.find(l.target)
-		if target == nil || target.Dir {
-			return r.refuse(codes.InvalidArgument, "%s: a link to %.80q, which is no file", r.manifest.Entries[l.entry].Path, l.target)
-		}
-		r.manifest.Entries[l.entry].Content = target.Content
-	}
-	for i := range r.manifest.Entries {
-		r.manifest.Bytes += r.manifest.Entries[i].Content.Size
-	}
-	return nil
-}
-
-// A queue sends requests while packets are received: a client that waits for its data to be taken takes no requests.
-type queue struct {
-	stream Stream
-	mu     sync.Mutex
-	ids    []uint32
-	last   bool
-	wake   chan struct{}
-	done   chan struct{}
-	stop   chan struct{}
-	err    error
-}
-
-func newQueue(stream Stream) *queue {
-	q := &queue{stream: stream, wake: make(chan struct{}, 1), done: make(chan struct{}), stop: make(chan struct{})}
-	go q.run()
-	return q
-}
-
-func (q *queue) ask(id uint32) { q.add(func() { q.ids = append(q.ids, id) }) }
-
-func (q *queue) finish() { q.add(func() { q.last = true }) }
-
-func (q *queue) add(change func()) {
-	q.mu.Lock()
-	change()
-	q.mu.Unlock()
-	select {
-	case q.wake <- struct{}{}:
-	default:
-	}
-}
-
-func (q *queue) run() {
-	defer close(q.done)
-	for {
-		select {
-		case <-q.wake:
-		case <-q.stop:
-			return
-		}
-		q.mu.Lock()
-		ids, last := q.ids, q.last
-		q.ids = nil
-		q.mu.Unlock()
-		for _, id := range ids {
-			if q.err = q.stream.SendMsg(&fstypes.Packet{Type: fstypes.PACKET_REQ, ID: id}); q.err != nil {
-				return
-			}
-		}
-		if last {
-			q.err = q.stream.SendMsg(&fstypes.Packet{Type: fstypes.PACKET_FIN})
-			return
-		}
-	}
-}
-
-// close ends the queue, and returns the error of a send if the end was waited for.
-func (q *queue) close(wait bool) error {
-	if !wait {
-		close(q.stop)
-		return nil
-	}
-	<-q.done
-	return q.err
 }

@@ -2,11 +2,14 @@ package sources
 
 import (
 	"bytes"
+	"fmt"
 	"io"
 	"os"
 	"strings"
 	"sync"
 	"testing"
+	"time"
+	"unicode/utf8"
 
 	fstypes "github.com/tonistiigi/fsutil/types"
 	"google.golang.org/grpc/codes"
@@ -177,7 +180,11 @@ func TestWhatAClientMayNotSendIsRefused(t *testing.T) {
 		"a request":                {sends(nil, &fstypes.Packet{Type: fstypes.PACKET_REQ}), "a packet of the kind 1"},
 		"a packet of no kind":      {sends(nil, &fstypes.Packet{Type: 77}), "a packet of the kind 77"},
 		"nothing":                  {sends(nil), "EOF"},
+		"an error that is no text": {sends(nil, &fstypes.Packet{Type: fstypes.PACKET_ERR, Data: []byte("no\xff way")}), "no\uFFFD way"},
 		"a link to nothing":        {sends(nil, hardLink("a", "b"), last), "no file"},
+		"a link to itself":         {sends(nil, hardLink("a", "a"), last), "no file"},
+		"a link to a later file":   {sends(nil, hardLink("a", "b"), stat("b", 0o644, 0), last), "no file that came before"},
+		"a link to a link":         {sends(nil, stat("a", 0o644, 0), hardLink("b", "a"), hardLink("c", "b"), last), "which is a link"},
 		"a link to a directory":    {sends(nil, dir("a"), hardLink("b", "a"), last), "no file"},
 		"a link that leads out":    {sends(nil, hardLink("a", "../../etc/passwd"), last), "no file"},
 		"a cut transfer":           {sends(nil, dir("a"), stat("b", 0o644, 3), data(1, "ab")), "EOF"},
@@ -185,7 +192,7 @@ func TestWhatAClientMayNotSendIsRefused(t *testing.T) {
 	} {
 		store := newStore(t, 100)
 		m, err := Receive(c.client, store, Options{Name: "context"})
-		if err == nil || !strings.Contains(err.Error(), c.want) || !strings.Contains(err.Error(), "local source context") {
+		if err == nil || !strings.Contains(err.Error(), c.want) || !strings.Contains(err.Error(), "local source context") || !utf8.ValidString(err.Error()) {
 			t.Errorf("%s: %v", name, err)
 		}
 		if m != nil || store.Used() != 0 {
@@ -215,6 +222,137 @@ func TestAHardLinkHasTheContentOfItsTarget(t *testing.T) {
 	}
 	if got := text(t, m); got != "d 0755 0 0 /\nf 0644 0 0 616263 /a\nf 0644 0 0 616263 /b\n" {
 		t.Error(got)
+	}
+}
+
+func TestTheNamesOfAFileAreKnown(t *testing.T) {
+	client := sends(map[uint32]string{1: "abc"},
+		stat("a", 0o644, 0), stat("b", 0o644, 3), dir("c"), hardLink("c/d", "b"), hardLink("e", "a"), hardLink("f", "b"), last)
+	m, err := Receive(client, newStore(t, 100), Options{})
+	if err != nil {
+		t.Fatal(err)
+	}
+	if got := fmt.Sprint(m.HardLinks()); got != "[[b c/d f] [a e]]" {
+		t.Error(got)
+	}
+	want := "d 0755 0 0 /\nf 0644 0 0 - /a\nf 0644 0 0 616263 /b\nd 0755 0 0 /c\nf 0644 0 0 616263 /c/d\nf 0644 0 0 - /e\nf 0644 0 0 616263 /f\n"
+	if got := text(t, m); got != want || m.Bytes != 9 || m.Sent != 3 {
+		t.Error(got, m.Bytes, m.Sent)
+	}
+}
+
+func TestExtendedAttributesAreCounted(t *testing.T) {
+	with := func(p *fstypes.Packet, names ...string) *fstypes.Packet {
+		p.Stat.Xattrs = map[string][]byte{}
+		for _, name := range names {
+			p.Stat.Xattrs[name] = []byte("x")
+		}
+		return p
+	}
+	const label = "security.selinux"
+	client := sends(nil, with(dir("a"), label), with(stat("b", 0o644, 0), label, "user.one"), with(dir("c"), "user.two"), last)
+	m, err := Receive(client, newStore(t, 100), Options{})
+	if err != nil || m.Attributed != 2 || m.FirstAttributed != "b (user.one)" {
+		t.Errorf("%+v %v", m, err)
+	}
+}
+
+func TestAClientsErrorIsCut(t *testing.T) {
+	long := &fstypes.Packet{Type: fstypes.PACKET_ERR, Data: bytes.Repeat([]byte("ü"), 1<<20)}
+	_, err := Receive(sends(nil, long), newStore(t, 100), Options{Name: "context"})
+	if want := "local source context: " + strings.Repeat("ü", mostOfMessage); status.Convert(err).Message() != want {
+		t.Errorf("%.100s", err)
+	}
+}
+
+// bound sets a bound for a test.
+func bound(t *testing.T, what *int, most int) {
+	before := *what
+	*what = most
+	t.Cleanup(func() { *what = before })
+}
+
+func TestTheEntriesAndTheirPathsAreBounded(t *testing.T) {
+	bound(t, &mostEntries, 3)
+	bound(t, &mostOfPaths, 12)
+	link, a := stat("a", os.ModeSymlink|0o777, 0), stat("aaa", 0o644, 0)
+	for name, c := range map[string]struct {
+		packets []*fstypes.Packet
+		want    string
+	}{
+		"as many as may be":       {[]*fstypes.Packet{dir("a"), dir("b"), stat("cccccccccc", 0o644, 0), last}, ""},
+		"entries":                 {[]*fstypes.Packet{dir("a"), dir("b"), dir("c"), dir("d"), last}, "more than 3 entries"},
+		"entries that are none":   {[]*fstypes.Packet{link, stat("b", os.ModeSocket, 0), dir("c"), dir("d"), last}, "more than 3 entries"},
+		"bytes of paths":          {[]*fstypes.Packet{dir("aaaaaa"), dir("bbbbbbb"), last}, "its paths have more than 12 bytes"},
+		"bytes of names of links": {[]*fstypes.Packet{a, hardLink("bbb", "aaa"), hardLink("ccc", "aaa"), last}, "its paths have more than 12 bytes"},
+	} {
+		m, err := Receive(sends(nil, c.packets...), newStore(t, 100), Options{LeaveOut: true})
+		if c.want == "" && err != nil {
+			t.Errorf("%s: %v", name, err)
+		}
+		if c.want != "" && (status.Code(err) != codes.ResourceExhausted || !strings.Contains(err.Error(), c.want)) {
+			t.Errorf("%s: %v", name, err)
+		}
+		if m != nil {
+			m.Drop()
+		}
+	}
+}
+
+func TestWhatASourceHoldsInMemoryIsCounted(t *testing.T) {
+	held, calls := 0, 0
+	hold := func(n int) error {
+		calls++
+		if held+n > 1<<20 {
+			return status.Error(codes.ResourceExhausted, "the build holds too much")
+		}
+		held += n
+		return nil
+	}
+	packets := []*fstypes.Packet{}
+	for i := range 10_000 {
+		packets = append(packets, stat(fmt.Sprintf("%08d", i), 0o644, 0))
+	}
+	m, err := Receive(sends(nil, append(packets[:5_000:5_000], last)...), newStore(t, 100), Options{Hold: hold})
+	if err != nil || held < m.memory || held > m.memory+heldAtOnce || calls > 10 {
+		t.Error(held, calls, err)
+	}
+	held = 1 << 19
+	_, err = Receive(sends(nil, append(packets, last)...), newStore(t, 100), Options{Name: "context", Hold: hold})
+	if status.Code(err) != codes.ResourceExhausted || status.Convert(err).Message() != "local source context: the build holds too much" {
+		t.Error(err)
+	}
+}
+
+func TestSomeTimesTellAChange(t *testing.T) {
+	began := time.Unix(1_600_000_000, 5)
+	for name, c := range map[string]struct {
+		time int64
+		read bool
+	}{
+		"of long ago":             {1_500_000_000_123_456_789, false},
+		"of whole seconds":        {1_500_000_000_000_000_000, true},
+		"of the transfer itself":  {began.UnixNano(), true},
+		"of a second before that": {began.UnixNano() - int64(time.Second), true},
+		"of three before that":    {began.UnixNano() - int64(3*time.Second), false},
+		"of a later day":          {began.UnixNano() + int64(24*time.Hour), true},
+	} {
+		store := newStore(t, 100)
+		at := stat("a", 0o644, 3)
+		at.Stat.ModTime = c.time
+		before, err := Receive(sends(map[uint32]string{0: "old"}, at, last), store, Options{})
+		if err != nil {
+			t.Fatal(err)
+		}
+		before.began = began
+		client := sends(map[uint32]string{0: "new"}, at, last)
+		after, err := Receive(client, store, Options{Before: before})
+		if err != nil {
+			t.Fatal(err)
+		}
+		if read := len(client.asked) == 1; read != c.read || (after.Unread == 1) == c.read {
+			t.Error(name, client.asked, after.Unread)
+		}
 	}
 }
 
@@ -286,6 +424,7 @@ func FuzzReceive(f *testing.F) {
 		{dir(".."), last, fin},
 		{stat("a", 0o644, 1<<40), stat("a", 0o644, 1), last},
 		{hardLink("a", "b"), hardLink("b", "a"), last, fin},
+		{stat("a", 0o644, 1), hardLink("b", "a"), hardLink("c", "a"), last},
 	} {
 		var all []byte
 		for _, p := range packets {

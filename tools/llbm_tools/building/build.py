@@ -69,7 +69,7 @@ def changes_since(memory: Memory, request: Request) -> Changes | None:
         return None
     hidden = frozenset((found.st_dev, found.st_ino) for found in request.hidden())
     try:
-        return Changes(memory.last, request.sources, hidden)
+        return Changes(memory.last, request.sources, hidden, strict=request.options.strict)
     except Structure:
         return None
 

@@ -19,7 +19,7 @@ from llbm_tools.streams import Failed, Refused, write_and_rename
 from llbm_tools.trees.kept_sources import Kept, Part, Stored, bytes_of
 
 BEGIN = b"llbm-build kept "
-FORM = BEGIN + b"1\n"
+FORM = BEGIN + b"2\n"
 PARTS = 8
 PIECE = 1 << 20
 
@@ -53,7 +53,8 @@ class File(NamedTuple):
 
 class Build(NamedTuple):
     """What is kept of a build: what it was asked for, when it began to read, its sources, the state and the text of its
-    result, whether that has tokens, and the digests of the contents that are no files of a directory, by their tokens.
+    result, how many bytes its contents have, whether the text has tokens, and the digests of the contents that are no
+    files of a directory, by their tokens.
     """
 
     asked: dict[str, object]
@@ -61,6 +62,7 @@ class Build(NamedTuple):
     sources: list[Kept | File]
     result: State | None
     text: Part
+    bytes: int
     has_tokens: bool
     others: dict[int, str]
 
@@ -95,7 +97,8 @@ def build_in(file: BinaryIO) -> Build | None:
     if place + head["text"] != os.fstat(file.fileno()).st_size:
         return None
     others = {int(number): digest for number, digest in head["others"].items()}
-    return Build(head["asked"], head["began"], sources, head["result"], text, head["tokens"], others)
+    size, has_tokens = head["bytes"], head["tokens"]
+    return Build(head["asked"], head["began"], sources, head["result"], text, size, has_tokens, others)
 
 
 def head_of(build: Build, parts: list[list[bytes]]) -> bytes:
@@ -109,8 +112,9 @@ def head_of(build: Build, parts: list[list[bytes]]) -> bytes:
             lengths = [len(part) for part in next(given)]
             sources.append({"mode": one.mode, "latest": one.latest, "parts": lengths})
     head = {"asked": build.asked, "began": build.began, "sources": sources, "result": build.result}
-    rest = {"text": len(bytes_of(build.text)), "tokens": build.has_tokens, "others": build.others}
-    return json.dumps({**head, **rest}).encode() + b"\n"
+    text = {"text": len(bytes_of(build.text)), "bytes": build.bytes}
+    rest = {"tokens": build.has_tokens, "others": build.others}
+    return json.dumps({**head, **text, **rest}).encode() + b"\n"
 
 
 def pieces_of(build: Build) -> Iterator[bytes]:

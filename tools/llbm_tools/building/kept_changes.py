@@ -47,17 +47,18 @@ class Memory:
 class Changes:
     """The files of each source that are in another state than in the last build.
 
-    If more than contents of files has changed, the constructor raises Structure.
+    If more than contents of files has changed, the constructor raises Structure; so it does if it is strict and an
+    entry in another state has an extended attribute.
     """
 
-    def __init__(self, last: Build, sources: list[Named], hidden: Hidden) -> None:
+    def __init__(self, last: Build, sources: list[Named], hidden: Hidden, *, strict: bool) -> None:
         self.last = last
         self.is_young = False
         self.found: list[list[Changed]] = []
         for source, before in zip(sources, last.sources):
             if isinstance(before, Kept):
                 self.is_young = self.is_young or before.latest >= last.began
-                self.found.append(changes_of(before, source.place, last.began, hidden))
+                self.found.append(changes_of(before, source.place, last.began, hidden, strict=strict))
             elif file_changed(before, source.place, last.began):
                 raise Structure
             else:

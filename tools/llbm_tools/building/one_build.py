@@ -197,8 +197,6 @@ class Build:
         """Writes only what differs from the last result; returns False if all of it has to be written."""
         if last.has_tokens != made.has_tokens:
             return False
-        with open(result, "rb") as text:
-            Checked(Copier(self.table()).size, self.options.largest).read(text)
         before, after = digests_of(last), digests_of(made)
 
         def same(one: bytes, two: bytes) -> bool:
@@ -226,14 +224,17 @@ class Build:
         return True
 
     def new_build(self, result: str) -> LastBuild:
-        """Returns what is to be kept of this build."""
+        """Returns what is to be kept of this build, if its result is a tree and not too large."""
         assert self.memory and self.given
         hidden = frozenset((found.st_dev, found.st_ino) for found in self.hidden())
         sources = kept_of(self.memory.last, self.given, hidden)
         with open(result, "rb") as text:
             data = text.read()
+        checked = Checked(Copier(self.table()).size, self.options.largest)
+        checked.read(io.BytesIO(data))
         others = other_digests(self.given.table) if self.has_tokens else {}
-        return LastBuild(self.memory.asked, self.memory.began, sources, None, data, self.has_tokens, others)
+        memory, size = self.memory, checked.bytes
+        return LastBuild(memory.asked, memory.began, sources, None, data, size, self.has_tokens, others)
 
     def whole(self) -> None:
         """Does the whole build."""

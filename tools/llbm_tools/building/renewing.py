@@ -16,7 +16,7 @@ from llbm_tools.building.result_texts import Line, read_line
 from llbm_tools.common import say
 from llbm_tools.trees import references
 from llbm_tools.trees.kept_sources import Kept, Structure, bytes_of
-from llbm_tools.trees.references import Table, pieces_of, token
+from llbm_tools.trees.references import Copier, Table, pieces_of, token
 
 
 def token_of(last: Build, number: int) -> tuple[int, Kept, int]:
@@ -25,6 +25,12 @@ def token_of(last: Build, number: int) -> tuple[int, Kept, int]:
         if isinstance(kept, Kept) and number in kept.numbers:
             return source, kept, kept.numbers.index(number)
     raise Structure
+
+
+def size_of(last: Build, number: int) -> int:
+    """Returns the size that the content of a token had in the last build."""
+    _, kept, place = token_of(last, number)
+    return kept.state(place)[1]
 
 
 def lines_with(text: bytes, numbers: Iterable[int]) -> dict[bytes, Line]:
@@ -43,7 +49,7 @@ def lines_with(text: bytes, numbers: Iterable[int]) -> dict[bytes, Line]:
 
 
 class Renewal:
-    """The files of a result whose contents have changed, and where their contents are now."""
+    """The files of a result whose contents have changed, where their contents are now, and the size of all contents."""
 
     def __init__(self, changes: Changes, sources: list[Named]) -> None:
         self.last = changes.last
@@ -51,12 +57,15 @@ class Renewal:
         self.table = Table()
         self.roots: dict[int, int] = {}
         self.tokens: dict[int, bytes] = {}
+        self.bytes = self.last.bytes
         self.lines = [self.renewed(line) for line in lines_with(bytes_of(self.last.text), changes.numbers()).values()]
 
     def renewed(self, line: Line) -> Line:
         """Returns a file with the tokens that its contents have in the table of this build."""
-        pieces = pieces_of(binascii.unhexlify(line.content or b""))
+        pieces = list(pieces_of(binascii.unhexlify(line.content or b"")))
         content = b"".join(one if isinstance(one, bytes) else self.token(one) for one in pieces)
+        before = sum(len(one) if isinstance(one, bytes) else size_of(self.last, one) for one in pieces)
+        self.bytes += Copier(self.table).size(content) - before
         return line._replace(content=binascii.hexlify(content))
 
     def token(self, number: int) -> bytes:
@@ -97,12 +106,17 @@ def replace_lines(renewal: Renewal, request: Request, memory: Memory, folder: st
 
 
 def renew(request: Request, memory: Memory, changes: Changes) -> bool:
-    """Puts the changed contents into the last result, and returns whether that was possible."""
+    """Puts the changed contents into the last result, and returns whether that was possible.
+
+    A result that gets too large has to be refused, so it is made, and measured, as a whole.
+    """
     with children.held_back():
         folder = tempfile.mkdtemp(prefix=".llbm-build-", dir=request.above)
     try:
         renewal = Renewal(changes, request.sources)
         try:
+            if renewal.bytes > request.options.largest:
+                return False
             if renewal.lines:
                 replace_lines(renewal, request, memory, folder)
             else:
@@ -113,5 +127,6 @@ def renew(request: Request, memory: Memory, changes: Changes) -> bool:
         return False
     finally:
         children.remove(folder)
-    memory.store((changes.renewed(memory.began) or changes.last)._replace(result=state_at(request.result)))
+    renewed = changes.renewed(memory.began) or changes.last
+    memory.store(renewed._replace(result=state_at(request.result), bytes=renewal.bytes))
     return True

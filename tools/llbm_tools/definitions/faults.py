@@ -310,7 +310,7 @@ def as_printed(page: Page, line: str) -> str:
     causes = page.causes.get(int(number), []) if number.isdecimal() else []
     called = "|".join(re.escape(cause.name.rpartition("::")[2]) for cause in causes)
     found = re.fullmatch(rf"(.*?) (?:{called})(?:: .*)?(?: \(.*\))?", line) if called else None
-    return found[1] if found else re.sub(r" \(.*\)$", "", line)
+    return found[1] if found else re.sub(r" \(.*\)(?:: .*)?$", "", line)
 
 
 def answer_to(page: Page, line: str) -> Answer:

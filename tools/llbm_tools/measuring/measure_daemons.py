@@ -1,8 +1,9 @@
-"""Measures llbmd beside BuildKit's own daemon: the same builds by `buildctl`, one after the other on both.
+"""Measures llbmd beside BuildKit's own daemon: the same builds, one after the other on both.
 
-In: the daemon out/llbmd and `buildctl` beside it, as `tools/daemon --clients` leaves them, the program --llbm PROGRAM
-or that of the repository, and Debian's packages in the cache folder, or --packages FOLDER, from which BuildKit's daemon
-is built; only root can run that one, and as another user llbmd is measured alone. Both daemons keep their state below
+In: the daemon out/llbmd with `buildctl` and the frontend for Dockerfiles beside it, as `tools/daemon --clients` leaves
+them, the program --llbm PROGRAM or that of the repository, and Debian's packages in the cache folder, or --packages
+FOLDER, from which BuildKit's daemon is built, and of which docker-buildx is one; only root can run that daemon, and as
+another user llbmd is measured alone. Both daemons keep their state below
 --folder FOLDER, which is best in memory (/dev/shm), or else below a temporary folder. Each build is done --runs N times
 (5 by default), in turn on each daemon, with --no-cache and an export into a new local directory; between runs both
 daemons are pruned. --part N makes all counts of files N times smaller. The builds are these, or only those named NAME
@@ -13,8 +14,11 @@ daemons are pruned. --part N makes all counts of files N times smaller. The buil
 - `chain`: 200 file ops, each on the one before;
 - `files`: a copy of a local directory with 10,000 files that the daemon has not seen;
 - `many`: the same with 100,000 files;
-- `changed`: `many` again, with one file changed;
+- `changed`: the directory of `many` again, with one file changed since both daemons had it;
 - `together`: 20 builds at once, of one file each.
+
+The client is `buildctl`, and docker-buildx with a Dockerfile for `changed`: its sessions have a shared key, and without
+one llbmd reads each file again.
 
 Out: a line on standard error for each build, and then on standard output a line that names the program, and a table in
 Markdown: for both daemons the least and the median of the seconds, and the ratio of the least; and the most memory that
@@ -52,6 +56,8 @@ from llbm_tools.streams import Refused, exit_status, program_at
 OURS, THEIRS = "llbmd", "buildkitd"
 FILES_OF_DIRECTORY = 100
 FILES = {"files": 10_000, "many": 100_000}
+DOCKERFILE = b"FROM scratch\nCOPY . /out/\n"
+FRONTEND = OUT / "dockerfile-frontend"
 NAMES = ["mkfile", "merge", "chain", "together", *FILES]
 PATIENCE = 900
 PERIOD = 0.1
@@ -155,36 +161,45 @@ class Sampler(threading.Thread):
                 return
 
 
-def command(one: Daemon, out: pathlib.Path, *local: str) -> list[str]:
-    """Returns the words of a build into a new directory."""
-    shutil.rmtree(out, ignore_errors=True)
-    words = [str(OUT / "buildctl"), "--addr", one.address, "build", "--no-cache", "--progress=plain"]
-    return [*words, "--output", f"type=local,dest={out}", *local]
+def by_buildctl(one: Daemon, *local: str) -> list[str]:
+    """Returns the words of a build of the definition on standard input."""
+    return [str(OUT / "buildctl"), "--addr", one.address, "build", "--no-cache", "--progress=plain", *local]
 
 
-def cost_of(one: Daemon, folder: pathlib.Path, definitions: list[bytes], *local: str) -> Cost:
-    """Builds definitions at the same time, and returns the cost."""
-    outs = [folder / f"result-{place}" for place in range(len(definitions))]
-    words = [command(one, out, *local) for out in outs]
+def by_buildx(program: str, one: Daemon, context: pathlib.Path) -> list[str]:
+    """Returns the words of a build of the Dockerfile on standard input, by a builder with the daemon's name."""
+    words = [program, "build", "--builder", one.name, "--no-cache", "--progress=plain", "--provenance=false"]
+    return [*words, "--file=-", str(context)]
+
+
+def cost_of(one: Daemon, folder: pathlib.Path, words: list[str], given: list[bytes]) -> Cost:
+    """Builds what is given, at the same time and each into a new directory, and returns the cost."""
+    outs = [folder / f"result-{place}" for place in range(len(given))]
+    for out in outs:
+        shutil.rmtree(out, ignore_errors=True)
+    known = {**os.environ, "BUILDX_CONFIG": str(folder / "buildx")}
     sampler = Sampler(one.process)
     sampler.start()
     start = time.monotonic()
     builds = [
-        subprocess.Popen(line, stdin=subprocess.PIPE, stdout=subprocess.DEVNULL, stderr=subprocess.PIPE)
-        for line in words
-    ]
-    for build, given in zip(builds, definitions):
+        subprocess.Popen(
+            [*words, f"--output=type=local,dest={out}"],
+            env=known, stdin=subprocess.PIPE, stdout=subprocess.DEVNULL, stderr=subprocess.PIPE,
+        )
+        for out in outs
+    ]  # fmt: skip
+    for build, text in zip(builds, given):
         assert build.stdin is not None
-        build.stdin.write(given)
+        build.stdin.write(text)
         build.stdin.close()
         build.stdin = None
     printed = [build.communicate(timeout=PATIENCE)[1] for build in builds]
     seconds = time.monotonic() - start
     sampler.ended.set()
     sampler.join()
-    for build, text, out in zip(builds, printed, outs):
+    for build, said, out in zip(builds, printed, outs):
         if build.returncode:
-            raise Failed(f"a build failed: {one.name}: {text.decode('utf-8', 'replace')[-500:]}")
+            raise Failed(f"a build failed: {one.name}: {said.decode('utf-8', 'replace')[-500:]}")
         shutil.rmtree(out)
     return Cost(seconds, sampler.most)
 
@@ -192,13 +207,16 @@ def cost_of(one: Daemon, folder: pathlib.Path, definitions: list[bytes], *local:
 class Trial:
     """Measures both daemons below a folder."""
 
-    def __init__(self, daemons: list[Daemon], folder: pathlib.Path, part: int) -> None:
-        self.daemons, self.folder, self.part = daemons, folder, part
+    def __init__(self, daemons: list[Daemon], folder: pathlib.Path, part: int, buildx: str) -> None:
+        self.daemons, self.folder, self.part, self.buildx = daemons, folder, part, buildx
         self.costs: dict[str, dict[str, list[Cost]]] = {}
 
     def add(self, case: str, one: Daemon, definitions: list[bytes], *local: str) -> None:
-        """Builds, and notes the cost."""
-        cost = cost_of(one, self.folder, definitions, *local)
+        """Builds definitions by `buildctl`, and notes the cost."""
+        self.note(case, one, cost_of(one, self.folder, by_buildctl(one, *local), definitions))
+
+    def note(self, case: str, one: Daemon, cost: Cost) -> None:
+        """Notes a cost."""
         self.costs.setdefault(case, {}).setdefault(one.name, []).append(cost)
         common.say(f"{case} {one.name}: {cost.seconds:.2f} s, {cost.memory:.0f} MB, load {os.getloadavg()[0]:.0f}")
 
@@ -227,9 +245,22 @@ class Trial:
         for one in self.daemons:
             self.add(case, one, [copy_of(name)], *local)
         if again:
-            (place / "d0000" / "f00").write_text(f"changed for {name}\n", "utf-8")
-            for one in self.daemons:
-                self.add("changed", one, [copy_of(name)], *local)
+            self.run_changed(place, name)
+
+    def run_changed(self, place: pathlib.Path, name: str) -> None:
+        """Builds a directory by docker-buildx, and again with a file changed, which is what is measured."""
+        for one in self.daemons:
+            cost_of(one, self.folder, by_buildx(self.buildx, one, place), [DOCKERFILE])
+        (place / "d0000" / "f00").write_text(f"changed for {name}\n", "utf-8")
+        for one in self.daemons:
+            self.note("changed", one, cost_of(one, self.folder, by_buildx(self.buildx, one, place), [DOCKERFILE]))
+
+    def name_builders(self) -> None:
+        """Gives docker-buildx a builder for each daemon, with its name."""
+        known = {**os.environ, "BUILDX_CONFIG": str(self.folder / "buildx")}
+        for one in self.daemons:
+            words = [self.buildx, "create", "--name", one.name, "--driver", "remote", one.address]
+            subprocess.run(words, env=known, stdin=subprocess.DEVNULL, stdout=subprocess.DEVNULL, check=True)
 
 
 def small_builds() -> dict[str, list[bytes]]:
@@ -273,6 +304,7 @@ def rows_of(costs: dict[str, dict[str, list[Cost]]]) -> Iterator[str]:
 def ours(options: argparse.Namespace, folder: pathlib.Path) -> Iterator[Daemon]:
     """Runs llbmd with its state in a folder."""
     words = [str(options.daemon), "-addr", str(folder / "s"), "-llbm", options.llbm, "-store", str(folder)]
+    words += ["-frontend", f"dockerfile.v0={FRONTEND}"]
     with open(folder / "printed", "wb") as printed, subprocess.Popen(
         words, env={**os.environ, "TMPDIR": str(folder)}, stdin=subprocess.DEVNULL, stdout=printed, stderr=printed
     ) as child:  # fmt: skip
@@ -287,7 +319,8 @@ def ours(options: argparse.Namespace, folder: pathlib.Path) -> Iterator[Daemon]:
 def measure(options: argparse.Namespace) -> int:
     """Prints the table, and returns the exit status."""
     options.llbm = program_at(options.llbm)
-    for place in (options.daemon, OUT / "buildctl"):
+    buildx = options.packages / go_building.PLUGINS / "docker-buildx"
+    for place in (options.daemon, OUT / "buildctl", FRONTEND, buildx):
         if not place.is_file():
             raise Refused(f"there is no such program: {place}; `tools/daemon --clients` builds it")
     try:
@@ -299,7 +332,9 @@ def measure(options: argparse.Namespace) -> int:
             if os.geteuid() == 0:
                 buildkitd.build(options.packages)
                 daemons.append(Daemon(THEIRS, *stack.enter_context(buildkitd.running(folder / THEIRS))))
-            trial = Trial(daemons, folder, options.part)
+            trial = Trial(daemons, folder, options.part, str(buildx))
+            if "many" in (options.name or NAMES):
+                trial.name_builders()
             for run in range(options.runs):
                 trial.run(run, options.name or NAMES)
     except debian_packages.Missing as fault:

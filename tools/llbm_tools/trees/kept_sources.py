@@ -16,6 +16,7 @@ from collections.abc import Iterable, Iterator
 from typing import BinaryIO, NamedTuple
 
 from llbm_tools.streams import Failed, Refused
+from llbm_tools.trees.attributes import attributes_of, path_in
 from llbm_tools.trees.directory_states import BYTES, SECOND, STATE, state_of, states_in
 from llbm_tools.trees.references import DIRECTORY, FILE, stamp_of
 
@@ -174,7 +175,7 @@ class Kept:
         if self.latest < began:
             return []
         states = array.array("q", self.states)
-        return [place for place, time in enumerate(times_of(states)) if time >= began and states[STATE * place + 1]]
+        return [place for place, time in enumerate(times_of(states)) if time >= began]
 
 
 def latest_of(directories: list[Directory]) -> int:
@@ -351,11 +352,34 @@ def young_changes(kept: Kept, root: int, young: Iterable[int]) -> Iterator[Chang
             yield Changed(place, found, digest)
 
 
-def changes_of(kept: Kept, place: str, began: int, hidden: Hidden) -> list[Changed]:
+def directories_in_another_state(kept: Kept, root: int, began: int) -> Iterator[bytes]:
+    """Yields the paths of the directories whose times are not those that were kept, or are as young as the reading."""
+    for number, path in enumerate(kept.paths):
+        found = os.stat(path[1:] or b".", dir_fd=root, follow_symlinks=False)
+        times = array.array("q", (found.st_mtime_ns, found.st_ctime_ns))
+        if max(times) >= began or times != kept.times[2 * number : 2 * number + 2]:
+            yield path
+
+
+def check_attributes(kept: Kept, root: int, began: int, places: Iterable[int]) -> None:
+    """Raises Structure if a directory in another state, or a file at one of these places, has extended attributes.
+
+    An attribute changes the time of its entry, but neither a name nor a content.
+    """
+    files = (b"/".join(kept.file(place)) for place in places)
+    try:
+        for path in itertools.chain(directories_in_another_state(kept, root, began), files):
+            if attributes_of(path_in(root, path[1:] or b".")):
+                raise Structure
+    except OSError as fault:
+        raise Structure from fault
+
+
+def changes_of(kept: Kept, place: str, began: int, hidden: Hidden, *, strict: bool) -> list[Changed]:
     """Returns the files of a source that are in another state; if more than contents has changed, raises Structure.
 
     Files whose times are not before the last reading began are read again. The digest of such a file can still be that
-    which was kept.
+    which was kept. A strict reading also raises Structure if an entry got an extended attribute, which is left out.
     """
     try:
         root = os.open(place, DIRECTORY & ~os.O_NOFOLLOW)
@@ -367,7 +391,10 @@ def changes_of(kept: Kept, place: str, began: int, hidden: Hidden) -> list[Chang
         others = changed_directories(kept, root, hidden, began)
         found = [one for number in others for one in changes_in(kept, root, number, hidden)]
         seen = {one.place for one in found}
-        return found + list(young_changes(kept, root, [one for one in kept.young(began) if one not in seen]))
+        young = [place for place in kept.young(began) if place not in seen]
+        if strict:
+            check_attributes(kept, root, began, [*seen, *young])
+        return found + list(young_changes(kept, root, [one for one in young if kept.state(one)[1]]))
     finally:
         os.close(root)
 

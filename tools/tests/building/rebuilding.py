@@ -182,6 +182,38 @@ class Replacing(Builds):
         self.assertEqual(kept_builds.state_at(str(self.at / "out/a/y")), before)
         self.assertEqual(self.replace().stderr, SAME)
 
+    def test_a_content_that_makes_the_result_too_large_is_refused(self):
+        # The result has the contents a/x, a/y and b/c/z: 11 bytes.
+        words = ["--largest", "20"]
+        self.replace(*words)
+        self.make(b"a/x", b"x" * 12)
+        self.check(self.replace(*words), "writing out: 1 entry differs, in /a/x", "out is written", runs=1)
+        before = kept_builds.state_at(str(self.at / "out/a/y"))
+        self.make(b"a/y", b"yyyy")
+        done = self.replace(*words)
+        lines = ["the result is too large: 21 bytes; --largest 21 accepts it", "nothing is written"]
+        self.assertEqual((done.returncode, done.stderr.decode().splitlines()[-2:]), (2, lines))
+        self.assertEqual(kept_builds.state_at(str(self.at / "out/a/y")), before)
+        self.make(b"a/x", b"x")
+        self.check(self.replace(*words), "writing out: 2 entries differ, in /a", "out is written", runs=2)
+
+    def test_an_attribute_that_an_entry_got_is_refused_if_the_build_is_strict(self):
+        for place in ["a/x", "a", ""]:
+            self.replace("--strict")
+            self.assertEqual(self.replace("--strict").stderr, SAME)
+            try:
+                os.setxattr(self.at / "in" / place, "user.note", b"1")
+            except OSError as fault:
+                self.skipTest(f"no extended attributes: {fault}")
+            done = self.replace("--strict")
+            path = f"/{place}"
+            lines = [f"left out: an extended attribute, user.note: {path}", "left out: 1 extended attribute"]
+            wanted = [*lines, "refused: something was left out", "nothing is written"]
+            self.assertEqual((done.returncode, done.stderr.decode().splitlines()[-4:]), (2, wanted))
+            os.removexattr(self.at / "in" / place, "user.note")
+            done = self.replace("--strict")
+            self.assertEqual((done.returncode, done.stderr), (0, SAME))
+
     def test_two_changed_contents_are_written_in_one_directory(self):
         self.replace()
         before = os.stat(self.at / "out/b/c/z").st_ino
@@ -237,7 +269,7 @@ class Replacing(Builds):
     def test_a_file_that_is_kept_and_damaged_is_as_if_there_were_none(self):
         self.replace()
         whole = (self.at / "kept").read_bytes()
-        for damaged in [b"", b"x", whole[:-1], whole + b"x", whole.replace(b"kept 1", b"kept 0"), whole[:30]]:
+        for damaged in [b"", b"x", whole[:-1], whole + b"x", whole.replace(b"kept 2", b"kept 1"), whole[:30]]:
             (self.at / "kept").write_bytes(damaged)
             self.assertIsNone(kept_builds.load(str(self.at / "kept")), damaged[:40])
         self.check(self.replace(), "writing out", "out is written", runs=2)
@@ -311,10 +343,11 @@ class Parts(base.Folder):
         recorder.scan(os.open(self.place(b"in"), os.O_RDONLY), b"", frozenset())
         kept = recorder.kept()
         place = os.fsdecode(self.place(b"kept"))
-        kept_builds.store(place, kept_builds.Build({"a": 1}, 5, [kept], [1], b"text", True, {7: "00"}))
+        kept_builds.store(place, kept_builds.Build({"a": 1}, 5, [kept], [1], b"text", 9, True, {7: "00"}))
         found = kept_builds.load(place)
         found = found._replace(text=kept_sources.bytes_of(found.text))
-        self.assertEqual(found._replace(sources=[]), kept_builds.Build({"a": 1}, 5, [], [1], b"text", True, {7: "00"}))
+        wanted = kept_builds.Build({"a": 1}, 5, [], [1], b"text", 9, True, {7: "00"})
+        self.assertEqual(found._replace(sources=[]), wanted)
         self.assertEqual(found.sources[0].parts(), kept.parts())
         self.assertEqual(found.sources[0].paths, [b"", b"/d"])
         head = json.loads((open(place, "rb").read().split(b"\n"))[1])
@@ -328,10 +361,10 @@ class Parts(base.Folder):
         recorder = kept_sources.Recorder(None, [])
         recorder.scan(os.open(self.place(b"in"), os.O_RDONLY), b"", frozenset())
         kept, place = recorder.kept(), os.fsdecode(self.place(b"in"))
-        self.assertEqual(kept_sources.changes_of(kept, place, 1 << 60, frozenset()), [])
+        self.assertEqual(kept_sources.changes_of(kept, place, 1 << 60, frozenset(), strict=False), [])
         self.make(b"33/x", b"yy")
         with self.assertRaises(kept_sources.Structure):
-            kept_sources.changes_of(kept, place, 1 << 60, frozenset())
+            kept_sources.changes_of(kept, place, 1 << 60, frozenset(), strict=False)
 
     def test_the_states_of_entries_are_the_same_by_both_calls(self):
         self.make(b"d/x", b"x")

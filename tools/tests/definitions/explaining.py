@@ -430,6 +430,7 @@ class Notes(Folder):
         for line, printed in [
             ("llbm: fault 88 1 DiffOp (diff)", "fault 88 1 DiffOp"),
             ("error: failed to solve: llbm: fault 88 1 Source ([1/3] FROM a (Dockerfile:1))", "fault 88 1 Source"),
+            ("llbm: fault 88 1 Source (docker-image://a): llbm has no registries; with more", "fault 88 1 Source"),
             ("llbm: fault 89 0 Script 71 make (RUN make)", "fault 89 0 Script 71 make"),
             ("rpc error: code = Unknown desc = llbm: fault 81 1 Definition", "fault 81 1"),
             ("llbm: fault 86 1 0 UnknownDigest (diff)", "fault 86 1 0"),
