@@ -121,6 +121,7 @@ type disk interface {
 	io.ReaderAt
 	io.WriterAt
 	io.Closer
+	Truncate(size int64) error
 }
 
 // A Pack is a file with contents, one after the other. It is closed once nobody holds it.
@@ -159,6 +160,8 @@ func (p *Pack) Drop() {
 	last, size := p.holders == 0, p.size
 	p.mu.Unlock()
 	if last {
+		// A child that is about to start has the file too, for a moment, so closing it alone might not free the disk now.
+		_ = p.file.Truncate(0)
 		_ = p.file.Close()
 		p.store.mu.Lock()
 		p.store.used -= size
