@@ -160,8 +160,7 @@ func (p *Pack) Drop() {
 	last, size := p.holders == 0, p.size
 	p.mu.Unlock()
 	if last {
-		// A child that is about to start has the file too, for a moment, so closing it alone might not free the disk now.
-		_ = p.file.Truncate(0)
+		_ = p.file.Truncate(0) // a process that is just being started has the file open too
 		_ = p.file.Close()
 		p.store.mu.Lock()
 		p.store.used -= size

@@ -49,10 +49,20 @@ func (c *Control) Solve(ctx context.Context, req *controlapi.SolveRequest) (*con
 		return nil, err
 	}
 	modern(req)
+	solve := c.recorded
 	if req.Internal {
-		return c.solve(ctx, b, req)
+		solve = c.solve
 	}
-	record := c.History.Start(user, req)
+	response, err := solve(ctx, b, req)
+	if err != nil && b.Session != "" {
+		c.Sessions.Settle(ctx, user, b.Session)
+	}
+	return response, err
+}
+
+// recorded solves a request that is in the history.
+func (c *Control) recorded(ctx context.Context, b *builds.Build, req *controlapi.SolveRequest) (*controlapi.SolveResponse, error) {
+	record := c.History.Start(b.User, req)
 	response, err := c.solve(ctx, b, req)
 	c.History.End(record, response.GetExporterResponse(), b.Steps(), err)
 	return response, err
@@ -169,8 +179,11 @@ func (c *Control) export(ctx context.Context, b *builds.Build, e *exports.Export
 	idle := time.AfterFunc(c.Idle, func() { cancel(errIdle) })
 	defer idle.Stop()
 	moved := func() { idle.Reset(c.Idle) }
+	warn := func(short string) {
+		b.Events.Add(&controlapi.StatusResponse{Warnings: []*controlapi.VertexWarning{{Vertex: vertex.Digest, Level: 1, Short: []byte(short)}}})
+	}
 	var last time.Time
-	told, err := e.Export(ctx, caller, results, exports.Watch{Moved: moved, Sent: func(n int64) {
+	told, err := e.Export(ctx, caller, results, exports.Watch{Moved: moved, Warn: warn, Sent: func(n int64) {
 		moved()
 		if now := time.Now(); now.Sub(last) > 100*time.Millisecond {
 			last = now

@@ -48,11 +48,3 @@ func TestConfigurationsHaveTheirLayer(t *testing.T) {
 		}
 	}
 }
-
-func TestTagsOfNames(t *testing.T) {
-	for name, want := range map[string]string{"a": "latest", "a:1": "1", "host:5000/a": "latest", "host:5000/a:b": "b"} {
-		if got := tagOf(name); got != want {
-			t.Errorf("%s: %s", name, got)
-		}
-	}
-}

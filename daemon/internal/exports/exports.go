@@ -4,7 +4,9 @@ import (
 	"context"
 	"fmt"
 	"io"
+	"maps"
 	"os"
+	"slices"
 	"strconv"
 	"strings"
 	"time"
@@ -33,7 +35,7 @@ type Results struct {
 type Exporter struct {
 	Number int
 	Kind   string
-	attrs  map[string]string
+	image  imageOptions
 	when   time.Time
 	given  *time.Time // the time, if the client gave it
 	split  bool
@@ -47,27 +49,37 @@ const (
 
 // New reads the options of an exporter, and refuses what it can't do. Layers are in the store until they are sent.
 func New(number int, asked *controlapi.Exporter, store *contents.Store) (*Exporter, error) {
-	e := &Exporter{Number: number, Kind: asked.Type, attrs: map[string]string{}, when: time.Unix(0, 0), split: true, store: store}
+	e := &Exporter{Number: number, Kind: asked.Type, when: time.Unix(0, 0), split: true, store: store}
+	e.image = imageOptions{types: ociTypes, packed: true}
 	switch e.Kind {
 	case "local", "tar", "oci":
 	default:
 		return nil, status.Errorf(codes.Unimplemented, "exporter %q: llbmd has local, tar and oci", asked.Type)
 	}
-	for k, v := range asked.Attrs {
-		var err error
-		switch k {
-		case keyEpoch:
-			err = e.setEpoch(v)
-		case keySplit:
-			e.split, err = strconv.ParseBool(v)
-		default:
-			e.attrs[k] = v
-		}
-		if err != nil {
-			return nil, status.Errorf(codes.InvalidArgument, "exporter %s: %s=%q: %v", e.Kind, k, v, err)
+	for _, k := range slices.Sorted(maps.Keys(asked.Attrs)) {
+		if err := e.set(k, asked.Attrs[k]); err != nil {
+			return nil, err
 		}
 	}
-	return e, e.check()
+	return e, nil
+}
+
+// set reads an option. One that would change the export and has no effect here is refused.
+func (e *Exporter) set(key, value string) (err error) {
+	switch {
+	case key == keyEpoch:
+		err = e.setEpoch(value)
+	case key == keySplit:
+		e.split, err = strconv.ParseBool(value)
+	case e.Kind == "oci":
+		return e.image.set(key, value)
+	default:
+		return status.Errorf(codes.Unimplemented, "exporter %s: the option %s=%s", e.Kind, key, value)
+	}
+	if err != nil {
+		return status.Errorf(codes.InvalidArgument, "exporter %s: %s=%q: %v", e.Kind, key, value, err)
+	}
+	return nil
 }
 
 func (e *Exporter) setEpoch(text string) error {
@@ -78,20 +90,6 @@ func (e *Exporter) setEpoch(text string) error {
 	e.when = time.Unix(seconds, 0).UTC()
 	e.given = &e.when
 	return err
-}
-
-// check refuses options that would change the export and have no effect here.
-func (e *Exporter) check() error {
-	known := map[string]bool{}
-	if e.Kind == "oci" {
-		known = ociOptions
-	}
-	for k, v := range e.attrs {
-		if !known[k] {
-			return status.Errorf(codes.Unimplemented, "exporter %s: the option %s=%s", e.Kind, k, v)
-		}
-	}
-	return nil
 }
 
 // Name is what progress displays show.
@@ -140,8 +138,9 @@ func (r *Results) list() ([]named, bool, error) {
 
 // A Watch is told that an export goes on.
 type Watch struct {
-	Moved func()      // something was packed, or is about to be sent
-	Sent  func(int64) // so many bytes have been sent
+	Moved func()       // something was packed, or is about to be sent
+	Sent  func(int64)  // so many bytes have been sent
+	Warn  func(string) // what is exported is not what BuildKit exports
 }
 
 // moving is a writer that says when something was written.

@@ -13,6 +13,8 @@ import (
 	"strings"
 	"time"
 
+	"github.com/containerd/containerd/images"
+	"github.com/containerd/containerd/reference"
 	"github.com/moby/buildkit/exporter/containerimage/exptypes"
 	"github.com/moby/buildkit/session"
 	digest "github.com/opencontainers/go-digest"
@@ -23,9 +25,6 @@ import (
 	"llbm/daemon/internal/contents"
 	"llbm/daemon/internal/tree"
 )
-
-// ociOptions are those of the exporter oci that have an effect, or say what it does anyway.
-var ociOptions = map[string]bool{"name": true, "tar": true, "compression": true, "force-compression": true, "oci-mediatypes": true}
 
 // A blob is a content of an image, with its descriptor's data.
 type blob struct {
@@ -39,6 +38,7 @@ type image struct {
 	e     *Exporter
 	watch Watch
 	pack  *contents.Pack
+	names []string
 	blobs []blob // in the order of the archive
 }
 
@@ -46,10 +46,11 @@ type image struct {
 func (e *Exporter) oci(
 	ctx context.Context, caller session.Caller, list []named, byID bool, metadata map[string][]byte, watch Watch,
 ) (map[string]string, error) {
-	if e.attrs["tar"] == "false" {
-		return nil, status.Error(codes.Unimplemented, "exporter oci: tar=false")
+	names, err := e.image.names(metadata)
+	if err != nil {
+		return nil, err
 	}
-	i := &image{e: e, watch: watch}
+	i := &image{e: e, watch: watch, names: names}
 	defer i.close()
 	top, config, err := i.add(ctx, list, byID, metadata)
 	if err != nil {
@@ -66,8 +67,8 @@ func (e *Exporter) oci(
 	if config != "" {
 		response[exptypes.ExporterImageConfigDigestKey] = config.String()
 	}
-	if name := e.attrs["name"]; name != "" {
-		response["image.name"] = name
+	if len(names) > 0 {
+		response["image.name"] = strings.Join(names, ",")
 	}
 	return response, e.send(ctx, caller, response, watch, func(to io.Writer) error { return i.write(to, top) })
 }
@@ -94,8 +95,8 @@ func (i *image) add(ctx context.Context, list []named, byID bool, metadata map[s
 	}
 	top := manifests[0]
 	if byID {
-		index := ocispecs.Index{Versioned: specs.Versioned{SchemaVersion: 2}, MediaType: ocispecs.MediaTypeImageIndex, Manifests: manifests}
-		all, b, err := described(ocispecs.MediaTypeImageIndex, index)
+		index := ocispecs.Index{Versioned: specs.Versioned{SchemaVersion: 2}, MediaType: i.e.image.types.index, Manifests: manifests}
+		all, b, err := described(index.MediaType, index)
 		if err != nil {
 			return all, "", err
 		}
@@ -109,7 +110,12 @@ func (i *image) add(ctx context.Context, list []named, byID bool, metadata map[s
 // manifest adds the manifest, the configuration and the layer of a result. The first one's descriptor has the platform that the
 // configuration names.
 func (i *image) manifest(ctx context.Context, one named, given []byte) (ocispecs.Descriptor, digest.Digest, error) {
-	m := ocispecs.Manifest{Versioned: specs.Versioned{SchemaVersion: 2}, MediaType: ocispecs.MediaTypeImageManifest}
+	if count, err := layers(one, given); err != nil {
+		return ocispecs.Descriptor{}, "", err
+	} else if count > 1 {
+		i.watch.Warn(oneLayer(count))
+	}
+	m := ocispecs.Manifest{Versioned: specs.Versioned{SchemaVersion: 2}, MediaType: i.e.image.types.manifest}
 	layer, packed, diff, err := i.layer(ctx, one)
 	if err != nil {
 		return layer, "", err
@@ -119,12 +125,12 @@ func (i *image) manifest(ctx context.Context, one named, given []byte) (ocispecs
 	if err != nil {
 		return layer, "", err
 	}
-	config, configBlob, err := described(ocispecs.MediaTypeImageConfig, data)
+	config, configBlob, err := described(i.e.image.types.config, data)
 	if err != nil {
 		return config, "", err
 	}
 	m.Config = config
-	manifest, manifestBlob, err := described(ocispecs.MediaTypeImageManifest, m)
+	manifest, manifestBlob, err := described(m.MediaType, m)
 	i.blobs = append(i.blobs, manifestBlob, configBlob, packed)
 	manifest.Platform = platformIn(data)
 	return manifest, config.Digest, err
@@ -148,17 +154,12 @@ func (i *image) layer(ctx context.Context, one named) (ocispecs.Descriptor, blob
 	}
 	before := i.pack.All().Size
 	packed, plain := digest.Canonical.Digester(), digest.Canonical.Digester()
-	media := ocispecs.MediaTypeImageLayerGzip
+	media := i.e.image.types.layer
 	out := io.MultiWriter(i.pack, packed.Hash())
 	closer := func() error { return nil }
-	switch compression := i.e.attrs["compression"]; compression {
-	case "", "gzip":
+	if i.e.image.packed {
 		zip := gzip.NewWriter(out)
-		out, closer = zip, zip.Close
-	case "uncompressed":
-		media = ocispecs.MediaTypeImageLayer
-	default:
-		return ocispecs.Descriptor{}, blob{}, "", status.Errorf(codes.Unimplemented, "exporter oci: compression=%s", compression)
+		media, out, closer = i.e.image.types.packedLayer, zip, zip.Close
 	}
 	err := writeLayer(ctx, files{one.result, i.e.when, i.watch.Moved}, io.MultiWriter(moving{out, i.watch.Moved}, plain.Hash()))
 	if closed := closer(); err == nil {
@@ -239,14 +240,15 @@ func described(media string, value any) (ocispecs.Descriptor, blob, error) {
 // index returns the index of the archive, which has the image once for each of its names.
 func (i *image) index(top ocispecs.Descriptor) ocispecs.Index {
 	index := ocispecs.Index{Versioned: specs.Versioned{SchemaVersion: 2}, MediaType: ocispecs.MediaTypeImageIndex}
-	for _, name := range strings.Split(i.e.attrs["name"], ",") {
+	for _, name := range i.names {
 		one := top
 		one.Annotations = maps.Clone(top.Annotations)
-		if name != "" {
-			one.Annotations["io.containerd.image.name"] = name
-			one.Annotations[ocispecs.AnnotationRefName] = tagOf(name)
-		}
+		one.Annotations[images.AnnotationImageName] = name
+		one.Annotations[ocispecs.AnnotationRefName] = tagOf(name)
 		index.Manifests = append(index.Manifests, one)
+	}
+	if len(i.names) == 0 {
+		index.Manifests = append(index.Manifests, top)
 	}
 	return index
 }
@@ -282,10 +284,10 @@ func (i *image) write(to io.Writer, top ocispecs.Descriptor) error {
 	return archive.Close()
 }
 
-// tagOf returns the tag in an image's name.
+// tagOf returns the tag or the digest in an image's name.
 func tagOf(name string) string {
-	if colon := strings.LastIndexByte(name, ':'); colon > strings.LastIndexByte(name, '/') {
-		return name[colon+1:]
+	if spec, err := reference.Parse(name); err == nil {
+		return spec.Object
 	}
-	return "latest"
+	return name
 }

@@ -122,7 +122,7 @@ func (g given) image(t *testing.T, attrs map[string]string) []byte {
 		t.Fatal(err)
 	}
 	moved := 0
-	i := &image{e: e, watch: Watch{Moved: func() { moved++ }}}
+	i := &image{e: e, watch: Watch{Moved: func() { moved++ }, Warn: func(string) {}}}
 	defer i.close()
 	top, _, err := i.add(context.Background(), list, byID, metadata)
 	if err != nil {
@@ -288,7 +288,7 @@ func TestANameThatRemovesIsRefused(t *testing.T) {
 func TestABlobOfTwoPlatformsIsWrittenOnce(t *testing.T) {
 	text := []byte("x")
 	one := blob{digest: digest.FromBytes(text), size: 1, open: func() io.Reader { return bytes.NewReader(text) }}
-	i := &image{e: &Exporter{attrs: map[string]string{}}, blobs: []blob{one, one}}
+	i := &image{e: &Exporter{}, blobs: []blob{one, one}}
 	var out bytes.Buffer
 	if err := i.write(&out, ocispecs.Descriptor{}); err != nil || bytes.Count(out.Bytes(), []byte("blobs/sha256/")) != 1 || out.Len()%512 != 0 {
 		t.Error(out.Len(), err)

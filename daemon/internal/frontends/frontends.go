@@ -124,11 +124,8 @@ func (f *Frontends) Run(ctx context.Context, b *builds.Build, frontend gateway.F
 	defer cancel()
 	bridge, returned := f.Gateway.For(b, frontend)
 	c, err := f.start(ctx, program, env)
-	if errors.Is(err, syscall.E2BIG) {
-		return nil, status.Errorf(codes.InvalidArgument, "frontend %s: its options have %d bytes together, more than the kernel hands to a program", frontend.Name, sizeOf(env))
-	}
 	if err != nil {
-		return nil, status.Errorf(codes.Internal, "frontend %s: %v", frontend.Name, err)
+		return nil, notStarted(frontend.Name, env, err)
 	}
 	server := f.Server()
 	gatewaypb.RegisterLLBBridgeServer(server, bridge)
@@ -165,12 +162,16 @@ func (f *Frontends) enter(ctx context.Context, b *builds.Build, frontend gateway
 	}
 }
 
-func sizeOf(env []string) int {
+// notStarted returns why a frontend could not be started.
+func notStarted(name string, env []string, err error) error {
+	if !errors.Is(err, syscall.E2BIG) {
+		return status.Errorf(codes.Internal, "frontend %s: %v", name, err)
+	}
 	size := 0
 	for _, one := range env {
 		size += len(one) + 1
 	}
-	return size
+	return status.Errorf(codes.InvalidArgument, "frontend %s: its options have %d bytes together, more than the kernel hands to a program", name, size)
 }
 
 // environment is all that a frontend is told, in the form that BuildKit has for it. An option that no program can be given is refused.

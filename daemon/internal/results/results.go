@@ -21,6 +21,21 @@ type Result struct {
 	Def      *pb.Definition
 }
 
+// Ops returns how many ops of the definition can change files: those that are no sources and no merges.
+func (r *Result) Ops() int {
+	count := 0
+	if r.Def == nil {
+		return count
+	}
+	for _, entry := range r.Def.Def {
+		var op pb.Op
+		if op.Unmarshal(entry) == nil && (op.GetFile() != nil || op.GetExec() != nil) {
+			count++
+		}
+	}
+	return count
+}
+
 // A Lazy is a result of a build that is solved at its first use, and at most once.
 type Lazy struct {
 	ID  string

@@ -60,7 +60,7 @@ func TestFieldsWithoutAnEffectAreWarnings(t *testing.T) {
 		t.Fatal(err)
 	}
 	d := started(t, func(o *Options) { o.Notes = table })
-	run := llb.Scratch().Run(llb.Args([]string{"true"}), llb.Dir("/"), llb.User("app"), llb.Network(llb.NetModeHost))
+	run := llb.Scratch().Run(llb.Args([]string{"true"}), llb.Dir("/"), llb.User("app"), llb.Network(llb.NetModeNone))
 	want := "User has no effect: the user of the process\nNetwork has no effect: the network of the process\n" + anExecution
 	if got, err := d.warnings(t, run.Root(), client.SolveOpt{}); got != want || err != nil {
 		t.Errorf("%q %v", got, err)
@@ -270,3 +270,18 @@ func TestPathsWithOneCauseAreOneWarning(t *testing.T) {
 }
 
 func modeOf(mode os.FileMode) *os.FileMode { return &mode }
+
+func TestLayersThatBuildKitWouldMakeAreAWarning(t *testing.T) {
+	d := started(t, nil)
+	one := llb.Scratch().File(llb.Mkfile("/a", 0o600, nil))
+	for want, state := range map[string]llb.State{
+		"": one,
+		"the image has one layer, where BuildKit makes up to 2: one for each step that changes files": one.File(llb.Mkfile("/b", 0o600, nil)),
+	} {
+		var archive buffer
+		got, err := d.warnings(t, state, client.SolveOpt{Exports: []client.ExportEntry{toTar("oci", &archive, nil)}})
+		if got != want || err != nil {
+			t.Errorf("%q %v", got, err)
+		}
+	}
+}

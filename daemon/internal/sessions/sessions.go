@@ -10,11 +10,16 @@ import (
 
 	"github.com/moby/buildkit/session"
 	"google.golang.org/grpc/codes"
+	"google.golang.org/grpc/health/grpc_health_v1"
 	"google.golang.org/grpc/status"
 )
 
-// patience bounds the wait for a session: clients open one and call Solve at once.
-const patience = time.Minute
+const (
+	// patience bounds the wait for a session: clients open one and call Solve at once.
+	patience = time.Minute
+	// briefly bounds the wait for a session whose build is refused.
+	briefly = 5 * time.Second
+)
 
 const headerID = "x-docker-expose-session-uuid"
 
@@ -58,6 +63,16 @@ func (s *Sessions) Serve(ctx context.Context, user uint32, conn net.Conn, header
 		s.mu.Unlock()
 	}()
 	return s.manager.HandleConn(ctx, conn, headers)
+}
+
+// Settle waits until a session is open and has answered once, or for a short time. A client that ends while its session still
+// opens prints an error of the protocol beside that of its build.
+func (s *Sessions) Settle(ctx context.Context, user uint32, id string) {
+	ctx, cancel := context.WithTimeout(ctx, briefly)
+	defer cancel()
+	if caller, err := s.Get(ctx, user, id); err == nil {
+		_, _ = grpc_health_v1.NewHealthClient(caller.Conn()).Check(ctx, &grpc_health_v1.HealthCheckRequest{})
+	}
 }
 
 // Get returns a user's session, which may open a little later.

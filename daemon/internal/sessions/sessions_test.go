@@ -4,10 +4,14 @@ import (
 	"context"
 	"fmt"
 	"net"
+	"sync/atomic"
 	"testing"
 	"time"
 
+	"golang.org/x/net/http2"
+	"google.golang.org/grpc"
 	"google.golang.org/grpc/codes"
+	"google.golang.org/grpc/health/grpc_health_v1"
 	"google.golang.org/grpc/status"
 )
 
@@ -45,6 +49,42 @@ func TestASessionIsItsUsersAlone(t *testing.T) {
 	if _, err := s.Get(short, 1000, "id"); status.Code(err) != codes.FailedPrecondition {
 		t.Error(err)
 	}
+}
+
+// answering counts the calls of its health.
+type answering struct {
+	grpc_health_v1.UnimplementedHealthServer
+	calls atomic.Int64
+}
+
+func (a *answering) Check(context.Context, *grpc_health_v1.HealthCheckRequest) (*grpc_health_v1.HealthCheckResponse, error) {
+	a.calls.Add(1)
+	return &grpc_health_v1.HealthCheckResponse{Status: grpc_health_v1.HealthCheckResponse_SERVING}, nil
+}
+
+func TestASessionThatSettlesHasAnswered(t *testing.T) {
+	s, err := New(10)
+	if err != nil {
+		t.Fatal(err)
+	}
+	ctx, cancel := context.WithCancel(context.Background())
+	defer cancel()
+	here, there := net.Pipe()
+	var health answering
+	server := grpc.NewServer()
+	grpc_health_v1.RegisterHealthServer(server, &health)
+	settled := make(chan int64)
+	go func() {
+		s.Settle(ctx, 1000, "id") // the session is not open yet
+		settled <- health.calls.Load()
+	}()
+	go func() { _ = s.Serve(ctx, 1000, here, headers("id")) }()
+	go (&http2.Server{}).ServeConn(there, &http2.ServeConnOpts{Context: ctx, Handler: server})
+	if calls := <-settled; calls != 1 {
+		t.Error(calls)
+	}
+	cancel()
+	s.Settle(ctx, 1000, "none") // nobody waits for a session of a client that has ended
 }
 
 func TestSessionsAreBounded(t *testing.T) {

@@ -102,6 +102,9 @@ func (s *Solver) work(c *checks, b *builds.Build, def, sent *pb.Definition) (*re
 	p := newProgress(b, g)
 	s.note(sent, g, p)
 	if !s.Literal {
+		if err := refuse(g); err != nil {
+			return nil, err
+		}
 		if def, g, err = s.liken(c, def, sent, g, p); err != nil {
 			return nil, err
 		}

@@ -170,6 +170,31 @@ class Buildctl(WithDaemon):
             self.assertEqual(texts, [self.wanted(name, *trees)] * 2, name)
             self.assertTrue(image_in(ours) == image_in(packed), name)
 
+    def test_its_images_have_names_and_types_as_in_buildkit(self):
+        image = self.at / "named.oci"
+        with self.daemon():
+            _, done = self.build("merge", output=f"type=oci,dest={image},name=a,oci-mediatypes=false")
+            self.assertEqual(done.returncode, 0, done.stderr)
+            _, refused = self.build("merge", output=f"type=oci,dest={self.at / 'refused'},name=UPPER")
+        with tarfile.open(image) as files:
+            (named,) = json.load(files.extractfile("index.json"))["manifests"]
+        names = [named["annotations"][key] for key in ("io.containerd.image.name", "org.opencontainers.image.ref.name")]
+        self.assertEqual(names, ["docker.io/library/a:latest", "latest"])
+        self.assertEqual(named["mediaType"], "application/vnd.docker.distribution.manifest.v2+json")
+        self.assertEqual(run("tree-of-image", image).stdout, self.wanted("merge"))
+        self.assertIn(b"failed to parse UPPER: invalid reference format", refused.stderr)
+
+    def test_what_no_frontend_can_be_given_is_refused_in_one_line(self):
+        words = ["build", "--progress", "plain", "--frontend", "dockerfile.v0", "--opt"]
+        with self.daemon("-frontend", f"dockerfile.v0={FRONTEND}"):
+            done = self.client(*words, f"build-arg:LONG={'x' * 131050}")
+        self.assertEqual((done.returncode, done.stdout), (1, b""))
+        cause = (
+            b"error: failed to solve: InvalidArgument: frontend dockerfile.v0: the option build-arg:LONG has 131050 bytes, "
+            b"and an option has at most 131071 with its name: a file of a source has room for more\n"
+        )
+        self.assertEqual(done.stderr, cause)
+
     def test_an_image_is_refused_by_name(self):
         with self.daemon():
             text, done = self.build("image")
