@@ -171,3 +171,28 @@ func TestWhatARecordHasIsBoundedAndUTF8(t *testing.T) {
 		t.Error("the request has changed")
 	}
 }
+
+func TestAListenerThatIsSlowIsEnded(t *testing.T) {
+	h := New(3)
+	built(h, 1, "first", nil)
+	listens, goOn, done := make(chan bool), make(chan bool), make(chan error)
+	go func() {
+		first := true
+		done <- h.Listen(context.Background(), 1, &controlapi.BuildHistoryRequest{}, func(*controlapi.BuildHistoryEvent) error {
+			if first {
+				first = false
+				listens <- true
+				<-goOn
+			}
+			return nil
+		})
+	}()
+	<-listens
+	for range mostPending {
+		built(h, 1, "x", nil)
+	}
+	close(goOn)
+	if err := <-done; status.Code(err) != codes.ResourceExhausted {
+		t.Error(err)
+	}
+}

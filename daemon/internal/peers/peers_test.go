@@ -129,7 +129,8 @@ func TestARefusedUserIsToldAndLogged(t *testing.T) {
 		if _, err := User(ctx); err == nil {
 			t.Error("a refused user is one")
 		}
-		if _, tapped := Tap(ctx, nil); status.Code(tapped) != codes.PermissionDenied || !strings.HasPrefix(status.Convert(tapped).Message(), "user 1234 is not served") {
+		_, tapped := Tap(ctx, nil)
+		if status.Code(tapped) != codes.PermissionDenied || !strings.HasPrefix(status.Convert(tapped).Message(), "user 1234 is not served") {
 			t.Error(err, tapped)
 		}
 	}

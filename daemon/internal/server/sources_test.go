@@ -125,8 +125,8 @@ func TestAnUnchangedFileIsNotSentAgainUnderOneSharedKey(t *testing.T) {
 		log   string
 	}{
 		{same, "key", 7, ""},
-		{same, "key", 0, "local source context: 2 files are as in an earlier build, by their sizes and times\n"},
-		{newer, "key", 5, "local source context: 1 files are as in an earlier build, by their sizes and times\n"},
+		{same, "key", 0, "local source context: 2 of its files were not read: their sizes and times are as in an earlier build\n"},
+		{newer, "key", 5, "local source context: 1 of its files were not read: their sizes and times are as in an earlier build\n"},
 		{newer, "other", 9, ""},
 	} {
 		archive, sent, log, _ := d.followed(t, copied(), folder{files: c.files}, c.key)
@@ -177,12 +177,15 @@ func TestASourceThatIsABaseIsReadAnew(t *testing.T) {
 
 func TestWhatATreeOfLlbmHasNotIsAWarningOfTheSource(t *testing.T) {
 	d := started(t, nil)
-	a, b := of("a", "x"), of("b", "y")
+	a, b, c := of("a", "x"), of("b", "y"), of("c", "z")
 	a.Xattrs = map[string][]byte{"security.selinux": nil}
 	b.Xattrs = map[string][]byte{"user.mine": []byte("1")}
-	_, _, _, warned := d.followed(t, llb.Local("context"), folder{files: []file{a, b}}, "")
-	want := "local source context: the extended attributes of 1 entries are lost, which BuildKit keeps: the first is /b (user.mine)"
-	if warned != want {
+	c.Xattrs = b.Xattrs
+	want := "local source context: extended attributes are lost, which BuildKit keeps: of /b (user.mine)"
+	if _, _, _, warned := d.followed(t, llb.Local("context"), folder{files: []file{a, b}}, ""); warned != want {
+		t.Error(warned)
+	}
+	if _, _, _, warned := d.followed(t, llb.Local("context"), folder{files: []file{a, b, c}}, ""); warned != want+" and 1 more" {
 		t.Error(warned)
 	}
 }

@@ -41,6 +41,7 @@ type inputs struct {
 	byKey   map[sources.Key]*input
 	build   *builds.Build
 	renamed bool
+	held    int // the bytes of texts that count as the build's
 }
 
 func sessionOf(b *builds.Build, source *pb.SourceOp) string {
@@ -131,26 +132,30 @@ func (s *Solver) transfer(ctx context.Context, b *builds.Build, one *input, p *p
 	}
 	name, v := one.request.Name, one.vertices[0]
 	bar := p.bar(v, "transferring "+name+":")
-	manifest, err := s.Keeper.Fetch(ctx, b.User, caller, one.request, one.base, bar.at)
+	manifest, err := s.Keeper.Fetch(ctx, b.User, caller, sources.Transfer{Request: one.request, Anew: one.base, Progress: bar.at, Hold: b.Hold})
 	if err != nil {
 		return nil, err
 	}
 	bar.done(manifest.Sent)
 	if manifest.Unread > 0 {
-		p.log(v, 1, fmt.Sprintf("local source %s: %d files are as in an earlier build, by their sizes and times", name, manifest.Unread))
+		p.log(v, 1, fmt.Sprintf("local source %s: %d of its files were not read: their sizes and times are as in an earlier build", name, manifest.Unread))
 	}
 	if manifest.Left > 0 {
 		p.warn(v, fmt.Sprintf("local source %s: %d entries are left out, as llbm has only directories and files", name, manifest.Left), manifest.LeftOut)
 	}
 	if manifest.Attributed > 0 {
-		p.warn(v, fmt.Sprintf("local source %s: the extended attributes of %d entries are lost, which BuildKit keeps: the first is /%s",
-			name, manifest.Attributed, manifest.FirstAttributed), nil)
+		text := fmt.Sprintf("local source %s: extended attributes are lost, which BuildKit keeps: of /%s", name, manifest.FirstAttributed)
+		if more := manifest.Attributed - 1; more > 0 {
+			text += fmt.Sprintf(" and %d more", more)
+		}
+		p.warn(v, text, nil)
 	}
 	return manifest, nil
 }
 
-// close gives up the holds of the sources.
+// close gives up the holds of the sources and of their texts, which are closed.
 func (in *inputs) close() {
+	in.build.Free(in.held)
 	for _, one := range in.all {
 		if one.manifest != nil {
 			one.manifest.Drop()
@@ -229,7 +234,7 @@ func (in *inputs) write(text func(*input, io.Writer) error) ([]machine.Source, e
 			return out, err
 		}
 		out = append(out, machine.Source{Name: one.given, Text: file})
-		if err := text(one, &limited{to: file, left: mostOfText}); err != nil {
+		if err := text(one, &limited{to: file, left: mostOfText, hold: in.hold}); err != nil {
 			if errors.Is(err, errTooLong) {
 				err = status.Errorf(codes.ResourceExhausted, "llbm: fault 185 TooLong: the text of local source %s", one.request.Name)
 			}
@@ -241,15 +246,28 @@ func (in *inputs) write(text func(*input, io.Writer) error) ([]machine.Source, e
 
 var errTooLong = errors.New("the text is too long")
 
-// limited refuses more bytes than llbm takes.
+// limited refuses more bytes than llbm takes, and counts them.
 type limited struct {
 	to   io.Writer
 	left int
+	hold func(n int) error
 }
 
 func (l *limited) Write(data []byte) (int, error) {
 	if l.left -= len(data); l.left < 0 {
 		return 0, errTooLong
 	}
+	if err := l.hold(len(data)); err != nil {
+		return 0, err
+	}
 	return l.to.Write(data)
+}
+
+// hold counts bytes of a text, which is in memory.
+func (in *inputs) hold(n int) error {
+	err := in.build.Hold(n)
+	if err == nil {
+		in.held += n
+	}
+	return err
 }

@@ -70,16 +70,24 @@ func NewKeeper(store *contents.Store, leaveOut bool, idle time.Duration) *Keeper
 	return k
 }
 
-// Fetch copies a source from a session. With anew each file is read, and nothing is kept. The caller has to drop the manifest.
-func (k *Keeper) Fetch(ctx context.Context, user uint32, caller session.Caller, r Request, anew bool, progress func(int64)) (*Manifest, error) {
+// A Transfer is a source that a build wants.
+type Transfer struct {
+	Request
+	Anew     bool              // whether each file is read, and nothing is kept
+	Progress func(bytes int64) // is called with the bytes of contents that have come so far
+	Hold     func(n int) error // counts bytes of the build in memory, or refuses them
+}
+
+// Fetch copies a source from a session. The caller has to drop the manifest.
+func (k *Keeper) Fetch(ctx context.Context, user uint32, caller session.Caller, r Transfer) (*Manifest, error) {
 	if !caller.Supports(session.MethodURL("moby.filesync.v1.FileSync", "diffcopy")) {
 		return nil, status.Errorf(codes.FailedPrecondition, "llbm: fault 121 %s (the client's session offers no local sources)", r.Name)
 	}
-	options := Options{Name: r.Name, LeaveOut: k.leaveOut, Progress: progress}
-	id := keyOf(user, caller, r)
-	if anew || id.shared == "" {
+	options := Options{Name: r.Name, LeaveOut: k.leaveOut, Progress: r.Progress, Hold: r.Hold}
+	id := keyOf(user, caller, r.Request)
+	if r.Anew || id.shared == "" {
 		k.forget(id)
-		return k.receive(ctx, caller, r, options)
+		return k.receive(ctx, caller, r.Request, options)
 	}
 	before := k.take(id)
 	defer func() {
@@ -90,13 +98,13 @@ func (k *Keeper) Fetch(ctx context.Context, user uint32, caller session.Caller, 
 	if r.ByMetadata {
 		options.Before = before
 	}
-	manifest, err := k.receive(ctx, caller, r, options)
+	manifest, err := k.receive(ctx, caller, r.Request, options)
 	if status.Code(err) == codes.ResourceExhausted && before != nil {
 		// What was kept of this source may be what fills the store.
 		k.forget(id)
 		before.Drop()
 		before, options.Before = nil, nil
-		manifest, err = k.receive(ctx, caller, r, options)
+		manifest, err = k.receive(ctx, caller, r.Request, options)
 	}
 	if err != nil {
 		return nil, err

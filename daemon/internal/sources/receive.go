@@ -23,6 +23,8 @@ const (
 	mostOfName  = 255
 	mostLeftOut = 10
 	mostPacks   = 16
+	// heldAtOnce is how many bytes at least are counted at once of what is held in memory.
+	heldAtOnce = 64 << 10
 	// mostOfMessage bounds what is shown of a client's error.
 	mostOfMessage = 1000
 	// settled is how much older than a transfer a file's time has to be to tell a later change from it. Clocks of file systems
@@ -49,6 +51,8 @@ type Options struct {
 	Before   *Manifest     // what was sent before, or nil
 	LeaveOut bool          // links, devices and sockets are left out instead of refused
 	Progress func(n int64) // is called with the number of bytes that have come so far
+	// Hold counts bytes that are held in memory, or refuses them; nil does not count.
+	Hold func(n int) error
 }
 
 // Receive does the receiver's part of a diff copy. It asks for the contents of files that are not as they were before. The
@@ -73,7 +77,7 @@ func Receive(stream Stream, store *contents.Store, options Options) (*Manifest, 
 	for i := range r.manifest.Entries {
 		r.manifest.Bytes += r.manifest.Entries[i].Content.Size
 	}
-	r.manifest.memory = r.paths + len(r.manifest.Entries)*int(unsafe.Sizeof(Entry{}))
+	r.manifest.memory = r.memory()
 	return r.manifest, nil
 }
 
@@ -95,6 +99,7 @@ type receiver struct {
 	number   uint32
 	before   int // the place in Before that comes next
 	paths    int // the bytes of all paths so far
+	held     int // the bytes in memory that Hold has counted
 	ended    bool
 }
 
@@ -180,8 +185,20 @@ func (r *receiver) count(st *fstypes.Stat) error {
 	if r.paths += len(st.Path) + len(st.Linkname); r.paths > mostOfPaths {
 		return r.refuse(codes.ResourceExhausted, "its paths have more than %d bytes", mostOfPaths)
 	}
+	more := r.memory() - r.held
+	if r.Hold == nil || more <= 0 {
+		return nil
+	}
+	more = max(more, heldAtOnce)
+	r.held += more
+	if err := r.Hold(more); err != nil {
+		return r.refuse(status.Code(err), "%s", status.Convert(err).Message())
+	}
 	return nil
 }
+
+// memory returns how many bytes the entries have in memory, about.
+func (r *receiver) memory() int { return r.paths + int(r.number)*int(unsafe.Sizeof(Entry{})) }
 
 // attributes counts an entry with extended attributes. The label that SELinux gives to each file of a host is none of these.
 func (r *receiver) attributes(st *fstypes.Stat) {

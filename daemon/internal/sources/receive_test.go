@@ -226,7 +226,8 @@ func TestAHardLinkHasTheContentOfItsTarget(t *testing.T) {
 }
 
 func TestTheNamesOfAFileAreKnown(t *testing.T) {
-	client := sends(map[uint32]string{1: "abc"}, stat("a", 0o644, 0), stat("b", 0o644, 3), dir("c"), hardLink("c/d", "b"), hardLink("e", "a"), hardLink("f", "b"), last)
+	client := sends(map[uint32]string{1: "abc"},
+		stat("a", 0o644, 0), stat("b", 0o644, 3), dir("c"), hardLink("c/d", "b"), hardLink("e", "a"), hardLink("f", "b"), last)
 	m, err := Receive(client, newStore(t, 100), Options{})
 	if err != nil {
 		t.Fatal(err)
@@ -256,6 +257,14 @@ func TestExtendedAttributesAreCounted(t *testing.T) {
 	}
 }
 
+func TestAClientsErrorIsCut(t *testing.T) {
+	long := &fstypes.Packet{Type: fstypes.PACKET_ERR, Data: bytes.Repeat([]byte("ü"), 1<<20)}
+	_, err := Receive(sends(nil, long), newStore(t, 100), Options{Name: "context"})
+	if want := "local source context: " + strings.Repeat("ü", mostOfMessage); status.Convert(err).Message() != want {
+		t.Errorf("%.100s", err)
+	}
+}
+
 // bound sets a bound for a test.
 func bound(t *testing.T, what *int, most int) {
 	before := *what
@@ -266,7 +275,7 @@ func bound(t *testing.T, what *int, most int) {
 func TestTheEntriesAndTheirPathsAreBounded(t *testing.T) {
 	bound(t, &mostEntries, 3)
 	bound(t, &mostOfPaths, 12)
-	link := stat("a", os.ModeSymlink|0o777, 0)
+	link, a := stat("a", os.ModeSymlink|0o777, 0), stat("aaa", 0o644, 0)
 	for name, c := range map[string]struct {
 		packets []*fstypes.Packet
 		want    string
@@ -275,7 +284,7 @@ func TestTheEntriesAndTheirPathsAreBounded(t *testing.T) {
 		"entries":                 {[]*fstypes.Packet{dir("a"), dir("b"), dir("c"), dir("d"), last}, "more than 3 entries"},
 		"entries that are none":   {[]*fstypes.Packet{link, stat("b", os.ModeSocket, 0), dir("c"), dir("d"), last}, "more than 3 entries"},
 		"bytes of paths":          {[]*fstypes.Packet{dir("aaaaaa"), dir("bbbbbbb"), last}, "its paths have more than 12 bytes"},
-		"bytes of names of links": {[]*fstypes.Packet{stat("aaa", 0o644, 0), hardLink("bbb", "aaa"), hardLink("ccc", "aaa"), last}, "its paths have more than 12 bytes"},
+		"bytes of names of links": {[]*fstypes.Packet{a, hardLink("bbb", "aaa"), hardLink("ccc", "aaa"), last}, "its paths have more than 12 bytes"},
 	} {
 		m, err := Receive(sends(nil, c.packets...), newStore(t, 100), Options{LeaveOut: true})
 		if c.want == "" && err != nil {
@@ -287,6 +296,31 @@ func TestTheEntriesAndTheirPathsAreBounded(t *testing.T) {
 		if m != nil {
 			m.Drop()
 		}
+	}
+}
+
+func TestWhatASourceHoldsInMemoryIsCounted(t *testing.T) {
+	held, calls := 0, 0
+	hold := func(n int) error {
+		calls++
+		if held+n > 1<<20 {
+			return status.Error(codes.ResourceExhausted, "the build holds too much")
+		}
+		held += n
+		return nil
+	}
+	packets := []*fstypes.Packet{}
+	for i := range 10_000 {
+		packets = append(packets, stat(fmt.Sprintf("%08d", i), 0o644, 0))
+	}
+	m, err := Receive(sends(nil, append(packets[:5_000:5_000], last)...), newStore(t, 100), Options{Hold: hold})
+	if err != nil || held < m.memory || held > m.memory+heldAtOnce || calls > 10 {
+		t.Error(held, calls, err)
+	}
+	held = 1 << 19
+	_, err = Receive(sends(nil, append(packets, last)...), newStore(t, 100), Options{Name: "context", Hold: hold})
+	if status.Code(err) != codes.ResourceExhausted || status.Convert(err).Message() != "local source context: the build holds too much" {
+		t.Error(err)
 	}
 }
 
