@@ -4,7 +4,9 @@ import (
 	"errors"
 	"fmt"
 	"io"
+	"maps"
 	"os"
+	"slices"
 	"strings"
 	"time"
 	"unicode/utf8"
@@ -202,14 +204,13 @@ func (r *receiver) memory() int { return r.paths + int(r.number)*int(unsafe.Size
 
 // attributes counts an entry with extended attributes. The label that SELinux gives to each file of a host is none of these.
 func (r *receiver) attributes(st *fstypes.Stat) {
-	for name := range st.Xattrs {
-		if name == "security.selinux" {
-			continue
-		}
-		if r.manifest.Attributed++; r.manifest.Attributed == 1 {
-			r.manifest.FirstAttributed = fmt.Sprintf("%s (%.100s)", st.Path, name)
-		}
+	names := slices.Sorted(maps.Keys(st.Xattrs))
+	names = slices.DeleteFunc(names, func(name string) bool { return name == "security.selinux" })
+	if len(names) == 0 {
 		return
+	}
+	if r.manifest.Attributed++; r.manifest.Attributed == 1 {
+		r.manifest.FirstAttributed = fmt.Sprintf("%s (%.100s)", st.Path, names[0])
 	}
 }
 
