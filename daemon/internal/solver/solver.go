@@ -156,7 +156,7 @@ func (s *Solver) run(ctx context.Context, b *builds.Build, def *pb.Definition, g
 func (s *Solver) session(
 	ctx context.Context, b *builds.Build, g *graph.Graph, def *pb.Definition, texts []machine.Source, p *progress, c *comparison,
 ) (tree.Tree, []byte, error) {
-	run, end, err := s.begin(ctx, b, def, texts)
+	run, end, err := s.openSession(ctx, b, def, texts)
 	if err != nil {
 		return nil, nil, err
 	}
@@ -187,8 +187,8 @@ func (s *Solver) session(
 	return t, record.Bytes(), err
 }
 
-// begin begins a session once one more process of the program may run. The caller has to end it by the function that it returns.
-func (s *Solver) begin(ctx context.Context, b *builds.Build, def *pb.Definition, texts []machine.Source) (*machine.Run, func(), error) {
+// openSession begins a session once one more process of the program may run. The caller has to end it by the function that it returns.
+func (s *Solver) openSession(ctx context.Context, b *builds.Build, def *pb.Definition, texts []machine.Source) (*machine.Run, func(), error) {
 	entries, err := graph.Entries(def)
 	if err != nil {
 		return nil, nil, err
