@@ -3,10 +3,12 @@ package rules
 import (
 	"context"
 	"encoding/json"
+	"errors"
 	"fmt"
 	"io"
 	"io/fs"
 	"os"
+	"syscall"
 
 	"github.com/moby/buildkit/solver/pb"
 	"github.com/tonistiigi/fsutil"
@@ -122,10 +124,14 @@ func walk(ctx context.Context, path string, n *Node, found fs.WalkDirFunc) error
 		if n.dir {
 			stat.Mode = uint32(fs.ModeDir)
 		}
-		if err := found(path, &fsutil.DirEntryInfo{Stat: stat}, nil); err != nil {
-			if err == fs.SkipDir && n.dir {
-				return nil
-			}
+		err := found(path, &fsutil.DirEntryInfo{Stat: stat}, nil)
+		if errors.Is(err, fs.ErrNotExist) || errors.Is(err, syscall.ENOTDIR) {
+			err = fs.SkipDir // as fsutil's own walk does, which so lists a file as an empty directory
+		}
+		if err == fs.SkipDir && n.dir {
+			return nil
+		}
+		if err != nil {
 			return err
 		}
 		prefix = path + "/"

@@ -45,8 +45,7 @@ from llbm_tools.llb import findings
 from llbm_tools.paths import ROOT
 from llbm_tools.rules import examples, notes
 from llbm_tools.rules import comparison as comparing
-from llbm_tools.rules.comparison import Executions
-from llbm_tools.streams import Failed, Refused, exit_status, program_at
+from llbm_tools.streams import Refused, exit_status, program_at
 from llbm_tools.trees import maps
 from llbm_tools.trees.maps import Tree
 
@@ -129,16 +128,8 @@ def written(sources: dict[str, Tree], folder: str) -> dict[str, str]:
 
 def modelled(data: bytes, sources: dict[str, Tree]) -> Lines:
     """Returns what BuildKit makes of a definition without executions, by its rules in llbm-rules."""
-    with tempfile.TemporaryDirectory(prefix="llbm-against-") as folder:
-        compared = comparing.Comparison(data, written(sources, folder), Executions(lambda _: None), tree=True)
-        try:
-            compared.go()
-            if compared.end is None:
-                raise Failed("llbm-rules compare has not ended")
-            tree = compared.end.tree
-            return tree.read_bytes().splitlines(keepends=True)[1:] if tree else None
-        finally:
-            compared.close()
+    _, tree = comparing.of_trees(data, {name: maps.lines_of(tree) for name, tree in sources.items()})
+    return None if tree is None else tree[1:]
 
 
 class Comparison:

@@ -6,7 +6,7 @@ an action is compared with the tree that the action was done on, and the worker 
 
 import re
 from collections.abc import Mapping
-from typing import NamedTuple
+from typing import BinaryIO, NamedTuple
 
 from llbm_tools.debugging import changes, looks, reasons
 from llbm_tools.debugging.changes import Compared
@@ -87,7 +87,7 @@ class Watch:
     """Says what events of a session of a definition changed; with the files of its sources' trees also what ends otherwise
     in BuildKit."""
 
-    def __init__(self, session: Session, graph: Graph, data: bytes, sources: Mapping[str, str] | None = None) -> None:
+    def __init__(self, session: Session, graph: Graph, data: bytes, sources: Mapping[str, BinaryIO] | None = None) -> None:
         self.session = session
         self.graph = graph
         self.likeness = None if sources is None else Likeness(session, graph, data, sources)

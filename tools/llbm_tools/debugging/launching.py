@@ -1,9 +1,9 @@
 """Starts what a launch request asks for: the program, the definition with its text, and the trees of its local sources.
 
-The texts of the trees are removed with the session.
+The program reads all its files before it answers the first command, so the temporary files are removed after the
+launch. The texts of the trees stay open for a comparison until the session ends.
 """
 
-import contextlib
 import difflib
 import functools
 import os
@@ -12,7 +12,7 @@ import shutil
 import subprocess
 import tempfile
 from collections.abc import Callable
-from typing import NamedTuple
+from typing import BinaryIO, NamedTuple
 
 from llbm_tools.common import program_named
 from llbm_tools.debugging import places
@@ -43,7 +43,7 @@ Say = Callable[[str], None]
 
 class Launched(NamedTuple):
     """A session at its beginning, its graph, its entries for explanations, the name and the file of its text, the
-    files that the definition was made from, and the files with the trees of its local sources, by name.
+    files that the definition was made from, and the open files with the trees of its local sources, by name.
     """
 
     session: Session
@@ -52,7 +52,7 @@ class Launched(NamedTuple):
     name: str
     file: str | None
     origins: Origins
-    sources: dict[str, str]
+    sources: dict[str, BinaryIO]
 
 
 @functools.cache
@@ -204,7 +204,9 @@ def start(arguments: Object, folder: str, say: Say, program_argument: str) -> La
     path, place = argument(arguments, "definition", str, ""), argument(arguments, "text", str, "")
     origins = origins_of(data, given, os.path.dirname(os.path.abspath(path or place)))
     name, text_file = f"{os.path.basename(path)}.text", os.path.abspath(place) if place else None
-    trees = dict(word.split("=", 1) for word in words)
+    trees = {}
+    for name, tree in (word.split("=", 1) for word in words):
+        trees[name] = session.kept.enter_context(open(tree, "rb"))
     return Launched(session, graph, named_entries, name, text_file, origins, trees)
 
 
@@ -214,11 +216,8 @@ def launch(arguments: Object, say: Say, program_argument: str = "the argument ll
     `program_argument` is how the caller names the program.
     """
     try:
-        with contextlib.ExitStack() as kept:
-            folder = kept.enter_context(tempfile.TemporaryDirectory(prefix="llbm-debug-"))
-            launched = start(arguments, folder, say, program_argument)
-            launched.session.kept.push(kept.pop_all())
-            return launched
+        with tempfile.TemporaryDirectory(prefix="llbm-debug-") as folder:
+            return start(arguments, folder, say, program_argument)
     except OSError as fault:
         raise Refused(os_error_text(fault)) from fault
     except ValueError as fault:

@@ -5,6 +5,7 @@ A tree that an execution made is not compared if its text is too long, nor is wh
 
 import functools
 from collections.abc import Mapping
+from typing import BinaryIO
 
 from llbm_tools.debugging.places import Graph
 from llbm_tools.rules import notes, program
@@ -22,7 +23,7 @@ class Likeness:
     """A session of a definition beside BuildKit, given the files of its sources' trees. After a step back a new comparison
     begins."""
 
-    def __init__(self, session: Session, graph: Graph, data: bytes, sources: Mapping[str, str]) -> None:
+    def __init__(self, session: Session, graph: Graph, data: bytes, sources: Mapping[str, BinaryIO]) -> None:
         self.session = session
         self.graph = graph
         self.data = data

@@ -5,12 +5,13 @@ executions made, and is given a reply for each question; trees are in files.
 """
 
 import contextlib
+import functools
 import json
 import pathlib
 import subprocess
 import tempfile
 from collections.abc import Callable, Mapping
-from typing import NamedTuple
+from typing import BinaryIO, NamedTuple
 
 from llbm_tools.rules import program
 from llbm_tools.rules.lines import INHERITED, more_paths
@@ -53,34 +54,45 @@ class Executions(NamedTuple):
     make: Callable[[int, list[str]], Outputs] | None = None
 
 
+def path_of(file: BinaryIO) -> str:
+    """Returns the path of an open file in a program that it is passed to."""
+    return f"/proc/self/fd/{file.fileno()}"
+
+
 class Comparison:
-    """A comparison of a definition, given the files of its sources' trees by name, and the result if it is known. Its
+    """A comparison of a definition, given open files with its sources' trees by name, and the result if it is known. Its
     lines are known step by step."""
 
     def __init__(
-        self, data: bytes, sources: Mapping[str, str], executions: Executions, paths: int = MOST_PATHS,
+        self, data: bytes, sources: Mapping[str, BinaryIO], executions: Executions, paths: int = MOST_PATHS,
         tree: bool = False, made: Tree | None = None,
     ) -> None:
         self.executions = executions
         self.paths = paths
         self.closing = contextlib.ExitStack()
-        self.folder = pathlib.Path(self.closing.enter_context(tempfile.TemporaryDirectory(prefix="llbm-comparing-")))
         self.steps: dict[int, StepLines] = {}
         self.end: End | None = None
         self.question: Answer | None = None
-        self.count = 0
         self.error = self.closing.enter_context(tempfile.TemporaryFile())
+        definition = self.closing.enter_context(tempfile.TemporaryFile())
+        definition.write(data)
+        definition.flush()
         self.process = subprocess.Popen(
-            [program.place(), "compare"], stdin=subprocess.PIPE, stdout=subprocess.PIPE, stderr=self.error
-        )
+            [program.place(), "compare"], stdin=subprocess.PIPE, stdout=subprocess.PIPE, stderr=self.error,
+            pass_fds=[file.fileno() for file in (definition, *sources.values())],
+        )  # fmt: skip
         self.closing.callback(self.stop)
-        definition = self.folder / "definition"
-        definition.write_bytes(data)
+        folder = {"folder": str(self.folder)} if tree or executions.make else {}
         self.send({
-            "sent": str(definition), "sources": dict(sources), "executes": executions.make is not None,
-            "folder": str(self.folder), "paths": MOST_LINES, "result": True, "tree": tree,
+            "sent": path_of(definition), "sources": {name: path_of(file) for name, file in sources.items()},
+            "executes": executions.make is not None, **folder, "paths": MOST_LINES, "result": True, "tree": tree,
             **({} if made is None else {"made": self.stored(made)}),
         })  # fmt: skip
+
+    @functools.cached_property
+    def folder(self) -> pathlib.Path:
+        """The folder of trees that are written, which is made when it is needed."""
+        return pathlib.Path(self.closing.enter_context(tempfile.TemporaryDirectory(prefix="llbm-comparing-")))
 
     def stop(self) -> None:
         """Ends the program."""
@@ -152,13 +164,29 @@ class Comparison:
 
     def stored(self, tree: Tree) -> str:
         """Writes a tree into a file, and returns its path."""
-        self.count += 1
-        place = self.folder / f"output-{self.count}"
-        place.write_bytes(b"".join(tree))
-        return str(place)
+        with tempfile.NamedTemporaryFile(dir=self.folder, delete=False) as file:
+            file.writelines(tree)
+        return file.name
 
     def lines_of(self, step: Answer) -> list[str]:
         """Returns the lines of a step: those of the first paths, and one that counts the others."""
         lines = [f"{one['words']}: {', '.join(one['notes'] or [INHERITED])}" for one in step["lines"]]
         more = len(lines) - self.paths
         return [*lines[: self.paths], more_paths(more, step.get("more", False))] if more > 0 else lines
+
+
+def of_trees(data: bytes, sources: Mapping[str, Tree]) -> tuple[End, Tree | None]:
+    """Returns the end of the comparison of a definition without executions, and BuildKit's tree, None if there is none."""
+    with contextlib.ExitStack() as kept:
+        files: dict[str, BinaryIO] = {}
+        for name, tree in sources.items():
+            file = files[name] = kept.enter_context(tempfile.TemporaryFile())
+            file.writelines(tree)
+            file.flush()
+        comparison = Comparison(data, files, Executions(lambda _: None), tree=True)
+        kept.callback(comparison.close)
+        comparison.go()
+        if comparison.end is None:
+            raise Failed(f"{program.NAME} compare has not ended")
+        tree_file = comparison.end.tree
+        return comparison.end, tree_file.read_bytes().splitlines(keepends=True) if tree_file else None

@@ -1,16 +1,14 @@
 """Tests of BuildKit's rules: the table, its least examples, and the tools' notes and changes for each."""
 
 import os
-import pathlib
 import re
 import subprocess
-import tempfile
 import unittest
 
 from llbm_tools.definitions import adopting
 from llbm_tools.llb import findings
 from llbm_tools.rules import notes, program
-from llbm_tools.rules.comparison import Comparison, Executions
+from llbm_tools.rules.comparison import of_trees
 from llbm_tools.rules.examples import ALWAYS, examples
 from llbm_tools.trees import maps
 from tests import base
@@ -21,17 +19,8 @@ PAGE = ROOT / "docs" / "BUILDKIT.md"
 
 def compared(data, sources):
     """Returns the end of a comparison, and BuildKit's result without the root, None if there is none."""
-    with tempfile.TemporaryDirectory() as folder:
-        places = {name: os.path.join(folder, str(number)) for number, name in enumerate(sources)}
-        for name, place in places.items():
-            pathlib.Path(place).write_bytes(b"".join(maps.lines_of(sources[name])))
-        comparison = Comparison(data, places, Executions(lambda _: None), tree=True)
-        try:
-            comparison.go()
-            end = comparison.end
-            return end, end.tree.read_text("utf-8").splitlines()[1:] if end.tree else None
-        finally:
-            comparison.close()
+    end, tree = of_trees(data, {name: maps.lines_of(tree) for name, tree in sources.items()})
+    return end, None if tree is None else b"".join(tree).decode().splitlines()[1:]
 
 
 def names_of(data):
