@@ -132,7 +132,7 @@ func (c *cursor) sourcesOf(path []string) []source {
 func (c *cursor) create(path []string, wanted *rules.Node) error {
 	sources := c.sourcesOf(path)
 	for _, one := range sources {
-		if c.pair(one.index).at(one.path).are(one.gives, wanted) {
+		if c.pair(one.index).at(one.path).are(c.gives(one), wanted) {
 			action := copyOf(one.path, path, keptMode, nil)
 			if one.sets {
 				action = copyOf(one.path, path, one.mode, one.owner)
@@ -158,9 +158,9 @@ func (c *cursor) createDirectory(path []string, wanted *rules.Node, sources []so
 	}
 	most, best := 0, source{}
 	for _, one := range sources {
-		from, right := c.pair(one.index).at(one.path), 0
+		from, right, gives := c.pair(one.index).at(one.path), 0, c.gives(one)
 		for _, name := range from.here.Names() {
-			if from.child(name).are(one.gives, wanted.Child(name)) {
+			if from.child(name).are(gives, wanted.Child(name)) {
 				right++
 			}
 		}
@@ -182,13 +182,34 @@ func (c *cursor) createDirectory(path []string, wanted *rules.Node, sources []so
 	return nil
 }
 
-// gives is whether a copy of a node from the source is as wanted.
-func (s source) gives(from, wanted *rules.Node) bool {
-	if from == nil || wanted == nil || from.IsDir() != wanted.IsDir() {
-		return false
-	}
+// gives returns whether a copy of a node from a source is as wanted. What trees have many times is compared once.
+func (c *cursor) gives(s source) func(from, wanted *rules.Node) bool {
 	if !s.sets {
-		return rules.Equal(from, wanted)
+		return func(from, wanted *rules.Node) bool { return from != nil && rules.Equal(from, wanted) }
+	}
+	var compare func(from, wanted *rules.Node) bool
+	compare = func(from, wanted *rules.Node) bool {
+		if from == nil || wanted == nil {
+			return false
+		}
+		key := [2]*rules.Node{from, wanted}
+		same, known := c.compared[key]
+		if !known {
+			same = s.sameEntry(from, wanted) && len(from.Names()) == len(wanted.Names())
+			for _, name := range from.Names() {
+				same = same && compare(from.Child(name), wanted.Child(name))
+			}
+			c.compared[key] = same
+		}
+		return same
+	}
+	return compare
+}
+
+// sameEntry is whether a copy of a node, without what is below it, gets the mode, the owner and the content of another one.
+func (s source) sameEntry(from, wanted *rules.Node) bool {
+	if from.IsDir() != wanted.IsDir() || !from.IsDir() && !rules.SameContent(from, wanted) {
+		return false
 	}
 	mode := from.Mode()
 	if s.mode != keptMode {
@@ -199,16 +220,5 @@ func (s source) gives(from, wanted *rules.Node) bool {
 		user, group, _ = ownerOf(s.owner)
 	}
 	wantedUser, wantedGroup := wanted.Owner()
-	if mode != wanted.Mode() || user != wantedUser || group != wantedGroup || len(from.Names()) != len(wanted.Names()) {
-		return false
-	}
-	if !from.IsDir() {
-		return rules.SameContent(from, wanted)
-	}
-	for _, name := range from.Names() {
-		if !s.gives(from.Child(name), wanted.Child(name)) {
-			return false
-		}
-	}
-	return true
+	return mode == wanted.Mode() && user == wantedUser && group == wantedGroup
 }

@@ -110,9 +110,11 @@ func randomAction(random *rand.Rand, plain bool, base, second *rules.Node) *pb.F
 	a := &pb.FileAction{Input: 0, SecondaryInput: nothing, Output: 0}
 	switch random.Intn(6) {
 	case 0:
-		a.Action = &pb.FileAction_Mkfile{Mkfile: &pb.FileActionMkFile{Path: t.text(false), Mode: mode, Owner: randomOwner(random), Data: []byte("new")}}
+		mkfile := &pb.FileActionMkFile{Path: t.text(false), Mode: mode, Owner: randomOwner(random), Data: []byte("new")}
+		a.Action = &pb.FileAction_Mkfile{Mkfile: mkfile}
 	case 1:
-		a.Action = &pb.FileAction_Mkdir{Mkdir: &pb.FileActionMkDir{Path: t.text(false), Mode: mode, MakeParents: flag(random), Owner: randomOwner(random)}}
+		mkdir := &pb.FileActionMkDir{Path: t.text(false), Mode: mode, MakeParents: flag(random), Owner: randomOwner(random)}
+		a.Action = &pb.FileAction_Mkdir{Mkdir: mkdir}
 	case 2:
 		wild := random.Intn(4) > 0
 		a.Action = &pb.FileAction_Rm{Rm: &pb.FileActionRm{Path: t.text(wild), AllowNotFound: flag(random), AllowWildcard: wild}}

@@ -171,10 +171,12 @@ type cursor struct {
 	mark    int
 	changes []string
 	from    []source
+	// compared has whether copies of nodes, with the action's mode and owner, are as wanted.
+	compared map[[2]*rules.Node]bool
 }
 
 func (t *treeWriter) begin(number int) *cursor {
-	c := &cursor{treeWriter: t, number: number, sent: t.fileOp.sent[number], second: nothing, mark: len(t.new)}
+	c := &cursor{treeWriter: t, number: number, sent: t.fileOp.sent[number], second: nothing, mark: len(t.new), compared: map[[2]*rules.Node]bool{}}
 	c.base = t.placeOf(c.sent.Input)
 	if c.at = c.base; c.sent.GetCopy() != nil {
 		c.second = t.placeOf(c.sent.SecondaryInput)
@@ -271,6 +273,13 @@ func (c *cursor) byTrees(wanted *rules.Node) (err error) {
 		c.from = append(c.from, source{index: c.base}, source{index: c.at})
 		err = c.bridge(nil, c.pair(c.at), wanted)
 	}
-	c.changes = []string{fmt.Sprintf("is %d actions, by its trees", len(c.new)-c.mark)}
+	switch count := len(c.new) - c.mark; count {
+	case 0:
+		c.changes = []string{"does nothing, by its trees"}
+	case 1:
+		c.changes = []string{"is another action, by its trees"}
+	default:
+		c.changes = []string{fmt.Sprintf("is %d actions, by its trees", count)}
+	}
 	return err
 }

@@ -5,6 +5,9 @@ import (
 	"context"
 	"fmt"
 	"math/rand"
+	"os"
+	"os/exec"
+	"path/filepath"
 	"slices"
 	"strings"
 	"testing"
@@ -237,4 +240,68 @@ func TestByTreesADefinitionEndsAsInBuildKit(t *testing.T) {
 		}
 	}
 	t.Logf("%d rewritten, %d different by names that llbm does not take, %d fail", changed, different, failed)
+}
+
+// program returns llbm, or skips the test: the one that LLBM names, or one of the repository.
+func program(t *testing.T) string {
+	t.Helper()
+	working, err := os.Getwd()
+	if err == nil {
+		working, err = filepath.EvalSymlinks(working) // it may be below a link
+	}
+	if err != nil {
+		t.Fatal(err)
+	}
+	for _, path := range []string{os.Getenv("LLBM"), working + "/../../../crates/llbm/out/llbm", working + "/../../../out/llbm-unproved"} {
+		if _, err := os.Stat(path); path != "" && err == nil {
+			return path
+		}
+	}
+	t.Skip("llbm is not there: set LLBM, or make out/llbm-unproved")
+	return ""
+}
+
+// byProgram returns what llbm itself makes of a definition, nil if it fails.
+func byProgram(t *testing.T, program string, def *pb.Definition, trees []*rules.Node) *rules.Node {
+	t.Helper()
+	data, err := def.Marshal()
+	if err != nil {
+		t.Fatal(err)
+	}
+	words := []string{"run"}
+	for i, one := range trees {
+		var text bytes.Buffer
+		if err := one.Tree().Write(&text); err != nil {
+			t.Fatal(err)
+		}
+		file := filepath.Join(t.TempDir(), "tree")
+		if err := os.WriteFile(file, text.Bytes(), 0o600); err != nil {
+			t.Fatal(err)
+		}
+		words = append(words, fmt.Sprintf("s%d=%s", i, file))
+	}
+	cmd := exec.Command(program, words...)
+	cmd.Stdin = bytes.NewReader(data)
+	out, err := cmd.Output()
+	if err != nil {
+		return nil
+	}
+	n, err := rules.Read(context.Background(), bytes.NewReader(out), nil)
+	if err != nil {
+		t.Fatal(err)
+	}
+	return n
+}
+
+func TestByTreesWhatLlbmItselfMakesIsBuildKits(t *testing.T) {
+	llbm, random := program(t), rand.New(rand.NewSource(6))
+	for number := range 200 {
+		trees := []*rules.Node{randomTree(random), randomTree(random)}
+		def := randomDefinition(t, random, trees, number%2 == 0)
+		new, rows := rewritten(t, def, trees)
+		want, got := run(t, def, trees, rules.All), byProgram(t, llbm, new, trees)
+		if isSame := want == nil && got == nil || want != nil && got != nil && rules.EqualBelow(want.Tree(), got); !isSame && !hasOddName(def) {
+			t.Errorf("case %d: %v: %v and %v", number, rows, want, got)
+		}
+	}
 }

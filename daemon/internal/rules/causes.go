@@ -22,7 +22,7 @@ func (r result) isSame(other result) bool {
 type causes struct {
 	there, here    result
 	without, alone map[Rule]result
-	rules          []Rule
+	rules          []Rule // those that change something
 }
 
 // causesOf does a step by all sets of rules that are asked for; rules has those that can matter.
@@ -35,9 +35,11 @@ func causesOf(rules []Rule, made func(Rules) (*Node, error)) *causes {
 	if c.there.isSame(c.here) {
 		return c
 	}
-	c.rules = rules
 	for _, rule := range rules {
-		c.without[rule], c.alone[rule] = do(All.Without(rule)), do(None.With(rule))
+		without, alone := do(All.Without(rule)), do(None.With(rule))
+		if !without.isSame(c.there) || !alone.isSame(c.here) {
+			c.rules, c.without[rule], c.alone[rule] = append(c.rules, rule), without, alone
+		}
 	}
 	return c
 }

@@ -32,6 +32,7 @@ const (
 	daemonName   = "serves"
 	frontendName = "frontend"
 	rulesName    = "llbm-rules"
+	dyingName    = "dies"
 )
 
 func TestMain(m *testing.M) {
@@ -42,6 +43,8 @@ func TestMain(m *testing.M) {
 		serve(os.Args[1], os.Args[2])
 	case frontendName:
 		beFrontend()
+	case dyingName:
+		panic("these rules die")
 	case rulesName:
 		if err := comparison.Serve(context.Background(), comparison.NewTalk(os.Stdin, os.Stdout)); err != nil {
 			fmt.Fprintln(os.Stderr, err)

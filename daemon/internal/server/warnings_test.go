@@ -107,10 +107,11 @@ func TestFieldsOfNewerVersionsAreWarnings(t *testing.T) {
 	}
 }
 
+// literally lets definitions run as they were sent. Else these are rewritten by their trees, and then nothing differs.
 func literally(o *Options) { o.Literal = true }
 
 func TestWhatEndsOtherwiseInBuildKitIsAWarning(t *testing.T) {
-	d, literal := started(t, nil), started(t, literally)
+	d, alike := started(t, literally), started(t, nil)
 	file := llb.Scratch().File(llb.Mkfile("/a", 0o604, []byte("1")))
 	other := llb.Scratch().File(llb.Mkfile("/b", 0o644, nil))
 	removed := file.File(llb.Rm("/a")).File(llb.Mkfile("/c", 0o644, nil))
@@ -119,28 +120,31 @@ func TestWhatEndsOtherwiseInBuildKitIsAWarning(t *testing.T) {
 	from := llb.Scratch().File(llb.Mkdir("/d/e", 0o755, llb.WithParents(true)).Mkdir("/d/f", 0o755))
 	made := into.File(llb.Copy(from, "/d", "/"))
 	run := llb.Scratch().Run(llb.Args([]string{"write", "/f", "x"}), llb.Dir("/")).Root()
-	over := "action 0: /a has mode 0604 (here 0755): MkfileOver"
 	for name, one := range map[string]struct {
-		daemon *daemon
-		state  llb.State
-		want   string
+		state llb.State
+		want  string
 	}{
-		"nothing differs": {
-			literal, llb.Merge([]llb.State{file, other}).File(llb.Copy(other, "/b", "/n/b", &llb.CopyInfo{CreateDestPath: true})), "",
-		},
-		"a file over a file":           {literal, file.File(llb.Mkdir("/x", 0o755).Mkfile("/a", 0o755, nil)), "action 1: /a has mode 0604 (here 0755): MkfileOver"},
-		"a removal that counts":        {literal, llb.Merge([]llb.State{again, removed}), "/a is missing (here a file): MergeLayers"},
-		"a removal of what is not":     {literal, llb.Merge([]llb.State{other, removed}), ""},
-		"a removal that comes first":   {literal, llb.Merge([]llb.State{removed, again}), ""},
-		"what follows of a difference": {literal, file.File(llb.Mkfile("/a", 0o755, nil)).File(llb.Mkdir("/y", 0o755)), over},
-		"a directory over another one": {literal, made, "action 0: /d/e has mode 0755 (here 0700): NestedDirectory"},
-		"over what an execution made":  {d, run.File(llb.Mkfile("/f", 0o600, nil)), anExecution + "\naction 0: /f has mode 0644 (here 0600): MkfileOver"},
+		"nothing differs":              {llb.Merge([]llb.State{file, other}).File(llb.Copy(other, "/b", "/n/", &llb.CopyInfo{CreateDestPath: true})), ""},
+		"a file over a file":           {file.File(llb.Mkdir("/x", 0o755).Mkfile("/a", 0o755, nil)), "action 1: /a has mode 0604 (here 0755): MkfileOver"},
+		"a removal that counts":        {llb.Merge([]llb.State{again, removed}), "/a is missing (here a file): MergeLayers"},
+		"a removal of what is not":     {llb.Merge([]llb.State{other, removed}), ""},
+		"a removal that comes first":   {llb.Merge([]llb.State{removed, again}), ""},
+		"what follows of a difference": {file.File(llb.Mkfile("/a", 0o755, nil)).File(llb.Mkdir("/y", 0o755)), "action 0: /a has mode 0604 (here 0755): MkfileOver"},
+		"a directory over another one": {made, "action 0: /d/e has mode 0755 (here 0700): NestedDirectory"},
+		"over what an execution made":  {run.File(llb.Mkfile("/f", 0o600, nil)), anExecution + "\naction 0: /f has mode 0644 (here 0600): MkfileOver"},
 		"an action after one that is new": {
-			d, run.File(llb.Copy(other, "/b", "/new/").Mkfile("/f", 0o600, nil)), anExecution + "\naction 1: /f has mode 0644 (here 0600): MkfileOver",
+			file.File(llb.Copy(other, "/b", "/new/", &llb.CopyInfo{CreateDestPath: true}).Mkfile("/a", 0o755, nil)), "action 1: /a has mode 0604 (here 0755): MkfileOver",
 		},
 	} {
-		if got, err := one.daemon.warnings(t, one.state, client.SolveOpt{}); got != one.want || err != nil {
+		if got, err := d.warnings(t, one.state, client.SolveOpt{}); got != one.want || err != nil {
 			t.Errorf("%s: %q, not %q %v", name, got, one.want, err)
+		}
+		want := ""
+		if strings.HasPrefix(one.want, anExecution) {
+			want = one.want
+		}
+		if got, err := alike.warnings(t, one.state, client.SolveOpt{}); got != want || err != nil {
+			t.Errorf("%s: %q, not %q %v", name, got, want, err)
 		}
 	}
 }
@@ -169,7 +173,7 @@ func changed(t *testing.T, state llb.State, change func(*pb.Op) bool) *llb.Defin
 	return &llb.Definition{Def: out.Def}
 }
 
-// Of the last one BuildKit's daemon dies, and llbmd rewrites it to one that it takes.
+// BuildKit refuses these ops, or its daemon dies of them. What it refuses is rewritten to what fails.
 func TestWhatBuildKitRefusesFailsOrIsAWarning(t *testing.T) {
 	file := llb.Scratch().File(llb.Mkfile("/a", 0o644, nil))
 	other := llb.Scratch().File(llb.Mkfile("/b", 0o644, nil))
@@ -194,24 +198,25 @@ func TestWhatBuildKitRefusesFailsOrIsAWarning(t *testing.T) {
 		}
 		return op.GetMerge() != nil
 	})
-	dies := "its daemon dies (here lays what is listed): ShortMerge"
-	loop := "the second input depends on the action"
+	const dies = "its daemon dies (here lays what is listed): ShortMerge"
 	for name, one := range map[string]struct {
-		def         *llb.Definition
-		literal     bool
-		want, fails string
+		def            *llb.Definition
+		fails, literal string // what the error says, and the warning where nothing is rewritten
+		warns          string
 	}{
-		"the action itself as its second input":      {second, true, "action 0: fails: " + loop + ": SecondInput", ""},
-		"the same, rewritten":                        {second, false, "", "action 0 fault 21 NotFound: " + loop},
-		"a copy of what is missing that is not done": {selected, true, "", "action 2 fault 21 NotFound: "},
-		"a copy that is not done, rewritten":         {selected, false, "", "action 2 fault 21 NotFound: "},
-		"a merge that lists too few":                 {short, true, dies, ""},
-		"a merge that lists too few, rewritten":      {short, false, dies, ""},
+		"the action itself as its second input": {
+			second, "the second input depends on the action", "action 0: fails: the second input depends on the action: SecondInput", "",
+		},
+		"a copy of what is missing that is not done": {selected, "/missing", "", ""},
+		"a merge that lists too few":                 {short, "", dies, dies},
 	} {
-		d := started(t, func(o *Options) { o.Literal = one.literal })
-		got, err := d.warningsOf(t, one.def, client.SolveOpt{})
-		if !strings.HasPrefix(got, one.want) || (got == "") != (one.want == "") || (err != nil) != (one.fails != "") || err != nil && !strings.Contains(err.Error(), one.fails) {
-			t.Errorf("%s: %q, not %q; %v", name, got, one.want, err)
+		got, err := started(t, nil).warningsOf(t, one.def, client.SolveOpt{})
+		if got != one.warns || (err != nil) != (one.fails != "") || err != nil && !strings.Contains(err.Error(), one.fails) {
+			t.Errorf("%s: %q, %v", name, got, err)
+		}
+		got, err = started(t, literally).warningsOf(t, one.def, client.SolveOpt{})
+		if !strings.Contains(got, one.literal) || (err != nil) != (one.literal == "") {
+			t.Errorf("%s, literally: %q, not %q %v", name, got, one.literal, err)
 		}
 	}
 }

@@ -58,7 +58,7 @@ func (p *progress) action(v, place int) int {
 	return place
 }
 
-// fails returns why BuildKit fails at a vertex, if its op was rewritten to one that fails.
+// fails returns why BuildKit fails at a vertex that was rewritten to one that fails here too, or nothing.
 func (p *progress) fails(v int) string {
 	if row := p.rows[p.g.Vertices[v].Row]; row != nil {
 		return row.Fails
