@@ -1,7 +1,8 @@
 """A session of `llbm-rules compare`: where BuildKit ends otherwise, vertex by vertex.
 
-The program is given a request, and prints messages, each of them a line of JSON (docs/FORMATS.md). It asks what
-executions made, and is given a reply for each question; trees are in files.
+The program is given a request, and prints messages, each of them a line of JSON
+(daemon/internal/comparison/protocol.go). It asks what executions made, and is given a reply for each question; trees
+are in files.
 """
 
 import contextlib
