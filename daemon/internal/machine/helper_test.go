@@ -22,6 +22,7 @@ func said(t *testing.T, limits Limits, script string) (string, string) {
 		t.Fatal(err)
 	}
 	defer talk.Stop()
+	_, _ = io.WriteString(talk.In, "\n") // a helper has its bounds once it has been sent something
 	line, err := bufio.NewReader(talk).ReadString('\n')
 	if err != nil {
 		return line, talk.Why(err)
@@ -66,7 +67,7 @@ func TestWhyAHelperStopsTalking(t *testing.T) {
 }
 
 func TestAHelperHasTheBoundOfMemory(t *testing.T) {
-	line, why := said(t, Limits{Memory: 1 << 30}, "ulimit -d; echo $GOMEMLIMIT")
+	line, why := said(t, Limits{Memory: 1 << 30}, "read sent; ulimit -d; echo $GOMEMLIMIT")
 	if line != "1048576\n" || why != "" {
 		t.Errorf("%q %q", line, why)
 	}
