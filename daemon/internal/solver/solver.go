@@ -45,7 +45,10 @@ type Solver struct {
 
 // New returns a solver with at most some processes of the program at once.
 func New(program *machine.Program, workers, atOnce int, open *sessions.Sessions, keeper *sources.Keeper, folder *kept.Folder) *Solver {
-	return &Solver{comparisons: make(chan struct{}, atOnce), Program: program, Workers: workers, Sessions: open, Keeper: keeper, Kept: folder, slots: make(chan struct{}, atOnce)}
+	return &Solver{
+		Program: program, Workers: workers, Sessions: open, Keeper: keeper, Kept: folder,
+		slots: make(chan struct{}, atOnce), comparisons: make(chan struct{}, atOnce),
+	}
 }
 
 // slot waits until one more process of the program may run.
