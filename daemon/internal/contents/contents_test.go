@@ -170,6 +170,20 @@ func TestAFullDiskIsFreedBeforeItRefuses(t *testing.T) {
 	}
 }
 
+func TestADroppedPackTakesNothingOnDiskWhoeverHasItsFile(t *testing.T) {
+	_, pack, _ := stored(t, 100, "abc")
+	other, err := unix.Dup(int(pack.file.(*os.File).Fd()))
+	if err != nil {
+		t.Fatal(err)
+	}
+	defer func() { _ = unix.Close(other) }()
+	pack.Drop()
+	var now unix.Stat_t
+	if err := unix.Fstat(other, &now); err != nil || now.Size != 0 || now.Blocks != 0 {
+		t.Error(now.Size, now.Blocks, err)
+	}
+}
+
 func TestAStoreSuitsItsDisk(t *testing.T) {
 	for free, want := range map[int64]int64{0: 64 << 20, 1 << 30: 1 << 29, 1 << 40: 10 << 30} {
 		if got := byDefault(free); got != want {

@@ -205,6 +205,12 @@ func each[V Value](n *node[V], yield func(string, V) bool) bool {
 	return n == nil || each(n.left, yield) && yield(n.name, n.value) && each(n.right, yield)
 }
 
+// Over returns a map with the names of two, and the values of the second one where it has a name.
+func Over[V Value](a, b Map[V]) Map[V] {
+	root, _ := union(a.root, b.root, func(_, value V) (V, error) { return value, nil })
+	return Map[V]{root}
+}
+
 // Union returns a map with the names of two. A function joins the values of a name that both have; of a value and itself it
 // makes the same one.
 func Union[V Value](a, b Map[V], join func(V, V) (V, error)) (Map[V], error) {

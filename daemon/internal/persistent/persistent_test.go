@@ -70,10 +70,10 @@ func TestTwoMapsAreJoined(t *testing.T) {
 	for range 300 {
 		a, wantA := random(r, 40, 60)
 		b, wantB := random(r, 40, 60)
-		joined, err := Union(a, b, last)
+		joined := Over(a, b)
 		want := maps.Clone(wantA)
 		maps.Copy(want, wantB)
-		if err != nil || !maps.Equal(plain(joined), want) || joined.Sum() != built(want).Sum() {
+		if !maps.Equal(plain(joined), want) || joined.Sum() != built(want).Sum() {
 			t.Fatal(wantA, wantB, plain(joined))
 		}
 	}

@@ -201,23 +201,15 @@ func (c *copier) lay(path, source []string, old, from *Node, in entry, isSource 
 
 // layBelow returns what is below a directory once that of another one is copied into it.
 func (c *copier) layBelow(path, source []string, old persistent.Map[*Node], from *Node, in entry) (persistent.Map[*Node], error) {
-	var fresh persistent.Builder[*Node]
-	isNew, after := old.Len() == 0, old
+	var made persistent.Builder[*Node]
 	for name, one := range from.below.All() {
 		laid, err := c.lay(below(path, name), below(source, name), old.Get(name), one, in, false)
 		if err != nil {
 			return old, err
 		}
-		if isNew {
-			fresh.Add(name, laid)
-		} else {
-			after = after.Put(name, laid)
-		}
+		made.Add(name, laid)
 	}
-	if isNew {
-		return fresh.Map(), nil
-	}
-	return after, nil
+	return persistent.Over(old, made.Map()), nil
 }
 
 // keepsAll is whether what is copied keeps its owner and its mode.

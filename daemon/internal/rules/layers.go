@@ -139,22 +139,16 @@ func (l *layering) applied(c *change, old *Node) *Node {
 }
 
 func (l *layering) appliedBelow(c *change, old persistent.Map[*Node]) persistent.Map[*Node] {
-	var fresh persistent.Builder[*Node]
+	var put persistent.Builder[*Node]
 	after := old
 	for name, one := range c.below.All() {
-		switch made := l.applied(one, old.Get(name)); {
-		case made == nil:
+		if made := l.applied(one, old.Get(name)); made != nil {
+			put.Add(name, made)
+		} else {
 			after = after.Delete(name)
-		case old.Len() == 0:
-			fresh.Add(name, made)
-		default:
-			after = after.Put(name, made)
 		}
 	}
-	if old.Len() == 0 {
-		return fresh.Map()
-	}
-	return after
+	return persistent.Over(after, put.Map())
 }
 
 // merged returns the merge of one or more trees: their layers, one over the other, below a root that stays as it is. One tree

@@ -4,10 +4,11 @@ import (
 	"errors"
 	"fmt"
 	"io"
+	"maps"
 	"os"
+	"slices"
 	"strings"
 	"time"
-	"unicode/utf8"
 	"unsafe"
 
 	fstypes "github.com/tonistiigi/fsutil/types"
@@ -15,12 +16,11 @@ import (
 	"google.golang.org/grpc/status"
 	"llbm/daemon/internal/contents"
 	"llbm/daemon/internal/messages"
+	"llbm/daemon/internal/paths"
 	"llbm/daemon/internal/tree"
 )
 
 const (
-	mostNames   = 128
-	mostOfName  = 255
 	mostLeftOut = 10
 	mostPacks   = 16
 	// heldAtOnce is how many bytes at least are counted at once of what is held in memory.
@@ -202,14 +202,13 @@ func (r *receiver) memory() int { return r.paths + int(r.number)*int(unsafe.Size
 
 // attributes counts an entry with extended attributes. The label that SELinux gives to each file of a host is none of these.
 func (r *receiver) attributes(st *fstypes.Stat) {
-	for name := range st.Xattrs {
-		if name == "security.selinux" {
-			continue
-		}
-		if r.manifest.Attributed++; r.manifest.Attributed == 1 {
-			r.manifest.FirstAttributed = fmt.Sprintf("%s (%.100s)", st.Path, name)
-		}
+	names := slices.Sorted(maps.Keys(st.Xattrs))
+	names = slices.DeleteFunc(names, func(name string) bool { return name == "security.selinux" })
+	if len(names) == 0 {
 		return
+	}
+	if r.manifest.Attributed++; r.manifest.Attributed == 1 {
+		r.manifest.FirstAttributed = fmt.Sprintf("%s (%.100s)", st.Path, names[0])
 	}
 }
 
@@ -310,11 +309,11 @@ func (r *receiver) data(id uint32, data []byte) error {
 // checkPath checks the path of the next entry: its names, that it comes after the last one, and that its parent came.
 func (r *receiver) checkPath(path string, dir bool) error {
 	names := strings.Split(path, "/")
-	if len(names) > mostNames {
-		return r.refuse(codes.InvalidArgument, "%.80q: fault 26: more than %d names", path, mostNames)
+	if len(names) > paths.MostNames {
+		return r.refuse(codes.InvalidArgument, "%.80q: fault 26: more than %d names", path, paths.MostNames)
 	}
 	for _, name := range names {
-		if !isName(name) {
+		if !paths.IsName(name) {
 			return r.refuse(codes.InvalidArgument, "%.80q: fault 26: %.80q is no name", path, name)
 		}
 	}
@@ -336,14 +335,6 @@ func (r *receiver) checkPath(path string, dir bool) error {
 		r.parents = append(r.parents, path)
 	}
 	return nil
-}
-
-// isName is the rule of docs/FORMATS.md, "Paths and trees".
-func isName(name string) bool {
-	if name == "" || name == "." || name == ".." || len(name) > mostOfName || !utf8.ValidString(name) {
-		return false
-	}
-	return strings.IndexFunc(name, func(c rune) bool { return c < 0x20 || c == 0x7f }) < 0
 }
 
 func (r *receiver) leaveOut(path string, mode os.FileMode) error {

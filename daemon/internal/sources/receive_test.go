@@ -250,7 +250,7 @@ func TestExtendedAttributesAreCounted(t *testing.T) {
 		return p
 	}
 	const label = "security.selinux"
-	client := sends(nil, with(dir("a"), label), with(stat("b", 0o644, 0), label, "user.one"), with(dir("c"), "user.two"), last)
+	client := sends(nil, with(dir("a"), label), with(stat("b", 0o644, 0), label, "user.one", "user.other"), with(dir("c"), "user.two"), last)
 	m, err := Receive(client, newStore(t, 100), Options{})
 	if err != nil || m.Attributed != 2 || m.FirstAttributed != "b (user.one)" {
 		t.Errorf("%+v %v", m, err)

@@ -302,6 +302,19 @@ class Buildx(WithDaemon):
         self.assertEqual(done.returncode, 1)
         self.assertIn(b">>> RUN cp /missing /b", done.stderr)
 
+    def test_directories_with_one_name_and_files_of_one_time_have_their_own_contents(self):
+        found = []
+        with self.daemon("-frontend", f"dockerfile.v0={FRONTEND}"):
+            for place, text in enumerate(("one\n", "two\n")):
+                self.context = self.at / str(place) / "context"
+                self.context.mkdir(parents=True)
+                (self.context / "a").write_text(text, "utf-8")
+                os.utime(self.context / "a", (1_500_000_000, 1_500_000_000))
+                done = self.built("FROM scratch\nCOPY a /\n")
+                self.assertEqual(done.returncode, 0, done.stderr)
+                found.append((self.at / "out" / "a").read_text("utf-8"))
+        self.assertEqual(found, ["one\n", "two\n"])
+
     def test_an_image_is_refused_by_its_number(self):
         with self.daemon("-frontend", f"dockerfile.v0={FRONTEND}"):
             done = self.built("FROM alpine\n")
