@@ -61,8 +61,8 @@ def path_of(file: BinaryIO) -> str:
 
 
 class Comparison:
-    """A comparison of a definition, given open files with its sources' trees by name, and the result if it is known. Its
-    lines are known step by step."""
+    """A comparison of a definition, given open files with its sources' trees by name, and the result if it is known.
+    Its lines are known step by step."""
 
     def __init__(
         self, data: bytes, sources: Mapping[str, BinaryIO], executions: Executions, paths: int = MOST_PATHS,
@@ -177,7 +177,7 @@ class Comparison:
 
 
 def of_trees(data: bytes, sources: Mapping[str, Tree]) -> tuple[End, Tree | None]:
-    """Returns the end of the comparison of a definition without executions, and BuildKit's tree, None if there is none."""
+    """Returns the end of the comparison of a definition without executions, and BuildKit's tree if there is one."""
     with contextlib.ExitStack() as kept:
         files: dict[str, BinaryIO] = {}
         for name, tree in sources.items():
