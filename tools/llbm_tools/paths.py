@@ -9,9 +9,12 @@ ROOT = TOOLS.parent
 # The program that the proof of everything leaves, and the one that `unproved-program` makes.
 PROVED = ROOT / "crates" / "llbm" / "out" / "llbm"
 UNPROVED = ROOT / "out" / "llbm-unproved"
+# The program with BuildKit's rules, which `daemon` makes.
+RULES = ROOT / "out" / "llbm-rules"
 # What is fetched or built and has symbolic links: `rt ci` refuses a repository with any, below out/ too.
 USER_CACHE = pathlib.Path(os.environ.get("XDG_CACHE_HOME") or os.path.expanduser("~/.cache"))
 CACHE = pathlib.Path(os.environ.get("LLBM_CACHE") or USER_CACHE / "llbm")
 # The list of an installation, and its program.
 INSTALLED = ROOT / "installed"
 INSTALLED_PROGRAM = ROOT.parent.parent / "bin" / "llbm"
+INSTALLED_RULES = INSTALLED_PROGRAM.with_name("llbm-rules")

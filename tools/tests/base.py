@@ -9,6 +9,7 @@ import tempfile
 import unittest
 
 from llbm_tools import common
+from llbm_tools.rules import program
 
 TOOLS = pathlib.Path(__file__).resolve().parent.parent
 ROOT = TOOLS.parent
@@ -67,6 +68,14 @@ def run_closed(descriptor, tool, *words):
     return subprocess.run(
         command(tool, *words), capture_output=True, timeout=600, preexec_fn=lambda: os.close(descriptor)
     )
+
+
+def skip_without_rules(case):
+    """Skips a test that needs the program with BuildKit's rules, which Go builds from packages."""
+    try:
+        program.place()
+    except program.Missing:
+        case.skipTest("the program llbm-rules is needed (tools/daemon builds it)")
 
 
 def skip_if_slow(case):

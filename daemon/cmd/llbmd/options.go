@@ -62,6 +62,7 @@ func (o *options) flags() *flag.FlagSet {
 	f := flag.NewFlagSet("llbmd", flag.ContinueOnError)
 	f.StringVar(&o.address, "addr", "", "the `PATH` of the socket, or unix://PATH")
 	f.StringVar(&o.Program, "llbm", "llbm", "the `PROGRAM` llbm")
+	f.StringVar(&o.Rules, "rules", "", "the `PROGRAM` llbm-rules, which has BuildKit's rules, instead of the one beside llbmd")
 	f.IntVar(&o.Workers, "workers", 1, "the number of workers of each build, 1 to 64")
 	f.IntVar(&o.AtOnce, "builds", runtime.NumCPU(), "how many builds run at once; others wait")
 	f.Var(o.Frontends, "frontend", "`NAME=PROGRAM`: a frontend that speaks the gateway on its standard input and output; may be repeated")
@@ -76,6 +77,7 @@ func (o *options) flags() *flag.FlagSet {
 	f.IntVar(&o.keepBuilds, "keep-builds", 20, "how many builds are kept")
 	f.Int64Var(&o.keepBytes, "keep-bytes", 1<<30, "how many `BYTES` the kept builds may have")
 	f.BoolVar(&o.Literal, "literal", false, "run definitions by llbm's rules also where BuildKit's differ and could be kept by rewriting ops")
+	f.BoolVar(&o.Strict, "strict", false, "fail a build of which BuildKit would make something else, instead of warning of that")
 	f.StringVar(&o.notes, "notes", "", "a `FILE` with fields without an effect, for warnings, instead of the table that is built in")
 	f.BoolVar(&o.version, "version", false, "print the version, and end")
 	return f

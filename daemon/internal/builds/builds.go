@@ -41,6 +41,7 @@ type Build struct {
 	Shown        *Shown
 	Sources      sources.Once
 	Written      atomic.Int64 // how many bytes llbm wrote
+	Strict       bool         // whether it fails where BuildKit would make something else; it is set before what is given
 
 	all  *Builds
 	held int64 // in bytes; the lock of all builds guards it, and isOver

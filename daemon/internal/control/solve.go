@@ -4,6 +4,7 @@ import (
 	"context"
 	"crypto/rand"
 	"errors"
+	"strconv"
 	"strings"
 	"time"
 	"unicode/utf8"
@@ -108,7 +109,22 @@ func refused(req *controlapi.SolveRequest) error {
 	return fields.Refuse("SolveRequest", req.XXX_unrecognized)
 }
 
-func (c *Control) solve(ctx context.Context, b *builds.Build, req *controlapi.SolveRequest) (*controlapi.SolveResponse, error) {
+// keyStrict is the option by which a client asks for a build that fails where BuildKit would make something else.
+const keyStrict = "llbm:strict"
+
+func isStrict(options map[string]string) (bool, error) {
+	value, ok := options[keyStrict]
+	if !ok {
+		return false, nil
+	}
+	strict, err := strconv.ParseBool(value)
+	if err != nil {
+		return false, status.Errorf(codes.InvalidArgument, "%s=%s: it is true or false", keyStrict, value)
+	}
+	return strict, nil
+}
+
+func (c *Control) solve(ctx context.Context, b *builds.Build, req *controlapi.SolveRequest) (_ *controlapi.SolveResponse, err error) {
 	if err := refused(req); err != nil {
 		return nil, err
 	}
@@ -123,6 +139,9 @@ func (c *Control) solve(ctx context.Context, b *builds.Build, req *controlapi.So
 	var policies []*spb.Policy
 	if req.SourcePolicy != nil {
 		policies = append(policies, req.SourcePolicy)
+	}
+	if b.Strict, err = isStrict(req.FrontendAttrs); err != nil {
+		return nil, err
 	}
 	b.Give(req.FrontendInputs, policies)
 	returned, err := c.result(ctx, b, req)

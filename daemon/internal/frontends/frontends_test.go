@@ -107,6 +107,17 @@ func TestAFrontendWithoutAResultSaysHowItEnded(t *testing.T) {
 	}
 }
 
+func TestMessagesAreBounded(t *testing.T) {
+	c, err := (&Frontends{}).start(context.Background(), program(t, 0o755, "head -c 200000 /dev/zero >&2; exit 3"), environ)
+	if err != nil {
+		t.Fatal(err)
+	}
+	<-c.ended
+	if size := len(c.messages.String()); size != mostMessages || c.failed.Error() != "exit status 3" {
+		t.Error(size, c.failed)
+	}
+}
+
 // build starts a build.
 func build(t *testing.T) *builds.Build {
 	t.Helper()

@@ -41,17 +41,25 @@ func (g *Gateway) ReadFile(ctx context.Context, req *gatewaypb.ReadFileRequest) 
 	if err != nil {
 		return nil, err
 	}
-	from, most := int64(0), int64(-1)
+	from, size := int64(0), content.Size
 	if req.Range != nil {
-		from = max(0, req.Range.Offset)
-		if req.Range.Length > 0 {
-			most = req.Range.Length
+		from = min(max(0, req.Range.Offset), content.Size)
+		if size -= from; req.Range.Length > 0 {
+			size = min(size, req.Range.Length)
 		}
 	}
-	if size := content.Size - from; size > mostOfFile && (most < 0 || most > mostOfFile) {
+	if size > mostOfFile {
 		return nil, status.Errorf(codes.ResourceExhausted, "%s: at most %d bytes are read at once", req.FilePath, mostOfFile)
 	}
-	data, err := io.ReadAll(content.Reader(from, most))
+	b, err := g.build(ctx)
+	if err != nil {
+		return nil, err
+	}
+	if err := b.Hold(int(size)); err != nil {
+		return nil, err
+	}
+	defer b.Free(int(size))
+	data, err := io.ReadAll(content.Reader(from, size))
 	return &gatewaypb.ReadFileResponse{Data: data}, err
 }
 

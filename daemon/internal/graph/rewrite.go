@@ -15,7 +15,7 @@ func Rewrite(def *pb.Definition, change func(row int, op *pb.Op) (bool, error)) 
 	if err != nil {
 		return nil, err
 	}
-	w := &rewriter{rows: r, old: def.Def, changed: map[int]bool{}, entries: make([][]byte, len(r.ops)), state: make([]state, len(r.ops))}
+	w := newRewriter(r, def.Def, func(_ int, op *pb.Op) ([]byte, error) { return op.Marshal() })
 	for k := range r.ops {
 		did, err := change(k, r.ops[k])
 		if err != nil {
@@ -63,9 +63,15 @@ const (
 type rewriter struct {
 	rows    *rows
 	old     [][]byte
+	encode  func(row int, op *pb.Op) ([]byte, error)
 	changed map[int]bool
 	entries [][]byte
 	state   []state
+}
+
+func newRewriter(r *rows, old [][]byte, encode func(row int, op *pb.Op) ([]byte, error)) *rewriter {
+	count := len(r.ops)
+	return &rewriter{r, old, encode, map[int]bool{}, make([][]byte, count), make([]state, count)}
 }
 
 // write makes the new entry of a row, after those of the rows that it names. The stack is explicit: chains are long.
@@ -118,7 +124,7 @@ func (w *rewriter) entry(k int, inputs []int) error {
 	if w.entries[k] = w.old[k]; !changed {
 		return nil
 	}
-	entry, err := op.Marshal()
+	entry, err := w.encode(k, &op)
 	w.entries[k] = entry
 	return err
 }

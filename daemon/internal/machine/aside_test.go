@@ -1,7 +1,9 @@
 package machine
 
 import (
+	"bytes"
 	"context"
+	"io"
 	"os"
 	"path/filepath"
 	"strings"
@@ -56,13 +58,14 @@ func ran(t *testing.T, most int64) *Run {
 func TestATreeThatIsReadAsideIsNoOutput(t *testing.T) {
 	run := ran(t, 500)
 	for range 10 {
-		tree, size, err := run.Aside(0, 0, 1, 1000)
-		if err != nil || len(tree) != 2 || tree[1].Path != "f" || size < 40 {
-			t.Fatal(tree, size, err)
+		var text bytes.Buffer
+		size, err := run.Aside(0, 0, 1, 1000, &text)
+		if err != nil || size != text.Len() || size < 40 || !strings.HasSuffix(text.String(), " /f\n") {
+			t.Fatal(text.String(), size, err)
 		}
 	}
-	if tree, _, err := run.Aside(0, 1, 1, 1000); tree != nil || err != nil {
-		t.Error(tree, err)
+	if size, err := run.Aside(0, 1, 1, 1000, io.Discard); size != 0 || err != nil {
+		t.Error(size, err)
 	}
 	if tree, err := run.Tree(0, 0); err != nil || len(tree) != 2 {
 		t.Error(tree, err)
@@ -71,8 +74,8 @@ func TestATreeThatIsReadAsideIsNoOutput(t *testing.T) {
 
 func TestATreeThatIsReadAsideIsBounded(t *testing.T) {
 	run := ran(t, 1000)
-	if tree, _, err := run.Aside(0, 0, 1, 30); err == nil {
-		t.Error(tree)
+	if size, err := run.Aside(0, 0, 1, 30, io.Discard); err == nil {
+		t.Error(size)
 	}
 }
 

@@ -49,6 +49,8 @@ type Program struct {
 	Version string
 	Proved  bool
 	Limits  Limits
+
+	isHelper bool // whether it is a program in Go
 }
 
 // Find looks at a program.
@@ -112,7 +114,10 @@ func (p *Program) start(ctx context.Context, in io.Reader, out io.Writer, files 
 	run.cmd.Env = []string{"LC_ALL=C"}
 	run.cmd.SysProcAttr = &syscall.SysProcAttr{Setpgid: true, Pdeathsig: syscall.SIGKILL}
 	run.cmd.WaitDelay = patience
-	if !p.Proved {
+	switch {
+	case p.isHelper:
+		run.cmd.Env = append(run.cmd.Env, p.helperMemory()...)
+	case !p.Proved:
 		run.cmd.Env = append(run.cmd.Env, "ASAN_OPTIONS="+p.sanitizer())
 	}
 	return run, nil
@@ -137,8 +142,8 @@ func (r *process) begin() error {
 	}
 	limits := r.program.Limits
 	err := bound(r.cmd.Process.Pid, unix.RLIMIT_CORE, 0)
-	if err == nil && limits.Memory > 0 && r.program.Proved {
-		err = bound(r.cmd.Process.Pid, unix.RLIMIT_AS, uint64(limits.Memory))
+	if resource, ok := r.program.bounded(); ok && err == nil {
+		err = bound(r.cmd.Process.Pid, resource, uint64(limits.Memory))
 	}
 	if err != nil {
 		r.cancel(err)
@@ -149,6 +154,18 @@ func (r *process) begin() error {
 		r.timer = time.AfterFunc(limits.Time, func() { r.cancel(errTime) })
 	}
 	return nil
+}
+
+// bounded returns the resource by which the kernel bounds the program's memory, if it does. A program in Go reserves more address
+// space than it uses.
+func (p *Program) bounded() (resource int, ok bool) {
+	switch {
+	case p.Limits.Memory == 0:
+		return 0, false
+	case p.isHelper:
+		return unix.RLIMIT_DATA, true
+	}
+	return unix.RLIMIT_AS, p.Proved
 }
 
 func bound(pid, resource int, most uint64) error {
@@ -248,6 +265,9 @@ func InMemory(name string) (*os.File, error) {
 	}
 	return os.NewFile(uintptr(fd), name), nil
 }
+
+// PathOf returns a path by which a child of the daemon can open one of its files.
+func PathOf(file *os.File) string { return fmt.Sprintf("/proc/%d/fd/%d", os.Getpid(), file.Fd()) }
 
 // A Run is a session of `llbm step`.
 type Run struct {
@@ -413,46 +433,65 @@ func (r *Run) TreeOf(vertex, output, vertices int) (tree.Tree, error) {
 	return t, err
 }
 
-// Aside returns the same, and how many bytes were read. They do not count as output of the build. If they are more than some,
-// the session ends.
-func (r *Run) Aside(vertex, output, vertices, most int) (tree.Tree, int, error) {
+// Aside writes the text of the tree of an output of a board with some vertices, and returns how many bytes it has, 0 if there is
+// none yet. They do not count as output of the build. If they are more than some, the session ends.
+func (r *Run) Aside(vertex, output, vertices, most int, to io.Writer) (int, error) {
 	if err := r.settle(); err != nil {
-		return nil, 0, err
+		return 0, err
 	}
-	left := most
+	left, written := most, 0
 	r.aside = &left
 	defer func() { r.aside = nil }()
-	t, err := r.TreeOf(vertex, output, vertices)
+	_, err := r.treeLines(vertex, output, "status", func(line []byte) error {
+		written += len(line) + 1
+		_, err := to.Write(append(line, '\n'))
+		return err
+	})
+	for i := 1; err == nil && i < vertices; i++ {
+		_, err = r.read()
+	}
 	if left < 0 {
 		r.Stop()
-		return nil, 0, errAside
+		return 0, errAside
 	}
-	return t, most - left, err
+	return written, err
 }
 
 // tree asks for a tree and then for what ends it, and returns the first line of the latter.
 func (r *Run) tree(vertex, output int, after string) (tree.Tree, string, error) {
-	if err := r.settle(); err != nil {
+	var out tree.Tree
+	last, err := r.treeLines(vertex, output, after, func(line []byte) error {
+		entry, err := tree.ParseLine(line)
+		out = append(out, entry)
+		return err
+	})
+	if err != nil {
 		return nil, "", err
 	}
+	return out, last, nil
+}
+
+// treeLines asks for a tree and then for what ends it, calls a function for each line of the tree, and returns the first line of
+// what ends it.
+func (r *Run) treeLines(vertex, output int, after string, found func(line []byte) error) (string, error) {
+	if err := r.settle(); err != nil {
+		return "", err
+	}
 	r.ask(fmt.Sprintf("tree %d %d\n%s\n", vertex, output, after))
-	var out tree.Tree
 	for {
 		line, err := r.read()
 		if err != nil {
-			return nil, "", err
+			return "", err
 		}
 		if string(line) == "none" {
 			continue
 		}
 		if !bytes.HasPrefix(line, []byte("d ")) && !bytes.HasPrefix(line, []byte("f ")) {
-			return out, string(line), nil
+			return string(line), nil
 		}
-		entry, err := tree.ParseLine(line)
-		if err != nil {
-			return nil, "", err
+		if err := found(line); err != nil {
+			return "", err
 		}
-		out = append(out, entry)
 	}
 }
 

@@ -68,6 +68,13 @@ func TestAProgramThatEndsEarlySaysHow(t *testing.T) {
 	}
 }
 
+func TestMessagesAreBounded(t *testing.T) {
+	run := stepped(t, &Program{Path: script(t, "head -c 200000 /dev/zero >&2; exit 3"), Proved: true})
+	if err := run.wait(); err == nil || len(run.messages.String()) != mostMessages {
+		t.Error(len(run.messages.String()), err)
+	}
+}
+
 // page is the list of faults in the repository, if this folder is in one.
 func page(t *testing.T) string {
 	t.Helper()

@@ -1,7 +1,8 @@
-// Package notes finds the fields of an op that have an effect in BuildKit and none in llbm, by the table that tools/lint has, in the
-// records of its entry: BuildKit's library drops the fields that newer versions have. The notes are those of tools/lint, but for what
-// the daemon heeds: attributes of sources in the table, the metadata, and a platform that is the worker's. Nor is it a note whether
-// links are followed: no source has one, since links are refused, or left out with a warning of their own.
+// Package notes finds what of a definition can end otherwise in BuildKit whatever its trees are: the fields that have an effect there
+// and none in llbm, by the table fields.json, in the records of an entry, since BuildKit's library drops the fields that newer versions
+// have; and what package rules says of ops. The daemon's notes lack what the daemon heeds: attributes of sources in the table, the
+// metadata, and a platform that is the worker's. Nor is it a note there whether links are followed: no source has one, since links are
+// refused, or left out with a warning of their own.
 package notes
 
 import (
@@ -14,17 +15,18 @@ import (
 
 	"github.com/moby/buildkit/solver/pb"
 	"google.golang.org/protobuf/encoding/protowire"
+	"llbm/daemon/internal/records"
 )
 
-// builtIn is the table of the repository's tools; a test compares both.
+// builtIn is the table of the daemon, of the tools and of the page.
 //
-//go:generate cp ../../../tools/llbm_tools/buildkit/fields.json fields.json
 //go:embed fields.json
 var builtIn []byte
 
 // A Table has the fields. The nil table has none.
 type Table struct {
 	Fields         []Row       `json:"fields"`
+	Metadata       []Row       `json:"metadata"`
 	Attributes     []Attribute `json:"attributes"`
 	OtherAttribute Attribute   `json:"other_attribute"`
 	WithoutEffect  []string    `json:"attributes_without_effect"`
@@ -38,11 +40,16 @@ type Row struct {
 	Part    string
 	Unset   []int64
 	Effect  string
+	Advice  string
 	path    []step
 }
 
-// An Attribute is one of sources, with its key.
-type Attribute struct{ Name, Key, Effect string }
+// An Attribute is one of sources, with its key. It is set if its value is not among Unset.
+type Attribute struct {
+	Name, Key      string
+	Unset          []string
+	Effect, Advice string
+}
 
 type step struct {
 	number   protowire.Number
@@ -87,10 +94,11 @@ func parse(name string, data []byte) (*Table, error) {
 	if err := json.Unmarshal(data, &t); err != nil {
 		return nil, fmt.Errorf("%s: %w", name, err)
 	}
-	t.Fields = slices.DeleteFunc(t.Fields, func(row Row) bool { return row.Name == ofLinks })
-	for i := range t.Fields {
-		if err := t.Fields[i].parse(); err != nil {
-			return nil, fmt.Errorf("%s: %w", name, err)
+	for _, rows := range [][]Row{t.Fields, t.Metadata} {
+		for i := range rows {
+			if err := rows[i].parse(); err != nil {
+				return nil, fmt.Errorf("%s: %w", name, err)
+			}
 		}
 	}
 	return &t, nil
@@ -114,49 +122,70 @@ func (row *Row) parse() error {
 	return nil
 }
 
-// Of returns the notes of an entry. A platform that is the worker's own is no note.
+// Of returns what the daemon notes of an entry. A platform that is the worker's own is no note, nor is what the daemon heeds.
 func (t *Table) Of(entry []byte, own pb.Platform) []Note {
 	if t == nil {
 		return nil
 	}
-	op := recordsOf(entry)
+	op := records.Of(entry)
+	isOwn := isPlatform(op, own)
+	return slices.DeleteFunc(append(notesOf(t.Fields, op, kindsOfOp), t.ofAttributes(op)...), func(one Note) bool {
+		isHeeded := one.Key == "" && slices.ContainsFunc(t.Attributes, func(a Attribute) bool { return a.Name == one.Name })
+		return one.Name == ofLinks || one.Name == ofPlatform && isOwn || isHeeded
+	})
+}
+
+// all returns the notes of an entry and of its metadata.
+func (t *Table) all(entry, metadata []byte) []Note {
+	op := records.Of(entry)
+	return slices.Concat(notesOf(t.Fields, op, kindsOfOp), t.ofAttributes(op), notesOf(t.Metadata, records.Of(metadata), nil))
+}
+
+// notesOf returns a note for each place of each field that is set in a message, of which only one of some fields counts.
+func notesOf(rows []Row, message []records.Record, kinds []protowire.Number) []Note {
 	var out []Note
-	for _, row := range t.Fields {
-		if row.Name == ofPlatform && isPlatform(op, own) {
-			continue
-		}
-		row.find(op, kindsOfOp, row.path, "", func(part string) { out = append(out, Note{Name: row.Name, Part: part, Effect: row.Effect}) })
+	for i := range rows {
+		row := &rows[i]
+		row.find(message, kinds, row.path, "", func(part string) { out = append(out, Note{Name: row.Name, Part: part, Effect: row.Effect}) })
 	}
-	return append(out, t.ofAttributes(op)...)
+	return out
 }
 
 // isPlatform is whether an op's platform is a given one.
-func isPlatform(op []record, own pb.Platform) bool {
+func isPlatform(op []records.Record, own pb.Platform) bool {
 	var p pb.Platform
-	return p.Unmarshal(joined(counted(op, nil, platform))) == nil && p.OS == own.OS && p.Architecture == own.Architecture && p.Variant == own.Variant
+	return p.Unmarshal(records.Joined(records.Counted(op, nil, platform))) == nil && p.OS == own.OS && p.Architecture == own.Architecture && p.Variant == own.Variant
 }
 
-// ofAttributes returns a note for each attribute of a source that is not in the table, in their order.
-func (t *Table) ofAttributes(op []record) []Note {
+// ofAttributes returns a note for each attribute of a source that is set and has an effect in BuildKit, or is not in the table.
+func (t *Table) ofAttributes(op []records.Record) []Note {
+	var keys []string
+	values := map[string]string{}
+	for _, one := range records.Counted(records.Of(records.Joined(records.Counted(op, kindsOfOp, sourceOp))), nil, sourceAttributes) {
+		given := records.Of(one.Held)
+		key := records.Last(given, keyOfEntry)
+		if _, ok := values[key]; !ok {
+			keys = append(keys, key)
+		}
+		values[key] = records.Last(given, valueOfEntry)
+	}
 	var out []Note
-	seen := map[string]bool{}
-	for _, one := range counted(recordsOf(joined(counted(op, kindsOfOp, sourceOp))), nil, sourceAttributes) {
-		key := ""
-		for _, record := range counted(recordsOf(one.held), nil, keyOfEntry) {
-			key = string(record.held)
-		}
-		known := slices.Contains(t.WithoutEffect, key) || slices.ContainsFunc(t.Attributes, func(a Attribute) bool { return a.Key == key })
-		if !known && !seen[key] {
+	for _, key := range keys {
+		place := slices.IndexFunc(t.Attributes, func(a Attribute) bool { return a.Key == key })
+		switch {
+		case slices.Contains(t.WithoutEffect, key):
+		case place < 0:
 			out = append(out, Note{Name: t.OtherAttribute.Name, Key: key, Effect: t.OtherAttribute.Effect})
+		case !slices.Contains(t.Attributes[place].Unset, values[key]):
+			out = append(out, Note{Name: t.Attributes[place].Name, Effect: t.Attributes[place].Effect})
 		}
-		seen[key] = true
 	}
 	return out
 }
 
 // find calls a function for each place of the field in a message, of which only one of some fields counts: its kind.
-func (row *Row) find(message []record, kinds []protowire.Number, path []step, part string, found func(part string)) {
-	given := counted(message, kinds, path[0].number)
+func (row *Row) find(message []records.Record, kinds []protowire.Number, path []step, part string, found func(part string)) {
+	given := records.Counted(message, kinds, path[0].number)
 	switch {
 	case path[0].repeated:
 		inner := []protowire.Number(nil)
@@ -164,22 +193,22 @@ func (row *Row) find(message []record, kinds []protowire.Number, path []step, pa
 			inner = kindsOfAction
 		}
 		for index, one := range given {
-			row.find(recordsOf(one.held), inner, path[1:], fmt.Sprintf("%s %d", row.Part, index), found)
+			row.find(records.Of(one.Held), inner, path[1:], fmt.Sprintf("%s %d", row.Part, index), found)
 		}
 	case len(path) > 1:
-		row.find(recordsOf(joined(given)), nil, path[1:], part, found)
+		row.find(records.Of(records.Joined(given)), nil, path[1:], part, found)
 	case row.isSet(given):
 		found(part)
 	}
 }
 
 // isSet is whether the records of a field give it a value that has an effect: the last one, or any that has bytes.
-func (row *Row) isSet(given []record) bool {
+func (row *Row) isSet(given []records.Record) bool {
 	if len(given) == 0 {
 		return false
 	}
-	if last := given[len(given)-1]; last.kind == protowire.VarintType {
-		return !slices.Contains(row.Unset, int64(last.number))
+	if last := given[len(given)-1]; last.Kind == protowire.VarintType {
+		return !slices.Contains(row.Unset, int64(last.Number))
 	}
-	return len(joined(given)) > 0
+	return len(records.Joined(given)) > 0
 }

@@ -1,4 +1,4 @@
-// Package paths reads the texts of paths and patterns in file actions.
+// Package paths has the rules of names, and reads the texts of paths and patterns.
 package paths
 
 import (
@@ -37,6 +37,17 @@ func Text(names []string, end string) string {
 	return "/" + strings.Join(names, "/") + end
 }
 
+// Clean returns a path as entries of trees have it: names without a slash in front.
+func Clean(text string) string { return strings.Join(Names(text), "/") }
+
+// IsName is whether llbm takes a text as a name (docs/FORMATS.md, "Paths and trees").
+func IsName(text string) bool {
+	if text == "" || text == "." || text == ".." || len(text) > MostOfName || !utf8.ValidString(text) {
+		return false
+	}
+	return strings.IndexFunc(text, func(c rune) bool { return c < 0x20 || c == 0x7f }) < 0
+}
+
 // IsPath is whether llbm takes a text as a path.
 func IsPath(text string) bool {
 	count := 0
@@ -45,9 +56,7 @@ func IsPath(text string) bool {
 		case part == "" || part == ".":
 		case part == "..":
 			count = max(0, count-1)
-		case len(part) > MostOfName || !utf8.ValidString(part) || count == MostNames:
-			return false
-		case strings.IndexFunc(part, func(c rune) bool { return c < 0x20 || c == 0x7f }) >= 0:
+		case !IsName(part) || count == MostNames:
 			return false
 		default:
 			count++

@@ -58,11 +58,25 @@ type daemon struct {
 	stop    func()
 }
 
+// as returns a path by which this program is another one.
+func as(t testing.TB, name string) string {
+	t.Helper()
+	own, err := os.Executable()
+	path := filepath.Join(t.TempDir(), name)
+	if err == nil {
+		err = os.Symlink(own, path)
+	}
+	if err != nil {
+		t.Fatal(err)
+	}
+	return path
+}
+
 // started starts a daemon, which a function may give other options, and stops it at the test's end.
 func started(t testing.TB, change func(*Options)) *daemon {
 	t.Helper()
 	o := Options{
-		Program: llbm(t), Workers: 1, AtOnce: 4, Store: t.TempDir(), StoreBytes: 1 << 30, Idle: patience,
+		Program: llbm(t), Rules: as(t, rulesName), Workers: 1, AtOnce: 4, Store: t.TempDir(), StoreBytes: 1 << 30, Idle: patience,
 		Limits: machine.Limits{Memory: 2 << 30, Time: 2 * patience, Output: 64 << 20}, Frontends: &frontends.Frontends{},
 	}
 	if change != nil {

@@ -14,6 +14,7 @@ import (
 	"github.com/moby/buildkit/session"
 	"github.com/moby/buildkit/session/grpchijack"
 	"github.com/moby/buildkit/solver/pb"
+	"llbm/daemon/internal/comparison"
 	"llbm/daemon/internal/frontends"
 )
 
@@ -30,6 +31,8 @@ const (
 	dialName     = "dials"
 	daemonName   = "serves"
 	frontendName = "frontend"
+	rulesName    = "llbm-rules"
+	dyingName    = "dies"
 )
 
 func TestMain(m *testing.M) {
@@ -40,6 +43,13 @@ func TestMain(m *testing.M) {
 		serve(os.Args[1], os.Args[2])
 	case frontendName:
 		beFrontend()
+	case dyingName:
+		panic("these rules die")
+	case rulesName:
+		if err := comparison.Serve(context.Background(), comparison.NewTalk(os.Stdin, os.Stdout)); err != nil {
+			fmt.Fprintln(os.Stderr, err)
+			os.Exit(1)
+		}
 	default:
 		os.Exit(m.Run())
 	}

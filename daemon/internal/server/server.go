@@ -5,6 +5,8 @@ import (
 	"context"
 	"fmt"
 	"log"
+	"os"
+	"path/filepath"
 	"runtime/debug"
 	"time"
 
@@ -51,8 +53,9 @@ const (
 // Options are those of the command line.
 type Options struct {
 	Program    string
-	Workers    int // of each build
-	AtOnce     int // processes of the program
+	Rules      string // the program llbm-rules; nothing for the one beside this program
+	Workers    int    // of each build
+	AtOnce     int    // processes of the program
 	Store      string
 	StoreBytes int64
 	Idle       time.Duration
@@ -62,6 +65,7 @@ type Options struct {
 	Kept       *kept.Folder
 	Notes      *notes.Table
 	Literal    bool
+	Strict     bool
 }
 
 // A Daemon is what serves clients, with what all their builds share.
@@ -95,7 +99,10 @@ func New(ctx context.Context, o Options) (*Daemon, error) {
 	all := builds.New(mostBuilds)
 	workers := []*apitypes.WorkerRecord{control.Worker(program.Version)}
 	solver := solver.New(program, o.Workers, o.AtOnce, open, keeper, o.Kept)
-	solver.Notes, solver.Platform, solver.Literal = o.Notes, workers[0].Platforms[0], o.Literal
+	if solver.Rules, err = findRules(o.Rules, o.Limits); err != nil {
+		return nil, err
+	}
+	solver.Notes, solver.Platform, solver.Literal, solver.Strict = o.Notes, workers[0].Platforms[0], o.Literal, o.Strict
 	bridge := &gateway.Gateway{Builds: all, Solver: solver, Frontends: o.Frontends, Workers: workers}
 	o.Frontends.Gateway, o.Frontends.Limits, o.Frontends.AtOnce = bridge, o.Limits, mostFrontends
 	o.Frontends.Server = func() *grpc.Server { return grpc.NewServer(serverOptions(nil)...) }
@@ -107,6 +114,25 @@ func New(ctx context.Context, o Options) (*Daemon, error) {
 	gatewaypb.RegisterLLBBridgeServer(g, bridge)
 	grpc_health_v1.RegisterHealthServer(g, health.NewServer())
 	return &Daemon{grpc: g, builds: all, store: store}, nil
+}
+
+// findRules returns the program llbm-rules: the one that is named, or else the one beside this program. If that is missing, builds
+// go on without it.
+func findRules(path string, limits machine.Limits) (*machine.Program, error) {
+	if path != "" {
+		return machine.FindHelper(path, limits)
+	}
+	own, err := os.Executable()
+	if err != nil {
+		return nil, err
+	}
+	path = filepath.Join(filepath.Dir(own), "llbm-rules")
+	program, err := machine.FindHelper(path, limits)
+	if err != nil {
+		log.Printf("llbmd: %s is missing, so no build is compared with what BuildKit would make: tools/daemon builds it", path)
+		return nil, nil
+	}
+	return program, nil
 }
 
 func serverOptions(c credentials.TransportCredentials) []grpc.ServerOption {

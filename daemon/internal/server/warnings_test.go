@@ -107,8 +107,11 @@ func TestFieldsOfNewerVersionsAreWarnings(t *testing.T) {
 	}
 }
 
+// literally lets definitions run as they were sent. Else these are rewritten by their trees, and then nothing differs.
+func literally(o *Options) { o.Literal = true }
+
 func TestWhatEndsOtherwiseInBuildKitIsAWarning(t *testing.T) {
-	d := started(t, nil)
+	d, alike := started(t, literally), started(t, nil)
 	file := llb.Scratch().File(llb.Mkfile("/a", 0o604, []byte("1")))
 	other := llb.Scratch().File(llb.Mkfile("/b", 0o644, nil))
 	removed := file.File(llb.Rm("/a")).File(llb.Mkfile("/c", 0o644, nil))
@@ -130,17 +133,24 @@ func TestWhatEndsOtherwiseInBuildKitIsAWarning(t *testing.T) {
 		"a directory over another one": {made, "action 0: /d/e has mode 0755 (here 0700): NestedDirectory"},
 		"over what an execution made":  {run.File(llb.Mkfile("/f", 0o600, nil)), anExecution + "\naction 0: /f has mode 0644 (here 0600): MkfileOver"},
 		"an action after one that is new": {
-			file.File(llb.Copy(other, "/b", "/new/").Mkfile("/a", 0o755, nil)), "action 1: /a has mode 0604 (here 0755): MkfileOver",
+			file.File(llb.Copy(other, "/b", "/new/", &llb.CopyInfo{CreateDestPath: true}).Mkfile("/a", 0o755, nil)), "action 1: /a has mode 0604 (here 0755): MkfileOver",
 		},
 	} {
 		if got, err := d.warnings(t, one.state, client.SolveOpt{}); got != one.want || err != nil {
 			t.Errorf("%s: %q, not %q %v", name, got, one.want, err)
 		}
+		want := ""
+		if strings.HasPrefix(one.want, anExecution) {
+			want = one.want
+		}
+		if got, err := alike.warnings(t, one.state, client.SolveOpt{}); got != want || err != nil {
+			t.Errorf("%s: %q, not %q %v", name, got, want, err)
+		}
 	}
 }
 
 func TestAFailureThatBuildKitDoesNotHaveIsAWarning(t *testing.T) {
-	d := started(t, nil)
+	d := started(t, literally)
 	file := llb.Scratch().File(llb.Mkfile("/a", 0o604, nil))
 	got, err := d.warnings(t, file.File(llb.Mkdir("/a", 0o755)), client.SolveOpt{})
 	if err == nil || got != "action 0: does not fail (here: /a is a file): MkdirOver" {
@@ -163,8 +173,8 @@ func changed(t *testing.T, state llb.State, change func(*pb.Op) bool) *llb.Defin
 	return &llb.Definition{Def: out.Def}
 }
 
-// llbmd rewrites these ops to ones that BuildKit takes, and it dies of them or refuses them as they are.
-func TestWhatBuildKitRefusesIsAWarningAlsoWhereItIsRewritten(t *testing.T) {
+// BuildKit refuses these ops, or its daemon dies of them. What it refuses is rewritten to what fails.
+func TestWhatBuildKitRefusesFailsOrIsAWarning(t *testing.T) {
 	file := llb.Scratch().File(llb.Mkfile("/a", 0o644, nil))
 	other := llb.Scratch().File(llb.Mkfile("/b", 0o644, nil))
 	merged := llb.Merge([]llb.State{file, other, llb.Scratch().File(llb.Mkfile("/c", 0o644, nil))})
@@ -188,29 +198,25 @@ func TestWhatBuildKitRefusesIsAWarningAlsoWhereItIsRewritten(t *testing.T) {
 		}
 		return op.GetMerge() != nil
 	})
+	const dies = "its daemon dies (here lays what is listed): ShortMerge"
 	for name, one := range map[string]struct {
-		def                  *llb.Definition
-		want, wantsLiterally string
+		def            *llb.Definition
+		fails, literal string // what the error says, and the warning where nothing is rewritten
+		warns          string
 	}{
 		"the action itself as its second input": {
-			second, "action 0: fails: the second input depends on the action: SecondInput",
-			"action 0: fails: the second input depends on the action: SecondInput",
+			second, "the second input depends on the action", "action 0: fails: the second input depends on the action: SecondInput", "",
 		},
-		"a copy of what is missing that is not done": {selected, "action 2: fails: /missing is missing: Selected", ""},
-		"a merge that lists too few": {
-			short, "its daemon dies (here lays what is listed): ShortMerge", "its daemon dies (here lays what is listed): ShortMerge",
-		},
+		"a copy of what is missing that is not done": {selected, "/missing", "", ""},
+		"a merge that lists too few":                 {short, "", dies, dies},
 	} {
-		for _, literal := range []bool{false, true} {
-			d := started(t, func(o *Options) { o.Literal = literal })
-			want := one.want
-			if literal {
-				want = one.wantsLiterally
-			}
-			got, err := d.warningsOf(t, one.def, client.SolveOpt{})
-			if !strings.Contains(got, want) || (err != nil) != (want == "") {
-				t.Errorf("%s, literal %t: %q, not %q %v", name, literal, got, want, err)
-			}
+		got, err := started(t, nil).warningsOf(t, one.def, client.SolveOpt{})
+		if got != one.warns || (err != nil) != (one.fails != "") || err != nil && !strings.Contains(err.Error(), one.fails) {
+			t.Errorf("%s: %q, %v", name, got, err)
+		}
+		got, err = started(t, literally).warningsOf(t, one.def, client.SolveOpt{})
+		if !strings.Contains(got, one.literal) || (err != nil) != (one.literal == "") {
+			t.Errorf("%s, literally: %q, not %q %v", name, got, one.literal, err)
 		}
 	}
 }
@@ -233,7 +239,7 @@ func TestAnInputThatNamesNothingAndIsNotNeededIsAWarning(t *testing.T) {
 }
 
 func TestAnExecutionOfWhatDiffersIsAWarning(t *testing.T) {
-	d := started(t, nil)
+	d := started(t, literally)
 	state := llb.Scratch().File(llb.Mkfile("/a", 0o604, nil)).File(llb.Mkfile("/a", 0o755, nil))
 	run := state.Run(llb.Args([]string{"true"}), llb.Dir("/")).Root().File(llb.Mkfile("/a", 0o600, nil))
 	want := anExecution + "\naction 0: /a has mode 0604 (here 0755): MkfileOver\nits inputs differ, so what it makes in BuildKit is not known: Execution"
@@ -243,7 +249,7 @@ func TestAnExecutionOfWhatDiffersIsAWarning(t *testing.T) {
 }
 
 func TestPathsWithOneCauseAreOneWarning(t *testing.T) {
-	d := started(t, nil)
+	d := started(t, literally)
 	files := map[string]string{}
 	for i := 0; i < 30; i++ {
 		files[fmt.Sprintf("d/%02d/f", i)] = "x"

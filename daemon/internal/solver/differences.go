@@ -2,14 +2,20 @@ package solver
 
 import (
 	"context"
+	"errors"
 	"fmt"
-	"io"
+	"os"
+	"slices"
+	"strings"
 	"time"
 
 	"github.com/moby/buildkit/solver/pb"
-	"llbm/daemon/internal/differences"
+	"google.golang.org/grpc/codes"
+	"google.golang.org/grpc/status"
+	"llbm/daemon/internal/comparison"
 	"llbm/daemon/internal/graph"
 	"llbm/daemon/internal/machine"
+	"llbm/daemon/internal/rules"
 )
 
 const (
@@ -21,171 +27,313 @@ const (
 	mostDetails = 20
 )
 
-// A comparison says where BuildKit would end otherwise, as warnings, while llbm runs. What llbm makes does not depend on it,
-// and a build does not fail by it.
-type comparison struct {
+// A comparing says where BuildKit would end otherwise, as warnings, while llbm runs. A child does the work, so it has bounds of
+// its own. A build does not fail by it.
+type comparing struct {
 	p      *progress
-	g      *graph.Graph
-	texts  map[int]*machine.Source // of the sources, by vertex
-	run    *differences.Run
+	g      *graph.Graph // of the definition as it was sent
 	ctx    context.Context
 	cancel context.CancelFunc
-	done   chan struct{} // is closed when what no execution is before has been compared
-	err    error
+	talk   *comparison.Talk
+	child  *machine.Talk
+	run    chan *comparison.Run
+	asked  chan *comparison.Question
+	done   chan struct{} // is closed when nothing more is said
+	why    string        // why not all was compared
+	files  []*os.File
+	left   int // how many bytes of outputs may still be read
+	strict bool
+	// refusal is why the build fails, if it is strict: the first way in which BuildKit ends otherwise.
+	refusal error
+	leave   func()
 }
 
-// compare begins a comparison. Its caller has to stop it before the texts are closed.
-func compare(ctx context.Context, def *pb.Definition, g *graph.Graph, in *inputs, texts []machine.Source, p *progress) *comparison {
-	c := &comparison{p: p, g: g, texts: map[int]*machine.Source{}, run: differences.New(g.Vertices), done: make(chan struct{})}
-	for i, one := range in.all {
-		for _, v := range one.vertices {
-			c.texts[v] = &texts[i]
+// isCompared is whether a graph has something to compare.
+func isCompared(g *graph.Graph) bool {
+	for v := range g.Vertices {
+		if op := g.Vertices[v].Op; op.GetFile() != nil || op.GetMerge() != nil {
+			return true
 		}
 	}
+	return false
+}
+
+// compare begins a comparison of a definition, which is rewritten if that is asked for. Its caller has to stop it before the texts
+// are closed. A build without a file op and without a merge has none.
+func (s *Solver) compare(
+	ctx context.Context, def *pb.Definition, g *graph.Graph, in *inputs, texts []machine.Source, rewrites bool, p *progress,
+) *comparing {
+	c := &comparing{p: p, g: g, run: make(chan *comparison.Run, 1), asked: make(chan *comparison.Question), done: make(chan struct{}), left: mostAside}
 	c.ctx, c.cancel = context.WithCancel(ctx)
-	go func() {
-		defer close(c.done)
-		c.say(def)
-		if c.run != nil {
-			c.err = c.run.Go(c.ctx, given{c, nil}, c.show)
-		}
-	}()
+	c.strict = s.Strict || p.b.Strict
+	c.static(def)
+	if !isCompared(g) {
+		close(c.done)
+		return c
+	}
+	if err := s.begin(c, def, in, texts, rewrites); err != nil {
+		c.why = err.Error()
+		close(c.done)
+		return c
+	}
+	go c.listen()
 	return c
 }
 
-// say shows what does not depend on trees.
-func (c *comparison) say(def *pb.Definition) {
-	for v := range c.g.Vertices {
-		for _, step := range differences.Static(v, c.g.Vertices[v].Sent) {
-			c.show(step)
+// errNoRules says what is missing.
+var errNoRules = errors.New("the program llbm-rules is missing: tools/daemon builds it beside llbmd")
+
+// begin starts the child, and says what it has to compare.
+func (s *Solver) begin(c *comparing, def *pb.Definition, in *inputs, texts []machine.Source, rewrites bool) error {
+	if s.Rules == nil {
+		return errNoRules
+	}
+	data, err := def.Marshal()
+	if err != nil {
+		return err
+	}
+	file, err := c.file("sent", data)
+	if err != nil {
+		return err
+	}
+	select {
+	case s.comparisons <- struct{}{}:
+		c.leave = func() { <-s.comparisons }
+	case <-c.ctx.Done():
+		return c.ctx.Err()
+	}
+	if c.child, err = s.Rules.Talk(c.ctx, "compare"); err != nil {
+		c.child = nil
+		return err
+	}
+	c.talk = comparison.NewTalk(c.child, c.child.In)
+	request := &comparison.Request{Sent: file, Rewrite: rewrites, Received: true, Paths: mostDetails, Vertices: map[int]string{}, Links: map[int][]string{}}
+	for i, one := range in.all {
+		for _, v := range one.vertices {
+			request.Vertices[v] = machine.PathOf(texts[i].Text)
+			if linked := slices.Concat(one.manifest.HardLinks()...); len(linked) > 0 {
+				request.Links[v] = linked
+			}
 		}
 	}
-	for _, line := range differences.UnknownInputs(def) {
-		c.show(differences.Step{Vertex: c.g.Result, Action: -1, Lines: []differences.Line{line}})
+	return c.talk.Write(request)
+}
+
+// file makes a file in memory, which lasts as long as the comparison, and returns its path for the child.
+func (c *comparing) file(name string, data []byte) (string, error) {
+	file, err := machine.InMemory(name)
+	if err != nil {
+		return "", err
+	}
+	c.files = append(c.files, file)
+	_, err = file.Write(data)
+	return machine.PathOf(file), err
+}
+
+// static shows what does not depend on trees.
+func (c *comparing) static(def *pb.Definition) {
+	for v := range c.g.Vertices {
+		for _, step := range rules.Static(c.g.Vertices[v].Op) {
+			c.show(&comparison.Step{Vertex: v, Action: step.Action, Lines: step.Lines})
+		}
+	}
+	if v := rules.Deep(c.g.Vertices); v >= 0 {
+		step := rules.StepOfNote(rules.Depth)
+		c.show(&comparison.Step{Vertex: v, Action: step.Action, Lines: step.Lines})
+	}
+	for _, line := range rules.UnknownInputs(def) {
+		c.show(&comparison.Step{Vertex: c.g.Result, Action: -1, Lines: []rules.Line{line}})
 	}
 }
 
-// stop ends a comparison that is not wanted any more.
-func (c *comparison) stop() {
-	c.cancel()
-	<-c.done
+// listen shows what the child says, up to its end.
+func (c *comparing) listen() {
+	defer close(c.done)
+	defer func() {
+		if r := recover(); r != nil {
+			c.why = fmt.Sprint(r)
+		}
+	}()
+	for {
+		var m comparison.Message
+		if err := c.talk.Read(&m); err != nil {
+			c.why = c.child.Why(err)
+			return
+		}
+		switch {
+		case m.Run != nil:
+			c.run <- m.Run
+		case m.Step != nil:
+			c.show(m.Step)
+		case m.Needs != nil:
+			select {
+			case c.asked <- m.Needs:
+			case <-c.ctx.Done():
+				return
+			}
+		case m.End != nil:
+			return
+		}
+	}
 }
 
-// end compares what is left, once llbm has done all events that it does, with the executions' outputs. It returns whether the
-// session goes on: it is stopped if this takes too long, or reads too much.
-func (c *comparison) end(run *machine.Run) bool {
+// rewritten returns the definition that the child made, or nil if there is none.
+func (c *comparing) rewritten() *comparison.Run {
+	select {
+	case run := <-c.run:
+		return run
+	case <-c.done:
+	}
+	select {
+	case run := <-c.run: // it came just before the end
+		return run
+	default:
+		return nil
+	}
+}
+
+// stop ends a comparison.
+func (c *comparing) stop() {
+	c.cancel()
+	<-c.done
+	if c.child != nil {
+		c.child.Stop()
+	}
+	if c.leave != nil {
+		c.leave()
+	}
+	c.close()
+}
+
+func (c *comparing) close() {
+	for _, file := range c.files {
+		_ = file.Close()
+	}
+	c.files = nil
+}
+
+// end compares what is left, once llbm has done all events that it does, with the executions' outputs. The session is stopped if
+// this takes too long, or reads too much.
+func (c *comparing) end(run *machine.Run, g *graph.Graph) {
+	late := make(chan struct{})
 	timer := time.AfterFunc(patience, func() {
+		close(late)
 		c.cancel()
 		run.Stop()
 	})
-	<-c.done
-	outputs := &executed{c: c, run: run, left: mostAside}
-	if c.err == nil && c.run != nil {
-		c.err = c.run.Go(c.ctx, given{c, outputs}, c.show)
-	}
-	goesOn := timer.Stop() && !outputs.stopped
-	if c.err != nil && c.p.b.Context.Err() == nil {
-		reason := c.err.Error()
-		if c.ctx.Err() != nil {
-			reason = fmt.Sprintf("it takes more than %s longer than the build", patience)
+	defer timer.Stop()
+	for {
+		select {
+		case question := <-c.asked:
+			if err := c.answer(run, g, question); err != nil {
+				c.cancel()
+				<-c.done
+				c.why = err.Error()
+			}
+		case <-c.done:
+			select {
+			case <-late:
+				c.why = fmt.Sprintf("it takes more than %s longer than the build", patience)
+			default:
+			}
+			c.conclude()
+			return
 		}
-		c.p.warn(c.g.Result, "not all was compared with what BuildKit would make: "+reason, nil)
 	}
-	return goesOn
+}
+
+// conclude shows, once in a build, that not all was compared.
+func (c *comparing) conclude() {
+	if c.why == "" || c.p.b.Context.Err() != nil {
+		return
+	}
+	text := "not all was compared with what BuildKit would make: " + c.why
+	c.refuse(c.g.Result, text)
+	if c.p.shown.Note("not all was compared") {
+		c.p.warnOf(c.g.Vertices[c.g.Result].Digest, text, nil)
+	}
+}
+
+// answer tells the child what an execution made.
+func (c *comparing) answer(run *machine.Run, g *graph.Graph, question *comparison.Question) error {
+	reply := &comparison.Reply{Vertex: question.Vertex, Outputs: []string{}}
+	if question.Vertex < 0 || question.Vertex >= len(g.Vertices) {
+		return fmt.Errorf("there is no vertex %d", question.Vertex)
+	}
+	c.close() // the child has read them
+	for index := range rules.Outputs(g.Vertices[question.Vertex].Op.GetExec()) {
+		path, err := c.file("output", nil)
+		if err != nil {
+			return err
+		}
+		size, err := run.Aside(question.Vertex, index, len(g.Vertices), c.left, c.files[len(c.files)-1])
+		if err != nil {
+			return err
+		}
+		if size == 0 {
+			reply = &comparison.Reply{Vertex: question.Vertex, Failed: true}
+			break
+		}
+		c.left -= size
+		reply.Outputs = append(reply.Outputs, path)
+	}
+	return c.talk.Write(reply)
 }
 
 // show shows a step that ends otherwise: one warning for all paths with the same causes. What only follows from a difference
 // of an input has none.
-func (c *comparison) show(s differences.Step) {
+func (c *comparing) show(s *comparison.Step) {
 	var order []string
-	groups := map[string][]differences.Line{}
+	groups := map[string][]rules.Line{}
 	for _, line := range s.Lines {
-		key := fmt.Sprint(line.Texts)
-		if len(line.Texts) > 0 && groups[key] == nil {
+		key := strings.Join(line.Notes, " ")
+		if len(line.Notes) > 0 && groups[key] == nil {
 			order = append(order, key)
 		}
 		groups[key] = append(groups[key], line)
 	}
 	for _, key := range order {
-		c.p.differs(s, groups[key])
+		c.differs(s, groups[key])
 	}
 }
 
 // differs shows a warning for lines with the same causes.
-func (p *progress) differs(s differences.Step, lines []differences.Line) {
+func (c *comparing) differs(s *comparison.Step, lines []rules.Line) {
 	place := ""
 	if s.Action >= 0 {
-		number := s.Action
-		if !s.AsSent {
-			number = p.action(s.Vertex, number)
-		}
-		place = fmt.Sprintf("action %d: ", number)
+		place = fmt.Sprintf("action %d: ", s.Action)
 	}
 	var details []string
-	for _, text := range lines[0].Texts {
-		details = append(details, text.String())
+	for _, name := range lines[0].Notes {
+		details = append(details, rules.TextOf(name).String())
 	}
-	for _, line := range lines[1:min(len(lines), mostDetails)] {
-		details = append(details, place+line.String())
+	more := len(lines) - 1
+	for i, line := range lines {
+		more += line.More
+		if i > 0 && i < mostDetails {
+			details = append(details, place+line.String())
+		}
 	}
 	short := place + lines[0].String()
-	if more := len(lines) - 1 + s.More; more > 0 {
+	switch {
+	case s.More:
+		short += fmt.Sprintf(", and more than %d more", more)
+	case more > 0:
 		short += fmt.Sprintf(", and %d more", more)
 	}
-	if line := lines[0]; line.Texts[0].Name == differences.Execution && line.Words != differences.Unknown && !p.shown.Note(line.Words) {
-		return // the words are the same for all executions
-	}
-	p.note(s.Vertex, short, details)
-}
-
-// given has the trees of a comparison's sources, and executions' outputs if they are known.
-type given struct {
-	*comparison
-	outputs *executed
-}
-
-// Source returns the tree of a source, as llbm gets it.
-func (g given) Source(v int) (*differences.Node, error) {
-	text, ok := g.texts[v]
-	if !ok {
-		return nil, fmt.Errorf("vertex %d has no text", v)
-	}
-	end, err := text.Text.Seek(0, io.SeekEnd)
-	if err != nil {
-		return nil, err
-	}
-	return differences.Read(g.ctx, io.NewSectionReader(text.Text, 0, end))
-}
-
-// Executed returns the outputs of an execution.
-func (g given) Executed(v int) ([]*differences.Node, bool, error) {
-	if g.outputs == nil {
-		return nil, false, nil
-	}
-	return g.outputs.of(v)
-}
-
-// An executed reads the outputs of executions in a session.
-type executed struct {
-	c       *comparison
-	run     *machine.Run
-	left    int
-	stopped bool
-}
-
-func (e *executed) of(v int) ([]*differences.Node, bool, error) {
-	var out []*differences.Node
-	for index := range differences.Outputs(e.c.g.Vertices[v].Op.GetExec()) {
-		t, size, err := e.run.Aside(v, index, len(e.c.g.Vertices), e.left)
-		if err != nil {
-			e.stopped = true
-			return nil, false, err
+	if line := lines[0]; line.Notes[0] == rules.Execution && line.Words != comparison.Unknown {
+		if !c.p.shown.Note(line.Words) {
+			return // the words are the same for all executions
 		}
-		if t == nil {
-			return nil, true, nil
-		}
-		e.left -= size
-		out = append(out, differences.Of(t))
+	} else {
+		c.refuse(s.Vertex, short)
 	}
-	return out, true, nil
+	c.p.noteOf(c.g.Vertices[s.Vertex].Digest, short, details)
+}
+
+// refuse lets a strict build fail, once it has run.
+func (c *comparing) refuse(v int, text string) {
+	if c.strict && c.refusal == nil {
+		c.refusal = c.g.Wrap(v, status.Error(codes.FailedPrecondition, "the build is strict: "+text))
+	}
 }

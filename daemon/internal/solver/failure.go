@@ -22,14 +22,21 @@ func (s *Solver) failure(run *machine.Run, p *progress, v int) error {
 	if err != nil {
 		return err
 	}
-	op, place, code := g.Vertices[v].Op, failure.Place, failure.Code
+	op, sent, place, code := g.Vertices[v].Op, g.Vertices[v].Sent, failure.Place, failure.Code
 	if !failure.IsCommand {
-		text := fmt.Sprintf("llbm: failed %d action %d fault %d %s", v, p.action(v, place), code, machine.Name(code))
-		if place < len(op.GetFile().GetActions()) {
-			text += ": " + reason(run, g, v, place, code)
+		action, why := p.action(v, place), p.fails(v)
+		if why == "" && place < len(op.GetFile().GetActions()) {
+			why = reason(run, g, v, place, code)
 		}
-		subject := &errdefs.Solve_File{File: &errdefs.FileAction{Index: int64(p.action(v, place))}}
-		return failed(op, subject, status.Error(codes.Unknown, text))
+		text := fmt.Sprintf("fault %d %s", code, machine.Name(code))
+		if why != "" {
+			text += ": " + why
+		}
+		if action < 0 {
+			return failed(sent, nil, status.Errorf(codes.Unknown, "llbm: failed %d %s", v, text))
+		}
+		subject := &errdefs.Solve_File{File: &errdefs.FileAction{Index: int64(action)}}
+		return failed(sent, subject, status.Errorf(codes.Unknown, "llbm: failed %d action %d %s", v, action, text))
 	}
 	text := fmt.Sprintf("llbm: failed %d command %d status %d", v, place, code)
 	if calls := plan.Calls(op); place < len(calls) {
@@ -38,7 +45,7 @@ func (s *Solver) failure(run *machine.Run, p *progress, v int) error {
 			text += ": " + why
 		}
 	}
-	return failed(op, nil, status.Error(codes.Unknown, text))
+	return failed(sent, nil, status.Error(codes.Unknown, text))
 }
 
 // causes say what a fault of a file action means.

@@ -6,6 +6,8 @@ import (
 	"fmt"
 	"io"
 	"regexp"
+	"slices"
+	"strings"
 
 	"github.com/moby/buildkit/solver/pb"
 	"golang.org/x/sync/errgroup"
@@ -216,6 +218,17 @@ func (in *inputs) texts(g *graph.Graph) ([]machine.Source, *contents.Table, erro
 	}
 	texts, err := in.write(func(one *input, to io.Writer) error { return writeValue(one, to, false) })
 	return texts, nil, err
+}
+
+// given returns the texts of the sources that a graph needs, which may be fewer than were gathered.
+func (in *inputs) given(g *graph.Graph, texts []machine.Source) []machine.Source {
+	needed := map[string]bool{}
+	for v := range g.Vertices {
+		if source := g.Vertices[v].Op.GetSource(); source != nil {
+			needed[strings.TrimPrefix(source.Identifier, sources.Scheme)] = true
+		}
+	}
+	return slices.DeleteFunc(slices.Clone(texts), func(one machine.Source) bool { return !needed[one.Name] })
 }
 
 func writeValue(one *input, to io.Writer, noMark bool) error {

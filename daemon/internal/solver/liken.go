@@ -1,9 +1,13 @@
 package solver
 
 import (
+	"context"
+
 	"github.com/moby/buildkit/solver/pb"
-	"llbm/daemon/internal/alike"
+	"google.golang.org/grpc/codes"
+	"google.golang.org/grpc/status"
 	"llbm/daemon/internal/graph"
+	"llbm/daemon/internal/rewriting"
 )
 
 // note shows a warning for each field of the entries that were sent which has an effect in BuildKit alone.
@@ -15,35 +19,49 @@ func (s *Solver) note(sent *pb.Definition, g *graph.Graph, p *progress) {
 	}
 }
 
-// liken rewrites ops on which BuildKit and llbm do not agree, as far as they then do, whatever the trees are.
-func (s *Solver) liken(c *checks, def, sent *pb.Definition, g *graph.Graph, p *progress) (*pb.Definition, *graph.Graph, error) {
-	if !g.Canonical {
+// rewrites is whether ops are rewritten on which BuildKit and llbm do not agree.
+func (s *Solver) rewrites(g *graph.Graph, p *progress) bool {
+	if !s.Literal && !g.Canonical {
 		p.warn(g.Result, "the definition has bytes that BuildKit's library would not write, so it runs by the rules of llbm alone", nil)
+	}
+	return !s.Literal && g.Canonical
+}
+
+// liken returns the definition that is run, with its graph. If the comparison rewrote it, that is what it made by the trees of the
+// sources. If it could not, it is rewritten as far as it does not depend on trees.
+func (s *Solver) liken(
+	checks *checks, c *comparing, def, sent *pb.Definition, g *graph.Graph, p *progress,
+) (*pb.Definition, *graph.Graph, error) {
+	if s.Literal || !g.Canonical {
 		return def, g, nil
 	}
-	reached := map[int]bool{}
-	for _, v := range g.Vertices {
-		reached[v.Row] = true
-	}
-	actions := map[int][]int{}
-	rewritten, err := graph.Rewrite(def, func(row int, op *pb.Op) (bool, error) {
-		if !reached[row] {
-			return false, nil
-		}
-		changed, from := alike.Op(op)
-		if changed {
-			actions[row] = from
-		}
-		return changed, nil
-	})
-	if err != nil || rewritten == def {
+	made, rows, err := c.definition(checks.ctx, def)
+	if err != nil || made == def {
 		return def, g, err
 	}
-	g, err = c.load(rewritten, sent)
-	if err != nil {
+	if g, err = checks.load(made, sent); err != nil {
 		return nil, nil, err
 	}
 	p.change(g)
-	p.actions = actions
-	return rewritten, g, nil
+	p.rows = rows
+	return made, g, nil
+}
+
+// definition returns what the comparison rewrote, or what can be rewritten without it.
+func (c *comparing) definition(ctx context.Context, def *pb.Definition) (*pb.Definition, rewriting.Rows, error) {
+	run := c.rewritten()
+	if run == nil {
+		if err := ctx.Err(); err != nil {
+			return nil, nil, status.FromContextError(err).Err()
+		}
+		return rewriting.Treeless(ctx, def)
+	}
+	if len(run.Rows) == 0 {
+		return def, nil, nil
+	}
+	made := &pb.Definition{}
+	if err := made.Unmarshal(run.Definition); err != nil || len(made.Def) != len(def.Def) {
+		return nil, nil, status.Errorf(codes.Internal, "the rewritten definition can't be read: %v", err)
+	}
+	return made, run.Rows, nil
 }

@@ -7,11 +7,13 @@ import (
 	"time"
 
 	controlapi "github.com/moby/buildkit/api/services/control"
+	digest "github.com/opencontainers/go-digest"
 	"llbm/daemon/internal/builds"
 	"llbm/daemon/internal/graph"
 	"llbm/daemon/internal/machine"
 	"llbm/daemon/internal/messages"
 	"llbm/daemon/internal/plan"
+	"llbm/daemon/internal/rewriting"
 )
 
 // often is how often a transfer's progress is shown.
@@ -24,8 +26,8 @@ type progress struct {
 	shown   *builds.Shown
 	mu      sync.Mutex
 	begun   []*time.Time
-	running map[int]int   // the vertex of each worker
-	actions map[int][]int // which action each action of a rewritten row was
+	running map[int]int    // the vertex of each worker
+	rows    rewriting.Rows // the rows that were rewritten
 }
 
 func newProgress(b *builds.Build, g *graph.Graph) *progress {
@@ -50,10 +52,18 @@ func (p *progress) change(g *graph.Graph) {
 
 // action returns the number that an action of a vertex had before the definition was rewritten.
 func (p *progress) action(v, place int) int {
-	if from := p.actions[p.g.Vertices[v].Row]; place < len(from) {
-		return from[place]
+	if row := p.rows[p.g.Vertices[v].Row]; row != nil && place < len(row.Actions) {
+		return row.Actions[place]
 	}
 	return place
+}
+
+// fails returns why BuildKit fails at a vertex that was rewritten to one that fails here too, or nothing.
+func (p *progress) fails(v int) string {
+	if row := p.rows[p.g.Vertices[v].Row]; row != nil {
+		return row.Fails
+	}
+	return ""
 }
 
 func (p *progress) vertex(v int) *controlapi.Vertex {
@@ -151,7 +161,11 @@ func (p *progress) stopped(err error) {
 
 // warn shows a warning of a vertex.
 func (p *progress) warn(v int, short string, details []string) {
-	warning := &controlapi.VertexWarning{Vertex: p.g.Vertices[v].Digest, Level: 1, Short: []byte(messages.Text(short))}
+	p.warnOf(p.g.Vertices[v].Digest, short, details)
+}
+
+func (p *progress) warnOf(d digest.Digest, short string, details []string) {
+	warning := &controlapi.VertexWarning{Vertex: d, Level: 1, Short: []byte(messages.Text(short))}
 	for _, detail := range details {
 		warning.Detail = append(warning.Detail, []byte(messages.Text(detail)))
 	}
@@ -160,8 +174,12 @@ func (p *progress) warn(v int, short string, details []string) {
 
 // note shows a text as a warning of a vertex, once in a build.
 func (p *progress) note(v int, text string, details []string) {
-	if p.shown.Note(p.g.Vertices[v].Digest.String() + " " + text) {
-		p.warn(v, text, details)
+	p.noteOf(p.g.Vertices[v].Digest, text, details)
+}
+
+func (p *progress) noteOf(d digest.Digest, text string, details []string) {
+	if p.shown.Note(d.String() + " " + text) {
+		p.warnOf(d, text, details)
 	}
 }
 

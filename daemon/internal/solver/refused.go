@@ -1,12 +1,11 @@
 package solver
 
 import (
-	"slices"
-
 	"github.com/moby/buildkit/solver/pb"
 	"google.golang.org/grpc/codes"
 	"google.golang.org/grpc/status"
 	"llbm/daemon/internal/graph"
+	"llbm/daemon/internal/rules"
 )
 
 // refuse refuses the executions that BuildKit refuses as it loads a definition, and llbm does not. No client gets an entitlement.
@@ -28,14 +27,13 @@ func refuse(g *graph.Graph) error {
 }
 
 func refused(exec *pb.ExecOp) error {
-	isRoot := func(m *pb.Mount) bool { return m.Dest == pb.RootMount }
+	why, isDenied := rules.Refusal(exec)
+	code := codes.InvalidArgument
 	switch {
-	case !slices.ContainsFunc(exec.Mounts, isRoot):
-		return status.Error(codes.InvalidArgument, "failed to load LLB: invalid exec op with no rootfs")
-	case exec.Network == pb.NetMode_HOST:
-		return status.Error(codes.PermissionDenied, "failed to load LLB: network.host is not allowed")
-	case exec.Security == pb.SecurityMode_INSECURE:
-		return status.Error(codes.PermissionDenied, "failed to load LLB: security.insecure is not allowed")
+	case why == "":
+		return nil
+	case isDenied:
+		code = codes.PermissionDenied
 	}
-	return nil
+	return status.Error(code, "failed to load LLB: "+why)
 }

@@ -32,16 +32,20 @@ type Solver struct {
 	Workers  int
 	Sessions *sessions.Sessions
 	Keeper   *sources.Keeper
-	Kept     *kept.Folder // or nil
-	Notes    *notes.Table // or nil
-	Platform pb.Platform  // the worker's
-	Literal  bool         // whether definitions run by llbm's rules where they differ from BuildKit's
-	slots    chan struct{}
+	Kept     *kept.Folder     // or nil
+	Notes    *notes.Table     // or nil
+	Platform pb.Platform      // the worker's
+	Literal  bool             // whether definitions run by llbm's rules where they differ from BuildKit's
+	Strict   bool             // whether a build fails of which BuildKit would make something else
+	Rules    *machine.Program // llbm-rules, or nil
+
+	slots       chan struct{}
+	comparisons chan struct{}
 }
 
 // New returns a solver with at most some processes of the program at once.
 func New(program *machine.Program, workers, atOnce int, open *sessions.Sessions, keeper *sources.Keeper, folder *kept.Folder) *Solver {
-	return &Solver{Program: program, Workers: workers, Sessions: open, Keeper: keeper, Kept: folder, slots: make(chan struct{}, atOnce)}
+	return &Solver{comparisons: make(chan struct{}, atOnce), Program: program, Workers: workers, Sessions: open, Keeper: keeper, Kept: folder, slots: make(chan struct{}, atOnce)}
 }
 
 // slot waits until one more process of the program may run.
@@ -92,7 +96,7 @@ func (s *Solver) Solve(ctx context.Context, b *builds.Build, sent *pb.Definition
 	return result, nil
 }
 
-// work runs a definition by the rules that it is to be run by.
+// work gathers the sources of a definition, rewrites it if it is to be run as BuildKit would, and runs it.
 func (s *Solver) work(c *checks, b *builds.Build, def, sent *pb.Definition) (*results.Result, error) {
 	g, err := c.load(def, sent)
 	if err != nil {
@@ -103,9 +107,6 @@ func (s *Solver) work(c *checks, b *builds.Build, def, sent *pb.Definition) (*re
 	s.note(sent, g, p)
 	if !s.Literal {
 		if err := refuse(g); err != nil {
-			return nil, err
-		}
-		if def, g, err = s.liken(c, def, sent, g, p); err != nil {
 			return nil, err
 		}
 	}
@@ -124,11 +125,6 @@ func (s *Solver) work(c *checks, b *builds.Build, def, sent *pb.Definition) (*re
 		}
 		p.change(g)
 	}
-	return s.run(c.ctx, b, def, g, in, p)
-}
-
-// run runs a definition in a session of llbm, and returns the result's tree.
-func (s *Solver) run(ctx context.Context, b *builds.Build, def *pb.Definition, g *graph.Graph, in *inputs, p *progress) (*results.Result, error) {
 	texts, table, err := in.texts(g)
 	defer func() {
 		for _, text := range texts {
@@ -138,23 +134,39 @@ func (s *Solver) run(ctx context.Context, b *builds.Build, def *pb.Definition, g
 	if err != nil {
 		return nil, err
 	}
-	c := compare(ctx, def, g, in, texts, p)
-	defer c.stop()
-	t, record, err := s.session(ctx, b, g, def, texts, p, c)
-	if s.Kept != nil {
-		s.keep(b, def, record, in, err)
-	}
+	result, err := s.run(c, b, def, sent, g, in, texts, p)
 	if err != nil {
 		table.Close()
 		return nil, err
 	}
-	return &results.Result{Tree: t, Contents: table}, nil
+	result.Contents = table
+	return result, nil
+}
+
+// run runs a definition in a session of llbm, and returns the result's tree. What BuildKit would make is compared beside it.
+func (s *Solver) run(
+	checks *checks, b *builds.Build, def, sent *pb.Definition, g *graph.Graph, in *inputs, texts []machine.Source, p *progress,
+) (*results.Result, error) {
+	c := s.compare(checks.ctx, def, g, in, texts, s.rewrites(g, p), p)
+	defer c.stop()
+	def, g, err := s.liken(checks, c, def, sent, g, p)
+	if err != nil {
+		return nil, err
+	}
+	t, record, err := s.session(checks.ctx, b, g, def, in.given(g, texts), p, c)
+	if s.Kept != nil {
+		s.keep(b, def, record, in, err)
+	}
+	if err != nil {
+		return nil, err
+	}
+	return &results.Result{Tree: t}, nil
 }
 
 // session does the events that llbm chooses, up to the end or to the first vertex that fails. The record is returned if it
 // is kept.
 func (s *Solver) session(
-	ctx context.Context, b *builds.Build, g *graph.Graph, def *pb.Definition, texts []machine.Source, p *progress, c *comparison,
+	ctx context.Context, b *builds.Build, g *graph.Graph, def *pb.Definition, texts []machine.Source, p *progress, c *comparing,
 ) (tree.Tree, []byte, error) {
 	entries, err := graph.Entries(def)
 	if err != nil {
@@ -199,13 +211,14 @@ func (s *Solver) session(
 		}
 		if v, failed := p.event(event); failed {
 			err := p.failed(v, s.failure(run, p, v))
-			c.end(run)
+			c.end(run, g)
 			return nil, record.Bytes(), err
 		}
 	}
 	t, err := run.Tree(g.Result, g.Output)
 	if err == nil {
-		c.end(run)
+		c.end(run, g)
+		err = c.refusal
 	}
 	return t, record.Bytes(), err
 }

@@ -12,8 +12,8 @@ Each definition is run by the daemon and by the program, as it is and rewritten 
 trees, with the owner 0:0, as BuildKit's client sends them. A result is a tree without its root, or a failure.
 
 Out: on standard output a line for each definition that ends otherwise without a note of `lint --like-buildkit` (not
-counting those of owners), or otherwise than the model says (not counting those with an execution, or with a filter that
-is not modelled), with the seed that makes it; then the counts. --keep FOLDER stores such definitions and their trees.
+counting those of owners), or otherwise than the model says (not counting those with an execution), with the seed that
+makes it; then the counts. --keep FOLDER stores such definitions and their trees.
 With --start the last line is `N passed, M failed, K skipped`; if the packages are not there, or the daemon can't be
 built, can't be run here or does not copy and merge, since the host forbids mounts for example, a line says so, and that
 is all: one skipped.
@@ -38,20 +38,21 @@ from collections.abc import Iterable, Iterator
 from typing import NamedTuple
 
 from llbm_tools import common
-from llbm_tools.buildkit import examples, files, local_sources, notes, random_definitions, solving, static
-from llbm_tools.buildkit.files import Tree
-from llbm_tools.buildkit.rules import ALL, Rule
-from llbm_tools.daemon import debian_packages, started_daemon
+from llbm_tools.daemon import debian_packages, random_definitions, started_daemon
 from llbm_tools.daemon.runs import MOST_SECONDS, Daemon, DaemonBusy, DaemonLost
 from llbm_tools.definitions import adopting
 from llbm_tools.llb import findings
 from llbm_tools.paths import ROOT
+from llbm_tools.rules import examples, notes
+from llbm_tools.rules import comparison as comparing
 from llbm_tools.streams import Refused, exit_status, program_at
+from llbm_tools.trees import maps
+from llbm_tools.trees.maps import Tree
 
 ALL_OPTIONS = adopting.Settings(frozenset(adopting.DROPPED), (), adopting.RunNothing.REFUSED)
 LIKE = adopting.Settings(like_buildkit=True)
 NOT_MODELLED = {"Execution", "Attribute", "SessionID"}
-QUIET = {str(Rule.LOCAL_OWNER)}
+QUIET = {"LocalOwner"}
 MOST_OF_STORED = 300
 AT_ONCE = 4
 
@@ -80,7 +81,7 @@ def without_owners(tree: Tree) -> Tree:
 
 def lines_of(tree: Tree | None) -> Lines:
     """Returns the lines of a result without its root; None for none."""
-    return None if tree is None else files.lines_of(tree)[1:]
+    return None if tree is None else maps.lines_of(tree)[1:]
 
 
 def stored_cases() -> Iterator[Case]:
@@ -92,7 +93,7 @@ def stored_cases() -> Iterator[Case]:
         sources = {}
         for name, _ in adopted.sources:
             at = trees.get(name, trees.get(place.stem))
-            sources[name] = files.tree_of(at.read_bytes().splitlines(keepends=True)) if at else files.empty()
+            sources[name] = maps.tree_of(at.read_bytes().splitlines(keepends=True)) if at else maps.empty()
         yield Case(os.path.relpath(place, ROOT), adopted.data, sources)
 
 
@@ -114,12 +115,21 @@ def random_cases(numbers: Iterable[int], seed: int) -> Iterator[Case]:
 
 def kills(data: bytes) -> bool:
     """Returns whether BuildKit's daemon dies of a definition."""
-    return bool(notes.Notes(data).of_deaths()) or any(map(static.deaths, solving.graph_of(data).ops))
+    return any(one.kind == notes.BREAKS for one in notes.notes_of(data, [], True))
 
 
-def are_known(graph: solving.Graph, sources: dict[str, Tree]) -> bool:
-    """Returns whether it is known what the filters of all sources select."""
-    return all(local_sources.is_known(op, sources[solving.source_name(op)]) for op in graph.ops if op.source)
+def written(sources: dict[str, Tree], folder: str) -> dict[str, str]:
+    """Writes the texts of trees into a folder, and returns their files by name."""
+    places = {name: os.path.join(folder, str(number)) for number, name in enumerate(sources)}
+    for name, place in places.items():
+        pathlib.Path(place).write_bytes(b"".join(maps.lines_of(sources[name])))
+    return places
+
+
+def modelled(data: bytes, sources: dict[str, Tree]) -> Lines:
+    """Returns what BuildKit makes of a definition without executions, by its rules in llbm-rules."""
+    _, tree = comparing.of_trees(data, {name: maps.lines_of(tree) for name, tree in sources.items()})
+    return None if tree is None else tree[1:]
 
 
 class Comparison:
@@ -132,11 +142,7 @@ class Comparison:
     def here(self, data: bytes, sources: dict[str, Tree]) -> Lines:
         """Returns what the program makes of a definition."""
         with tempfile.TemporaryDirectory(prefix="llbm-against-") as folder:
-            words = []
-            for number, (name, tree) in enumerate(sources.items()):
-                place = os.path.join(folder, str(number))
-                pathlib.Path(place).write_bytes(b"".join(files.lines_of(tree)))
-                words.append(f"{name}={place}")
+            words = [f"{name}={place}" for name, place in written(sources, folder).items()]
             done = subprocess.run(
                 [self.program, "run", *words], input=data, capture_output=True, timeout=MOST_SECONDS
             )
@@ -171,19 +177,16 @@ class Comparison:
         """Runs a definition on both."""
         ran = self.daemon.run(data, sources)
         there, here = lines_of(ran.tree), self.here(data, sources)
-        noted = {str(one.note.name) for one in notes.notes_of(data, [], True)} - QUIET
+        noted = {one.name for one in notes.notes_of(data, [], True)} - QUIET
         counts, lines = [f"{what}all"], []
         if there != here:
             counts.append(f"{what}otherwise")
             if not noted:
                 counts.append(f"{what}otherwise without a note")
                 lines.append(f"{name}: {what}ends otherwise without a note: {ran.said or 'another tree'}")
-        graph = solving.graph_of(data)
-        if not noted & NOT_MODELLED and are_known(graph, sources):
-            model = solving.Solving(graph, sources, ALL, lambda *_: None).all()
-            if lines_of(model) != there:
-                counts.append(f"{what}otherwise than the model")
-                lines.append(f"{name}: {what}ends otherwise than the model: {ran.said or 'another tree'}")
+        if not noted & NOT_MODELLED and modelled(data, sources) != there:
+            counts.append(f"{what}otherwise than the model")
+            lines.append(f"{name}: {what}ends otherwise than the model: {ran.said or 'another tree'}")
         return Verdict(counts, lines)
 
 
@@ -195,7 +198,7 @@ def keep(folder: str | None, case: Case) -> None:
     place.mkdir(parents=True, exist_ok=True)
     (place / "definition").write_bytes(case.data)
     for name, tree in case.sources.items():
-        (place / f"{name}.tree").write_bytes(b"".join(files.lines_of(tree)))
+        (place / f"{name}.tree").write_bytes(b"".join(maps.lines_of(tree)))
 
 
 def verdicts(comparison: Comparison, options: argparse.Namespace) -> Iterator[tuple[Case, Verdict]]:

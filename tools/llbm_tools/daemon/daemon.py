@@ -1,4 +1,4 @@
-"""Builds the daemon llbmd, which speaks BuildKit's API, and clients for it.
+"""Builds the daemon llbmd, which speaks BuildKit's API, the program llbm-rules with BuildKit's rules, and clients.
 
 In: daemon/ of the repository around this folder. If `go` is installed and has, or gets, the module that daemon/go.mod
 names and those that this needs, it builds the daemon. Else packages of Debian (130 MB) are downloaded by apt from the
@@ -6,7 +6,7 @@ repositories that this host is set up with, and unpacked (670 MB) into the cache
 daemon is built from them. Nothing is installed, and root is not needed. With --offline only what is there already is
 used.
 
-Out: the daemon, out/llbmd or -o FILE. With --clients also BuildKit's `buildctl` and its frontend for Dockerfiles beside
+Out: the daemon, out/llbmd or -o FILE, and llbm-rules beside it. With --clients also BuildKit's `buildctl` and its frontend for Dockerfiles beside
 it, built from Debian's packages; docker-buildx is in FOLDER/usr/libexec/docker/cli-plugins. Builds are kept in
 out/go-cache, for the next one.
 
@@ -18,7 +18,7 @@ import argparse
 import os
 import pathlib
 
-from llbm_tools import common
+from llbm_tools import common, paths
 from llbm_tools.daemon import debian_packages, go_building
 from llbm_tools.daemon.go_building import BUILDKIT, MODULE, OUT, Go
 from llbm_tools.streams import Refused, exit_status
@@ -46,8 +46,9 @@ def go_of(packages: pathlib.Path, offline: bool) -> Go:
 
 
 def build_daemon(go: Go, to: pathlib.Path) -> None:
-    """Builds the daemon."""
+    """Builds the daemon, and beside it the program with BuildKit's rules."""
     go.build(f"{MODULE}/cmd/llbmd", to, *STATIC)
+    go.build(f"{MODULE}/cmd/llbm-rules", to.with_name(paths.RULES.name), *STATIC)
 
 
 def build_clients(go: Go, folder: pathlib.Path) -> None:

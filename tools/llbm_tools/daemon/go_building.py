@@ -75,7 +75,7 @@ def with_modules() -> Go | None:
     flags = f"-mod=mod -modfile={noted}"
     go = Go(command, {**os.environ, "CGO_ENABLED": "0", "GOFLAGS": flags, "GOTOOLCHAIN": "local"}, None)
     try:
-        go.call("list", "-deps", "./cmd/llbmd", seconds=MODULES_PATIENCE)
+        go.call("list", "-deps", "./cmd/llbmd", "./cmd/llbm-rules", seconds=MODULES_PATIENCE)
     except (NotBuilt, OSError):
         return None
     return go

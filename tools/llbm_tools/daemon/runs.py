@@ -8,8 +8,8 @@ import tarfile
 import tempfile
 from typing import NamedTuple
 
-from llbm_tools.buildkit import files
-from llbm_tools.buildkit.files import Entry, Tree
+from llbm_tools.trees import maps
+from llbm_tools.trees.maps import Entry, Tree
 
 MOST_SECONDS = 600
 TRIES = 5
@@ -51,7 +51,7 @@ def write_tree(tree: Tree, place: bytes) -> None:
 
 def tree_in(archive: str) -> Tree:
     """Reads the tree of a tar that the daemon made, which has no root."""
-    tree = files.empty()
+    tree = maps.empty()
     with tarfile.open(archive, errors="surrogateescape") as opened:
         for one in opened:
             path = tuple(os.fsencode(part) for part in one.name.split("/") if part not in ("", "."))

@@ -8,12 +8,11 @@ import subprocess
 import tempfile
 from collections.abc import Iterator
 
-from llbm_tools.buildkit import examples
-from llbm_tools.buildkit.rules import Rule
 from llbm_tools.daemon import buildkitd, debian_packages
 from llbm_tools.daemon import daemon as daemons
 from llbm_tools.daemon.go_building import OUT, NotBuilt
 from llbm_tools.daemon.runs import Daemon, DaemonBusy, DaemonLost
+from llbm_tools.rules import examples
 
 MEMORY = pathlib.Path("/dev/shm")
 ENOUGH = 1 << 30
@@ -35,7 +34,7 @@ def place() -> str | None:
 def check(daemon: Daemon) -> None:
     """Raises NoDaemon unless the daemon copies from a source, and merges."""
     for one in examples.examples():
-        if one.rule in (Rule.MERGE_LAYERS, Rule.LOCAL_ROOT):
+        if one.rule in ("MergeLayers", "LocalRoot"):
             try:
                 ran = daemon.run(one.data, one.sources)
             except (DaemonBusy, DaemonLost, OSError, subprocess.TimeoutExpired) as fault:

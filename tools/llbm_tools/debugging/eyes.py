@@ -9,8 +9,7 @@ from llbm_tools.debugging import changes, happened, looks, trees
 from llbm_tools.debugging.arguments import Object
 from llbm_tools.debugging.changes import Change, Compared
 from llbm_tools.debugging.happened import Happened, Tree, Watch
-from llbm_tools.debugging.places import Graph
-from llbm_tools.sessions.session import Session
+from llbm_tools.debugging.launching import Launched
 
 MOST_OF_A_VALUE = 2_000
 
@@ -42,11 +41,11 @@ def plain(name: str, value: str) -> Variable:
 class Eyes:
     """The variables for trees that are not outputs. References and nodes are those of the views."""
 
-    def __init__(self, session: Session, graph: Graph, data: bytes, views: Host) -> None:
-        self.session = session
-        self.graph = graph
+    def __init__(self, launched: Launched, views: Host) -> None:
+        self.session = launched.session
+        self.graph = launched.graph
         self.views = views
-        self.watch = Watch(session, graph, data)
+        self.watch = Watch(launched.session, launched.graph, launched.entries.data, launched.sources)
         self.seen: Happened | None = None
 
     def close(self) -> None:
@@ -99,7 +98,7 @@ class Eyes:
         """Returns the variables for what the last event changed."""
         self.seen = self.seen or self.watch.last()
         if self.seen is None:
-            outside = [plain("BuildKit", line) for line in self.watch.outside()]
+            outside = [plain("BuildKit", line) for line in filter(None, [self.watch.missing(), *self.watch.outside()])]
             return [plain("event", "none: the run is at its beginning"), *outside]
         found = [plain("event", self.session.record[-1].line), plain("what", self.seen.text)]
         for one in self.seen.compared:

@@ -5,7 +5,8 @@ an action is compared with the tree that the action was done on, and the worker 
 """
 
 import re
-from typing import NamedTuple
+from collections.abc import Mapping
+from typing import BinaryIO, NamedTuple
 
 from llbm_tools.debugging import changes, looks, reasons
 from llbm_tools.debugging.changes import Compared
@@ -83,16 +84,25 @@ def compared(name: str, before: Flat, after: Flat, most: int) -> Compared:
 
 
 class Watch:
-    """Says what events of a session of a definition changed."""
+    """Says what events of a session of a definition changed; with the files of its sources' trees also what ends otherwise
+    in BuildKit."""
 
-    def __init__(self, session: Session, graph: Graph, data: bytes) -> None:
+    def __init__(self, session: Session, graph: Graph, data: bytes, sources: Mapping[str, BinaryIO] | None = None) -> None:
         self.session = session
         self.graph = graph
-        self.likeness = Likeness(session, graph, data)
+        self.likeness = None if sources is None else Likeness(session, graph, data, sources)
 
     def outside(self) -> list[str]:
         """Returns what ends otherwise in BuildKit by entries that are no vertices."""
-        return self.likeness.noted.lines_outside()
+        return self.likeness.outside() if self.likeness else []
+
+    def missing(self) -> str:
+        """Returns why it is not known what ends otherwise in BuildKit, or nothing."""
+        return self.likeness.missing if self.likeness else ""
+
+    def otherwise(self, event: Event) -> list[str]:
+        """Returns what ends otherwise in BuildKit at an event."""
+        return self.likeness.of_event(event) if self.likeness else []
 
     def last(self, most: int = MOST_CHANGES) -> Happened | None:
         """Returns what the last event did, or None at the beginning of the run."""
@@ -113,7 +123,7 @@ class Watch:
         parts = looks.parts_of(self.session, event.worker)
         held = [Tree(part.name, f"work {event.worker} {part.number}") for part in parts]
         text = f"worker {event.worker} takes vertex {event.vertex}"
-        return Happened(text, [], held, self.likeness.of_event(event))
+        return Happened(text, [], held, self.otherwise(event))
 
     def settled(self, event: Event, vertex: Vertex) -> Happened:
         """Returns what a settle did: the outputs of the vertex, or why it failed."""
@@ -121,13 +131,13 @@ class Watch:
             why = reasons.why_failed(self.session, vertex, len(self.session.record) - 1)
             return Happened(f"vertex {event.vertex} failed" + (f": {why}" if why else ""), [], [], [])
         outputs = [Tree(f"output {i}", f"tree {event.vertex} {i}") for i in range(vertex.outputs)]
-        return Happened(f"vertex {event.vertex} is done", [], outputs, self.likeness.of_event(event))
+        return Happened(f"vertex {event.vertex} is done", [], outputs, self.otherwise(event))
 
     def stepped(self, event: Event, vertex: Vertex, most: int) -> Happened:
         """Returns what a micro-step did."""
         why = reasons.why_step(self.session, vertex, event)
         acted = ACTED.fullmatch(event.reply)
-        otherwise = self.likeness.of_event(event)
+        otherwise = self.otherwise(event)
         if why:
             return Happened(why, [], [], otherwise)
         if acted:

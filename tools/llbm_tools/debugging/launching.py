@@ -1,10 +1,9 @@
 """Starts what a launch request asks for: the program, the definition with its text, and the trees of its local sources.
 
 The program reads all its files before it answers the first command, so the temporary files are removed after the
-launch.
+launch. The texts of the trees stay open for a comparison until the session ends.
 """
 
-import contextlib
 import difflib
 import functools
 import os
@@ -13,7 +12,7 @@ import shutil
 import subprocess
 import tempfile
 from collections.abc import Callable
-from typing import NamedTuple
+from typing import BinaryIO, NamedTuple
 
 from llbm_tools.common import program_named
 from llbm_tools.debugging import places
@@ -21,15 +20,13 @@ from llbm_tools.debugging.arguments import Object, argument, of_kind
 from llbm_tools.debugging.origins import Origins, origins_of
 from llbm_tools.debugging.readable import readable
 from llbm_tools.definitions import faults
-from llbm_tools.inputs import data_at, is_standard_input, opened_file
+from llbm_tools.inputs import data_at, is_standard_input
 from llbm_tools.llb import definition, names, source_names
 from llbm_tools.llb.wire import Unreadable
 from llbm_tools.os_errors import os_error_text
 from llbm_tools.sessions.session import Refusal, Session, SessionFailed
-from llbm_tools.streams import Failed, Refused, why_not
-from llbm_tools.trees.directory_texts import Values
-from llbm_tools.trees.references import Table
-from llbm_tools.trees.source_texts import TEXT, Reading, Source, kind_of
+from llbm_tools.streams import Refused, why_not
+from llbm_tools.trees.source_files import source_words
 
 ARGUMENTS = ("definition", "text", "sources", "files", "workers", "stopOnEntry", "stopAtEnd", "noDebug", "llbm")
 EDITOR_ARGUMENTS = (
@@ -45,8 +42,8 @@ Say = Callable[[str], None]
 
 
 class Launched(NamedTuple):
-    """A session at its beginning, its graph, its entries for explanations, the name and the file of its text, and the
-    files that the definition was made from.
+    """A session at its beginning, its graph, its entries for explanations, the name and the file of its text, the
+    files that the definition was made from, and the open files with the trees of its local sources, by name.
     """
 
     session: Session
@@ -55,6 +52,7 @@ class Launched(NamedTuple):
     name: str
     file: str | None
     origins: Origins
+    sources: dict[str, BinaryIO]
 
 
 @functools.cache
@@ -136,35 +134,10 @@ def text_of(program: str, data: bytes, text: bytes | None, entries: list[bytes])
     return places.Text(given, places.lines_of(given))
 
 
-def source_file(name: str, path: str, place: str, say: Say) -> str:
-    """Returns the file with the tree text of a local source, which is written to `place` if it is no text."""
-    def say_of(line: str) -> None:
-        said.append(line)
-        say(f"{line} (the local source {name})")
-
-    said: list[str] = []
-    try:
-        if kind_of(path) == TEXT:
-            with opened_file(path):
-                return path
-        with open(place, "wb") as text, contextlib.ExitStack() as kept:
-            is_whole = Source(Values(text, None), Table(), kept, Reading(say=say_of, quiet=True)).read(path, [])
-    except (Refused, Failed) as fault:
-        raise Refused(f"{fault} (the local source {name})") from fault
-    if not is_whole:
-        raise Refused(f"{said[0]} (the local source {name})")
-    return place
-
-
-def source_words(arguments: Object, folder: str, say: Say) -> list[str]:
-    """Returns the command-line words for the program's local sources."""
-    words = []
-    for number, (name, path) in enumerate(argument(arguments, "sources", dict, {}).items()):
-        of_kind(path, f"sources: {name}", str)
-        if not name or "=" in name or name.startswith("-"):
-            raise Refused(f"this can't be the name of a local source on a command line: {name!r}")
-        words.append(f"{name}={source_file(name, path, os.path.join(folder, f'{number}.tree'), say)}")
-    return words
+def sources_of(arguments: Object) -> dict[str, str]:
+    """Returns the paths of local sources by name."""
+    given: Object = argument(arguments, "sources", dict, {})
+    return {name: of_kind(path, f"sources: {name}", str) for name, path in given.items()}
 
 
 def workers_of(arguments: Object) -> int:
@@ -217,8 +190,8 @@ def start(arguments: Object, folder: str, say: Say, program_argument: str) -> La
     shown = output_of(program, "show", data, named_entries).decode("ascii", "backslashreplace")
     named = names.names_of(data)
     graph = places.graph_of(shown, text_of(program, data, text, entries), entries, [one.text for one in named])
-    words = source_words(arguments, folder, say)
-    given_names = list(argument(arguments, "sources", dict, {}))
+    sources = sources_of(arguments)
+    words, given_names = source_words(sources, folder, say), list(sources)
     for note in source_names.word_notes(data, given_names):
         say(note)
     file = os.path.join(folder, "definition")
@@ -231,7 +204,10 @@ def start(arguments: Object, folder: str, say: Say, program_argument: str) -> La
     path, place = argument(arguments, "definition", str, ""), argument(arguments, "text", str, "")
     origins = origins_of(data, given, os.path.dirname(os.path.abspath(path or place)))
     name, text_file = f"{os.path.basename(path)}.text", os.path.abspath(place) if place else None
-    return Launched(session, graph, named_entries, name, text_file, origins)
+    trees = {}
+    for name, tree in (word.split("=", 1) for word in words):
+        trees[name] = session.kept.enter_context(open(tree, "rb"))
+    return Launched(session, graph, named_entries, name, text_file, origins, trees)
 
 
 def launch(arguments: Object, say: Say, program_argument: str = "the argument llbm") -> Launched:

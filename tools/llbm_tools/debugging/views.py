@@ -32,7 +32,7 @@ class Views:
         self.known: dict[tuple[int, int], trees.Node] = {}
         self.looked: dict[str, trees.Node | None] = {}
         self.whys: dict[int, str | None] = {}
-        self.eyes = Eyes(launched.session, launched.graph, launched.entries.data, self)
+        self.eyes = Eyes(launched, self)
         self.openers: list[Callable[[], Variables]] = []
         self.first = 1
 

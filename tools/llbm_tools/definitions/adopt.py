@@ -9,8 +9,10 @@ of SSH agents, --without-unpack the unpacking of copies, --without-owners users 
 executions. --rules FILE replaces the words of the executions that a rule names; each line of the file is a rule,
 `digest DIGEST => NEW ..`, `name NAME => NEW ..` or `words OLD .. => NEW ..`, quoted as for a shell, and a rule without
 new words keeps the old ones. Rules take precedence over --run-nothing. --like-buildkit rewrites file ops and merges so
-that BuildKit and llbm agree on them, as far as that does not depend on trees (docs/BUILDKIT.md). --all means all of
-these options except --run-nothing=all, --rules and --like-buildkit.
+that BuildKit and llbm agree on them, as far as that does not depend on trees (docs/BUILDKIT.md); for trees of local
+sources, NAME=PATH with a directory, a tar (both with owner 0:0) or a tree text, also what depends on these. The program
+llbm-rules does so (tools/daemon builds it); where it is not there, a line says that nothing is rewritten for BuildKit.
+--all means all of these options except --run-nothing=all, --rules and --like-buildkit.
 
 Out: the definition, on standard output, or in FILE with -o FILE. Digests change, and with them the inputs that name
 them and the keys of the metadata and of the locations in `Source`; all other bytes and the order of the entries stay
@@ -35,6 +37,7 @@ from llbm_tools.definitions import adopting, adoption_rules
 from llbm_tools.llb import findings, no_definition
 from llbm_tools.llb.wire import Unreadable
 from llbm_tools.streams import Refused, exit_status
+from llbm_tools.trees.source_files import source_of
 
 OPTIONS = {kind: f"--without-{kind}" for kind in adopting.DROPPED} | {adopting.RUN_NOTHING: "--run-nothing"}
 MENDS = {adopting.RUN_NOTHING: "or --rules replaces the words"}
@@ -55,7 +58,10 @@ def settings_from(options: argparse.Namespace) -> adopting.Settings:
     run_nothing = adopting.RunNothing.REFUSED if options.all or options.run_nothing else adopting.RunNothing.NONE
     if options.run_all:
         run_nothing = adopting.RunNothing.ALL
-    return adopting.Settings(frozenset(dropped), tuple(rules), run_nothing, options.like_buildkit)
+    trees = tuple(dict(options.source).items())
+    if trees and not options.like_buildkit:
+        raise Refused("trees of local sources are for --like-buildkit")
+    return adopting.Settings(frozenset(dropped), tuple(rules), run_nothing, options.like_buildkit, trees)
 
 
 def shown(finding: findings.Finding) -> str:
@@ -164,6 +170,7 @@ def parse_options() -> argparse.Namespace:
     )
     add = parser.add_argument
     add("definition", nargs="?", metavar="DEFINITION", help="the definition (default: standard input)")
+    add("source", nargs="*", type=source_of, metavar="NAME=PATH", help="a local source, for --like-buildkit")
     add("-o", "--output", metavar="FILE", help="the output (default: standard output)")
     add("--sources", metavar="FILE", help="the list of local sources (default: standard error)")
     add("--without-secrets", action="store_true", help="drop mounts of secrets and secret environment variables")

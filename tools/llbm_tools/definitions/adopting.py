@@ -12,7 +12,6 @@ import shlex
 from collections.abc import Callable, Sequence
 from typing import NamedTuple
 
-from llbm_tools.buildkit import likening
 from llbm_tools.common import shortened
 from llbm_tools.definitions.adoption_rules import Rule, rule_for
 from llbm_tools.llb import definition, findings, names, op_reading, op_rules, script_faults, wire
@@ -20,6 +19,8 @@ from llbm_tools.llb.local_names import LocalNames, can_be_given, is_known
 from llbm_tools.llb.ops import ChownOpt, ExecOp, FileAction, Input, Mount, Op, fields_of
 from llbm_tools.llb.rewriting import changed, with_each, with_message, with_text, with_texts, without, written
 from llbm_tools.llb.wire import Faulty, Record
+from llbm_tools.rules import program, rewriting
+from llbm_tools.streams import Refused
 
 KINDS = frozenset([2, 3, 4, 5, 6, 7])
 EXEC, SOURCE, FILE = 2, 3, 4
@@ -40,6 +41,7 @@ KIND_OF_FINDING = {
     "NoArgs": RUN_NOTHING,
 }
 MOST_CHARACTERS = 60
+LINKED = "its inputs have new digests"
 
 
 class RunNothing(enum.Enum):
@@ -51,13 +53,14 @@ class RunNothing(enum.Enum):
 
 
 class Settings(NamedTuple):
-    """What to change besides sources: what to drop, rules for words, which other executions run nothing, and whether
-    file ops and merges are rewritten for BuildKit's rules."""
+    """What to change besides sources: what to drop, rules for words, which other executions run nothing, whether file
+    ops and merges are rewritten for BuildKit's rules, and the trees of local sources, by name, for which they are."""
 
     dropped: frozenset[str] = frozenset()
     rules: tuple[Rule, ...] = ()
     run_nothing: RunNothing = RunNothing.NONE
     like_buildkit: bool = False
+    trees: tuple[tuple[str, str], ...] = ()
 
 
 class Adopted(NamedTuple):
@@ -239,12 +242,9 @@ class Adoption:
         entry = self.entries[row]
         if row in self.reached:
             entry = one.changed_op(digest, entry, self.ops[row])
-        if row in self.reached and self.settings.like_buildkit:
-            entry, changes = likening.liken(entry, self.rows.keys(), row == self.terminal)
-            one.changes += changes
         linked = changed(entry, lambda records: with_each(records, 1, self.input))
         if linked != entry:
-            one.changes.append("its inputs have new digests")
+            one.changes.append(LINKED)
         self.made[digest] = linked
         self.new[digest] = definition.digest_of(linked)
         self.changes[row] = one.changes
@@ -282,14 +282,30 @@ class Adoption:
         return [f"rules: line {line} fits no execution" for line in unused]
 
 
+def like_buildkit(data: bytes, settings: Settings, changes: dict[int, list[str]]) -> tuple[bytes, list[str]]:
+    """Returns a definition rewritten for BuildKit's rules, and lines about that; the changes of rows are added."""
+    said: list[str] = []
+    try:
+        found = rewriting.rewritten(data, dict(settings.trees), said.append)
+    except (program.Missing, Refused) as fault:
+        return data, [*said, f"not rewritten for BuildKit: {fault}"]
+    for row, texts in found.changes.items():
+        before = changes.setdefault(row, [])
+        changes[row] = [*(text for text in before if text != LINKED or LINKED not in texts), *texts]
+    return found.data, said
+
+
 def adopt(data: bytes, settings: Settings) -> Adopted:
     """Returns the definition, adopted as far as possible."""
     adoption = Adoption(data, settings)
     for row in adoption.order():
         adoption.adopt_row(row)
-    result = adoption.result()
+    result, others = adoption.result(), adoption.others()
+    if settings.like_buildkit:
+        result, said = like_buildkit(result, settings, adoption.changes)
+        others += said
     changes = [(row, text) for row in sorted(adoption.changes) for text in adoption.changes[row]]
-    return Adopted(result, changes, adoption.others(), adoption.sources, findings.findings_of(result))
+    return Adopted(result, changes, others, adoption.sources, findings.findings_of(result))
 
 
 def with_kinds(settings: Settings, kinds: list[str]) -> Settings:

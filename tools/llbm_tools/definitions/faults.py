@@ -7,13 +7,13 @@ that of failures.
 import re
 from typing import NamedTuple
 
-from llbm_tools.buildkit import explaining
 from llbm_tools.common import MOST_NAMES, printable
 from llbm_tools.inputs import data_at
 from llbm_tools.llb import definition, findings, names, op_reading, op_rules
 from llbm_tools.llb.ops import FileAction, Op
 from llbm_tools.llb.wire import Unreadable
 from llbm_tools.paths import ROOT
+from llbm_tools.rules import explaining, program
 from llbm_tools.streams import Refused
 
 PAGE = ROOT / "docs" / "FAULTS.md"
@@ -280,7 +280,7 @@ def answer_about_buildkit(line: str) -> Answer:
     """Explains a note, or a line about what ends otherwise in BuildKit."""
     try:
         found = explaining.explained(line)
-    except explaining.Unknown as fault:
+    except (explaining.Unknown, program.Missing) as fault:
         raise NoLine(str(fault)) from fault
     if found is None:
         raise NoLine("neither a fault, a failure nor a note")

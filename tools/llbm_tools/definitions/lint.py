@@ -13,7 +13,8 @@ first fault is printed. If the definition is a text, standard error says so.
 After the findings there is a line `note ENTRY NAME` for each field of such an entry that is set, has an effect in
 BuildKit and none here; `action N`, `mount N` or the key of an attribute may follow the name. With --like-buildkit there
 is also a note for each rule by which a vertex can end otherwise in BuildKit, if no fault was found, and for what
-BuildKit's daemon dies of. docs/BUILDKIT.md lists the names. --strict makes findings of notes.
+BuildKit's daemon dies of. docs/BUILDKIT.md lists the names. --strict makes findings of notes. The program llbm-rules
+finds the notes (tools/daemon builds it); where it is not there, a line on standard error says that they are left out.
 
 Exit status: 0 the program accepts the definition, and nothing but notes is printed; 1 there are findings; 2 the command
 line is refused; 3 a read or a write failed.
@@ -23,9 +24,10 @@ import argparse
 import sys
 
 from llbm_tools import common, inputs
-from llbm_tools.buildkit import notes
 from llbm_tools.llb import findings, names, no_definition
+from llbm_tools.llb.findings import Finding
 from llbm_tools.llb.wire import Unreadable
+from llbm_tools.rules import notes, program
 from llbm_tools.streams import exit_status
 
 
@@ -37,10 +39,19 @@ def names_in(data: bytes) -> list[str]:
         return []
 
 
+def notes_of(data: bytes, found: list[Finding], is_like: bool) -> list[notes.RowNote]:
+    """Returns the notes of a definition; none, and a line that says so, if the program that finds them is not there."""
+    try:
+        return notes.notes_of(data, found, is_like)
+    except program.Missing as fault:
+        common.say(f"notes are left out: {fault}")
+        return []
+
+
 def lines_of(data: bytes, is_like: bool) -> tuple[list[str], list[str]]:
     """Returns a line for each finding, and one for each note; with `is_like` also for what can end otherwise."""
     found = findings.findings_of(data)
-    noted = notes.notes_of(data, found, is_like)
+    noted = notes_of(data, found, is_like)
     shown = names_in(data) if found or noted else []
 
     def line(kind: str, words: str, row: int | None) -> str:

@@ -3,8 +3,8 @@
 In: PREFIX, the folder; the repository; and the program, which is --llbm PROGRAM, or else crates/llbm/out/llbm of the
 repository, or else its out/llbm-unproved.
 
-Out: PREFIX/bin has the program and a command for each tool, `llbm-build`, `llbm-lint` and so on; PREFIX/lib/llbm has
-what they need, with the pages and examples, and in `tools/llbm_tools/debugging` the extension for editors; PREFIX/share
+Out: PREFIX/bin has the program and a command for each tool, `llbm-build`, `llbm-lint` and so on, and llbm-rules, which
+has BuildKit's rules for these, if tools/daemon has built it; PREFIX/lib/llbm has what they need, with the pages and examples, and in `tools/llbm_tools/debugging` the extension for editors; PREFIX/share
 has completions for bash, zsh and fish, and pages of the manual. PREFIX/lib/llbm/program says whether the program is
 proved: only one on which `./gate` passed is. PREFIX/lib/llbm/installed lists all files. Nothing is written outside
 PREFIX. Files of an earlier installation are replaced; any other file that is in the way is refused before anything is

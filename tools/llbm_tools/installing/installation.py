@@ -1,4 +1,5 @@
-"""What an installation has: the program, the tools, the pages, the examples, completions and a page of the manual.
+"""What an installation has: the program, the tools, the pages, the examples, completions and a page of the manual; and
+the program llbm-rules, where tools/daemon has built it.
 
 `lib/llbm` is like the repository: it has `tools`, `docs` and `examples`, so that the tools find what they read. The
 tools' commands in `bin` are links into it. `share` has what shells and `man` look for.
@@ -127,6 +128,12 @@ def tool_names() -> list[str]:
     return [place.name for place in tool_places() if is_tool(place)]
 
 
+def rules_items() -> Iterator[Item]:
+    """Yields the program with BuildKit's rules, which the tools find beside llbm, if it has been built."""
+    if paths.RULES.is_file():
+        yield Item(f"bin/{paths.RULES.name}", paths.RULES.read_bytes(), 0o755)
+
+
 def tool_items() -> Iterator[Item]:
     """Yields the tools with their modules, and a command for each."""
     for place in tool_places():
@@ -181,9 +188,9 @@ def items_of(program: Program) -> list[Item]:
     """Returns the files of an installation in the order of their paths, with the list of them all."""
     tools, version = list(tool_items()), program.number()
     items = [
-        Item("bin/llbm", program.content, 0o755), Item(STATE, program.state().encode()), *tools, *page_items(),
-        extension_item(version, tools), *shell_items(version),
+        Item("bin/llbm", program.content, 0o755), Item(STATE, program.state().encode()), *rules_items(), *tools,
+        *page_items(), extension_item(version, tools), *shell_items(version),
     ]
-    paths = sorted([*(item.path for item in items), LISTED])
-    items.append(Item(LISTED, "".join(f"{path}\n" for path in paths).encode()))
+    listed = sorted([*(item.path for item in items), LISTED])
+    items.append(Item(LISTED, "".join(f"{path}\n" for path in listed).encode()))
     return sorted(items)

@@ -5,7 +5,6 @@ import pathlib
 from collections.abc import Iterator
 from typing import NamedTuple
 
-from llbm_tools.buildkit import fields
 from llbm_tools.llb import local_names, ops
 from llbm_tools.page import faults
 from llbm_tools.paths import ROOT
@@ -14,6 +13,8 @@ STATIC = ROOT / "page"
 EXAMPLES = ROOT / "examples"
 MODULE = "llbm.wasm"
 TABLES = "tables.json"
+# The fields without an effect, which the daemon and the tools know from the program llbm-rules.
+FIELDS = ROOT / "daemon" / "internal" / "notes" / "fields.json"
 
 
 class Example(NamedTuple):
@@ -88,7 +89,8 @@ def message_table() -> dict[str, list[dict[str, object]]]:
 def tables() -> bytes:
     """Returns the tables that the page shares with the tools, as JSON."""
     schemes = {"all": local_names.SCHEMES, "images": local_names.IMAGES}
-    found = {"faults": faults.table(), "messages": message_table(), "schemes": schemes, "notes": fields.table()}
+    notes = json.loads(FIELDS.read_text("utf-8"))
+    found = {"faults": faults.table(), "messages": message_table(), "schemes": schemes, "notes": notes}
     return json.dumps(found, separators=(",", ":")).encode()
 
 

@@ -56,11 +56,13 @@ class Copy:
             shutil.copy2(paths.ROOT / path, place, follow_symlinks=False)
 
     def place(self, program: str) -> None:
-        """Puts the program where the repository has one of its kind."""
+        """Puts the program where the repository has one of its kind, and beside it that with BuildKit's rules."""
         there = paths.UNPROVED if is_unproved(program) else paths.PROVED
-        place = os.path.join(self.folder, there.relative_to(paths.ROOT))
-        os.makedirs(os.path.dirname(place), exist_ok=True)
-        os.symlink(program, place)
+        for one, path in ((program, there), (str(paths.RULES), paths.RULES)):
+            if os.path.exists(one):
+                place = os.path.join(self.folder, path.relative_to(paths.ROOT))
+                os.makedirs(os.path.dirname(place), exist_ok=True)
+                os.symlink(one, place)
 
     def dirty(self) -> dict[str, bytes | None]:
         """Returns the paths that are changed or not known to git, with their contents; none without git.

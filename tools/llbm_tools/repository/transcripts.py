@@ -21,6 +21,8 @@ pages have one temporary folder with a copy of each file of the repository which
 without git, but the compiled ones), and with the program where the repository has it: at crates/llbm/out/llbm, or, if
 its version says that it is not proved, at out/llbm-unproved. Commands with the word `rt`, with
 `tools/unproved-program`, which compile, and with `./gate` or `.ci/run`, which run this page themselves, are left out.
+The program llbm-rules is that of the repository, at the same place of the copy; where `tools/daemon` has not built it,
+commands of the tools that print BuildKit's rules are left out, too.
 At the end the copy must have no other files than before, and these unchanged, but for files that git ignores.
 
 Out: on standard output a line for each command or block that differs, those left out, and each file of the copy that
@@ -43,12 +45,13 @@ from typing import NamedTuple
 
 from llbm_tools.common import NOT_PROVED, PROVER, check_open, printable
 from llbm_tools.inputs import data_at
-from llbm_tools.paths import ROOT
+from llbm_tools.paths import ROOT, RULES
 from llbm_tools.repository.fresh_copy import Copy
 from llbm_tools.repository.shown_commands import Reply, Shown, parts_of, shown_by
 from llbm_tools.repository.shown_runs import Place, difference
 from llbm_tools.streams import Refused, exit_status, program_at
 
+BY_RULES = re.compile(r"tools/(?:as-buildkit|explain-run|lint)(?![^\s);&|])")
 LEFT_OUT = re.compile(r"(?:^|[\s(;&|])(?:rt|tools/unproved-program|\./gate|\.ci/run)(?![^\s);&|])", re.MULTILINE)
 TESTS = "tests"
 
@@ -133,6 +136,8 @@ def run_pages(pages: list[Page], copy: Copy, settings: dict[str, str]) -> Result
     for page, shown in ((page, shown) for page in pages for shown in page.shown):
         if LEFT_OUT.search(shown.commands):
             result.lines.append(f"{page.path}:{shown.number}: left out, since it compiles or runs the gate")
+        elif BY_RULES.search(shown.commands) and not RULES.exists():
+            result.lines.append(f"{page.path}:{shown.number}: left out, since there is no out/llbm-rules")
         else:
             result.run(page.path, shown, Place(copy.folder, {**copy.settings, "PATH": settings["PATH"]}))
     for path in copy.changed():

@@ -17,85 +17,84 @@ refused: standard error says what; 3 a read or a write failed, or the program en
 """
 
 import argparse
+import shutil
 import sys
 import tempfile
 from collections.abc import Iterator
 
 from llbm_tools import common, inputs
-from llbm_tools.buildkit import differing, files, solving
-from llbm_tools.buildkit.beside import Beside, StepLines, Unequal
-from llbm_tools.buildkit.executing import Program
-from llbm_tools.buildkit.noted import WHOLE, Noted, Otherwise
 from llbm_tools.debugging import launching
 from llbm_tools.llb import definition, names
 from llbm_tools.running import explain_run
-from llbm_tools.sessions.session import Refusal, SessionFailed
-from llbm_tools.streams import FAILED, Refused, exit_status
+from llbm_tools.rules import notes, program
+from llbm_tools.rules.comparison import WHOLE, Comparison, End, Executions, Outputs, StepLines
+from llbm_tools.rules.executing import Program
+from llbm_tools.sessions.session import Refusal, Session, SessionFailed
+from llbm_tools.streams import FAILED, Failed, Refused, exit_status
+from llbm_tools.trees.source_files import source_of
+
+# The vertex of what is about entries that are none.
+NO_VERTEX = -1
 
 
-BUT_EXECUTIONS = ", but for what executions do"
+def outputs_of(session: Session, vertex: int, count: int) -> Outputs:
+    """Returns the outputs of a vertex in a session, or None if it failed."""
+    found = [session.tree_by(f"tree {vertex} {output}") for output in range(count)]
+    trees = [[line + b"\n" for line in lines] for lines in found if lines is not None]
+    return trees if len(trees) == count else None
 
 
-class Comparison:
+class Compared:
     """A run that is complete, beside BuildKit's."""
 
-    def __init__(self, data: bytes, launched: launching.Launched, program: str, most: int) -> None:
+    def __init__(self, data: bytes, launched: launching.Launched, program_path: str, options: argparse.Namespace) -> None:
         self.data = data
-        self.session = launched.session
-        self.graph = solving.graph_of(data)
-        runner = Program(program, self.graph, definition.entries_of(data))
-        self.beside = Beside(self.session, self.graph, runner.run, most)
-        self.noted = Noted(data, self.graph)
-        self.steps: list[str] = []
-        self.breaking: list[str] = self.noted.lines_outside()
-        self.here: files.Tree | None = None
-
-    def run(self) -> None:
-        """Does all events of the run, and goes through all vertices."""
-        while self.session.event("next"):
+        self.launched = launched
+        self.vertices = launched.graph.vertices
+        entries = definition.entries_of(data)
+        runner = Program(program_path, definition.graph_of(entries), entries)
+        executions = Executions(self.made, runner.run)
+        while launched.session.event("next"):
             pass
-        otherwise = Otherwise(self.noted, self.beside)
-        for vertex in range(len(self.graph.ops)):
-            self.steps += self.placed(vertex, otherwise.lines(vertex))
-            self.breaking += self.placed(vertex, otherwise.breaking(vertex))
-            self.beside.check(vertex)
-        vertex, output = self.graph.result
-        outputs = self.beside.outputs_here(vertex)
-        self.here = outputs[output] if outputs else None
+        self.comparison = Comparison(
+            data, launched.sources, executions, options.paths, options.tree, self.result(launched.graph.result)
+        )
+        launched.session.kept.callback(self.comparison.close)
 
-    def placed(self, vertex: int, lines: StepLines) -> list[str]:
-        """Returns lines with the vertex and the action that they are about."""
-        found = []
-        for step, words in sorted(lines.items()):
-            is_action = self.graph.ops[vertex].file and step != WHOLE
-            place = f"vertex {vertex} action {step}" if is_action else f"vertex {vertex}"
-            found += [f"{place}: {one}" for one in words]
-        return found
+    def made(self, vertex: int) -> Outputs:
+        """Returns what an execution made here."""
+        return outputs_of(self.launched.session, vertex, self.vertices[vertex].outputs)
 
-    def tree(self) -> files.Tree | None:
-        """Returns BuildKit's result, or None if there is none."""
-        return None if self.breaking else self.beside.there.result()
+    def result(self, named: str) -> list[bytes] | None:
+        """Returns the result of the run, or None if there is none."""
+        vertex, _, output = named.partition(".")
+        lines = self.launched.session.tree_by(f"tree {vertex} {output}")
+        return None if lines is None else [line + b"\n" for line in lines]
+
+    def run(self) -> End:
+        """Compares all vertices."""
+        self.comparison.go()
+        if self.comparison.end is None:
+            raise Failed(f"{program.NAME} compare has not ended")
+        return self.comparison.end
 
     def notes(self) -> list[str]:
         """Returns lines for fields without an effect here."""
-        found = self.noted.fields
+        found = notes.notes_of(self.data, [], False)
         shown = [name.shown() for name in names.names_of(self.data)] if found else []
         return ["\t".join(filter(None, [f"note {one.words()}", shown[one.row]])) for one in found]
 
-    def verdict(self) -> tuple[str, bool]:
-        """Returns whether the results agree, in words."""
-        there, here = self.tree(), self.here
-        if self.breaking:
-            return f"the results differ: BuildKit's daemon breaks, here is {'a result' if here else 'none'}", False
-        but = BUT_EXECUTIONS if self.noted.executions else ""
-        if there is None and here is None:
-            return f"both fail{but}", True
-        if there is None or here is None:
-            return "BuildKit has a result, here is none" if there else "BuildKit fails, here is a result", False
-        count = len(differing.differences(there, here))
-        if not count:
-            return f"the results agree{but}", True
-        return f"the results differ at {count:,} path{'' if count == 1 else 's'}", False
+    def placed(self, vertex: int, lines: StepLines) -> Iterator[str]:
+        """Yields lines with the vertex and the action that they are about."""
+        for step, words in sorted(lines.items()):
+            place = f"vertex {vertex}" if step == WHOLE else f"vertex {vertex} action {step}"
+            yield from words if vertex == NO_VERTEX else (f"{place}: {one}" for one in words)
+
+    def lines(self) -> Iterator[str]:
+        """Yields all lines but the last one."""
+        yield from self.notes()
+        for vertex, lines in sorted(self.comparison.steps.items()):
+            yield from self.placed(vertex, lines)
 
 
 def printable(line: str) -> str:
@@ -103,24 +102,13 @@ def printable(line: str) -> str:
     return "\t".join(map(common.printable, line.split("\t")))
 
 
-def lines_of(comparison: Comparison) -> Iterator[str]:
-    """Yields all lines but the last one."""
-    yield from comparison.notes()
-    yield from comparison.noted.lines_outside()
-    yield from comparison.steps
-
-
-def print_tree(comparison: Comparison) -> int:
+def print_tree(end: End) -> int:
     """Prints BuildKit's tree, and returns the exit status."""
-    tree = comparison.tree()
-    if comparison.breaking:
-        common.say(comparison.breaking[0])
+    if end.tree is None:
+        common.say(end.fails)
         return 1
-    if tree is None:
-        for vertex, fault in comparison.beside.there.failed.items():
-            common.say(f"vertex {vertex}: {fault}")
-        return 1
-    sys.stdout.buffer.writelines(files.lines_of(tree))
+    with open(end.tree, "rb") as tree:
+        shutil.copyfileobj(tree, sys.stdout.buffer)
     sys.stdout.flush()
     return 0
 
@@ -134,17 +122,16 @@ def compare(options: argparse.Namespace) -> int:
         given = {"definition": file, "sources": dict(options.source), "workers": 1, "llbm": options.llbm}
         launched = launching.launch(given, common.say, "--llbm PROGRAM")
     try:
-        comparison = Comparison(data, launched, launching.program_of(given, "--llbm PROGRAM"), options.paths)
-        comparison.run()
+        compared = Compared(data, launched, launching.program_of(given, "--llbm PROGRAM"), options)
+        end = compared.run()
+        if options.tree:
+            return print_tree(end)
+        text = "".join(f"{printable(line)}\n" for line in [*compared.lines(), end.words])
+        sys.stdout.buffer.write(text.encode("utf-8", "backslashreplace"))
+        sys.stdout.flush()
+        return 0 if end.agree else 1
     finally:
         launched.session.end()
-    if options.tree:
-        return print_tree(comparison)
-    words, agree = comparison.verdict()
-    text = "".join(f"{printable(line)}\n" for line in [*lines_of(comparison), words])
-    sys.stdout.buffer.write(text.encode("utf-8", "backslashreplace"))
-    sys.stdout.flush()
-    return 0 if agree else 1
 
 
 def parse_options() -> argparse.Namespace:
@@ -152,7 +139,7 @@ def parse_options() -> argparse.Namespace:
     parser = argparse.ArgumentParser(description="Says where BuildKit would end otherwise.", allow_abbrev=False)
     add = parser.add_argument
     add("definition", metavar="DEFINITION", help="the file of the definition, or -")
-    add("source", nargs="*", type=explain_run.source_of, metavar="NAME=PATH", help="a local source")
+    add("source", nargs="*", type=source_of, metavar="NAME=PATH", help="a local source")
     add("--tree", action="store_true", help="print the tree that BuildKit would make")
     add("--llbm", metavar="PROGRAM", default="", help="the program llbm")
     add("--paths", metavar="N", type=explain_run.number_of, default=20, help="the most paths of a step")
@@ -163,7 +150,7 @@ def compare_or_refuse(options: argparse.Namespace) -> int:
     """Compares, or says why the program ended by itself, and returns the exit status."""
     try:
         return compare(options)
-    except (Refusal, Unequal) as fault:
+    except (Refusal, program.Missing) as fault:
         raise Refused(str(fault)) from fault
     except SessionFailed as fault:
         for line in [str(fault), *fault.words]:

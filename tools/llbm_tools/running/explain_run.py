@@ -23,14 +23,15 @@ import tempfile
 from collections.abc import Iterator
 
 from llbm_tools import common, inputs
-from llbm_tools.buildkit import differing
 from llbm_tools.debugging import launching
 from llbm_tools.debugging.changes import Change, Compared
 from llbm_tools.debugging.happened import Happened, Watch
 from llbm_tools.debugging.views import Views
+from llbm_tools.rules.lines import more_paths
 from llbm_tools.running import summary
 from llbm_tools.sessions.session import Event, Refusal, Session, SessionFailed
 from llbm_tools.streams import FAILED, Refused, exit_status
+from llbm_tools.trees.source_files import source_of
 
 MOST_OF_A_LINE = 200
 USUAL_PATHS = 20
@@ -50,7 +51,7 @@ def compared_lines(compared: Compared, most: int) -> Iterator[str]:
         yield f"{compared.name}: {change_line(change)}"
     more = sum(compared.counts.values()) - len(compared.changes[:most])
     if more > 0:
-        yield f"{compared.name}: {differing.more_paths(more)}"
+        yield f"{compared.name}: {more_paths(more)}"
 
 
 def step_lines(happened: Happened, most: int) -> Iterator[str]:
@@ -92,7 +93,9 @@ def blocked_lines(session: Session, views: Views) -> Iterator[str]:
 def run_lines(launched: launching.Launched, options: argparse.Namespace) -> Iterator[str]:
     """Yields the lines of a whole run."""
     session, views = launched.session, Views(launched)
-    watch = Watch(session, launched.graph, launched.entries.data)
+    watch = Watch(session, launched.graph, launched.entries.data, None if options.summary else launched.sources)
+    if watch.missing():
+        common.say(watch.missing())
     if not options.summary:
         yield from (f"BuildKit: {line}" for line in watch.outside())
     while event := session.event("next"):
@@ -125,14 +128,6 @@ def explain(options: argparse.Namespace) -> int:
         return int(failed)
     finally:
         launched.session.end()
-
-
-def source_of(word: str) -> tuple[str, str]:
-    """Parses NAME=PATH."""
-    name, mark, path = word.partition("=")
-    if not name or not mark:
-        raise argparse.ArgumentTypeError(f"{word!r} is not NAME=PATH")
-    return name, path
 
 
 def number_of(word: str) -> int:

@@ -81,6 +81,8 @@ class Session:
         self.runs: list[Run | None] = [None] * workers
         self.lines = 0
         self.words = tempfile.TemporaryFile()
+        # What is ended and removed with the session.
+        self.kept = contextlib.ExitStack()
         self.child = subprocess.Popen(command, stdin=subprocess.PIPE, stdout=subprocess.PIPE, stderr=self.words)
         self.given, self.printed = cast(BinaryIO, self.child.stdin), cast(BinaryIO, self.child.stdout)
 
@@ -244,4 +246,5 @@ class Session:
         with contextlib.suppress(OSError):
             self.given.close()
         self.printed.close()
+        self.kept.close()
         return self.child.wait()

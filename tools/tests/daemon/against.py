@@ -12,30 +12,44 @@ import subprocess
 import unittest
 from unittest import mock
 
-from llbm_tools.buildkit import files, solving
-from llbm_tools.buildkit.rules import ALL, NONE, Rule
 from llbm_tools.daemon import against_buildkit, runs, started_daemon
+from llbm_tools.trees import maps
 from tests import base
 
 ADDRESS = "LLBM_BUILDKIT_ADDRESS"
 COUNT = 4
 
 
-class Played:
-    """A daemon that does as the model does, by some rules."""
+def by_rules(data, sources):
+    """Returns what BuildKit's rules make of a definition, without the root."""
+    return against_buildkit.modelled(data, sources)
 
-    def __init__(self, like):
-        self.like = like
+
+def by_llbm(data, sources):
+    """Returns what the program makes of a definition, without the root."""
+    return against_buildkit.Comparison(None, str(base.llbm)).here(data, sources)
+
+
+def with_whole_modes(data, sources):
+    """Returns what BuildKit's rules make, but that of the first example of `Mode`, whose directory has the whole mode."""
+    lines = by_rules(data, sources)
+    return [b"d 1777 0 0 /t\n"] if lines == [b"d 0777 0 0 /t\n"] else lines
+
+
+class Played:
+    """A daemon that makes of a definition what a function returns."""
+
+    def __init__(self, make):
+        self.make = make
 
     def answers(self):
         """Returns that it answers."""
         return True
 
     def run(self, data, sources):
-        """Returns what the rules make of a definition; an execution fails."""
-        one = solving.Solving(solving.graph_of(data), sources, self.like, lambda *_: None)
-        tree = one.all()
-        return runs.Ran(tree, "" if tree else "it failed")
+        """Returns what is made of a definition."""
+        lines = self.make(data, sources)
+        return runs.Ran(None, "it failed") if lines is None else runs.Ran(maps.tree_of([b"d 0755 0 0 /\n", *lines]))
 
 
 def options(address="unix:///none", count=COUNT, **others):
@@ -52,25 +66,26 @@ class Against(unittest.TestCase):
     def setUp(self):
         if base.llbm is None:
             raise unittest.SkipTest("the program llbm is needed (--llbm PROGRAM)")
+        base.skip_without_rules(self)
         self.enterContext(mock.patch.object(against_buildkit, "MOST_OF_STORED", math.inf))
 
-    def lines(self, like):
+    def lines(self, make):
         """Runs the tool with a daemon that is played, and returns its status and its lines."""
         output = io.StringIO()
-        with mock.patch.object(against_buildkit, "Daemon", lambda *_: Played(like)), contextlib.redirect_stdout(output):
+        with mock.patch.object(against_buildkit, "Daemon", lambda *_: Played(make)), contextlib.redirect_stdout(output):
             with mock.patch.object(shutil, "which", lambda word: word):
                 status = against_buildkit.against(options())
         return status, output.getvalue().splitlines()
 
     def test_a_daemon_that_does_as_the_rules_say_has_no_finding(self):
-        status, lines = self.lines(ALL)
+        status, lines = self.lines(by_rules)
         counts = dict(line.split(": ") for line in lines)
         self.assertEqual(status, 0, lines)
         self.assertEqual({name for name in counts if "without" in name or "model" in name}, set())
         self.assertGreater(int(counts["otherwise"]), int(counts["adopted, otherwise"]))
 
     def test_a_daemon_that_does_otherwise_is_named_with_what_makes_the_definition(self):
-        status, lines = self.lines(NONE)
+        status, lines = self.lines(by_llbm)
         self.assertEqual(status, 1)
         self.assertIn("Mode: mkdir with mode 1777: ends otherwise than the model: another tree", lines)
 
@@ -88,15 +103,15 @@ class Against(unittest.TestCase):
         return status, output.getvalue().splitlines()
 
     def test_a_daemon_that_is_started_is_compared_for_some_seconds(self):
-        status, lines = self.started(Played(ALL), seconds=1)
+        status, lines = self.started(Played(by_rules), seconds=1)
         counts = dict(line.split(": ") for line in lines[:-1])
         self.assertEqual((status, lines[-1]), (0, f"{counts['all']} passed, 0 failed, 0 skipped"))
-        status, lines = self.started(Played(ALL - {Rule.MODE}), count=1)
+        status, lines = self.started(Played(with_whole_modes), count=1)
         passed, failed = map(int, re.fullmatch("([0-9]+) passed, ([0-9]+) failed, 0 skipped", lines[-1]).groups())
         self.assertEqual((status, failed > 0, passed > 0), (1, True, True))
 
     def test_all_is_skipped_where_the_daemon_does_not_build(self):
-        played = Played(ALL)
+        played = Played(by_rules)
         played.run = lambda *_: runs.Ran(None, "failed to mount: operation not permitted")
         said = "skipped: buildkitd does not build here: failed to mount: operation not permitted"
         self.assertEqual(self.started(played), (0, [said, "0 passed, 0 failed, 1 skipped"]))
@@ -111,7 +126,7 @@ class Against(unittest.TestCase):
         self.assertRegex(reason, f"^skipped: ({missing}|only root can run buildkitd)")
 
     def test_a_run_that_takes_too_long_is_left_out(self):
-        played = Played(ALL)
+        played = Played(by_rules)
         played.run = mock.Mock(side_effect=subprocess.TimeoutExpired("buildctl", 120))
         case = next(against_buildkit.least_cases())
         verdict = against_buildkit.Comparison(played, "llbm").compare(case)
@@ -138,8 +153,8 @@ class Against(unittest.TestCase):
                     self.assertEqual(daemon.built(b"", {}, "result"), runs.Ran(None, "x"))
 
     def test_a_result_is_compared_without_its_root(self):
-        tree = {(): files.ROOT, (b"d",): files.Entry(0o1750, 7, 8), (b"d", b"f"): files.Entry(0o4755, 0, 9, b"6162")}
-        self.assertEqual(against_buildkit.without_owners(tree)[b"d", b"f"], files.Entry(0o4755, 0, 0, b"6162"))
+        tree = {(): maps.ROOT, (b"d",): maps.Entry(0o1750, 7, 8), (b"d", b"f"): maps.Entry(0o4755, 0, 9, b"6162")}
+        self.assertEqual(against_buildkit.without_owners(tree)[b"d", b"f"], maps.Entry(0o4755, 0, 0, b"6162"))
         self.assertEqual(against_buildkit.lines_of(tree), [b"d 1750 7 8 /d\n", b"f 4755 0 9 6162 /d/f\n"])
 
     def test_a_real_daemon_does_as_the_rules_say(self):

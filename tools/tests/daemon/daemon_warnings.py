@@ -1,85 +1,60 @@
-"""Tests of the daemon's warnings, as `buildctl` shows them, beside the lines of `as-buildkit`."""
+"""Tests of the daemon beside BuildKit's rules: what it builds is BuildKit's result, or a warning names the rule."""
 
-import itertools
 import os
 import re
 
-from llbm_tools.buildkit import examples, files, local_sources, random_definitions, rules, solving
-from llbm_tools.buildkit.beside import Beside
-from llbm_tools.buildkit.rules import ALL, NONE, Rule
-from llbm_tools.daemon import runs
-from llbm_tools.definitions import adopting
+from llbm_tools.daemon import random_definitions, runs
 from llbm_tools.llb import findings
+from llbm_tools.rules.examples import examples
+from llbm_tools.trees import maps
+from tests import base
 from tests.daemon.daemon_clients import WithDaemon
+from tests.rules.rule_examples import compared, names_of_rules
 
-LIKE = adopting.Settings(like_buildkit=True)
 KINDS = (random_definitions.PLAIN, random_definitions.WILD, random_definitions.LAYERS)
 SEEDS = range(6)
-# By these BuildKit refuses an op as it was sent, which becomes one that it takes.
-HIDDEN = set(map(str, (Rule.SECOND_INPUT, Rule.SELECTED)))
 WARNING = re.compile(r"^#\d+ WARN: (?:action \d+: )?.*: ([\w, ]+?)(?:, and \d+ more)?$", re.M)
 
 
-class Played:
-    """A session that is complete, played by the model."""
-
-    def __init__(self, graph, sources):
-        self.run = solving.Solving(graph, sources, NONE, lambda *_: None)
-        self.run.all()
-
-    def tree_by(self, command, _):
-        """Returns the lines of an output, or None if there is none."""
-        _, vertex, output = command.split()
-        outputs = self.run.outputs.get(int(vertex))
-        return outputs and [line.rstrip(b"\n") for line in files.lines_of(outputs[int(output)].tree)]
-
-
-def sent(data, sources):
-    """Returns sources as BuildKit's client sends them."""
-    ops = {solving.source_name(op): op for op in solving.graph_of(data).ops if op.source}
-    return {name: local_sources.sent(ops[name], tree, ALL).tree for name, tree in sources.items() if name in ops}
-
-
-def rules_of(data, sources):
-    """Returns the rules that `as-buildkit` names of a definition, but for those that only follow."""
-    graph = solving.graph_of(data)
-    beside = Beside(Played(graph, sources), graph, lambda *_: None)
-    steps = [lines for vertex in range(len(graph.ops)) for lines in beside.lines(vertex).values()]
-    named = [line.rpartition(": ")[2] for line in itertools.chain(*steps)]
-    return {name for names in named for name in names.split(", ")} & set(map(str, rules.Rule))
-
-
 class Warnings(WithDaemon):
-    """The warnings of builds."""
+    """The results of builds, and their warnings."""
 
-    def warned(self, number, data, sources):
-        """Builds a definition, and returns the rules that its warnings name."""
-        words = ["build", "--progress", "plain", "--output", f"type=tar,dest={self.at}/result"]
+    def setUp(self):
+        super().setUp()
+        base.skip_without_rules(self)
+
+    def built(self, number, data, sources):
+        """Builds a definition, and returns the lines of the result, None if there is none, and the rules that are
+        warned of."""
+        result = self.at / f"result-{number}"
+        words = ["build", "--progress", "plain", "--output", f"type=tar,dest={result}"]
         for name, tree in sources.items():
             place = self.at / f"{number}-{name}"
             runs.write_tree(tree, os.fsencode(place))
             words += ["--local", f"{name}={place}"]
-        text = self.client(*words, given=data).stderr.decode()
-        names = {name for names in WARNING.findall(text) for name in names.split(", ")}
-        return names & set(map(str, rules.Rule)), text
+        done = self.client(*words, given=data)
+        names = {name for names in WARNING.findall(done.stderr.decode()) for name in names.split(", ")}
+        made = None
+        if done.returncode == 0:
+            made = [line.decode().rstrip("\n") for line in maps.lines_of(runs.tree_in(os.fspath(result)))[1:]]
+        return made, names & {*names_of_rules()}
 
     def check(self, given):
-        """Checks that the warnings name the rules that the tool names once both agree as far as they can, and those by
-        which BuildKit refuses the definition as it was."""
+        """Checks that each result is BuildKit's, or that a warning names a rule; returns how many are the same."""
         count = 0
         with self.daemon():
-            for number, (data, sources) in enumerate(given):
-                expected = rules_of(adopting.adopt(data, LIKE).data, sent(data, sources))
-                named, text = self.warned(number, data, sources)
-                self.assertEqual(named - HIDDEN, expected - HIDDEN, text)
-                self.assertLessEqual(HIDDEN & (expected | rules_of(data, sent(data, sources))), named, text)
-                count += bool(expected)
+            for number, (data, sources, there) in enumerate(given):
+                made, names = self.built(number, data, sources)
+                self.assertTrue(made == there or names, (data.hex(), made, there))
+                count += made == there
         return count
 
-    def test_least_examples_have_warnings_of_the_rules_that_rewriting_does_not_keep(self):
-        left = [one for one in examples.examples() if not one.agrees_adopted]
-        self.assertGreater(self.check((one.data, one.sources) for one in examples.examples()), len(left) // 2)
+    def test_least_examples_end_as_in_buildkit(self):
+        all_of_them = examples()
+        count = self.check((one.data, one.sources, one.buildkit) for one in all_of_them)
+        self.assertGreaterEqual(count, len(all_of_them) - 1)
 
-    def test_random_definitions_have_the_warnings_of_the_tool(self):
+    def test_random_definitions_end_as_in_buildkit_or_with_a_warning(self):
         made = [random_definitions.make(f"warnings {kind} {seed}", kind) for kind in KINDS for seed in SEEDS]
-        self.check(one for one in made if not findings.findings_of(one.data))
+        taken = [one for one in made if not findings.findings_of(one.data)]
+        self.check((one.data, one.sources, compared(one.data, one.sources)[1]) for one in taken)

@@ -1,17 +1,21 @@
 """Tests of `explain`, and of the parsing of definitions."""
 
+import json
 import os
 import random
 import re
 import shutil
 import unittest
 
-from llbm_tools.buildkit import examples, explaining, fields, files, rules
 from llbm_tools.definitions import faults
 from llbm_tools.llb import definition, messages, op_reading, wire
 from llbm_tools.llb.messages import made
 from llbm_tools.llb.ops import Input
 from llbm_tools.llb.wire import Unreadable
+from llbm_tools.page.assets import FIELDS
+from llbm_tools.rules import explaining, program
+from llbm_tools.rules.examples import examples
+from llbm_tools.trees import maps
 from tests import base
 from tests.base import ROOT, TOOLS, Folder, run, run_closed, run_into
 
@@ -334,6 +338,10 @@ class ExplainWithDefinition(Folder):
 class Notes(Folder):
     """Explanations of what has no effect, or ends otherwise in BuildKit."""
 
+    def setUp(self):
+        super().setUp()
+        base.skip_without_rules(self)
+
     def explained(self, text, *words, status=0):
         """Returns what `explain` prints of lines on standard input."""
         done = run("explain", *words, text=text.encode())
@@ -341,41 +349,40 @@ class Notes(Folder):
         return done.stdout.decode().splitlines()
 
     def test_each_field_rule_and_other_note_is_explained(self):
-        given = fields.table()
+        given = json.loads(FIELDS.read_text("utf-8"))
         for row in [*given["fields"], *given["metadata"], *given["attributes"], given["other_attribute"]]:
             found = explaining.explained(f"note 3 {row['name']}")
             text = "\n".join(found.texts)
             self.assertIn(row["effect"], text)
             self.assertIn(f"What to do: {row['advice']}", text)
             self.assertEqual(found.row, 3)
-        for row in [*rules.rows(), *rules.rows("others")]:
-            self.assertEqual(row.tools == "-", bool(row.advice), row.name)
-            advice = row.advice or f"`tools/adopt --like-buildkit` {row.tools}."
-            words = f"{row.name}: {row.case}. In BuildKit: {row.buildkit}. In llbm: {row.llbm}. What to do: {advice}"
-            for line in (f"note 0 {row.name} action 2", f"vertex 3 action 2: /f is missing (here a file): {row.name}"):
+        for row in program.answers("texts"):
+            if row["kind"] not in ("rule", "other"):
+                continue
+            self.assertIn(f"{row['name']}: {row['where']}. In BuildKit: {row['buildkit']}.", row["words"])
+            for line in (f"note 0 {row['name']} action 2", f"vertex 3 action 2: /f is missing: {row['name']}"):
                 found = explaining.explained(line)
-                self.assertEqual((found.texts, found.action), ([words], 2))
+                self.assertEqual((found.texts, found.action), ([row["words"]], 2))
 
     def test_each_line_of_as_buildkit_is_explained(self):
         if base.llbm is None:
             raise unittest.SkipTest("the program llbm is needed (--llbm PROGRAM)")
-        for one in examples.examples():
+        for one in examples():
             with self.subTest(one.shows):
                 words = [self.file(b"definition", one.data)]
                 for name, tree in one.sources.items():
-                    place = self.file(name.encode(), b"".join(files.lines_of(tree)))
+                    place = self.file(name.encode(), b"".join(maps.lines_of(tree)))
                     words.append(f"{name}={os.fsdecode(place)}")
                 lines = run("as-buildkit", "--llbm", base.llbm, *words).stdout.decode().splitlines()
                 texts = [text for line in lines for text in explaining.explained(line).texts]
-                # Both fail, or only the root differs, of which the tool has no line.
-                if one.rule not in (rules.Rule.SELECTED, rules.Rule.LOCAL_ROOT):
+                if one.buildkit != one.llbm:  # else both fail
                     self.assertTrue(any(text.startswith(f"{one.rule}: ") for text in texts), texts)
 
     def test_other_lines_about_buildkit_are_explained(self):
         known = explaining.notes()
         for line, texts in [
             ("vertex 1: and 1,234 more paths", ["more paths of this step differ; --paths N shows up to N"]),
-            ("vertex 1 action 0: /a is missing: its inputs differ", [f"its inputs differ: {explaining.INHERITED}"]),
+            ("vertex 1 action 0: /a is missing: its inputs differ", [f"its inputs differ: {explaining.OF_INHERITED}"]),
             ("action 1: /a has mode 0604 (here 0755): Mode, Owner, and 29 more", known["Mode"] + known["Owner"]),
             ("Network has no effect: the network of the process", known["Network"]),
             ("Attribute local.x has no effect: what it does", [f"{known['Attribute'][0]} (KEY = local.x)"]),
@@ -396,7 +403,7 @@ class Notes(Folder):
             (" => => WARN: Network has no effect: the network of the process", known["Network"]),
             (" - TmpfsSize of mount 1 has no effect: the size of a tmpfs", known["TmpfsSize"]),
             ("/f is missing (here a file): MergeLayers", known["MergeLayers"]),
-            ("/f is missing (here a file): its inputs differ", [f"its inputs differ: {explaining.INHERITED}"]),
+            ("/f is missing (here a file): its inputs differ", [f"its inputs differ: {explaining.OF_INHERITED}"]),
             (runs, known["Execution"]),
             (f"vertex 0: {runs}", known["Execution"]),
             ("its inputs differ, so what it makes in BuildKit is not known: Execution", known["Execution"]),

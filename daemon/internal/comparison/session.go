@@ -1,0 +1,362 @@
+package comparison
+
+import (
+	"container/heap"
+	"context"
+	"fmt"
+	"os"
+	"sort"
+	"strings"
+
+	"github.com/moby/buildkit/solver/pb"
+	"llbm/daemon/internal/graph"
+	"llbm/daemon/internal/rewriting"
+	"llbm/daemon/internal/rules"
+)
+
+const local = "local://"
+
+// A Refused is an error in what a caller gave.
+type Refused struct{ error }
+
+func refuse(format string, words ...any) error { return Refused{fmt.Errorf(format, words...)} }
+
+// A state is what an entry made in both: nothing if it failed, or if it is not known.
+type state struct {
+	there   []*rules.Ref
+	here    []*rules.Node
+	unknown bool // whether BuildKit may have something
+	users   int  // which have not been done yet
+	waits   int  // for inputs that have not been done yet
+	needed  bool // whether the trees are looked at
+}
+
+// A session compares the entries of two definitions, which have the same rows.
+type session struct {
+	ctx     context.Context
+	talk    *Talk
+	request Request
+	sent    *graph.Graph
+	run     *graph.Graph
+	rows    rewriting.Rows
+	inRun   map[int]int // the vertex that runs, by row
+	inSent  map[int]int // the vertex as it was sent, by row
+	states  []state     // by vertex as it was sent
+	users   [][]int     // the same
+	ready   numbers     // vertices that can be done
+	waiting []int       // executions whose outputs are to be asked for
+	trees   map[string]*rules.Node
+	broken  bool   // whether something breaks BuildKit's daemon
+	runs    bool   // whether there is an execution
+	why     string // why BuildKit fails
+	files   int
+	layered bool // whether there is a merge, which needs layers
+}
+
+// Serve compares what a request on a reader names.
+func Serve(ctx context.Context, talk *Talk) error {
+	s := &session{ctx: ctx, talk: talk, trees: map[string]*rules.Node{}}
+	if err := talk.Read(&s.request); err != nil {
+		return refuse("the request is no line of JSON: %v", err)
+	}
+	sent, err := definitionAt(s.request.Sent)
+	if err != nil {
+		return err
+	}
+	if s.sent, err = graph.Read(sent, sent); err != nil {
+		return Refused{err}
+	}
+	run, err := s.toRun(sent)
+	if err != nil {
+		return err
+	}
+	if s.run, err = graph.Read(run, sent); err != nil {
+		return Refused{err}
+	}
+	s.prepare()
+	if err := s.outside(sent); err != nil {
+		return err
+	}
+	if err := s.all(); err != nil {
+		return err
+	}
+	return s.end()
+}
+
+func definitionAt(file string) (*pb.Definition, error) {
+	data, err := os.ReadFile(file)
+	if err != nil {
+		return nil, err
+	}
+	def := &pb.Definition{}
+	if err := def.Unmarshal(data); err != nil {
+		return nil, refuse("%s is no definition: %v", file, err)
+	}
+	return def, nil
+}
+
+// toRun returns the definition that runs, and says it if it is made here.
+func (s *session) toRun(sent *pb.Definition) (*pb.Definition, error) {
+	if s.request.Run != "" {
+		return definitionAt(s.request.Run)
+	}
+	if !s.request.Rewrite {
+		return sent, nil
+	}
+	run, rows, err := rewriting.Definition(s.ctx, sent, s)
+	if err != nil {
+		return nil, err
+	}
+	s.rows = rows
+	data, err := run.Marshal()
+	if err != nil {
+		return nil, err
+	}
+	return run, s.talk.Write(Message{Run: &Run{data, rows}})
+}
+
+// numbers hands out the least of its numbers.
+type numbers struct{ sort.IntSlice }
+
+func (n *numbers) Push(v any) { n.IntSlice = append(n.IntSlice, v.(int)) }
+
+func (n *numbers) Pop() any {
+	last := n.Len() - 1
+	v := n.IntSlice[last]
+	n.IntSlice = n.IntSlice[:last]
+	return v
+}
+
+// prepare counts who waits for whom.
+func (s *session) prepare() {
+	count := len(s.sent.Vertices)
+	s.inRun, s.inSent, s.states, s.users = map[int]int{}, map[int]int{}, make([]state, count), make([][]int, count)
+	for v := range s.run.Vertices {
+		s.inRun[s.run.Vertices[v].Row] = v
+	}
+	for v := range s.sent.Vertices {
+		it := &s.sent.Vertices[v]
+		s.inSent[it.Row], s.layered = v, s.layered || it.Op.GetMerge() != nil
+		for _, input := range it.Inputs {
+			s.states[input].needed = s.states[input].needed || s.request.Executes || it.Op.GetExec() == nil
+			s.states[input].users++
+			s.states[v].waits++
+			s.users[input] = append(s.users[input], v)
+		}
+		if s.states[v].waits == 0 {
+			heap.Push(&s.ready, v)
+		}
+	}
+	if s.request.Result || s.request.Tree {
+		s.states[s.sent.Result].needed = true
+		s.states[s.sent.Result].users++
+	}
+}
+
+// all does all vertices: those that no execution is before first, and then asks what executions made.
+func (s *session) all() error {
+	for s.ready.Len() > 0 || len(s.waiting) > 0 {
+		if err := s.ctx.Err(); err != nil {
+			return err
+		}
+		if s.ready.Len() == 0 {
+			v := s.waiting[0]
+			s.waiting = s.waiting[1:]
+			err := s.execution(v)
+			if err == errLater {
+				s.waiting = append(s.waiting, v)
+				continue
+			}
+			if err != nil {
+				return err
+			}
+			s.done(v)
+			continue
+		}
+		v := heap.Pop(&s.ready).(int)
+		if s.sent.Vertices[v].Op.GetExec() != nil {
+			s.runs = true
+			if _, err := s.static(v); err != nil {
+				return err
+			}
+			s.waiting = append(s.waiting, v)
+			continue
+		}
+		if err := s.vertex(v); err != nil {
+			return err
+		}
+		s.done(v)
+	}
+	return nil
+}
+
+// done lets those go on that wait for a vertex. What a vertex made is forgotten after its last user.
+func (s *session) done(v int) {
+	for _, input := range s.sent.Vertices[v].Inputs {
+		one := &s.states[input]
+		if one.users--; one.users == 0 {
+			one.there, one.here = nil, nil
+		}
+	}
+	for _, user := range s.users[v] {
+		if s.states[user].waits--; s.states[user].waits == 0 {
+			heap.Push(&s.ready, user)
+		}
+	}
+}
+
+// inputs returns the inputs of a vertex in both, each of them nil if one of its inputs is not there.
+func (s *session) inputs(v int) (there []*rules.Ref, here []*rules.Node) {
+	there, here = []*rules.Ref{}, []*rules.Node{}
+	it := &s.sent.Vertices[v]
+	for i, input := range it.Inputs {
+		index := int(it.Op.Inputs[i].Index)
+		if there == nil || index < 0 || index >= len(s.states[input].there) {
+			there = nil
+			break
+		}
+		there = append(there, s.states[input].there[index])
+	}
+	r, ok := s.inRun[it.Row]
+	if !ok {
+		return there, nil
+	}
+	other := &s.run.Vertices[r]
+	for i, input := range other.Inputs {
+		index, one := int(other.Op.Inputs[i].Index), &s.states[s.inSent[s.run.Vertices[input].Row]]
+		if index < 0 || index >= len(one.here) {
+			return there, nil
+		}
+		here = append(here, one.here[index])
+	}
+	return there, here
+}
+
+// isUnknown is whether it is not known what BuildKit has of an input of a vertex.
+func (s *session) isUnknown(v int) bool {
+	for _, input := range s.sent.Vertices[v].Inputs {
+		if s.states[input].unknown {
+			return true
+		}
+	}
+	return false
+}
+
+// vertex does a vertex that is no execution.
+func (s *session) vertex(v int) error {
+	dies, err := s.static(v)
+	if err != nil {
+		return err
+	}
+	it := &s.sent.Vertices[v]
+	var made *rules.Compared
+	if it.Op.GetSource() != nil {
+		made, err = s.source(v)
+	} else {
+		there, here := s.inputs(v)
+		if dies {
+			there = nil
+		}
+		var run *pb.Op
+		var from []int
+		if r, ok := s.inRun[it.Row]; ok {
+			run = s.run.Vertices[r].Op
+		}
+		if row := s.rows[it.Row]; row != nil {
+			from = row.Actions
+		}
+		made, err = rules.Compare(s.ctx, it.Op, run, from, there, here)
+	}
+	if err != nil {
+		return err
+	}
+	one := &s.states[v]
+	one.there, one.here, one.unknown = made.There, made.Here, s.isUnknown(v)
+	if !s.layered {
+		one.there = rules.WithoutLayers(one.there)
+	}
+	switch {
+	case dies:
+		one.there, made.Steps = nil, nil
+	case made.Dies != nil && !s.request.Received:
+		s.dies(v, *made.Dies)
+		made.Steps = append(made.Steps, *made.Dies)
+	case made.Fails != "":
+		s.fails(v, made.Fails)
+	}
+	return s.steps(v, made.Steps)
+}
+
+// nameOf returns the name of a local source.
+func nameOf(op *pb.Op) string { return strings.TrimPrefix(op.GetSource().GetIdentifier(), local) }
+
+// fileOf returns the file of a source's tree.
+func (s *session) fileOf(v int) (string, error) {
+	if file, ok := s.request.Vertices[v]; ok {
+		return file, nil
+	}
+	name := nameOf(s.sent.Vertices[v].Op)
+	if file, ok := s.request.Sources[name]; ok {
+		return file, nil
+	}
+	return "", refuse("local source %s has no tree", name)
+}
+
+// tree returns the tree of a source.
+func (s *session) tree(v int) (*rules.Node, error) {
+	file, err := s.fileOf(v)
+	if err != nil {
+		return nil, err
+	}
+	if t, ok := s.trees[file]; ok {
+		return t, nil
+	}
+	t, err := s.read(file, nil, s.request.Links[v])
+	s.trees[file] = t
+	return t, err
+}
+
+// read reads the tree in a file.
+func (s *session) read(file string, near *rules.Node, linked []string) (*rules.Node, error) {
+	text, err := os.Open(file)
+	if err != nil {
+		return nil, err
+	}
+	defer text.Close()
+	t, err := rules.ReadLinked(s.ctx, text, near, linked)
+	if err == nil && t == nil {
+		err = fmt.Errorf("no tree is there")
+	}
+	if err != nil {
+		return nil, fmt.Errorf("%s: %w", file, err)
+	}
+	return t, nil
+}
+
+// Source returns the tree of a source, as llbm gets it and as BuildKit has it.
+func (s *session) Source(ctx context.Context, v int) (here, there *rules.Node, err error) {
+	t, err := s.tree(v)
+	if err != nil || s.request.Received {
+		return t, t, err
+	}
+	there, err = rules.Sent(ctx, s.sent.Vertices[v].Op.GetSource(), t, rules.All)
+	if err != nil {
+		return t, nil, nil
+	}
+	return t, there, nil
+}
+
+// source compares a source. If no tree is looked at, it is empty.
+func (s *session) source(v int) (*rules.Compared, error) {
+	if !s.states[v].needed {
+		return rules.Same(rules.Empty()), nil
+	}
+	t, err := s.tree(v)
+	if err != nil {
+		return nil, err
+	}
+	if s.request.Received {
+		return rules.Same(t), nil
+	}
+	return rules.CompareSources(s.ctx, s.sent.Vertices[v].Op.GetSource(), t)
+}

@@ -1,0 +1,214 @@
+package rules
+
+import (
+	"context"
+	"encoding/binary"
+	"io"
+
+	"llbm/daemon/internal/paths"
+	"llbm/daemon/internal/persistent"
+	"llbm/daemon/internal/tree"
+)
+
+// A content is what a tree's text has of a file.
+type content struct {
+	text string
+	sum  persistent.Sum
+}
+
+func contentOf(text string) content { return content{text, persistent.SumOf([]byte(text))} }
+
+// An entry is what a directory or a file is by itself.
+type entry struct {
+	dir               bool
+	linked            bool // of a file: whether its source has other names for it
+	mode, user, group uint32
+	content           content // of a file
+}
+
+// A Node is an entry with all that is below it. No node is changed once it is made, and trees share nodes. No node is a tree
+// without a root.
+type Node struct {
+	entry
+	below persistent.Map[*Node]
+	sum   persistent.Sum
+}
+
+const newMode = 0o755
+
+// newNode makes a node; a file has nothing below it.
+func newNode(one entry, below persistent.Map[*Node]) *Node {
+	var space [64]byte
+	data := append(space[:0], 0)
+	if one.dir {
+		data[0] = 1
+	} else if one.linked {
+		data[0] = 2
+	}
+	for _, number := range []uint32{one.mode, one.user, one.group} {
+		data = binary.LittleEndian.AppendUint32(data, number)
+	}
+	last := below.Sum()
+	if !one.dir {
+		last = one.content.sum
+	}
+	return &Node{one, below, persistent.SumOf(append(data, last[:]...))}
+}
+
+func newDir(mode uint32) entry { return entry{dir: true, mode: mode} }
+
+// Empty returns the tree with nothing below its root.
+func Empty() *Node { return newNode(newDir(newMode), persistent.Map[*Node]{}) }
+
+// Sum returns a digest of the tree.
+func (n *Node) Sum() persistent.Sum {
+	if n == nil {
+		return persistent.Sum{}
+	}
+	return n.sum
+}
+
+// Extent returns the longest path below the node.
+func (n *Node) Extent() persistent.Extent { return n.below.Extent() }
+
+// Equal is whether two trees are equal.
+func Equal(a, b *Node) bool { return a == b || a != nil && b != nil && a.sum == b.sum }
+
+// At returns what is at a path, or nil.
+func (n *Node) At(path []string) *Node {
+	for _, name := range path {
+		n = n.child(name)
+	}
+	return n
+}
+
+// child returns what has a name in a directory, or nil.
+func (n *Node) child(name string) *Node {
+	if n == nil {
+		return nil
+	}
+	return n.below.Get(name)
+}
+
+// children returns what is below a node, or nothing.
+func (n *Node) children() persistent.Map[*Node] {
+	if n == nil {
+		return persistent.Map[*Node]{}
+	}
+	return n.below
+}
+
+// IsDir is whether there is a directory.
+func (n *Node) IsDir() bool { return n != nil && n.dir }
+
+// Mode returns the low twelve bits of the mode.
+func (n *Node) Mode() uint32 { return n.mode }
+
+// Owner returns the user and the group.
+func (n *Node) Owner() (user, group uint32) { return n.user, n.group }
+
+// Text returns the content of a file, as the text of its tree has it.
+func (n *Node) Text() string { return n.content.text }
+
+// Names returns the names in a directory, in order.
+func (n *Node) Names() []string {
+	var out []string
+	for name := range n.children().All() {
+		out = append(out, name)
+	}
+	return out
+}
+
+// isBelowFile is whether a file is at a proper prefix of a path.
+func (n *Node) isBelowFile(path []string) bool {
+	for i := 0; n != nil && i < len(path); i++ {
+		if !n.dir {
+			return true
+		}
+		n = n.child(path[i])
+	}
+	return false
+}
+
+// withEntry returns the node with another entry, and what is below it if it is a directory.
+func (n *Node) withEntry(one entry) *Node {
+	if n.entry == one {
+		return n
+	}
+	if !one.dir {
+		return newNode(one, persistent.Map[*Node]{})
+	}
+	return newNode(one, n.below)
+}
+
+// with returns the tree with a node at a path whose parent is a directory, in the place of what is there. No node removes it.
+func (n *Node) with(path []string, one *Node) *Node {
+	if len(path) == 0 {
+		return one
+	}
+	below, after := n.below, n.child(path[0]).with(path[1:], one)
+	if after == nil {
+		below = below.Delete(path[0])
+	} else {
+		below = below.Put(path[0], after)
+	}
+	return n.over(below)
+}
+
+// over returns the directory with something else below it.
+func (n *Node) over(below persistent.Map[*Node]) *Node {
+	if below == n.below {
+		return n
+	}
+	return newNode(n.entry, below)
+}
+
+// Tree returns the entries of a tree, none if its root is removed.
+func (n *Node) Tree() tree.Tree {
+	if n == nil {
+		return nil
+	}
+	return n.entries("", nil)
+}
+
+func (n *Node) entries(path string, found tree.Tree) tree.Tree {
+	found = append(found, n.asEntry(path))
+	if path != "" {
+		path += "/"
+	}
+	for name, one := range n.below.All() {
+		found = one.entries(path+name, found)
+	}
+	return found
+}
+
+func (n *Node) asEntry(path string) tree.Entry {
+	one := tree.Entry{Path: path, Dir: n.dir, Mode: n.mode, UID: n.user, GID: n.group}
+	if !n.dir {
+		one.Content = []byte(n.content.text)
+	}
+	return one
+}
+
+// Of returns the node of a tree, nil of none.
+func Of(t tree.Tree) *Node {
+	var b builder
+	for i := range t {
+		_ = b.add(&t[i])
+	}
+	return b.tree()
+}
+
+// Read reads the text of a tree. Where it has the same as another tree at the same place, the two share it.
+func Read(ctx context.Context, text io.Reader, near *Node) (*Node, error) {
+	return ReadLinked(ctx, text, near, nil)
+}
+
+// ReadLinked does the same for a tree of which some files have other names.
+func ReadLinked(ctx context.Context, text io.Reader, near *Node, linked []string) (*Node, error) {
+	b := builder{near: near, linked: map[string]bool{}}
+	for _, path := range linked {
+		b.linked[paths.Clean(path)] = true
+	}
+	return b.read(ctx, text)
+}

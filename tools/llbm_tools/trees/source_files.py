@@ -1,0 +1,52 @@
+"""The trees of local sources as the words NAME=FILE of a program, which reads texts of trees."""
+
+import argparse
+import contextlib
+import os
+from collections.abc import Callable, Mapping
+
+from llbm_tools.inputs import opened_file
+from llbm_tools.streams import Failed, Refused
+from llbm_tools.trees.directory_texts import Values
+from llbm_tools.trees.references import Table
+from llbm_tools.trees.source_texts import TEXT, Reading, Source, kind_of
+
+Say = Callable[[str], None]
+
+
+def source_of(word: str) -> tuple[str, str]:
+    """Parses NAME=PATH of a command line."""
+    name, mark, path = word.partition("=")
+    if not name or not mark:
+        raise argparse.ArgumentTypeError(f"{word!r} is not NAME=PATH")
+    return name, path
+
+
+def source_file(name: str, path: str, place: str, say: Say) -> str:
+    """Returns the file with the tree text of a local source, which is written to `place` if it is no text."""
+    def say_of(line: str) -> None:
+        said.append(line)
+        say(f"{line} (the local source {name})")
+
+    said: list[str] = []
+    try:
+        if kind_of(path) == TEXT:
+            with opened_file(path):
+                return path
+        with open(place, "wb") as text, contextlib.ExitStack() as kept:
+            is_whole = Source(Values(text, None), Table(), kept, Reading(say=say_of, quiet=True)).read(path, [])
+    except (Refused, Failed) as fault:
+        raise Refused(f"{fault} (the local source {name})") from fault
+    if not is_whole:
+        raise Refused(f"{said[0]} (the local source {name})")
+    return place
+
+
+def source_words(sources: Mapping[str, str], folder: str, say: Say) -> list[str]:
+    """Returns the words of local sources, given their paths by name; texts that are made are put into a folder."""
+    words = []
+    for number, (name, path) in enumerate(sources.items()):
+        if not name or "=" in name or name.startswith("-"):
+            raise Refused(f"this can't be the name of a local source on a command line: {name!r}")
+        words.append(f"{name}={source_file(name, path, os.path.join(folder, f'{number}.tree'), say)}")
+    return words
