@@ -7,7 +7,6 @@ import (
 	"llbm/daemon/internal/graph"
 	"llbm/daemon/internal/machine"
 	"llbm/daemon/internal/paths"
-	"llbm/daemon/internal/tree"
 )
 
 // filesRead returns the words of a command that name the files that it reads.
@@ -29,9 +28,9 @@ func notRead(run *machine.Run, g *graph.Graph, v, place int, words []string) str
 		if !paths.IsPath(text) {
 			return ""
 		}
-		name := tree.Clean(text)
+		name := paths.Clean(text)
 		if !strings.HasPrefix(text, "/") {
-			name = tree.Clean(exec.GetMeta().GetCwd() + "/" + text)
+			name = paths.Clean(exec.GetMeta().GetCwd() + "/" + text)
 		}
 		mount, within := mountOf(exec, name)
 		if mount == nil || mount.MountType != pb.MountType_BIND || place > 0 && !mount.Readonly {
@@ -54,7 +53,7 @@ func notRead(run *machine.Run, g *graph.Graph, v, place int, words []string) str
 func mountOf(exec *pb.ExecOp, name string) (mount *pb.Mount, within string) {
 	longest := -1
 	for _, one := range exec.GetMounts() {
-		dest := tree.Clean(one.Dest)
+		dest := paths.Clean(one.Dest)
 		if isAtOrBelow(name, dest) && len(dest) > longest {
 			mount, longest = one, len(dest)
 		}
@@ -62,7 +61,7 @@ func mountOf(exec *pb.ExecOp, name string) (mount *pb.Mount, within string) {
 	if mount == nil {
 		return nil, ""
 	}
-	return mount, tree.Clean(mount.Selector + "/" + name[longest:])
+	return mount, paths.Clean(mount.Selector + "/" + name[longest:])
 }
 
 // isAtOrBelow is whether a path is a directory's, or below it.

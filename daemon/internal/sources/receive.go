@@ -9,7 +9,6 @@ import (
 	"slices"
 	"strings"
 	"time"
-	"unicode/utf8"
 	"unsafe"
 
 	fstypes "github.com/tonistiigi/fsutil/types"
@@ -17,12 +16,11 @@ import (
 	"google.golang.org/grpc/status"
 	"llbm/daemon/internal/contents"
 	"llbm/daemon/internal/messages"
+	"llbm/daemon/internal/paths"
 	"llbm/daemon/internal/tree"
 )
 
 const (
-	mostNames   = 128
-	mostOfName  = 255
 	mostLeftOut = 10
 	mostPacks   = 16
 	// heldAtOnce is how many bytes at least are counted at once of what is held in memory.
@@ -311,11 +309,11 @@ func (r *receiver) data(id uint32, data []byte) error {
 // checkPath checks the path of the next entry: its names, that it comes after the last one, and that its parent came.
 func (r *receiver) checkPath(path string, dir bool) error {
 	names := strings.Split(path, "/")
-	if len(names) > mostNames {
-		return r.refuse(codes.InvalidArgument, "%.80q: fault 26: more than %d names", path, mostNames)
+	if len(names) > paths.MostNames {
+		return r.refuse(codes.InvalidArgument, "%.80q: fault 26: more than %d names", path, paths.MostNames)
 	}
 	for _, name := range names {
-		if !isName(name) {
+		if !paths.IsName(name) {
 			return r.refuse(codes.InvalidArgument, "%.80q: fault 26: %.80q is no name", path, name)
 		}
 	}
@@ -337,14 +335,6 @@ func (r *receiver) checkPath(path string, dir bool) error {
 		r.parents = append(r.parents, path)
 	}
 	return nil
-}
-
-// isName is the rule of docs/FORMATS.md, "Paths and trees".
-func isName(name string) bool {
-	if name == "" || name == "." || name == ".." || len(name) > mostOfName || !utf8.ValidString(name) {
-		return false
-	}
-	return strings.IndexFunc(name, func(c rune) bool { return c < 0x20 || c == 0x7f }) < 0
 }
 
 func (r *receiver) leaveOut(path string, mode os.FileMode) error {

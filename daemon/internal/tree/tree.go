@@ -8,10 +8,11 @@ import (
 	"fmt"
 	"io"
 	"os"
-	"path"
 	"sort"
 	"strconv"
 	"strings"
+
+	"llbm/daemon/internal/paths"
 )
 
 // An Entry is a directory or a file. Its path has no slash in front; the root's path is empty.
@@ -103,9 +104,6 @@ func ParseLine(line []byte) (Entry, error) {
 	return e, nil
 }
 
-// Clean returns a path as entries have it: without slashes at its ends, and without empty parts, `.` and `..`.
-func Clean(name string) string { return strings.TrimPrefix(path.Clean("/"+name), "/") }
-
 // Compare orders two paths as lists of names, which are ordered by their bytes.
 func Compare(a, b string) int {
 	for i := 0; i < len(a) && i < len(b); i++ {
@@ -128,7 +126,7 @@ func (t Tree) place(name string) int {
 
 // Find returns the entry at a path, or nil.
 func (t Tree) Find(name string) *Entry {
-	name = Clean(name)
+	name = paths.Clean(name)
 	if i := t.place(name); i < len(t) && t[i].Path == name {
 		return &t[i]
 	}
@@ -137,7 +135,7 @@ func (t Tree) Find(name string) *Entry {
 
 // List returns the entries directly below a directory, in the order of their names.
 func (t Tree) List(name string) []*Entry {
-	name = Clean(name)
+	name = paths.Clean(name)
 	prefix := name + "/"
 	if name == "" {
 		prefix = ""
