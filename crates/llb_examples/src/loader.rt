@@ -1,7 +1,8 @@
-//! Tests `link`, which makes a graph of rows, or refuses the rows. The digest of a row may be any text here. Rows are written as `DIGEST = NAME`, with `; `
-//! between rows; NAME is the name of an entry of `llb_samples`.
+//! Tests `link`, which makes a graph of rows, or refuses the rows, and `findings_of`, which finds every fault of rows. The digest of a row may be any text
+//! here. Rows are written as `DIGEST = NAME`, with `; ` between rows; NAME is the name of an entry of `llb_samples`.
 
 use super::printed::{is_same, prints, say};
+use llb_findings::findings_of;
 use llb_loader::{Graph, LoadFault, Row, link};
 use llb_ops::Entries;
 use llb_samples as samples;
@@ -28,12 +29,18 @@ fn push_given(rt: &impl Abort, rows: &mut Vec<Row>, given: &str) {
     push_row(rt, rows, digest, entry.as_slice());
 }
 
-// Returns the graph that `link` makes of rows, or the fault with which `link` refuses the rows.
-fn graph_of(rt: &impl Abort, alloc: Global, given: &str) -> Result<Graph, LoadFault> {
+fn rows_of(rt: &impl Abort, alloc: Global, given: &str) -> Vec<Row> {
     let mut rows = Vec::new(alloc);
     for one in given.split("; ") {
         push_given(rt, &mut rows, one);
     }
+    assert!(rt; rows.len() <= 65_536);
+    rows
+}
+
+// Returns the graph that `link` makes of rows, or the fault with which `link` refuses the rows.
+fn graph_of(rt: &impl Abort, alloc: Global, given: &str) -> Result<Graph, LoadFault> {
+    let rows = rows_of(rt, alloc, given);
     assert!(rt; rows.len() <= 65_536);
     link(alloc, &rows)
 }
@@ -79,6 +86,66 @@ const REFUSED: &[(&str, &str)] = &[
 fn rows_are_refused_by_their_first_fault(rt: HostRuntime) {
     for (given, wanted) in REFUSED {
         prints(&rt, rt.alloc(), &refusal(&rt, rt.alloc(), given), wanted);
+    }
+}
+
+// Rows, and all their faults.
+const FOUND: &[(&str, &str)] = &[
+    ("A = MAKES_A; T = NAMES_A", ""),
+    // Each reached row is looked at, also behind a row with a fault; a row that is not reached is not.
+    (
+        "A = ON_B; B = DIFF; C = LOCKS_TWICE; T = NAMES_A",
+        "88 1 DiffOp",
+    ),
+    (
+        "A = LOCKS_TWICE_ON_B; B = MOUNTS_BARE; T = NAMES_A",
+        "89 0 CacheTwice, 89 1 NoCacheOpt",
+    ),
+    // The faults are in the order of their numbers, then of the rows.
+    (
+        "A = LOCKS_TWICE_ON_B; B = ON_C; T = NAMES_A",
+        "86 1 0, 89 0 CacheTwice",
+    ),
+    ("A = ON_B; B = ON_A; T = NAMES_A", "87"),
+    // A row that can't be read is reported in each place; it leads to no row.
+    (
+        "A = ON_B; B = FIELD_ZERO; C = FIELD_ZERO; T = NAMES_A",
+        "82 1 3, 82 2 3",
+    ),
+    // With a collision, and if there is no result, no row is reached.
+    ("A = MAKES_A; A = DIFF; B = FIELD_ZERO", "82 2 3, 84 1"),
+    ("A = MAKES_A; B = DIFF", "85"),
+];
+
+fn printed_findings(rt: &impl Abort, alloc: Global, given: &str) -> String {
+    let rows = rows_of(rt, alloc, given);
+    assert!(rt; rows.len() <= 65_536);
+    let found = findings_of(alloc, &rows).expect(rt, "memory");
+    let mut text = String::new(alloc);
+    for fault in &found {
+        if !text.is_empty() {
+            say(rt, &mut text, ", ");
+        }
+        write!(text, "{fault}").expect(rt, "memory");
+    }
+    text
+}
+
+#[test]
+fn all_faults_of_rows_are_found(rt: HostRuntime) {
+    for (given, wanted) in FOUND {
+        let printed = printed_findings(&rt, rt.alloc(), given);
+        is_same(&rt, printed.as_str(), wanted);
+    }
+}
+
+// Rows that are refused have their refusal as the first fault.
+#[test]
+fn the_first_fault_is_the_refusal(rt: HostRuntime) {
+    for (given, wanted) in REFUSED {
+        let printed = printed_findings(&rt, rt.alloc(), given);
+        let first = printed.as_str().split(", ").next().unwrap_or("");
+        is_same(&rt, first, wanted);
     }
 }
 

@@ -10,11 +10,7 @@ use std::alloc::Global;
 use std::collections::BTreeSet;
 
 /// Returns whether no two cache mounts show caches with the same key.
-pub(crate) fn caches_apart(
-    alloc: Global,
-    inputs: &[Input],
-    mounts: &[Mount],
-) -> Result<bool, Memory>
+pub fn caches_apart(alloc: Global, inputs: &[Input], mounts: &[Mount]) -> Result<bool, Memory>
     ensures { IfOk result (λ apart. IsTrue apart ↔ AreApart (keys_of inputs.now mounts.now)) }
 {
     let mut seen = BTreeSet::new(alloc);

@@ -8,7 +8,7 @@ use sha2::{Digest, Sha256};
 use std::alloc::Global;
 
 /// Returns `sha256:` and the 64 lower-case hexadecimal digits of SHA-256 of the bytes.
-pub(crate) fn digest_of(alloc: Global, bytes: &[u8]) -> Result<Text, Memory>
+pub fn digest_of(alloc: Global, bytes: &[u8]) -> Result<Text, Memory>
     ensures { IfOk result (λ text. text ≡ digest_text bytes.now) }
 {
     text_of_digest(alloc, &Sha256::digest(bytes))

@@ -99,8 +99,8 @@ fn broken_mount(alloc: Global, inputs: &[Input], exec: &ExecOp) -> Result<Option
     Ok(None)
 }
 
-// Returns whether the type of each mount is a number from 0 to 4.
-fn all_known(mounts: &[Mount]) -> bool
+/// Returns whether the type of each mount is a number from 0 to 4.
+pub fn all_known(mounts: &[Mount]) -> bool
     ensures { IsTrue result ↔ All (λ m. IsBelow 5 m.mount_type) mounts.now }
 {
     for mount in mounts {
@@ -118,8 +118,8 @@ fn is_below(count: u32, number: i32) -> bool
     number >= 0 && (number as u32) < count
 }
 
-// Returns whether each bind or cache mount shows one of `count` inputs, or nothing.
-fn all_show(count: usize, mounts: &[Mount]) -> bool
+/// Returns whether each bind or cache mount shows one of `count` inputs, or nothing.
+pub fn all_show(count: usize, mounts: &[Mount]) -> bool
     ensures { IsTrue result ↔ All (ShowsInput count) mounts.now }
 {
     for mount in mounts {
@@ -143,8 +143,8 @@ fn shows_input(count: usize, mount: &Mount) -> bool
     true
 }
 
-// Returns whether the outputs of the mounts are numbered from 0, each once, and no cache or tmpfs mount has an output.
-fn are_mount_outputs(alloc: Global, mounts: &[Mount]) -> Result<bool, AllocError>
+/// Returns whether the outputs of the mounts are numbered from 0, each once, and no cache or tmpfs mount has an output.
+pub fn are_mount_outputs(alloc: Global, mounts: &[Mount]) -> Result<bool, AllocError>
     ensures { IfOk result (λ stand. IsTrue stand ↔ AreMountOutputs mounts.now) }
 {
     if !all_silent(MountType::Cache, mounts) {
@@ -171,8 +171,8 @@ fn all_silent(mount_type: MountType, mounts: &[Mount]) -> bool
     true
 }
 
-// Returns the output number of each mount.
-fn outputs_of(alloc: Global, mounts: &[Mount]) -> Result<Vec<i64>, AllocError>
+/// Returns the output number of each mount.
+pub fn outputs_of(alloc: Global, mounts: &[Mount]) -> Result<Vec<i64>, AllocError>
     ensures { IfOk result (λ outputs. outputs.items ≡ mount_outputs mounts.now) }
 {
     let mut outputs = Vec::new(alloc);
@@ -199,8 +199,8 @@ fn broken_cache(alloc: Global, inputs: &[Input], exec: &ExecOp) -> Result<Option
     Ok(None)
 }
 
-// Returns whether each cache mount has options.
-fn all_have_options(mounts: &[Mount]) -> bool
+/// Returns whether each cache mount has options.
+pub fn all_have_options(mounts: &[Mount]) -> bool
     ensures { IsTrue result ↔ All HasOptions mounts.now }
 {
     for mount in mounts {
@@ -213,8 +213,8 @@ fn all_have_options(mounts: &[Mount]) -> bool
     true
 }
 
-// Returns whether the options of each cache mount, if there are any, name a known sharing mode.
-fn all_shared(mounts: &[Mount]) -> bool
+/// Returns whether the options of each cache mount, if there are any, name a known sharing mode.
+pub fn all_shared(mounts: &[Mount]) -> bool
     ensures { IsTrue result ↔ All IsShared mounts.now }
 {
     for mount in mounts {

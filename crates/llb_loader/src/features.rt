@@ -57,8 +57,8 @@ fn exec_feature(exec: &ExecOp) -> Option<Feature>
     None
 }
 
-// Returns whether one of the mounts has the type.
-fn any_of_type(mounts: &[Mount], mount_type: MountType) -> bool
+/// Returns whether one of the mounts has the type.
+pub fn any_of_type(mounts: &[Mount], mount_type: MountType) -> bool
     ensures { result ≡ list_any (has_type (number_of mount_type)) mounts.now }
 {
     for mount in mounts {
@@ -92,8 +92,8 @@ fn file_feature(file: &FileOp) -> Option<Feature>
     None
 }
 
-// Returns whether one of the actions is of no known kind: no member of its oneof is set.
-fn any_nameless(actions: &[Action]) -> bool
+/// Returns whether one of the actions is of no known kind: no member of its oneof is set.
+pub fn any_nameless(actions: &[Action]) -> bool
     ensures { result ≡ list_any (λ a. is_nameless a.kind) actions.now }
 {
     for action in actions {
@@ -104,8 +104,8 @@ fn any_nameless(actions: &[Action]) -> bool
     false
 }
 
-// Returns whether one of the actions is a copy that unpacks archives.
-fn any_unpacks(actions: &[Action]) -> bool
+/// Returns whether one of the actions is a copy that unpacks archives.
+pub fn any_unpacks(actions: &[Action]) -> bool
     ensures { result ≡ list_any (λ a. copies_with unpacks a.kind) actions.now }
 {
     for action in actions {
@@ -118,8 +118,8 @@ fn any_unpacks(actions: &[Action]) -> bool
     false
 }
 
-// Returns whether one of the actions is a copy with include patterns or exclude patterns.
-fn any_has_pattern(actions: &[Action]) -> bool
+/// Returns whether one of the actions is a copy with include patterns or exclude patterns.
+pub fn any_has_pattern(actions: &[Action]) -> bool
     ensures { result ≡ list_any (λ a. copies_with has_pattern a.kind) actions.now }
 {
     for action in actions {
@@ -139,8 +139,8 @@ fn has_pattern(copy: &CopyFile) -> bool
     !copy.include_patterns.is_empty() || !copy.exclude_patterns.is_empty()
 }
 
-// Returns whether one of the actions is a copy with a field that the table of messages does not name.
-fn any_has_field(actions: &[Action]) -> bool
+/// Returns whether one of the actions is a copy with a field that the table of messages does not name.
+pub fn any_has_field(actions: &[Action]) -> bool
     ensures { result ≡ list_any (λ a. copies_with has_field a.kind) actions.now }
 {
     for action in actions {
@@ -153,8 +153,8 @@ fn any_has_field(actions: &[Action]) -> bool
     false
 }
 
-// Returns whether one of the actions sets an owner that is given by name.
-fn any_owner_by_name(actions: &[Action]) -> bool
+/// Returns whether one of the actions sets an owner that is given by name.
+pub fn any_owner_by_name(actions: &[Action]) -> bool
     ensures { result ≡ list_any (λ a. owner_by_name (owner_of a.kind)) actions.now }
 {
     for action in actions {

@@ -32,8 +32,8 @@ pub(crate) fn broken_in_file(
     Ok(None)
 }
 
-// Returns whether each action reads only inputs from 0 to `count - 1`, results of earlier actions, or nothing.
-fn take_inputs(count: usize, actions: &[Action]) -> bool
+/// Returns whether each action reads only inputs from 0 to `count - 1`, results of earlier actions, or nothing.
+pub fn take_inputs(count: usize, actions: &[Action]) -> bool
     ensures { IsTrue result ↔ TakeInputs count actions.now }
 {
     for (place, action) in actions.iter().enumerate() {
@@ -68,8 +68,8 @@ fn second_stands(count: usize, place: usize, action: &Action) -> bool
     }
 }
 
-// Returns the output number of each action.
-fn outputs_of(alloc: Global, actions: &[Action]) -> Result<Vec<i64>, AllocError>
+/// Returns the output number of each action.
+pub fn outputs_of(alloc: Global, actions: &[Action]) -> Result<Vec<i64>, AllocError>
     ensures { IfOk result (λ outputs. outputs.items ≡ outputs_of actions.now) }
 {
     let mut outputs = Vec::new(alloc);

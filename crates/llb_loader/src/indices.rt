@@ -16,7 +16,7 @@ pub(crate) fn is_input(count: usize, number: i64) -> bool
 }
 
 /// Returns whether the outputs other than -1 are numbered from 0, each once.
-pub(crate) fn are_outputs(alloc: Global, outputs: &[i64]) -> Result<bool, AllocError>
+pub fn are_outputs(alloc: Global, outputs: &[i64]) -> Result<bool, AllocError>
     ensures { IfOk result (λ stand. IsTrue stand ↔ AreOutputs outputs.now) }
 {
     let count = count_among(outputs);

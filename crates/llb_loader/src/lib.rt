@@ -6,6 +6,7 @@
 //! Promise: `load` (`graph`, `refused`) returns the one graph of the entries, or fails with the first refusal, in the order of the faults' numbers.
 //! `Graph::is_graph` proves what is true of every graph: edges lead to outputs of vertices with lower numbers, vertices meet every rule, and the
 //! result depends on all vertices. The law `one_answer_in` says that no definition has two results.
+//! The public modules have the steps of `link` and the tests of single rules, for a crate that looks for every fault.
 //!
 //! A caller:
 //!
@@ -17,31 +18,31 @@
 
 mod build;
 mod cache_key;
-mod cache_mounts;
+pub mod cache_mounts;
 mod checks;
-mod digest;
-mod exec_rules;
+pub mod digest;
+pub mod exec_rules;
 mod fault;
-mod features;
-mod file_rules;
+pub mod features;
+pub mod file_rules;
 mod graph;
-mod indices;
+pub mod indices;
 mod laws;
-mod linking;
+pub mod linking;
 mod loading;
 mod locals;
 mod missing;
 mod mount_type;
 mod mounts;
-mod numbering;
-mod op_sizes;
-mod paths;
+pub mod numbering;
+pub mod op_sizes;
+pub mod paths;
 mod ranks;
-mod reach;
+pub mod reach;
 mod reading;
 mod row;
-mod row_lookup;
-mod rules;
+pub mod row_lookup;
+pub mod rules;
 
 pub use fault::{Feature, LoadFault, Memory, Rule};
 pub use graph::{Edge, Graph, Vertex};

@@ -87,8 +87,8 @@ fn bared(alloc: Global, rows: &[Row]) -> Result<Vec<Row>, Memory>
     Ok(bare)
 }
 
-// Copies the bytes of the rows.
-fn bytes_of(alloc: Global, rows: &[Row]) -> Result<Vec<Bytes>, Memory>
+/// Copies the bytes of the rows.
+pub fn bytes_of(alloc: Global, rows: &[Row]) -> Result<Vec<Bytes>, Memory>
     ensures { IfOk result (λ entries. entries.items ≡ bytes_of rows.now) }
 {
     let mut entries = Vec::with_capacity(alloc, rows.len())?;

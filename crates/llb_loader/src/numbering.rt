@@ -21,9 +21,9 @@ struct Waiter {
     checked: usize,
 }
 
-// Returns the rows that are reached from `start`, in the order of their vertex numbers; `None` if these rows have a cycle. `seen` must have true for each of
-// these rows and false for every other row.
-pub(crate) fn number(
+/// Returns the rows that are reached from `start`, in the order of their vertex numbers; `None` if these rows have a cycle. `seen` must have true for each of
+/// these rows and false for every other row.
+pub fn number(
     alloc: Global,
     rows: &[Vec<usize>],
     start: usize,

@@ -33,7 +33,7 @@ fn commands_among(script: &Option<Script>) -> usize
 }
 
 /// Returns the number of the op's outputs.
-pub(crate) fn count_of(op: &Op) -> usize
+pub fn count_of(op: &Op) -> usize
     ensures { result ≡ output_count op.now }
 {
     match &op.kind {

@@ -21,8 +21,8 @@ fn path_in(alloc: Global, text: &Text) -> Result<Option<Path>, Memory>
     }
 }
 
-// Reads the dests of the mounts as paths; `None` for a dest that is no path.
-pub(crate) fn dests_of(alloc: Global, mounts: &[Mount]) -> Result<Vec<Option<Path>>, Memory>
+/// Reads the dests of the mounts as paths; `None` for a dest that is no path.
+pub fn dests_of(alloc: Global, mounts: &[Mount]) -> Result<Vec<Option<Path>>, Memory>
     ensures { IfOk result (λ dests. dests.items ≡ dests_of mounts.now) }
 {
     let mut dests = Vec::new(alloc);
@@ -32,8 +32,8 @@ pub(crate) fn dests_of(alloc: Global, mounts: &[Mount]) -> Result<Vec<Option<Pat
     Ok(dests)
 }
 
-// Returns whether one of the dests is the root.
-pub(crate) fn has_root(dests: &[Option<Path>]) -> bool
+/// Returns whether one of the dests is the root.
+pub fn has_root(dests: &[Option<Path>]) -> bool
     ensures { IsTrue result ↔ Contains dests.now (Some []) }
 {
     for dest in dests {
@@ -46,8 +46,8 @@ pub(crate) fn has_root(dests: &[Option<Path>]) -> bool
     false
 }
 
-// Returns whether all dests were read as paths.
-pub(crate) fn all_there(dests: &[Option<Path>]) -> bool
+/// Returns whether all dests were read as paths.
+pub fn all_there(dests: &[Option<Path>]) -> bool
     ensures { IsTrue result ↔ All IsSome dests.now }
 {
     for dest in dests {
@@ -59,7 +59,7 @@ pub(crate) fn all_there(dests: &[Option<Path>]) -> bool
 }
 
 /// Returns whether all selectors can be read as paths.
-pub(crate) fn selectors_read(alloc: Global, mounts: &[Mount]) -> Result<bool, Memory>
+pub fn selectors_read(alloc: Global, mounts: &[Mount]) -> Result<bool, Memory>
     ensures { IfOk result (λ read. IsTrue read ↔ All (λ m. IsSome (read_as m.selector)) mounts.now) }
 {
     for mount in mounts {
@@ -71,7 +71,7 @@ pub(crate) fn selectors_read(alloc: Global, mounts: &[Mount]) -> Result<bool, Me
 }
 
 /// Returns whether the `cwd` can be read as a path; true if there is no `meta`.
-pub(crate) fn cwd_reads(alloc: Global, meta: &Option<Meta>) -> Result<bool, Memory>
+pub fn cwd_reads(alloc: Global, meta: &Option<Meta>) -> Result<bool, Memory>
     ensures { IfOk result (λ read. IsTrue read ↔ ReadsCwd meta.now) }
 {
     let Some(meta) = meta else {
@@ -81,8 +81,8 @@ pub(crate) fn cwd_reads(alloc: Global, meta: &Option<Meta>) -> Result<bool, Memo
     Ok(path.is_some())
 }
 
-// Returns whether no two dests are the same path.
-pub(crate) fn dests_apart(alloc: Global, dests: &[Option<Path>]) -> Result<bool, Memory>
+/// Returns whether no two dests are the same path.
+pub fn dests_apart(alloc: Global, dests: &[Option<Path>]) -> Result<bool, Memory>
     ensures { IfOk result (λ apart. IsTrue apart ↔ AreApart dests.now) }
 {
     let mut seen = BTreeSet::new(alloc);

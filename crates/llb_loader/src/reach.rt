@@ -7,11 +7,7 @@ use std::alloc::{AllocError, Global};
 
 /// Returns for each row whether it is reached from the row `start`: whether it is this row, or an input of a reached row names it. `rows` has for each row the
 /// rows that its inputs name.
-pub(crate) fn reached(
-    alloc: Global,
-    rows: &[Vec<usize>],
-    start: usize,
-) -> Result<Vec<bool>, AllocError>
+pub fn reached(alloc: Global, rows: &[Vec<usize>], start: usize) -> Result<Vec<bool>, AllocError>
     requires rows { InRange (lists rows.now) (length rows.now) }
     requires start { start < length rows.now }
     ensures len { IfOk result (λ seen. length seen.items ≡ length rows.now) }

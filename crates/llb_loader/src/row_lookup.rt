@@ -18,7 +18,7 @@ use std::alloc::{AllocError, Global};
 use std::collections::BTreeMap;
 
 /// Returns whether there are fewer than two distinct rows; `entries` has the bytes of the rows.
-pub(crate) fn all_same(rows: &[Row], entries: &[Bytes]) -> bool
+pub fn all_same(rows: &[Row], entries: &[Bytes]) -> bool
     requires { length entries.now ≡ length rows.now }
     ensures { IsTrue result ↔ AllSame (with_bytes rows.now entries.now) }
 {
@@ -37,10 +37,10 @@ fn same(digest: &Text, other: &Text, bytes: &Bytes, others: &Bytes) -> bool
     digest.same(other) && bytes.same(others)
 }
 
-// Returns a map from each digest text to the first row with this text, and a list that has, for each row, the first
-// row with the same digest text. Fails with 84 `Collision` at the first row that has an earlier row's digest text but
-// other bytes, or with 91 `Memory`.
-pub(crate) fn index_of<'a>(
+/// Returns a map from each digest text to the first row with this text, and a list that has, for each row, the first
+/// row with the same digest text. Fails with 84 `Collision` at the first row that has an earlier row's digest text but
+/// other bytes, or with 91 `Memory`.
+pub fn index_of<'a>(
     alloc: Global,
     rows: &'a [Row],
     entries: &[Bytes],
@@ -71,7 +71,7 @@ pub(crate) fn index_of<'a>(
 }
 
 /// Returns the terminal: the first row with the last row's digest text.
-pub(crate) fn terminal_of(rows: &[Row], index: &BTreeMap<&str, usize>) -> usize
+pub fn terminal_of(rows: &[Row], index: &BTreeMap<&str, usize>) -> usize
     requires some { 0 < length rows.now }
     requires index { IsIndex rows.now index.now }
     requires apart { (k : ℕ) → ¬ Collides rows.now k }
@@ -86,7 +86,7 @@ pub(crate) fn terminal_of(rows: &[Row], index: &BTreeMap<&str, usize>) -> usize
 }
 
 /// Returns the row that a digest text names; `None` if the text names no row.
-pub(crate) fn row_of(
+pub fn row_of(
     rows: &[Row],
     index: &BTreeMap<&str, usize>,
     terminal: usize,
@@ -172,9 +172,9 @@ fn rows_named_by(
     Ok(named)
 }
 
-// Returns for each row the rows that its inputs name. To find the row that a row's first input names, the call looks first at the row before, since many
-// entries come right after the entry that their first input names.
-pub(crate) fn links_of(
+/// Returns for each row the rows that its inputs name. To find the row that a row's first input names, the call looks first at the row before, since many
+/// entries come right after the entry that their first input names.
+pub fn links_of(
     alloc: Global,
     rows: &[Row],
     index: &BTreeMap<&str, usize>,

@@ -59,8 +59,8 @@ fn broken_in_merge(inputs: &[Input], merge: &MergeOp) -> Option<Rule>
     None
 }
 
-// Returns whether each input of a merge is one of `count` inputs, or -1.
-fn all_merged(count: usize, merged: &[MergeInput]) -> bool
+/// Returns whether each input of a merge is one of `count` inputs, or -1.
+pub fn all_merged(count: usize, merged: &[MergeInput]) -> bool
     ensures { IsTrue result ↔ All (λ m. IsInput count m.input) merged.now }
 {
     for input in merged {

@@ -1,8 +1,9 @@
-//! Calls on graphs, local trees and plain outcomes while memory is refused.
+//! Calls on graphs, faults of definitions, local trees and plain outcomes while memory is refused.
 
 use super::growths::{Row, Trial, are_refused};
 use super::printed::{printed_fault, printed_numbers, printed_text, printed_tree, say, text_of};
 use super::written::{definition_of, entries_of, graph_of, locals_of, tree_named};
+use llb_findings::{findings, findings_of};
 use llb_loader::{Graph, LoadFault, Locals, Memory, Row as Linked, link, load};
 use llb_plain::{Outcomes, PlainFault, evaluate};
 use llb_tree::Tree;
@@ -14,6 +15,7 @@ use std::process::Abort;
 enum Answer {
     None,
     Graph(Result<Graph, LoadFault>),
+    Found(Result<Vec<LoadFault>, llb_wire::Memory>),
     Copied(Result<Graph, Memory>),
     Locals(Result<Locals, Memory>),
     Added(Result<(), Memory>),
@@ -77,6 +79,26 @@ fn linked(alloc: Global, rows: &[Linked]) -> Answer {
     Answer::Graph(link(alloc, rows))
 }
 
+fn found(alloc: Global, rows: &[Linked]) -> Answer {
+    if rows.len() > 65_536 {
+        return Answer::None;
+    }
+    Answer::Found(findings_of(alloc, rows))
+}
+
+// Returns the texts of the faults, with a comma between them.
+fn printed_faults(rt: &impl Abort, alloc: Global, faults: &[LoadFault]) -> String {
+    let mut text = String::new(alloc);
+    for fault in faults {
+        if !text.is_empty() {
+            say(rt, &mut text, ", ");
+        }
+        let printed = printed_fault(rt, alloc, fault);
+        say(rt, &mut text, printed.as_str());
+    }
+    text
+}
+
 // Returns the number of vertices of a graph, and the vertex of the graph's result.
 fn printed_graph(rt: &impl Abort, alloc: Global, graph: &Graph) -> String {
     printed_numbers(rt, alloc, graph.vertices().len(), graph.result().vertex)
@@ -115,6 +137,8 @@ impl OnGraph {
         match self.call {
             "load" => Answer::Graph(load(alloc, self.definition.as_slice())),
             "link" => linked(alloc, &self.rows),
+            "findings" => Answer::Found(findings(alloc, self.definition.as_slice())),
+            "findings_of" => found(alloc, &self.rows),
             "Graph::copy" => Answer::Copied(self.graph.copy()),
             "Locals::copy" => Answer::Locals(self.locals.copy()),
             "evaluate" => Answer::Outcomes(evaluate(alloc, &self.graph, &self.locals)),
@@ -123,16 +147,19 @@ impl OnGraph {
     }
 }
 
-// Returns `text` if the call is `wanted`, and `other` if it is not.
-fn on_call<'a>(call: &str, wanted: &str, text: &'a str, other: &'a str) -> &'a str {
-    if call == wanted { text } else { other }
+// Returns `text` if the call is one of the two that are wanted, and `other` if it is not.
+fn on_calls<'a>(call: &str, wanted: (&str, &str), text: &'a str, other: &'a str) -> &'a str {
+    if call == wanted.0 || call == wanted.1 {
+        text
+    } else {
+        other
+    }
 }
 
-// Returns the entries of the graph on which a call is made. For `load` and `link`, which make a graph themselves, these are the entries of a graph that is
-// not used.
+// Returns the entries of the graph on which a call is made. For the calls that take a definition or rows, these are the entries of a graph that is not used.
 fn graph_for<'a>(call: &str, written: &'a str) -> &'a str {
     match call {
-        "load" | "link" => "MAKES_A; RESULT 0",
+        "load" | "link" | "findings" | "findings_of" => "MAKES_A; RESULT 0",
         _ => written,
     }
 }
@@ -144,8 +171,16 @@ impl Trial for OnGraph {
         let graph = graph_for(call, written);
         OnGraph {
             call,
-            definition: definition_of(rt, alloc, on_call(call, "load", written, graph)),
-            rows: rows_of(rt, alloc, on_call(call, "link", written, "")),
+            definition: definition_of(
+                rt,
+                alloc,
+                on_calls(call, ("load", "findings"), written, graph),
+            ),
+            rows: rows_of(
+                rt,
+                alloc,
+                on_calls(call, ("link", "findings_of"), written, ""),
+            ),
             graph: graph_of(rt, alloc, graph),
             other: graph_of(rt, alloc, graph),
             locals: locals_of(rt, alloc, locals),
@@ -166,7 +201,9 @@ impl Trial for OnGraph {
             Answer::Locals(Ok(locals)) => printed_locals(rt, alloc, locals),
             Answer::Added(Ok(())) => printed_locals(rt, alloc, &self.locals),
             Answer::Outcomes(Ok(outcomes)) => printed_outcomes(rt, alloc, outcomes),
+            Answer::Found(Ok(faults)) => printed_faults(rt, alloc, faults),
             Answer::Graph(Err(fault)) => printed_fault(rt, alloc, fault),
+            Answer::Found(Err(fault)) => printed_fault(rt, alloc, fault),
             Answer::Outcomes(Err(fault)) => printed_fault(rt, alloc, fault),
             Answer::Copied(Err(fault)) | Answer::Locals(Err(fault)) | Answer::Added(Err(fault)) => {
                 printed_fault(rt, alloc, fault)
@@ -220,6 +257,20 @@ const ROWS: &[Row] = &[
         " = A MAKES_A = B SCRIPT_ON_A = T NAMES_B",
         "91",
         "2 1",
+    ),
+    ("findings", "raw 3a00; RESULT 0", "5", "88 0 DiffOp"),
+    ("findings", RUN, "5", ""),
+    (
+        "findings_of",
+        " = A D_ON_C = B FIELD_ZERO = T NAMES_A",
+        "5",
+        "82 1 3, 86 0 0",
+    ),
+    (
+        "findings_of",
+        " = A LOCKS_TWICE_ON_B = B SCRIPT_ON_A = T NAMES_A",
+        "5",
+        "87, 89 0 CacheTwice",
     ),
     ("Graph::copy", CHANGED, "", "3 2"),
     (

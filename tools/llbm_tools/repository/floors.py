@@ -40,7 +40,7 @@ LENDERS = {
     "llb_ops": {"llb_asm", "llb_loader"},
     "llb_execution": {"llb_board"},
     "llb_fileop": {"llb_laws"},
-    "llb_loader": {"llb_laws"},
+    "llb_loader": {"llb_laws", "llb_findings"},
     "llb_board": {"llb_laws"},
     "llb_stepper": {"llb_session"},
     "llb_commands": {"llb_embed"},

@@ -1,0 +1,7 @@
+mod SelectionParts
+mod BrokenRules
+mod FindingsAgree
+mod RowFindings
+mod EveryFault
+mod FindingsInBytes
+mod LinkedFindings

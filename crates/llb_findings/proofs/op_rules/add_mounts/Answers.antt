@@ -1,0 +1,14 @@
+use Rattle.std.proofs.Common.{Some}
+use Rattle.llb_ops.specs.declared.op.Kind.TheVariants.{Exec}
+use Rattle.llb_loader.specs.declared.fault.Rule.TheVariants as rule
+use Rattle.llb_findings.proofs.BrokenRules.{adds_rule, adds_three}
+use Rattle.llb_findings.proofs.op_rules.add_mounts.Goals as goal
+
+pub returns : goal.returns
+returns c = adds_three c.args.inputs.now (Some (Exec c.args.exec.now)) rule.MountKind rule.MountInput rule.MountOutput _ _ _ _
+    (adds_rule c.args.inputs.now (Some (Exec c.args.exec.now)) rule.MountKind _ _ _ tt (rw c.as_slice-mounts.ensures at c.all_known.ensures)
+    c.in_ok-add_unless.ensures)
+    (adds_rule c.args.inputs.now (Some (Exec c.args.exec.now)) rule.MountInput _ _ _ tt (rw c.as_slice-mounts.ensures at c.all_show.ensures)
+    c.in_ok-add_unless-2.ensures)
+    (adds_rule c.args.inputs.now (Some (Exec c.args.exec.now)) rule.MountOutput _ _ _ tt (rw c.as_slice-mounts.ensures at c.in_ok-numbered.ensures)
+    c.in_ok-add_unless-3.ensures)
