@@ -30,7 +30,7 @@ use Rattle.llb_progress.proofs.Lists.{same_below}
 no_cancel : (e : Event) → is_cancel e ≡ false → (w : ℕ) → e ≢ Cancel w
 no_cancel e is w same = let h : is_cancel e ≡ true = ap is_cancel same in cc
 
-cancel_none : (e : Event) → ((w : ℕ) → e ≢ Cancel w) → is_cancel e ≡ false
+pub cancel_none : (e : Event) → ((w : ℕ) → e ≢ Cancel w) → is_cancel e ≡ false
 cancel_none (Claim w v) none = refl
 cancel_none (Step w) none = refl
 cancel_none (Settle w) none = refl

@@ -1,3 +1,4 @@
 mod Lists
 mod GrantedProgress
 mod BoundedRuns
+mod Schedules

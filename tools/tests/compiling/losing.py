@@ -10,7 +10,7 @@ from llbm_tools.compiling import unproved_program
 from tests import base
 
 WORKER = pathlib.Path("crates", "llb_work", "src", "worker.rt")
-# A worker puts into the queue what a hold of the lock made Ready; if it does not, only the first numbers are ever there.
+# A worker puts into the queue what a hold of the lock made Ready; if it does not, only the first numbers are there.
 PUTS = "            let put = self.put_all(w, &mut kit);\n            let own"
 LOSES = f"            kit.news.clear();\n{PUTS}"
 # A run that hangs is ended after this many seconds, far more than one takes on a slow host.
