@@ -24,6 +24,7 @@ use Rattle.llb_board.specs.contracts.board.Board as board
 use Rattle.llb_work.specs.declared.noted.Gated as gated
 use Rattle.llb_work.specs.contracts.tally.Tally as tally
 use Rattle.llb_work.specs.contracts.shared_board.SharedBoard as shared
+use Rattle.llb_work.specs.contracts.watch.Watch as watch
 use Rattle.llb_work.specs.contracts.key_waiters.KeyWaiters as waiters
 use Rattle.llb_work.specs.contracts.idle.Idle as idle
 use Rattle.llb_work.proofs.key_waiters.KeyWaiters.TheSendSync as waiters_cross
@@ -79,9 +80,12 @@ module _ (T : RattleType) (g : gated.Ghosts T.Denot) (g' : ledger.Ghosts T.Denot
     ),
   )
 
-  -- several threads may use the shared board in its lock
-  pub lock_crosses : IsSync (mutex.the_row (shared.the_row T g g'))
-  lock_crosses = search (shared_board_crosses, crosses, sendable) depth 20
+  watch_crosses : IsSend (watch.the_row T g g')
+  watch_crosses = declared_send (watch.the_type T g g') (shared_board_crosses, (search (crosses, sendable) depth 20, tt))
+
+  -- several threads may use the watch in its lock
+  pub lock_crosses : IsSync (mutex.the_row (watch.the_row T g g'))
+  lock_crosses = search (watch_crosses, crosses, sendable) depth 20
 
   -- what all workers use may go to another thread
   pub crew_crosses : (κ : NamedLft) (G R : RattleType) → IsSync G → IsSync R → IsSend (crew.the_row κ T G R g g')
@@ -91,7 +95,7 @@ module _ (T : RattleType) (g : gated.Ghosts T.Denot) (g' : ledger.Ghosts T.Denot
         (
           search (crosses, sendable) depth 20,
           (
-            shr_send _ _ (mutex.the_row (shared.the_row T g g')) lock_crosses,
+            shr_send _ _ (mutex.the_row (watch.the_row T g g')) lock_crosses,
             (
               shr_send _ _ queue.the_row queue_shared,
               (shr_send _ _ idle.the_row idle_shared, (shr_send _ _ G gate, tt)),

@@ -12,3 +12,4 @@ pub mod ThreadedRunEnds
 pub mod PlainMarksAndKnownJobs
 pub mod IdleWorkers
 pub mod CancelFreeEvents
+mod Waits

@@ -10,6 +10,7 @@ use crate::noted::{Gated, Noted};
 use crate::shared_board::{SharedBoard, make_shared_board};
 use crate::supply::{Supply, make_supply, put_ready};
 use crate::tally::count_record;
+use crate::watch::Watch;
 use llb_board::{Board, Gate};
 use llb_ready::ReadyQueue;
 use std::alloc::Global;
@@ -23,7 +24,7 @@ use std::thread::Threads;
 pub(crate) struct Crew<'x, S: Gated, G, R> {
     pub rt: &'x R,
     pub alloc: Global,
-    pub board: &'x Mutex<SharedBoard<S>>,
+    pub board: &'x Mutex<Watch<S>>,
     pub queue: &'x ReadyQueue,
     pub idle: &'x Idle,
     pub gate: &'x G,
@@ -99,11 +100,13 @@ pub(crate) fn run_crew<S: Gated + Send + Sync, G: Gate + Sync, R: Threads + Wait
         lists,
         threads,
         waiters,
+        waits,
         plain,
     } = supply;
     let pass = put_ready(rt, &queue, &board, pass);
     let (calls, share) = blank.open::<S>();
-    let board = Mutex::new(make_shared_board(board, start, plain, waiters, calls));
+    let shared = make_shared_board(board, start, plain, waiters, calls);
+    let board = Mutex::new(Watch::new(shared, waits));
     let idle = Idle::new();
     let crew = Crew {
         rt,
@@ -122,7 +125,7 @@ pub(crate) fn run_crew<S: Gated + Send + Sync, G: Gate + Sync, R: Threads + Wait
     });
     let GivenBack { share, made, pass } = back;
     queue.close(pass);
-    Ok(closed(board.into_inner(), share, made))
+    Ok(closed(board.into_inner().into_shared(), share, made))
 }
 
 // Closes the ledger in which the workers of a run count their events. The run's threads must have ended and given back all shares of the ledger. Also

@@ -1,9 +1,9 @@
 //! Lets workers that find no number in the queue wait, and wakes them. Nothing in this module knows about the board or its lock.
 //!
-//! Before a worker waits it does three things, in this order: it reads the word `wakes`, sees that the run is not over, and finds the queue
-//! empty. It then parks on `wakes`; parking returns at once if `wakes` has changed since the worker read it. So the worker sleeps only if there
-//! was no wake since it read `wakes`, and no later wake misses the worker: a wake first changes `wakes` and then reads `sleepers`, and the
-//! worker adds itself to `sleepers` before it parks.
+//! Before a worker waits it does four things, in this order: it reads the word `wakes`, sees that the run is not over, finds the queue empty, and
+//! reports so at the lock, where it is told to wait unless all others wait (`Watch`). It then parks on `wakes`; parking returns at once if `wakes`
+//! has changed since the worker read it. So the worker sleeps only if there was no wake since it read `wakes`, and no later wake misses the worker:
+//! a wake first changes `wakes` and then reads `sleepers`, and the worker adds itself to `sleepers` before it parks.
 //!
 //! A worker that puts numbers into the queue wakes one sleeper for each number, or one sleeper less if it takes a number itself right afterwards. So while
 //! a worker sleeps, as many workers are about to take a number as there are numbers in the queue, and no number stays there. A worker that sees the run end
@@ -11,7 +11,6 @@
 //! The worker that ends the holding vertex puts such a number back, with the numbers of the vertices that have become ready. So after every settled vertex
 //! a worker is awake, and goes on or ends the run.
 
-use crossbeam_utils::Backoff;
 use std::sync::Wait;
 use std::sync::atomic::{AtomicU64, Ordering};
 
@@ -46,12 +45,8 @@ impl Idle {
         self.over.load(Ordering::SeqCst) != 0
     }
 
-    /// Waits for a short while or, once `backoff` is completed, until there is a wake after `seen` was read. The call may also return without such a wake.
-    pub(crate) fn wait<R: Wait>(&self, rt: &R, seen: u32, backoff: &Backoff) {
-        if !backoff.is_completed() {
-            backoff.snooze();
-            return;
-        }
+    /// Waits until there is a wake after `seen` was read. The call may also return without such a wake.
+    pub(crate) fn wait<R: Wait>(&self, rt: &R, seen: u32) {
         self.sleepers.fetch_add(1, Ordering::SeqCst);
         self.wakes.park(rt, seen);
         self.sleepers.fetch_sub(1, Ordering::SeqCst);

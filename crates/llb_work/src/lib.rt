@@ -4,8 +4,9 @@
 //! Types: `RunEnd` (the board, the number of events that each worker made, the fault), `RunFault` (151 to 154).
 //! Promise: `run_workers` (`leads`, `complete`, `idle`, `stopped`, `own`): granted events lead from the given board to the returned one, whatever
 //! the fault; no worker runs anything on the returned board, unless memory was refused before a thread was started; without a fault the board is
-//! complete. `run_alone` (`goes`, `ends`, `order`, `plain`) does the events that `chosen` of `llb_model` names, one after another. That threads
-//! make progress is tested, and not proved.
+//! complete. `run_alone` (`goes`, `ends`, `order`, `plain`) does the events that `chosen` of `llb_model` names, one after another. By an invariant of
+//! the value under the lock (`src/watch.rt`), all workers wait only if the board is complete or a fault is noted. That threads are run, get the lock
+//! and are woken is tested, and not proved.
 //!
 //! A caller:
 //!
@@ -30,6 +31,7 @@ mod run;
 mod shared_board;
 mod supply;
 mod tally;
+mod watch;
 mod worker;
 mod worker_thread;
 

@@ -2,7 +2,8 @@
 //! that was noted first; which vertices have no cache mount at or before them; and the vertex numbers that wait for a key. By an invariant of
 //! the type, granted events lead from the board that the run began from to the board under the lock; if no fault is noted, none of them is a cancel.
 
-ghost use Rattle.std.specs.Prelude.{◌≡◌, ◌≤◌, ◌+◌, ℕ, length, true, Some, None, IfOk, IsSome};
+ghost use Rattle.std.specs.Prelude.{◌≡◌, ◌≤◌, ◌+◌, ◌||◌, ℕ, length, true, Some, None, IfOk, IsSome, is_some};
+ghost use Rattle.llb_model.specs.Run.{is_complete};
 ghost use Rattle.std.specs.Bool.{OnTrue};
 ghost use Rattle.std.specs.Coded.{codes};
 ghost use Rattle.llb_tree.specs.CodedTrees.{coded_tree};
@@ -52,6 +53,8 @@ pub(crate) enum Report {
     Nothing,
     /// The number of a vertex, from the queue.
     Number(u32),
+    /// The queue was empty after this number of wakes (`Idle::wakes`) was read, and the worker has no numbers for the queue. `Watch` sees to it.
+    Empty(u32),
     /// The outcome of a job.
     Outcome(Outcome),
     /// Why the worker has to give up what it runs.
@@ -69,6 +72,8 @@ pub(crate) enum Task {
     Again,
     /// Wait for a number from the queue, and come back to the lock with it; the worker runs nothing.
     Next,
+    /// Wait for a wake after the one with this number, and then as `Next`. The worker runs nothing, and has no numbers for the queue.
+    Wait(u32),
     /// End: the run is over, so no vertex is claimed any more.
     End,
 }
@@ -202,7 +207,7 @@ impl<S: Gated> SharedBoard<S> {
         ensures { IsHere S.start w result }
     {
         match report {
-            Report::Nothing => self.go_on(w, news),
+            Report::Nothing | Report::Empty(_) => self.go_on(w, news),
             Report::Number(v) => self.take(w, v, news),
             Report::Outcome(outcome) => {
                 self.release(w, news);
@@ -296,8 +301,10 @@ impl<S: Gated> SharedBoard<S> {
         Task::Next
     }
 
-    // Returns whether the run is over: a fault is noted, or the board is complete.
-    fn is_over(&self) -> bool {
+    /// Returns whether the run is over: a fault is noted, or the board is complete.
+    pub(crate) fn is_over(&self) -> bool
+        ensures { result ≡ (is_some self.now.noted || is_complete self.now.board.build self.now.board.state) }
+    {
         self.noted.is_some() || self.board.is_complete()
     }
 

@@ -16,8 +16,8 @@ use std::sync::Wait;
 use std::sync::ledger::Ledger;
 
 /// A queue with room for the number of every vertex, and its whole pass; for each worker a list with as much room as the queue, and room for
-/// a thread; a table with room for every vertex number that waits for a locked key; and for each vertex whether no cache mount is at or
-/// before it.
+/// a thread; a table with room for every vertex number that waits for a locked key; for each worker that it does not wait; and for each vertex
+/// whether no cache mount is at or before it.
 #[derive(Drop)]
 pub(crate) struct Supply<S: Ledger> {
     pub queue: ReadyQueue,
@@ -25,6 +25,7 @@ pub(crate) struct Supply<S: Ledger> {
     pub lists: Vec<Vec<u32>>,
     pub threads: Vec<WorkerThread<S>>,
     pub waiters: KeyWaiters,
+    pub waits: Vec<bool>,
     pub plain: Vec<bool>,
 }
 
@@ -37,6 +38,7 @@ pub(crate) fn make_supply<S: Ledger>(alloc: Global, board: &Board, n: u32) -> Op
     let lists = make_lists(alloc, n, room).ok()?;
     let threads = Vec::with_capacity(alloc, n as usize).ok()?;
     let waiters = KeyWaiters::new(alloc, room).ok()?;
+    let waits = Vec::from_elem(alloc, false, n as usize).ok()?;
     let plain = plain_marks(alloc, board)?;
     Some(Supply {
         queue,
@@ -44,6 +46,7 @@ pub(crate) fn make_supply<S: Ledger>(alloc: Global, board: &Board, n: u32) -> Op
         lists,
         threads,
         waiters,
+        waits,
         plain,
     })
 }

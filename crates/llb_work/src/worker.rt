@@ -64,17 +64,22 @@ impl<'x, S: Gated, G: Gate, R: Wait> Crew<'x, S, G, R> {
         match task {
             Task::End => None,
             Task::Again => Some(Report::Nothing),
-            Task::Next => Some(Report::Number(self.taken(w, kit)?)),
+            Task::Next => self.taken(w, kit),
+            Task::Wait(seen) => {
+                self.idle.wait(self.rt, seen);
+                self.taken(w, kit)
+            }
             Task::Pass(v) => Some(self.passed(w, v)),
             Task::Work(job) => Some(self.worked(w, job)),
         }
     }
 
-    // Takes a number from the queue as soon as the queue has one; returns `None` if the run is over. After each try, also puts into the queue
-    // those of the worker's numbers for which the queue had no room before.
-    fn taken(self, w: u32, kit: &mut WorkerKit<S>) -> Option<u32>
+    // Takes a number from the queue, and returns it as the worker's report; after some tries at an empty queue, returns the report that it was empty. Returns
+    // `None` if the run is over. After each try, also puts into the queue those of the worker's numbers for which the queue had no room before.
+    fn taken(self, w: u32, kit: &mut WorkerKit<S>) -> Option<Report>
         requires { IsPassFor self.queue.now w kit.old.pass }
-        ensures { IsPassFor self.entry.queue.now w kit.new.pass }
+        ensures pass { IsPassFor self.entry.queue.now w kit.new.pass }
+        ensures report { IfSome result (IsReport S.may_stop S.start w) }
     {
         let backoff = Backoff::new();
         for _i in self.rt.forever() {
@@ -84,10 +89,13 @@ impl<'x, S: Gated, G: Gate, R: Wait> Crew<'x, S, G, R> {
             }
             let next = self.queue.take(self.rt, &mut kit.pass);
             self.idle.wake(self.put_all(w, kit));
-            if next.is_some() {
-                return next;
+            if let Some(v) = next {
+                return Some(Report::Number(v));
             }
-            self.idle.wait(self.rt, seen, &backoff);
+            if backoff.is_completed() && kit.news.is_empty() {
+                return Some(Report::Empty(seen));
+            }
+            backoff.snooze();
         }
         unreachable!()
     }

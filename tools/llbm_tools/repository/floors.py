@@ -41,7 +41,7 @@ LENDERS = {
     "llb_execution": {"llb_board"},
     "llb_fileop": {"llb_laws"},
     "llb_loader": {"llb_laws", "llb_findings"},
-    "llb_board": {"llb_laws"},
+    "llb_board": {"llb_laws", "llb_progress"},
     "llb_stepper": {"llb_session"},
     "llb_commands": {"llb_embed"},
 }

@@ -30,6 +30,7 @@ from llbm_tools import common, paths, streams
 from tests import base
 
 MODULES = [
+    "compiling.losing",
     "debugging.adapter_runs",
     "debugging.adapter_steps",
     "debugging.adapter_eyes",

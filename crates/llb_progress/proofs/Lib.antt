@@ -1,0 +1,4 @@
+mod Lists
+mod GrantedProgress
+mod BoundedRuns
+mod Schedules

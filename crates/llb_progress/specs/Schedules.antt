@@ -1,0 +1,35 @@
+-- What a schedule does to a board: events that the table grants one after another, none of which is a cancel.
+use Rattle.std.specs.Prelude.{◌≡◌, ℕ, true, List, ◌++◌, Some, slice_get}
+use Rattle.llb_events.specs.declared.event.Event.{Event}
+use Rattle.llb_model.specs.State.{Execution, Runs, State}
+use Rattle.llb_model.specs.Table.{Reply, table}
+use Rattle.llb_model.specs.Run.{run, is_complete}
+use Rattle.llb_board.specs.BoardValue.{BoardValue, after_event}
+use Rattle.llb_progress.specs.Progress.{GoOnly, next_by}
+
+-- `new` is the board `old` after event e, which the table grants
+pub record Follows (old : BoardValue) (e : Event) (new : BoardValue) : Type 0 where
+  pub state : State
+  pub reply : Reply
+  pub granted : table old.build old.state e ≡ Some (state, reply)
+  pub is : new ≡ after_event old e state
+
+-- worker w runs a vertex on the board `old`, and `new` is `old` after the worker's next event
+pub record IsNextOf (old : BoardValue) (w : ℕ) (new : BoardValue) : Type 0 where
+  pub execution : Execution
+  pub runs : slice_get old.state.workers w ≡ Some (Runs execution)
+  pub follows : Follows old (next_by old.build w execution) new
+
+-- `new` is the board `old` after events that are granted one after another and recorded, and none of which is a cancel
+pub record GoesBy (old new : BoardValue) : Type 0 where
+  pub build : new.build ≡ old.build
+  pub more : List Event
+  pub goes : GoOnly more
+  pub replies : List Reply
+  pub leads : run old.build old.state more ≡ Some (new.state, replies)
+  pub events : new.events ≡ old.events ++ more
+
+-- `new` is the board `old` after such events, and complete
+pub record EndsBy (old new : BoardValue) : Type 0 where
+  pub goes : GoesBy old new
+  pub complete : is_complete new.build new.state ≡ true
