@@ -8,6 +8,8 @@ import (
 	"io"
 	"io/fs"
 	"os"
+	"path/filepath"
+	"strings"
 	"syscall"
 
 	"github.com/moby/buildkit/solver/pb"
@@ -103,8 +105,11 @@ func (d directory) Open(path string) (io.ReadCloser, error) {
 	return nil, &os.PathError{Op: "open", Path: path, Err: os.ErrInvalid}
 }
 
-// Walk calls a function for what is at and below a path, but for the root, in path order.
+// Walk calls a function for what is at and below a path, but for the root, in path order. Above the root there is nothing.
 func (d directory) Walk(ctx context.Context, target string, found fs.WalkDirFunc) error {
+	if strings.HasPrefix(filepath.Clean(target)+"/", "../") {
+		return nil
+	}
 	names := paths.Names(target)
 	if one := d.root.At(names); one != nil {
 		if err := walk(ctx, paths.Clean(target), one, found); err != nil && err != fs.SkipDir {

@@ -85,9 +85,10 @@ func (p *possibles) ofMkdir(given *pb.FileActionMkDir, base *known) {
 	p.add(MkdirPath, slices.Contains(strings.Split(given.Path, "/"), ".."))
 }
 
-// canMatchSlash is whether a part of a pattern has a class that can match a `/`, or `?` or a class after a `*`.
+// canMatchSlash is whether a part of a pattern has a class that can match a `/`, or `?` or a class after a `*`, or ends in a
+// backslash, which makes the `/` after it plain.
 func canMatchSlash(part string) bool {
-	if strings.Contains(part, "[^") {
+	if strings.Contains(part, "[^") || strings.HasSuffix(part, `\`) {
 		return true
 	}
 	if star := strings.IndexByte(part, '*'); star >= 0 && strings.ContainsAny(part[star:], "?[") {

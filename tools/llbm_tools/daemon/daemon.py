@@ -6,9 +6,9 @@ repositories that this host is set up with, and unpacked (670 MB) into the cache
 daemon is built from them. Nothing is installed, and root is not needed. With --offline only what is there already is
 used.
 
-Out: the daemon, out/llbmd or -o FILE, and llbm-rules beside it. With --clients also BuildKit's `buildctl` and its frontend for Dockerfiles beside
-it, built from Debian's packages; docker-buildx is in FOLDER/usr/libexec/docker/cli-plugins. Builds are kept in
-out/go-cache, for the next one.
+Out: the daemon, out/llbmd or -o FILE, and llbm-rules beside it. With --clients also BuildKit's `buildctl` and its
+frontend for Dockerfiles beside it, built from Debian's packages; docker-buildx is in
+FOLDER/usr/libexec/docker/cli-plugins. Builds are kept in out/go-cache, for the next one.
 
 Exit status: 0 the programs are built; 1 one does not compile; 2 the command line is refused, or there are no modules
 and the packages can't be had; 3 a read or a write failed; 130 interrupted.

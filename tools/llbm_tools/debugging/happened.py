@@ -84,10 +84,12 @@ def compared(name: str, before: Flat, after: Flat, most: int) -> Compared:
 
 
 class Watch:
-    """Says what events of a session of a definition changed; with the files of its sources' trees also what ends otherwise
-    in BuildKit."""
+    """Says what events of a session of a definition changed; with the files of its sources' trees also what ends
+    otherwise in BuildKit."""
 
-    def __init__(self, session: Session, graph: Graph, data: bytes, sources: Mapping[str, BinaryIO] | None = None) -> None:
+    def __init__(
+        self, session: Session, graph: Graph, data: bytes, sources: Mapping[str, BinaryIO] | None = None
+    ) -> None:
         self.session = session
         self.graph = graph
         self.likeness = None if sources is None else Likeness(session, graph, data, sources)

@@ -20,8 +20,8 @@ NO_VERTEX = -1
 
 
 class Likeness:
-    """A session of a definition beside BuildKit, given the files of its sources' trees. After a step back a new comparison
-    begins."""
+    """A session of a definition beside BuildKit, given the files of its sources' trees. After a step back a new
+    comparison begins."""
 
     def __init__(self, session: Session, graph: Graph, data: bytes, sources: Mapping[str, BinaryIO]) -> None:
         self.session = session
@@ -113,8 +113,8 @@ class Likeness:
         return lines[:count], lines[count:]
 
     def of_event(self, event: Event) -> list[str]:
-        """Returns lines for an event that was just done. At a claim they are about the vertex as a whole, at a step about
-        the action, and at the last step of a merge, and else at the settle, about the trees of the vertex as a whole."""
+        """Returns lines for an event that was just done. At a claim they are about the vertex as a whole, at a step
+        about the action, and at the last step of a merge, and else at the settle, about the trees of the vertex."""
         if self.missing:
             return []
         vertex, op = event.vertex, self.graph.vertices[event.vertex].op

@@ -1,7 +1,8 @@
 """A session of `llbm-rules compare`: where BuildKit ends otherwise, vertex by vertex.
 
-The program is given a request, and prints messages, each of them a line of JSON (docs/FORMATS.md). It asks what
-executions made, and is given a reply for each question; trees are in files.
+The program is given a request, and prints messages, each of them a line of JSON
+(daemon/internal/comparison/protocol.go). It asks what executions made, and is given a reply for each question; trees
+are in files.
 """
 
 import contextlib
@@ -60,8 +61,8 @@ def path_of(file: BinaryIO) -> str:
 
 
 class Comparison:
-    """A comparison of a definition, given open files with its sources' trees by name, and the result if it is known. Its
-    lines are known step by step."""
+    """A comparison of a definition, given open files with its sources' trees by name, and the result if it is known.
+    Its lines are known step by step."""
 
     def __init__(
         self, data: bytes, sources: Mapping[str, BinaryIO], executions: Executions, paths: int = MOST_PATHS,
@@ -176,7 +177,7 @@ class Comparison:
 
 
 def of_trees(data: bytes, sources: Mapping[str, Tree]) -> tuple[End, Tree | None]:
-    """Returns the end of the comparison of a definition without executions, and BuildKit's tree, None if there is none."""
+    """Returns the end of the comparison of a definition without executions, and BuildKit's tree if there is one."""
     with contextlib.ExitStack() as kept:
         files: dict[str, BinaryIO] = {}
         for name, tree in sources.items():

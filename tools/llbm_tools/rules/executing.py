@@ -42,7 +42,8 @@ class Program:
         """Returns the outputs of an execution on inputs in files, or None if its script fails."""
         op = definition.op_of(self.graph.rows[vertex], self.entries[self.graph.rows[vertex]])
         if op_rules.has_mount(op, op_rules.CACHE):
-            raise NotKnown(f"vertex {vertex} mounts a cache, and its inputs differ in BuildKit: its outputs are unknown")
+            cause = "mounts a cache, and its inputs differ in BuildKit: its outputs are unknown"
+            raise NotKnown(f"vertex {vertex} {cause}")
         words = [f"{number}={file}" for number, file in enumerate(files)]
         found = [self.output(vertex, output, words) for output in range(op_rules.count_of(op) or 0)]
         return None if None in found else [one for one in found if one is not None]

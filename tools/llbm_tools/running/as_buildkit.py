@@ -47,7 +47,9 @@ def outputs_of(session: Session, vertex: int, count: int) -> Outputs:
 class Compared:
     """A run that is complete, beside BuildKit's."""
 
-    def __init__(self, data: bytes, launched: launching.Launched, program_path: str, options: argparse.Namespace) -> None:
+    def __init__(
+        self, data: bytes, launched: launching.Launched, program_path: str, options: argparse.Namespace
+    ) -> None:
         self.data = data
         self.launched = launched
         self.vertices = launched.graph.vertices

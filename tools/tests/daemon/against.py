@@ -31,7 +31,7 @@ def by_llbm(data, sources):
 
 
 def with_whole_modes(data, sources):
-    """Returns what BuildKit's rules make, but that of the first example of `Mode`, whose directory has the whole mode."""
+    """Returns what BuildKit's rules make; the directory of the example of `Mode` has its whole mode."""
     lines = by_rules(data, sources)
     return [b"d 1777 0 0 /t\n"] if lines == [b"d 0777 0 0 /t\n"] else lines
 

@@ -12,7 +12,7 @@ import zipfile
 from unittest import mock
 from xml.etree import ElementTree
 
-from llbm_tools import common
+from llbm_tools import common, paths
 from llbm_tools.installing import installation as made
 from tests import base
 from tests.base import ROOT, TOOLS, Folder, run
@@ -75,7 +75,8 @@ class Install(WithFake):
     def test_each_tool_but_those_of_the_repository_has_a_command(self):
         self.install()
         tools = {place.name for place in TOOLS.iterdir() if place.is_file() and not place.suffix}
-        commands = {name.removeprefix("llbm-") for name in os.listdir(self.prefix / "bin")} - {"llbm"}
+        programs = {"llbm", "rules"}  # llbm-rules is there if tools/daemon has built it
+        commands = {name.removeprefix("llbm-") for name in os.listdir(self.prefix / "bin")} - programs
         self.assertEqual(commands, tools - made.OF_THE_REPOSITORY)
         self.assertLessEqual(made.OF_THE_REPOSITORY, {place.name for place in TOOLS.iterdir()})
         self.assertIn("run", commands)
@@ -83,9 +84,19 @@ class Install(WithFake):
             done = subprocess.run([sys.executable, self.prefix / "bin" / f"llbm-{name}", "--help"], capture_output=True)
             self.assertEqual((done.returncode, done.stderr), (0, b""), name)
 
+    def test_the_program_with_buildkits_rules_is_installed_where_it_is_built(self):
+        for is_built in (True, False):
+            place = self.at / f"rules-{is_built}"
+            if is_built:
+                place.write_bytes(b"rules")
+            with mock.patch.object(paths, "RULES", place):
+                items = {item.path: item for item in made.rules_items()}
+            self.assertEqual(list(items), [f"bin/{place.name}"] if is_built else [])
+            self.assertEqual([item.mode for item in items.values()], [0o755] * is_built)
+
     def test_each_command_has_completions_and_a_page_of_the_manual(self):
         self.install()
-        for name in os.listdir(self.prefix / "bin"):
+        for name in {*os.listdir(self.prefix / "bin")} - {"llbm-rules"}:
             for path in (
                 f"bash-completion/completions/{name}", f"zsh/site-functions/_{name}",
                 f"fish/vendor_completions.d/{name}.fish", f"man/man1/{name}.1",
