@@ -17,19 +17,22 @@ import (
 )
 
 // A definition is one under construction.
-type definition struct{ entries [][]byte }
+type definition struct {
+	entries [][]byte
+	digests []digest.Digest
+}
 
 // add adds an op on the first outputs of others, and returns its number.
 func (d *definition) add(t testing.TB, op *pb.Op, inputs ...int) int {
 	t.Helper()
 	for _, k := range inputs {
-		op.Inputs = append(op.Inputs, &pb.Input{Digest: digest.FromBytes(d.entries[k])})
+		op.Inputs = append(op.Inputs, &pb.Input{Digest: d.digests[k]})
 	}
 	entry, err := op.Marshal()
 	if err != nil {
 		t.Fatal(err)
 	}
-	d.entries = append(d.entries, entry)
+	d.entries, d.digests = append(d.entries, entry), append(d.digests, digest.FromBytes(entry))
 	return len(d.entries) - 1
 }
 

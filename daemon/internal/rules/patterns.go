@@ -3,10 +3,12 @@ package rules
 import (
 	"context"
 	"path"
+	"slices"
 	"strings"
 	"unicode/utf8"
 
 	"llbm/daemon/internal/paths"
+	"llbm/daemon/internal/persistent"
 )
 
 // unescaped returns the name that a part without a wildcard matches in llbm; one that ends in a lone backslash fails.
@@ -110,27 +112,75 @@ func isMatch(parts, rest []string, like Rules) bool {
 	return true
 }
 
-// matched adds to the paths below a directory that match, in order. What is below a match is not looked at. A client chooses
-// the pattern, so the context ends this too.
-func matched(ctx context.Context, n *Node, at, rest, parts []string, like Rules, found [][]string) ([][]string, error) {
-	if !like.Has(Match) && len(rest) == len(parts) {
-		return found, nil
-	}
-	for _, name := range n.Names() {
-		if err := ctx.Err(); err != nil {
-			return nil, err
+// A matcher looks for paths that match a pattern.
+type matcher struct {
+	ctx   context.Context
+	parts []string
+	like  Rules
+	plain int // how many of the first parts match one name each
+	found [][]string
+	none  map[nodeAt]bool // nodes below which nothing matches, if all parts match one name each
+}
+
+// A nodeAt is a node below some names.
+type nodeAt struct {
+	sum   persistent.Sum
+	names int
+}
+
+// matched returns the paths below a directory that match, in order. What is below a match is not looked at, nor what can't match. A
+// client chooses the pattern, so the context ends this too.
+func matched(ctx context.Context, n *Node, at, parts []string, like Rules) ([][]string, error) {
+	m := &matcher{ctx: ctx, parts: parts, like: like, plain: len(parts), none: map[nodeAt]bool{}}
+	if like.Has(Match) {
+		if i := slices.IndexFunc(parts, isJoined); i >= 0 {
+			m.plain = i
 		}
-		path, after := below(at, name), below(rest, name)
-		if isMatch(parts, after, like) {
-			found = append(found, path)
+	}
+	err := m.below(n, at, nil)
+	return m.found, err
+}
+
+// isJoined is whether a part of a pattern can match more than one name, or is joined to the next one: it has a class, or ends in
+// a backslash.
+func isJoined(part string) bool { return strings.Contains(part, "[") || strings.HasSuffix(part, `\`) }
+
+// below looks below a node, with what of its path comes after the pattern's names.
+func (m *matcher) below(n *Node, at, rest []string) error {
+	isWhole := m.plain == len(m.parts)
+	if n == nil || n.below.Len() == 0 || isWhole && len(rest) == len(m.parts) {
+		return nil
+	}
+	key := nodeAt{n.sum, len(rest)}
+	if isWhole && m.none[key] {
+		return nil
+	}
+	count := len(m.found)
+	for name, one := range n.below.All() {
+		if err := m.ctx.Err(); err != nil {
+			return err
+		}
+		if len(rest) < m.plain && !m.isPart(m.parts[len(rest)], name) {
 			continue
 		}
-		var err error
-		if found, err = matched(ctx, n.Child(name), path, after, parts, like, found); err != nil {
-			return nil, err
+		path, after := below(at, name), below(rest, name)
+		if isMatch(m.parts, after, m.like) {
+			m.found = append(m.found, path)
+		} else if err := m.below(one, path, after); err != nil {
+			return err
 		}
 	}
-	return found, nil
+	m.none[key] = m.none[key] || len(m.found) == count
+	return nil
+}
+
+// isPart is whether a name matches a part.
+func (m *matcher) isPart(part, name string) bool {
+	if m.like.Has(Match) {
+		ok, _ := path.Match(part, name)
+		return ok
+	}
+	return matchesCharacters(part, name)
 }
 
 // foundBelow returns the paths that match a pattern with a wildcard. Rule WildcardBase: what is before the first wildcard must
@@ -146,7 +196,7 @@ func foundBelow(ctx context.Context, names, parts []string, t *Node, like Rules)
 		}
 		return nil, fails("a text is no pattern")
 	}
-	return matched(ctx, base, names, nil, parts, like, nil)
+	return matched(ctx, base, names, parts, like)
 }
 
 // foundForRm returns the paths that an rm with `allowWildcard` removes; without a wildcard in the text its path.

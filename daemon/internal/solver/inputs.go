@@ -171,6 +171,22 @@ func (in *inputs) close() {
 	}
 }
 
+// named returns a definition whose sources have the names that llbm gets, with its graph, which is the same but for names.
+func (in *inputs) named(def, sent *pb.Definition, g *graph.Graph, p *progress) (*pb.Definition, *graph.Graph, error) {
+	if !in.renamed {
+		return def, g, nil
+	}
+	def, err := in.rename(def)
+	if err != nil {
+		return nil, nil, err
+	}
+	if g, err = graph.Load(def, sent); err != nil {
+		return nil, nil, status.Errorf(codes.Internal, "%v", err)
+	}
+	p.change(g)
+	return def, g, nil
+}
+
 // rename gives each source that shares its name with another one, or whose name is no word, a name of its own.
 func (in *inputs) rename(def *pb.Definition) (*pb.Definition, error) {
 	if !in.renamed {

@@ -6,12 +6,12 @@ import (
 	"context"
 	"io"
 	"log"
+	"os"
 	"slices"
 
 	"github.com/moby/buildkit/solver/errdefs"
 	"github.com/moby/buildkit/solver/pb"
 	spb "github.com/moby/buildkit/sourcepolicy/pb"
-	"google.golang.org/grpc/codes"
 	"google.golang.org/grpc/status"
 	"llbm/daemon/internal/builds"
 	"llbm/daemon/internal/contents"
@@ -118,15 +118,8 @@ func (s *Solver) work(c *checks, b *builds.Build, def, sent *pb.Definition) (*re
 		return nil, err
 	}
 	defer in.close()
-	if in.renamed {
-		if def, err = in.rename(def); err != nil {
-			return nil, err
-		}
-		// The graph is the same, except for names.
-		if g, err = graph.Load(def, sent); err != nil {
-			return nil, status.Errorf(codes.Internal, "%v", err)
-		}
-		p.change(g)
+	if def, g, err = in.named(def, sent, g, p); err != nil {
+		return nil, err
 	}
 	texts, table, err := in.texts(g)
 	defer func() {
@@ -164,6 +157,23 @@ func (s *Solver) run(
 		return nil, err
 	}
 	return &results.Result{Tree: t}, nil
+}
+
+// entriesOf returns a file with what llbm reads of a definition.
+func entriesOf(def *pb.Definition) (*os.File, error) {
+	entries, err := graph.Entries(def)
+	if err != nil {
+		return nil, err
+	}
+	file, err := machine.InMemory("definition")
+	if err != nil {
+		return nil, err
+	}
+	if _, err := file.Write(entries); err != nil {
+		_ = file.Close()
+		return nil, err
+	}
+	return file, nil
 }
 
 // session does the events that llbm chooses, up to the end or to the first vertex that fails. The record is returned if it
@@ -205,18 +215,11 @@ func (s *Solver) session(
 
 // openSession begins a session once one more process of the program may run. The caller has to end it by the function that it returns.
 func (s *Solver) openSession(ctx context.Context, b *builds.Build, def *pb.Definition, texts []machine.Source) (*machine.Run, func(), error) {
-	entries, err := graph.Entries(def)
-	if err != nil {
-		return nil, nil, err
-	}
-	file, err := machine.InMemory("definition")
+	file, err := entriesOf(def)
 	if err != nil {
 		return nil, nil, err
 	}
 	defer file.Close()
-	if _, err := file.Write(entries); err != nil {
-		return nil, nil, err
-	}
 	leave, err := s.slot(ctx)
 	if err != nil {
 		return nil, nil, err
