@@ -50,7 +50,7 @@ func TestWhatIsCopiedCanBeKnownAlone(t *testing.T) {
 	source := llb.Scratch().File(llb.Mkdir("/d", 0o700).Mkfile("/d/f", 0o600, nil))
 	contents := &llb.CopyInfo{CopyDirContentsOnly: true, CreateDestPath: true, AllowWildcard: true}
 	got, err := d.solved(t, run.File(llb.Copy(source, "/d", "/n", contents)), client.SolveOpt{})
-	if want := "0644 0:0 f \"x\"\n0755 0:0 n/ \"\"\n0600 0:0 n/f \"\"\n"; err != nil || got != want {
+	if want := "0644 0:0 f \"x\\n\"\n0755 0:0 n/ \"\"\n0600 0:0 n/f \"\"\n"; err != nil || got != want {
 		t.Errorf("%q, not %q: %v", got, want, err)
 	}
 	missing := &llb.CopyInfo{AllowWildcard: true, AllowEmptyWildcard: true}
