@@ -191,18 +191,27 @@ func (w *actionWriter) copied(c *pb.FileActionCopy) {
 	}
 }
 
+// What is known of the sources of a copy.
+type sourcesKnown int
+
+const (
+	unknownSources   sourcesKnown = iota
+	someSources                   // there is one at least
+	directorySources              // and all are directories
+)
+
 // directoryBefore returns the mkdir that makes the directory that BuildKit makes before a copy, and llbm does not, or with another
 // owner or mode; nil if there is none.
-func directoryBefore(c *pb.FileActionCopy) *pb.FileAction {
+func directoryBefore(c *pb.FileActionCopy, known sourcesKnown) *pb.FileAction {
 	dest := paths.Names(c.Dest)
-	if len(dest) == 0 || c.AllowWildcard && c.AllowEmptyWildcard && paths.HasWildcard(c.Src) {
+	if len(dest) == 0 || known == unknownSources && c.AllowWildcard && c.AllowEmptyWildcard && paths.HasWildcard(c.Src) {
 		return nil
 	}
 	user, group, owned := ownerOf(c.Owner)
 	owned = owned && (user != 0 || group != 0) && user != unchanged && group != unchanged
 	root := len(paths.Names(c.Src)) == 0
 	switch {
-	case strings.HasSuffix(c.Dest, "/") || root && c.DirCopyContents:
+	case strings.HasSuffix(c.Dest, "/") || (root || known == directorySources) && c.DirCopyContents:
 		if c.CreateDestPath && !owned && !c.DirCopyContents && !root {
 			return nil
 		}

@@ -173,7 +173,7 @@ func isTaken(op *pb.FileOp) bool {
 	return hasOutput
 }
 
-// file rewrites a file op: by its trees where they are known.
+// file rewrites a file op: by its trees where they are known, and else by those of them that are.
 func (w *writer) file(ctx context.Context, v int) error {
 	it := &w.graph.Vertices[v]
 	if !isTaken(it.Op.GetFile()) {
@@ -185,7 +185,11 @@ func (w *writer) file(ctx context.Context, v int) error {
 		}
 	}
 	f := newFileOp(it.Op)
-	f.treeless()
+	f.known = w.someInputs(v)
+	f.treeless(ctx)
+	if err := ctx.Err(); err != nil {
+		return err
+	}
 	w.setFile(v, f)
 	if inputs, ok := w.inputs(v); ok {
 		return w.follow(ctx, v, inputs)

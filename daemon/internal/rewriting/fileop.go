@@ -1,11 +1,13 @@
 package rewriting
 
 import (
+	"context"
 	"fmt"
 	"strings"
 
 	"github.com/moby/buildkit/solver/pb"
 	"llbm/daemon/internal/paths"
+	"llbm/daemon/internal/rules"
 )
 
 // A Row says how an entry was rewritten.
@@ -27,6 +29,8 @@ type fileOp struct {
 	place map[int]pb.InputIndex // the new result of each action as sent, as an input
 	// isWhole is whether an output needs each action.
 	isWhole bool
+	// known has the trees of inputs that are known, if not all are: what a copy copies can be.
+	known map[pb.InputIndex]*rules.Node
 }
 
 func newFileOp(op *pb.Op) *fileOp {
@@ -111,7 +115,7 @@ func (f *fileOp) order() ([]int, error) {
 }
 
 // treeless rewrites the actions as far as that does not depend on trees.
-func (f *fileOp) treeless() {
+func (f *fileOp) treeless(ctx context.Context) {
 	order, err := f.order()
 	if one, ok := err.(*refused); ok {
 		f.fail(one.action, one.why)
@@ -119,14 +123,42 @@ func (f *fileOp) treeless() {
 	}
 	f.isWhole = len(order) == len(f.sent)
 	for _, number := range order {
-		f.add(number)
+		if err := f.add(ctx, number); err != nil {
+			f.fail(number, err.Error())
+			return
+		}
 	}
 	f.unused()
 }
 
-// add adds an action, rewritten.
-func (f *fileOp) add(number int) {
+// sources returns what is known of the sources of a copy. If it has none, BuildKit fails, whatever it would copy to.
+func (f *fileOp) sources(ctx context.Context, c *pb.FileActionCopy, second pb.InputIndex) (sourcesKnown, error) {
+	tree := f.known[second]
+	if tree == nil {
+		return unknownSources, nil
+	}
+	found, err := rules.Sources(ctx, c, tree, rules.All)
+	if err != nil || len(found) == 0 {
+		return unknownSources, err
+	}
+	for _, path := range found {
+		if !tree.At(path).IsDir() {
+			return someSources, nil
+		}
+	}
+	return directorySources, nil
+}
+
+// add adds an action, rewritten. It fails if BuildKit does.
+func (f *fileOp) add(ctx context.Context, number int) error {
 	action := cloned(f.sent[number])
+	known := unknownSources
+	if c := action.GetCopy(); c != nil {
+		var err error
+		if known, err = f.sources(ctx, c, action.SecondaryInput); err != nil {
+			return err
+		}
+	}
 	var w actionWriter
 	w.rewrite(action)
 	for _, what := range w.changes {
@@ -135,10 +167,11 @@ func (f *fileOp) add(number int) {
 	base, second, output := f.placeOf(action.Input), f.placeOf(action.SecondaryInput), action.Output
 	if c := action.GetCopy(); c != nil {
 		second = f.aside(number, c, second)
-		base = f.before(number, c, base)
+		base = f.before(number, c, base, known)
 	}
 	f.place[number] = f.put(number, action, base, second)
 	action.Output = output
+	return nil
 }
 
 // aside copies the source of a copy to a tree of its own first, where BuildKit and llbm read the source's text in two ways: one that
@@ -167,8 +200,8 @@ func (f *fileOp) aside(number int, c *pb.FileActionCopy, second pb.InputIndex) p
 }
 
 // before puts an mkdir before a copy where BuildKit makes a directory, and returns what the copy then works on.
-func (f *fileOp) before(number int, c *pb.FileActionCopy, base pb.InputIndex) pb.InputIndex {
-	mkdir := directoryBefore(c)
+func (f *fileOp) before(number int, c *pb.FileActionCopy, base pb.InputIndex, known sourcesKnown) pb.InputIndex {
+	mkdir := directoryBefore(c, known)
 	if mkdir == nil {
 		return base
 	}

@@ -45,6 +45,22 @@ func (w *writer) inputs(v int) ([]trees, bool) {
 	return found, true
 }
 
+// someInputs returns the trees of those inputs of a vertex that are known and equal in both, and of the empty tree.
+func (w *writer) someInputs(v int) map[pb.InputIndex]*rules.Node {
+	if w.treeless {
+		return nil
+	}
+	it := &w.graph.Vertices[v]
+	found := map[pb.InputIndex]*rules.Node{nothing: rules.Empty()}
+	for i, input := range it.Inputs {
+		index, outputs := it.Op.Inputs[i].Index, w.states[input].outputs
+		if index >= 0 && int(index) < len(outputs) && outputs[index].agree {
+			found[pb.InputIndex(i)] = outputs[index].there.Tree()
+		}
+	}
+	return found
+}
+
 // lists returns the trees of inputs by each of the three.
 func lists(inputs []trees) (here, there, again []*rules.Ref) {
 	for _, one := range inputs {

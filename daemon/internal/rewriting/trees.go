@@ -95,7 +95,7 @@ func (w *writer) settle(ctx context.Context, v int, f *fileOp, here, outputs, ag
 func (w *writer) failFile(ctx context.Context, v int, here []*rules.Ref, fault *rules.ActionFails) error {
 	it := &w.graph.Vertices[v]
 	f := newFileOp(it.Op)
-	f.treeless()
+	f.treeless(ctx)
 	_, err := rules.FileOp(ctx, &pb.FileOp{Actions: f.new}, here, rules.None)
 	if ctx.Err() != nil {
 		return ctx.Err()
@@ -247,7 +247,7 @@ func (c *cursor) treeless(*rules.Node) error {
 	w.rewrite(action)
 	c.changes = w.changes
 	if copied := action.GetCopy(); copied != nil {
-		if mkdir := directoryBefore(copied); mkdir != nil {
+		if mkdir := directoryBefore(copied, unknownSources); mkdir != nil {
 			c.changes = append(c.changes, "an mkdir before it")
 			if err := c.do(mkdir, nothing); err != nil {
 				return err

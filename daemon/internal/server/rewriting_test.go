@@ -43,6 +43,23 @@ func TestByTheTreesOfABuildItEndsAsInBuildKit(t *testing.T) {
 	}
 }
 
+// Of a copy onto what an execution made, what it copies is known.
+func TestWhatIsCopiedCanBeKnownAlone(t *testing.T) {
+	d := started(t, func(o *Options) { o.Strict = true })
+	run := llb.Scratch().Run(llb.Args([]string{"write", "/f", "x"}), llb.Dir("/")).Root()
+	source := llb.Scratch().File(llb.Mkdir("/d", 0o700).Mkfile("/d/f", 0o600, nil))
+	contents := &llb.CopyInfo{CopyDirContentsOnly: true, CreateDestPath: true, AllowWildcard: true}
+	got, err := d.solved(t, run.File(llb.Copy(source, "/d", "/n", contents)), client.SolveOpt{})
+	if want := "0644 0:0 f \"x\\n\"\n0755 0:0 n/ \"\"\n0600 0:0 n/f \"\"\n"; err != nil || got != want {
+		t.Errorf("%q, not %q: %v", got, want, err)
+	}
+	missing := &llb.CopyInfo{AllowWildcard: true, AllowEmptyWildcard: true}
+	_, err = d.solved(t, run.File(llb.Copy(source, "/m/*", "/n/", missing)), client.SolveOpt{})
+	if err == nil || !strings.Contains(err.Error(), "action 0 fault 21 NotFound: /m is missing") {
+		t.Error(err)
+	}
+}
+
 func TestWhereBuildKitFailsTheBuildFailsForTheSameReason(t *testing.T) {
 	d := started(t, nil)
 	file := llb.Scratch().File(llb.Mkfile("/a", 0o604, nil))
