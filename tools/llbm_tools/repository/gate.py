@@ -6,7 +6,7 @@ is given; `tools/refuse`, on the tests of `llb_refusals` that `rt ci` built; `to
 library, and `tools/bindings`, which tries it in each language that is there; `tools/wasm`, which makes the page, if a
 browser, Node and `wasm-opt` are there; on each of the two programs that `rt ci` left in crates/llbm/out, or on --llbm
 PROGRAM alone: `tools/transcripts` on the files of tests/ and the pages of the examples; on the first of them
-`tools/daemon-tests`, which builds the daemon and skips all if its packages are not there and can't be had,
+`tools/daemon-tests`, which builds the daemon and llbm-rules and skips all if its packages can't be had,
 `tools/against-buildkit --start`, which compares llbm with BuildKit's own daemon for a minute and is skipped where that
 can't be built or run, `tools/test`, which tests the built daemon too, `tools/page-tests` on the page, if it was made,
 `tools/transcripts` on the pages with commands (README.md, and docs/ARCHITECTURE.md, BUILDKIT.md, FORMATS.md and
