@@ -221,7 +221,8 @@ func TestAWrongRewritingIsADifference(t *testing.T) {
 	if got := lines(found); len(got) != 1 || got[0] != "vertex 1 action 0: /b is missing (here a file): Rewriting" {
 		t.Errorf("%q", got)
 	}
-	found, err = compared(t, &Request{Sent: of(rm(`/a`)), Run: of(file(1, rm("/a").GetFile().Actions[0], mkdir("/n"))), Received: true, Sources: map[string]string{"s": text}})
+	more := of(file(1, rm("/a").GetFile().Actions[0], mkdir("/n")))
+	found, err = compared(t, &Request{Sent: of(rm(`/a`)), Run: more, Received: true, Sources: map[string]string{"s": text}})
 	endOf(t, found, err)
 	if got := lines(found); len(got) != 1 || got[0] != "vertex 1 action -1: /n is missing (here a directory): Rewriting" {
 		t.Errorf("%q", got)

@@ -12,15 +12,14 @@ import (
 // static says what can be said of a vertex without its trees, and returns whether BuildKit's daemon dies of the vertex as a whole.
 // llbmd says this itself.
 func (s *session) static(v int) (dies bool, err error) {
-	if s.request.Received {
-		return false, nil
-	}
 	var said []rules.Step
 	for _, one := range rules.Static(s.sent.Vertices[v].Op) {
 		if one.Action >= 0 {
 			continue // it is said where the action is done
 		}
-		said = append(said, one)
+		if !s.request.Received {
+			said = append(said, one)
+		}
 		if rules.Breaks(one.Lines[0].Notes[0]) {
 			dies = true
 			s.dies(v, one)

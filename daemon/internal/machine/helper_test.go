@@ -65,10 +65,22 @@ func TestWhyAHelperStopsTalking(t *testing.T) {
 	}
 }
 
+// The bounds hold before a helper is sent anything.
 func TestAHelperHasTheBoundOfMemory(t *testing.T) {
-	line, why := said(t, Limits{Memory: 1 << 30}, "ulimit -d; echo $GOMEMLIMIT")
-	if line != "1048576\n" || why != "" {
-		t.Errorf("%q %q", line, why)
+	helper, err := FindHelper("/bin/sh", Limits{Memory: 1 << 30})
+	if err != nil {
+		t.Fatal(err)
+	}
+	talk, err := helper.Talk(context.Background(), "-c", "read line; ulimit -d; echo $GOMEMLIMIT")
+	if err != nil {
+		t.Fatal(err)
+	}
+	defer talk.Stop()
+	if _, err := io.WriteString(talk.In, "a line\n"); err != nil {
+		t.Fatal(err)
+	}
+	if got, err := io.ReadAll(talk); string(got) != "1048576\n805306368\n" || err != nil {
+		t.Errorf("%q %v", got, err)
 	}
 }
 

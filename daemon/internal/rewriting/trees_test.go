@@ -225,7 +225,7 @@ func randomDefinition(t *testing.T, random *rand.Rand, trees []*rules.Node, plai
 func TestByTreesADefinitionEndsAsInBuildKit(t *testing.T) {
 	random := rand.New(rand.NewSource(3))
 	different, changed, failed := 0, 0, 0
-	for number := range 1_500 {
+	for number := range 1_000 {
 		trees := []*rules.Node{randomTree(random), randomTree(random)}
 		def := randomDefinition(t, random, trees, number%2 == 0)
 		isRewritten, differs := judge(t, number, def, trees)
@@ -295,7 +295,7 @@ func byProgram(t *testing.T, program string, def *pb.Definition, trees []*rules.
 
 func TestByTreesWhatLlbmItselfMakesIsBuildKits(t *testing.T) {
 	llbm, random := program(t), rand.New(rand.NewSource(6))
-	for number := range 200 {
+	for number := range 100 {
 		trees := []*rules.Node{randomTree(random), randomTree(random)}
 		def := randomDefinition(t, random, trees, number%2 == 0)
 		new, rows := rewritten(t, def, trees)

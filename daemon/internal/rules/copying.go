@@ -34,7 +34,7 @@ type laying struct {
 // copied returns a tree with what is copied from a second one. Rule EmptyCopy: without `createDestPath` the parents of dest
 // have to be there even if nothing is copied.
 func copied(ctx context.Context, given *pb.FileActionCopy, base, second *Node, like Rules) (*copier, error) {
-	sources, err := sourcesOf(ctx, given, second, like)
+	sources, err := Sources(ctx, given, second, like)
 	if err != nil {
 		return nil, err
 	}
@@ -56,8 +56,8 @@ func copied(ctx context.Context, given *pb.FileActionCopy, base, second *Node, l
 	return c, nil
 }
 
-// sourcesOf returns what a copy copies, in order.
-func sourcesOf(ctx context.Context, given *pb.FileActionCopy, second *Node, like Rules) ([][]string, error) {
+// Sources returns what a copy copies, in order.
+func Sources(ctx context.Context, given *pb.FileActionCopy, second *Node, like Rules) ([][]string, error) {
 	if given.AllowWildcard {
 		return foundForCopy(ctx, given.Src, given.AllowEmptyWildcard, second, like)
 	}

@@ -18,7 +18,7 @@ func (p pair) equals(other pair) bool {
 	return p.there.Sum() == other.there.Sum() && p.here.Sum() == other.here.Sum()
 }
 
-func (p pair) child(name string) pair { return pair{p.there.child(name), p.here.child(name)} }
+func (p pair) child(name string) pair { return pair{p.there.Child(name), p.here.Child(name)} }
 
 // aspects are the ways in which two nodes differ by themselves.
 type aspects uint8
@@ -128,16 +128,16 @@ func (s *search) below(path string, after pair, before []pair) error {
 // names returns the names that may have something new, in order: what a step did not change is as it was.
 func (s *search) names(after pair, before []pair) []string {
 	if len(before) == 0 {
-		return changed(after.there, after.here)
+		return Changed(after.there, after.here)
 	}
 	largest := slices.MaxFunc(before, func(a, b pair) int { return a.there.children().Len() - b.there.children().Len() })
-	out := append(changed(largest.there, after.there), changed(largest.here, after.here)...)
+	out := append(Changed(largest.there, after.there), Changed(largest.here, after.here)...)
 	slices.Sort(out)
 	return slices.Compact(out)
 }
 
-// changed returns the names below two nodes that do not have the same.
-func changed(a, b *Node) []string {
+// Changed returns the names in order below two nodes, one of which may be missing, that do not have the same in both.
+func Changed(a, b *Node) []string {
 	var out []string
 	for name := range persistent.Differing(a.children(), b.children()) {
 		out = append(out, name)
@@ -194,4 +194,18 @@ func keyOf(after pair, before []pair) string {
 		key = append(append(key, there[:]...), here[:]...)
 	}
 	return string(key)
+}
+
+// Differences returns how two trees differ, a line for each of up to some paths, in path order: what the first has, and what the
+// second one has "here".
+func Differences(ctx context.Context, there, here *Node, most int) ([]string, error) {
+	s := &search{ctx: ctx, most: most}
+	if err := s.below("", pair{there, here}, nil); err != nil {
+		return nil, err
+	}
+	var out []string
+	for _, one := range s.found {
+		out = append(out, one.words())
+	}
+	return out, nil
 }

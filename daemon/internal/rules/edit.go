@@ -20,7 +20,7 @@ func checkParents(root *Node, path []string) error {
 		if err := checkDirectory(n, path[:count]); err != nil {
 			return err
 		}
-		n = n.child(name)
+		n = n.Child(name)
 	}
 	return nil
 }
@@ -56,7 +56,7 @@ func (m *maker) below(n *Node, in entry, path []string, count int) (*Node, error
 	if count == len(path) {
 		return n, nil
 	}
-	one, err := m.below(n.child(path[count]), n.entry, path, count+1)
+	one, err := m.below(n.Child(path[count]), n.entry, path, count+1)
 	if err != nil {
 		return nil, err
 	}

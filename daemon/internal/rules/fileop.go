@@ -83,6 +83,23 @@ func newFileOp(op *pb.FileOp, inputs []*Ref, like Rules) *fileOp {
 	return f
 }
 
+// FileOp does the actions of a file op on its inputs by some rules, and returns the outputs of the op. An error by which an
+// action fails is of type *ActionFails.
+func FileOp(ctx context.Context, op *pb.FileOp, inputs []*Ref, like Rules) ([]*Ref, error) {
+	return newFileOp(op, inputs, like).outputs(ctx)
+}
+
+// Steps does the actions of a file op as FileOp does, and also returns what each action left that was done.
+func Steps(ctx context.Context, op *pb.FileOp, inputs []*Ref, like Rules) (left map[int]*Node, outputs []*Ref, err error) {
+	f := newFileOp(op, inputs, like)
+	outputs, err = f.outputs(ctx)
+	left = map[int]*Node{}
+	for number, one := range f.steps {
+		left[number] = one.left.tree
+	}
+	return left, outputs, err
+}
+
 // outputs does the actions, and returns the outputs of the op.
 func (f *fileOp) outputs(ctx context.Context) ([]*Ref, error) {
 	if f.like.Has(Selected) {

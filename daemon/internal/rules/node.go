@@ -74,16 +74,28 @@ func (n *Node) Extent() persistent.Extent { return n.below.Extent() }
 // Equal is whether two trees are equal.
 func Equal(a, b *Node) bool { return a == b || a != nil && b != nil && a.sum == b.sum }
 
+// SameContent is whether two nodes are files with one content.
+func SameContent(a, b *Node) bool {
+	return a != nil && b != nil && !a.dir && !b.dir && a.content.sum == b.content.sum
+}
+
+// SameEntry is whether two nodes are equal, but for what is below them.
+func SameEntry(a, b *Node) bool { return a != nil && b != nil && (pair{a, b}).aspects() == 0 }
+
+// EqualBelow is whether two trees are equal, but for their roots' own entries, which no result shows. A tree without a root has
+// nothing below it.
+func EqualBelow(a, b *Node) bool { return a.children().Sum() == b.children().Sum() }
+
 // At returns what is at a path, or nil.
 func (n *Node) At(path []string) *Node {
 	for _, name := range path {
-		n = n.child(name)
+		n = n.Child(name)
 	}
 	return n
 }
 
-// child returns what has a name in a directory, or nil.
-func (n *Node) child(name string) *Node {
+// Child returns what has a name in a directory, or nil.
+func (n *Node) Child(name string) *Node {
 	if n == nil {
 		return nil
 	}
@@ -125,7 +137,7 @@ func (n *Node) isBelowFile(path []string) bool {
 		if !n.dir {
 			return true
 		}
-		n = n.child(path[i])
+		n = n.Child(path[i])
 	}
 	return false
 }
@@ -141,12 +153,25 @@ func (n *Node) withEntry(one entry) *Node {
 	return newNode(one, n.below)
 }
 
+// WithEntryOf returns a tree with the entry of another one's root; a tree without a root becomes an empty one. It shares what is
+// below.
+func (n *Node) WithEntryOf(root *Node) *Node {
+	one := newDir(newMode)
+	if root != nil {
+		one = root.entry
+	}
+	if n == nil {
+		return newNode(one, persistent.Map[*Node]{})
+	}
+	return n.withEntry(one)
+}
+
 // with returns the tree with a node at a path whose parent is a directory, in the place of what is there. No node removes it.
 func (n *Node) with(path []string, one *Node) *Node {
 	if len(path) == 0 {
 		return one
 	}
-	below, after := n.below, n.child(path[0]).with(path[1:], one)
+	below, after := n.below, n.Child(path[0]).with(path[1:], one)
 	if after == nil {
 		below = below.Delete(path[0])
 	} else {

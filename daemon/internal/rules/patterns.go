@@ -126,7 +126,7 @@ func matched(ctx context.Context, n *Node, at, rest, parts []string, like Rules,
 			continue
 		}
 		var err error
-		if found, err = matched(ctx, n.child(name), path, after, parts, like, found); err != nil {
+		if found, err = matched(ctx, n.Child(name), path, after, parts, like, found); err != nil {
 			return nil, err
 		}
 	}

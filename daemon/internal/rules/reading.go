@@ -69,7 +69,7 @@ func (b *builder) put(path string, one entry) error {
 	if in.path != parent {
 		return fmt.Errorf("%.80q comes without its directory", path)
 	}
-	near := in.near.child(name)
+	near := in.near.Child(name)
 	if one.dir {
 		b.open = append(b.open, &building{name: name, path: path, entry: one, near: near})
 		return nil

@@ -57,6 +57,12 @@ const (
 
 func (s Rules) Has(r Rule) bool { return s>>r&1 == 1 }
 
+// With returns the rules and one more.
+func (s Rules) With(r Rule) Rules { return s | 1<<r }
+
+// Without returns the rules but one.
+func (s Rules) Without(r Rule) Rules { return s &^ (1 << r) }
+
 // A Text says of a rule, or of another note, when it matters, what BuildKit and llbm do, and what adopting does about it: `-` if
 // nothing, and then Advice is what a person can do.
 type Text struct {

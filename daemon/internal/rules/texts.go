@@ -93,7 +93,7 @@ func readOfMkdir(text string, base *Node, like Rules) ([]string, error) {
 			if nodes[last] != nil && !nodes[last].dir {
 				return nil, fails("%s is below a file", shown(walked))
 			}
-			nodes = append(nodes, nodes[last].child(part))
+			nodes = append(nodes, nodes[last].Child(part))
 		}
 	}
 	return path, nil

@@ -45,7 +45,10 @@ type Solver struct {
 
 // New returns a solver with at most some processes of the program at once.
 func New(program *machine.Program, workers, atOnce int, open *sessions.Sessions, keeper *sources.Keeper, folder *kept.Folder) *Solver {
-	return &Solver{comparisons: make(chan struct{}, atOnce), Program: program, Workers: workers, Sessions: open, Keeper: keeper, Kept: folder, slots: make(chan struct{}, atOnce)}
+	return &Solver{
+		Program: program, Workers: workers, Sessions: open, Keeper: keeper, Kept: folder,
+		slots: make(chan struct{}, atOnce), comparisons: make(chan struct{}, atOnce),
+	}
 }
 
 // slot waits until one more process of the program may run.
@@ -168,34 +171,11 @@ func (s *Solver) run(
 func (s *Solver) session(
 	ctx context.Context, b *builds.Build, g *graph.Graph, def *pb.Definition, texts []machine.Source, p *progress, c *comparing,
 ) (tree.Tree, []byte, error) {
-	entries, err := graph.Entries(def)
+	run, end, err := s.openSession(ctx, b, def, texts)
 	if err != nil {
 		return nil, nil, err
 	}
-	file, err := machine.InMemory("definition")
-	if err != nil {
-		return nil, nil, err
-	}
-	defer file.Close()
-	if _, err := file.Write(entries); err != nil {
-		return nil, nil, err
-	}
-	leave, err := s.slot(ctx)
-	if err != nil {
-		return nil, nil, err
-	}
-	run, err := s.Program.Step(ctx, file, texts, s.Workers, &b.Written)
-	if err != nil {
-		leave()
-		return nil, nil, err
-	}
-	// Nobody waits for the end of a process that has said all.
-	defer func() {
-		go func() {
-			run.Stop()
-			leave()
-		}()
-	}()
+	defer end()
 	var record bytes.Buffer
 	for {
 		event, more, err := run.Next()
@@ -221,6 +201,38 @@ func (s *Solver) session(
 		err = c.refusal
 	}
 	return t, record.Bytes(), err
+}
+
+// openSession begins a session once one more process of the program may run. The caller has to end it by the function that it returns.
+func (s *Solver) openSession(ctx context.Context, b *builds.Build, def *pb.Definition, texts []machine.Source) (*machine.Run, func(), error) {
+	entries, err := graph.Entries(def)
+	if err != nil {
+		return nil, nil, err
+	}
+	file, err := machine.InMemory("definition")
+	if err != nil {
+		return nil, nil, err
+	}
+	defer file.Close()
+	if _, err := file.Write(entries); err != nil {
+		return nil, nil, err
+	}
+	leave, err := s.slot(ctx)
+	if err != nil {
+		return nil, nil, err
+	}
+	run, err := s.Program.Step(ctx, file, texts, s.Workers, &b.Written)
+	if err != nil {
+		leave()
+		return nil, nil, err
+	}
+	// Nobody waits for the end of a process that has said all.
+	return run, func() {
+		go func() {
+			run.Stop()
+			leave()
+		}()
+	}, nil
 }
 
 // keep keeps a definition, its run and its sources. A source that is too long for a text by value has tokens.
