@@ -205,8 +205,8 @@ def start(arguments: Object, folder: str, say: Say, program_argument: str) -> La
     origins = origins_of(data, given, os.path.dirname(os.path.abspath(path or place)))
     name, text_file = f"{os.path.basename(path)}.text", os.path.abspath(place) if place else None
     trees = {}
-    for name, tree in (word.split("=", 1) for word in words):
-        trees[name] = session.kept.enter_context(open(tree, "rb"))
+    for source, tree in (word.split("=", 1) for word in words):
+        trees[source] = session.kept.enter_context(open(tree, "rb"))
     return Launched(session, graph, named_entries, name, text_file, origins, trees)
 
 

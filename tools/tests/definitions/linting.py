@@ -329,6 +329,7 @@ class Lint(Folder):
         return part(2, part(1, base.digest(entry)) + part(2, part(2, part(1, "llb.customname") + part(2, name))))
 
     def test_each_finding_is_a_line_with_the_name_of_its_entry(self):
+        base.skip_without_rules(self)
         wrong = base.source("git://a\t\n")
         apk = exec_of(ROOT_MOUNT, args=["apk\nadd\t"], on=[wrong])
         data = base.ending(wrong, apk) + self.named(apk, "[2/2] RUN\tapk")

@@ -109,6 +109,7 @@ class ToolsWithNames(Folder):
         self.name = "[1/1] RUN " + "x" * 60 + " (Dockerfile:3-4)"
 
     def test_lint_prints_the_name_after_a_tab(self):
+        base.skip_without_rules(self)
         self.check_run(run("lint", self.given), 1, f"fault 89 1 Script 71 apk\t{self.name}\n".encode())
 
     def test_explain_prints_the_name_of_the_entry(self):

@@ -1,5 +1,6 @@
 """Tests of the tools that use BuildKit's rules: the options of `lint` and `adopt`, `as-buildkit`, and `explain-run`."""
 
+import os
 import unittest
 
 from llbm_tools.debugging import happened, launching, views
@@ -36,6 +37,42 @@ class WithRules(Folder):
     def setUp(self):
         super().setUp()
         base.skip_without_rules(self)
+
+
+class Without(Folder):
+    """The tools where the program with BuildKit's rules is not there."""
+
+    def setUp(self):
+        super().setUp()
+        self.env = {**os.environ, "LLBM_RULES": "/none"}
+        self.missing = "LLBM_RULES names no program: /none; tools/daemon of the repository builds it\n"
+
+    def test_lint_prints_its_findings(self):
+        data = definition(made("Op", source=made("SourceOp", identifier="git://x")))
+        done = run("lint", "--like-buildkit", text=data, env=self.env)
+        self.check_run(done, 1, b"fault 88 0 Source\n", f"notes are left out: {self.missing}".encode())
+
+    def test_adopt_adopts_the_rest(self):
+        data = definition(made("Op", source=made("SourceOp", identifier="git://x/y")))
+        done = run("adopt", "--like-buildkit", text=data, env=self.env)
+        self.assertEqual((done.returncode, bool(done.stdout)), (0, True))
+        self.assertIn(f"not rewritten for BuildKit: {self.missing}".encode(), done.stderr)
+
+    def test_explain_explains_other_lines(self):
+        done = run("explain", text=b"note 0 Mode\nfault 181\n", env=self.env)
+        self.assertEqual((done.returncode, done.stdout.splitlines()[:2]), (2, [b"note 0 Mode", b"fault 181"]))
+        self.assertTrue(done.stdout.splitlines()[2].startswith(b"  "))
+        self.assertEqual(done.stderr.decode(), f"{self.missing[:-1]}: line 1\n")
+
+    def test_runs_are_explained_and_comparisons_refused(self):
+        if base.llbm is None:
+            raise unittest.SkipTest("the program llbm is needed (--llbm PROGRAM)")
+        data = base.ending(base.exec_op("write", "/a", "1"))
+        done = run("explain-run", "--llbm", base.llbm, "-", text=data, env=self.env)
+        self.assertEqual((done.returncode, b"  done\n" in done.stdout), (0, True))
+        self.assertEqual(done.stderr.decode(), f"what ends otherwise in BuildKit is left out: {self.missing}")
+        done = run("as-buildkit", "--llbm", base.llbm, "-", text=data, env=self.env)
+        self.check_run(done, 2, b"", self.missing.encode())
 
 
 class Fields(WithRules):
@@ -442,6 +479,24 @@ class AsBuildkit(WithProgram):
         self.assertEqual(seen[:half], seen[half:])
         lines = [line for lines in seen[:half] for line in lines]
         self.assertEqual(lines, ["/a is missing (here a file): MergeLayers"])
+
+    def test_executions_that_end_out_of_order_are_compared_when_they_end(self):
+        first, second = base.exec_op("write", "/a", "1"), base.exec_op("write", "/b", "1")
+        copy = {"copy": made("FileActionCopy", src="/b", dest="/n/.", mode=-1, timestamp=-1)}
+        action = made("FileAction", input=-1, secondaryInput=0, output=0, **copy)
+        file = made("Op", inputs=(messages.edge(second),), file=made("FileOp", actions=(action,)))
+        entry = messages.encoded(file)
+        merge = made("MergeOp", inputs=(made("MergeInput", input=0), made("MergeInput", input=1)))
+        last = messages.encoded(made("Op", inputs=(messages.edge(first), messages.edge(entry)), merge=merge))
+        place = self.file(b"definition", base.ending(first, second, entry, last)).decode()
+        given = {"definition": place, "sources": {}, "workers": 2, "llbm": str(base.llbm)}
+        launched = launching.launch(given, lambda _: None)
+        self.addCleanup(launched.session.end)
+        watch = happened.Watch(launched.session, launched.graph, launched.entries.data, launched.sources)
+        for command in ("claim 0 1", "step 0", "settle 0", "claim 0 2", "step 0"):
+            launched.session.event(command)
+            otherwise = watch.last().otherwise
+        self.assertEqual([line.rpartition(": ")[2] for line in otherwise], ["DestDot", "DestDot"])
 
     def launched(self, one):
         """Starts a session of an example."""
