@@ -190,8 +190,9 @@ class Buildctl(WithDaemon):
             done = self.client(*words, f"build-arg:LONG={'x' * 131050}")
         self.assertEqual((done.returncode, done.stdout), (1, b""))
         cause = (
-            b"error: failed to solve: InvalidArgument: frontend dockerfile.v0: the option build-arg:LONG has 131050 bytes, "
-            b"and an option has at most 131071 with its name: a file of a source has room for more\n"
+            b"error: failed to solve: InvalidArgument: frontend dockerfile.v0: "
+            b"the option build-arg:LONG has 131050 bytes, and an option has at most 131071 with its name: "
+            b"a file of a source has room for more\n"
         )
         self.assertEqual(done.stderr, cause)
 
