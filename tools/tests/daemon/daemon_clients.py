@@ -18,6 +18,7 @@ import tempfile
 import time
 import unittest
 
+from llbm_tools import paths
 from llbm_tools.daemon import daemon, debian_packages, go_building
 from tests import base
 from tests.base import ROOT, run
@@ -73,7 +74,7 @@ class WithDaemon(unittest.TestCase):
     """A test with a daemon that runs in a folder of its own."""
 
     def setUp(self):
-        for program in (daemon.PROGRAM, BUILDCTL, FRONTEND):
+        for program in (daemon.PROGRAM, paths.RULES, BUILDCTL, FRONTEND):
             if not program.is_file():
                 self.skipTest("there is no daemon with clients: `tools/daemon --clients` builds them")
         if base.llbm is None:
@@ -238,6 +239,7 @@ class Users(WithDaemon):
     def setUp(self):
         super().setUp()
         os.chmod(self.at, 0o711)
+        shutil.copy(paths.RULES, self.at)
         for name, program in self.programs.items():
             self.programs[name] = str(shutil.copy(program, self.at / name))
         self.who = NOBODY
