@@ -133,7 +133,8 @@ func TestWhatEndsOtherwiseInBuildKitIsAWarning(t *testing.T) {
 		"a directory over another one": {made, "action 0: /d/e has mode 0755 (here 0700): NestedDirectory"},
 		"over what an execution made":  {run.File(llb.Mkfile("/f", 0o600, nil)), anExecution + "\naction 0: /f has mode 0644 (here 0600): MkfileOver"},
 		"an action after one that is new": {
-			file.File(llb.Copy(other, "/b", "/new/", &llb.CopyInfo{CreateDestPath: true}).Mkfile("/a", 0o755, nil)), "action 1: /a has mode 0604 (here 0755): MkfileOver",
+			file.File(llb.Copy(other, "/b", "/new/", &llb.CopyInfo{CreateDestPath: true}).Mkfile("/a", 0o755, nil)),
+			"action 1: /a has mode 0604 (here 0755): MkfileOver",
 		},
 	} {
 		if got, err := d.warnings(t, one.state, client.SolveOpt{}); got != one.want || err != nil {

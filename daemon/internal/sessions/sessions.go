@@ -28,13 +28,14 @@ type Sessions struct {
 	manager *session.Manager
 	most    int
 	mu      sync.Mutex
+	briefly time.Duration
 	owners  map[string]uint32
 }
 
 // New keeps at most some sessions.
 func New(most int) (*Sessions, error) {
 	manager, err := session.NewManager()
-	return &Sessions{manager: manager, most: most, owners: map[string]uint32{}}, err
+	return &Sessions{manager: manager, most: most, briefly: briefly, owners: map[string]uint32{}}, err
 }
 
 // Serve keeps the session of a connection until either is closed.
@@ -68,7 +69,7 @@ func (s *Sessions) Serve(ctx context.Context, user uint32, conn net.Conn, header
 // Settle waits until a session is open and has answered once, or for a short time. A client that ends while its session still
 // opens prints an error of the protocol beside that of its build.
 func (s *Sessions) Settle(ctx context.Context, user uint32, id string) {
-	ctx, cancel := context.WithTimeout(ctx, briefly)
+	ctx, cancel := context.WithTimeout(ctx, s.briefly)
 	defer cancel()
 	if caller, err := s.Get(ctx, user, id); err == nil {
 		_, _ = grpc_health_v1.NewHealthClient(caller.Conn()).Check(ctx, &grpc_health_v1.HealthCheckRequest{})

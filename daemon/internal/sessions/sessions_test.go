@@ -69,6 +69,7 @@ func TestASessionThatSettlesHasAnswered(t *testing.T) {
 	}
 	ctx, cancel := context.WithCancel(context.Background())
 	defer cancel()
+	s.briefly = patience
 	here, there := net.Pipe()
 	var health answering
 	server := grpc.NewServer()

@@ -41,6 +41,7 @@ type input struct {
 type inputs struct {
 	all     []*input
 	byKey   map[sources.Key]*input
+	names   map[string]bool // that llbm knows sources by
 	build   *builds.Build
 	renamed bool
 	held    int // the bytes of texts that count as the build's
@@ -55,8 +56,8 @@ func sessionOf(b *builds.Build, source *pb.SourceOp) string {
 
 // gather fetches the local sources of a graph, all at once. Each is fetched once in a build.
 func (s *Solver) gather(ctx context.Context, b *builds.Build, g *graph.Graph, p *progress) (*inputs, error) {
-	in := &inputs{byKey: map[sources.Key]*input{}, build: b}
-	names, bases := map[string]bool{}, bases(g)
+	in := &inputs{byKey: map[sources.Key]*input{}, names: map[string]bool{}, build: b}
+	bases := bases(g)
 	for v := range g.Vertices {
 		source := g.Vertices[v].Op.GetSource()
 		if source == nil {
@@ -69,26 +70,15 @@ func (s *Solver) gather(ctx context.Context, b *builds.Build, g *graph.Graph, p 
 		if err != nil {
 			return nil, p.failed(v, err)
 		}
-		session := sessionOf(b, source)
-		key := request.Key(session)
-		one, ok := in.byKey[key]
-		if !ok {
-			one = &input{given: request.Name, request: request, session: session, key: key}
-			if names[request.Name] || !plain.MatchString(request.Name) {
-				one.given = ""
-			}
-			names[request.Name] = true
-			in.byKey[key] = one
-			in.all = append(in.all, one)
-		}
+		one := in.of(request, sessionOf(b, source))
 		one.vertices = append(one.vertices, v)
 		one.base = one.base || bases[v]
 	}
 	group, ctx := errgroup.WithContext(ctx)
 	for i, one := range in.all {
 		for n := i; one.given == ""; n++ {
-			if name := fmt.Sprintf("source-%d", n); !names[name] {
-				names[name] = true
+			if name := fmt.Sprintf("source-%d", n); !in.names[name] {
+				in.names[name] = true
 				one.given, in.renamed = name, true
 			}
 		}
@@ -102,6 +92,22 @@ func (s *Solver) gather(ctx context.Context, b *builds.Build, g *graph.Graph, p 
 		return nil, err
 	}
 	return in, nil
+}
+
+// of returns the source of a request to a session. The first one of a name keeps it, if it is one that llbm can be given.
+func (in *inputs) of(request sources.Request, session string) *input {
+	key := request.Key(session)
+	if one, ok := in.byKey[key]; ok {
+		return one
+	}
+	one := &input{given: request.Name, request: request, session: session, key: key}
+	if in.names[request.Name] || !plain.MatchString(request.Name) {
+		one.given = ""
+	}
+	in.names[request.Name] = true
+	in.byKey[key] = one
+	in.all = append(in.all, one)
+	return one
 }
 
 // fetch returns a source of a build with a hold of it.

@@ -6,7 +6,6 @@ import (
 	"context"
 	"io"
 	"log"
-	"os"
 	"slices"
 
 	"github.com/moby/buildkit/solver/errdefs"
@@ -46,8 +45,8 @@ type Solver struct {
 // New returns a solver with at most some processes of the program at once.
 func New(program *machine.Program, workers, atOnce int, open *sessions.Sessions, keeper *sources.Keeper, folder *kept.Folder) *Solver {
 	return &Solver{
-		Program: program, Workers: workers, Sessions: open, Keeper: keeper, Kept: folder, slots: make(chan struct{}, atOnce),
-		comparisons: make(chan struct{}, atOnce),
+		Program: program, Workers: workers, Sessions: open, Keeper: keeper, Kept: folder,
+		slots: make(chan struct{}, atOnce), comparisons: make(chan struct{}, atOnce),
 	}
 }
 
@@ -159,49 +158,16 @@ func (s *Solver) run(
 	return &results.Result{Tree: t}, nil
 }
 
-// entriesOf returns a file with what llbm reads of a definition.
-func entriesOf(def *pb.Definition) (*os.File, error) {
-	entries, err := graph.Entries(def)
-	if err != nil {
-		return nil, err
-	}
-	file, err := machine.InMemory("definition")
-	if err != nil {
-		return nil, err
-	}
-	if _, err := file.Write(entries); err != nil {
-		_ = file.Close()
-		return nil, err
-	}
-	return file, nil
-}
-
 // session does the events that llbm chooses, up to the end or to the first vertex that fails. The record is returned if it
 // is kept.
 func (s *Solver) session(
 	ctx context.Context, b *builds.Build, g *graph.Graph, def *pb.Definition, texts []machine.Source, p *progress, c *comparing,
 ) (tree.Tree, []byte, error) {
-	file, err := entriesOf(def)
+	run, end, err := s.openSession(ctx, b, def, texts)
 	if err != nil {
 		return nil, nil, err
 	}
-	defer file.Close()
-	leave, err := s.slot(ctx)
-	if err != nil {
-		return nil, nil, err
-	}
-	run, err := s.Program.Step(ctx, file, texts, s.Workers, &b.Written)
-	if err != nil {
-		leave()
-		return nil, nil, err
-	}
-	// Nobody waits for the end of a process that has said all.
-	defer func() {
-		go func() {
-			run.Stop()
-			leave()
-		}()
-	}()
+	defer end()
 	var record bytes.Buffer
 	for {
 		event, more, err := run.Next()
@@ -227,6 +193,38 @@ func (s *Solver) session(
 		err = c.refusal
 	}
 	return t, record.Bytes(), err
+}
+
+// openSession begins a session once one more process of the program may run. The caller has to end it by the function that it returns.
+func (s *Solver) openSession(ctx context.Context, b *builds.Build, def *pb.Definition, texts []machine.Source) (*machine.Run, func(), error) {
+	entries, err := graph.Entries(def)
+	if err != nil {
+		return nil, nil, err
+	}
+	file, err := machine.InMemory("definition")
+	if err != nil {
+		return nil, nil, err
+	}
+	defer file.Close()
+	if _, err := file.Write(entries); err != nil {
+		return nil, nil, err
+	}
+	leave, err := s.slot(ctx)
+	if err != nil {
+		return nil, nil, err
+	}
+	run, err := s.Program.Step(ctx, file, texts, s.Workers, &b.Written)
+	if err != nil {
+		leave()
+		return nil, nil, err
+	}
+	// Nobody waits for the end of a process that has said all.
+	return run, func() {
+		go func() {
+			run.Stop()
+			leave()
+		}()
+	}, nil
 }
 
 // keep keeps a definition, its run and its sources. A source that is too long for a text by value has tokens.

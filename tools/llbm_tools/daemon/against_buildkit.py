@@ -1,22 +1,23 @@
-"""Compares BuildKit's own daemon with llbm, with the model of its rules, and with what the tools say of them.
+"""Compares BuildKit's own daemon with llbmd, and with the model of its rules, on definitions and Dockerfiles.
 
 In: a daemon at --address ADDRESS, and `buildctl` (--buildctl PROGRAM, else the one on PATH); this program writes the
 files of sources with their owners, so it runs as root, as the daemon does. With --start it builds the daemon and
 buildctl from Debian's packages in the cache folder, or --packages FOLDER, and runs the daemon, with a state of its own,
-until it ends. The definitions are those of examples/, the least examples of the rules, and --count N random ones of
-each kind (plain, wild, of many layers, with filters), or as many as --seconds N allow, which depend only on --seed.
-Those that BuildKit's daemon dies of are left out, and so are stored ones after 300 seconds. The program is --llbm
-PROGRAM, or that of the repository.
+until it ends. llbmd is --llbmd PROGRAM, or out/llbmd, with `llbm-rules` and `dockerfile-frontend` beside it, as
+`tools/daemon --clients` leaves them; it runs --llbm PROGRAM, or that of the repository. The definitions are those of
+examples/, the least examples of the rules, and --count N random ones of each kind (plain, wild, of many layers, with
+filters); then there are N random Dockerfiles without RUN. They depend only on --seed. Definitions that BuildKit's
+daemon dies of are left out.
 
-Each definition is run by the daemon and by the program, as it is and rewritten by `adopt --like-buildkit`, on the same
-trees, with the owner 0:0, as BuildKit's client sends them. A result is a tree without its root, or a failure.
+Each is built by both daemons on the same trees, with the owner 0:0, as BuildKit's client sends them. A result is a tree
+without its root, or a failure.
 
-Out: on standard output a line for each definition that ends otherwise without a note of `lint --like-buildkit` (not
-counting those of owners), or otherwise than the model says (not counting those with an execution), with the seed that
-makes it; then the counts. --keep FOLDER stores such definitions and their trees.
-With --start the last line is `N passed, M failed, K skipped`; if the packages are not there, or the daemon can't be
-built, can't be run here or does not copy and merge, since the host forbids mounts for example, a line says so, and that
-is all: one skipped.
+Out: on standard output a line for each definition that ends otherwise without a warning that names a rule, or otherwise
+than the model says (not counting those with an execution), and for each Dockerfile that ends otherwise at all, with the
+seed that makes it; then the counts. --keep FOLDER stores such definitions, Dockerfiles and their trees. With --start
+the last line is `N passed, M failed, K skipped`; if the packages are not there, or the daemon can't be built, can't be
+run here or does not copy and merge, since the host forbids mounts for example, or llbmd is not there, a line says so,
+and that is all: one skipped.
 
 Exit status: 0 there was none, or all is skipped; 1 there was one; 2 the command line is refused, or the daemon does not
 answer; 3 a read or a write failed.
@@ -25,35 +26,35 @@ answer; 3 a read or a write failed.
 import argparse
 import collections
 import concurrent.futures
+import contextlib
 import itertools
-import math
 import os
 import pathlib
 import shutil
 import subprocess
 import sys
 import tempfile
-import time
-from collections.abc import Iterable, Iterator
+from collections.abc import Iterator
 from typing import NamedTuple
 
 from llbm_tools import common
-from llbm_tools.daemon import debian_packages, random_definitions, started_daemon
-from llbm_tools.daemon.runs import MOST_SECONDS, Daemon, DaemonBusy, DaemonLost
+from llbm_tools.daemon import debian_packages, random_definitions, random_dockerfiles, runs, started_daemon
+from llbm_tools.daemon import daemon as daemons
+from llbm_tools.daemon.runs import MOST_SECONDS, Daemon, DaemonBusy, DaemonLost, Ran
 from llbm_tools.definitions import adopting
 from llbm_tools.llb import findings
 from llbm_tools.paths import ROOT
-from llbm_tools.rules import examples, notes
 from llbm_tools.rules import comparison as comparing
+from llbm_tools.rules import examples, notes, program
 from llbm_tools.streams import Refused, exit_status, program_at
 from llbm_tools.trees import maps
 from llbm_tools.trees.maps import Tree
 
 ALL_OPTIONS = adopting.Settings(frozenset(adopting.DROPPED), (), adopting.RunNothing.REFUSED)
-LIKE = adopting.Settings(like_buildkit=True)
-NOT_MODELLED = {"Execution", "Attribute", "SessionID"}
-QUIET = {"LocalOwner"}
-MOST_OF_STORED = 300
+NOT_MODELLED = {"Execution", notes.ATTRIBUTE, "SessionID"}
+FRONTEND = "dockerfile-frontend"
+# The kinds of notes that a warning can name: rules, and what has no rule, such as executions.
+NAMED = ("rule", "other")
 AT_ONCE = 4
 
 Lines = list[bytes] | None
@@ -65,10 +66,11 @@ class Case(NamedTuple):
     name: str
     data: bytes
     sources: dict[str, Tree]
+    is_dockerfile: bool = False
 
 
 class Verdict(NamedTuple):
-    """How a definition ended: what is counted, and lines about what nothing announced."""
+    """How a case ended: what is counted, and lines about what nothing announced."""
 
     counts: list[str]
     lines: list[str]
@@ -103,27 +105,17 @@ def least_cases() -> Iterator[Case]:
         yield Case(f"{one.rule}: {one.shows}", one.data, one.sources)
 
 
-def random_cases(numbers: Iterable[int], seed: int) -> Iterator[Case]:
-    """Yields random definitions of each kind that the program accepts."""
-    for number in numbers:
-        for kind in random_definitions.KINDS:
-            name = f"{kind} {seed} {number}"
-            one = random_definitions.make(name, kind)
-            if not findings.findings_of(one.data):
-                yield Case(name, one.data, one.sources)
-
-
-def kills(data: bytes) -> bool:
-    """Returns whether BuildKit's daemon dies of a definition."""
-    return any(one.kind == notes.BREAKS for one in notes.notes_of(data, [], True))
-
-
-def written(sources: dict[str, Tree], folder: str) -> dict[str, str]:
-    """Writes the texts of trees into a folder, and returns their files by name."""
-    places = {name: os.path.join(folder, str(number)) for number, name in enumerate(sources)}
-    for name, place in places.items():
-        pathlib.Path(place).write_bytes(b"".join(maps.lines_of(sources[name])))
-    return places
+def random_cases(count: int, seed: int) -> Iterator[Case]:
+    """Yields random definitions of each kind that the program accepts, and random Dockerfiles."""
+    for number, kind in itertools.product(range(count), random_definitions.KINDS):
+        name = f"{kind} {seed} {number}"
+        one = random_definitions.make(name, kind)
+        if not findings.findings_of(one.data):
+            yield Case(name, one.data, one.sources)
+    for number in range(count):
+        name = f"dockerfile {seed} {number}"
+        file = random_dockerfiles.make(name)
+        yield Case(name, file.dockerfile, {"context": file.context}, True)
 
 
 def modelled(data: bytes, sources: dict[str, Tree]) -> Lines:
@@ -133,128 +125,143 @@ def modelled(data: bytes, sources: dict[str, Tree]) -> Lines:
 
 
 class Comparison:
-    """The daemon and the program, side by side."""
+    """BuildKit's daemon and llbmd, side by side."""
 
-    def __init__(self, daemon: Daemon, program: str) -> None:
-        self.daemon = daemon
-        self.program = program
-
-    def here(self, data: bytes, sources: dict[str, Tree]) -> Lines:
-        """Returns what the program makes of a definition."""
-        with tempfile.TemporaryDirectory(prefix="llbm-against-") as folder:
-            words = [f"{name}={place}" for name, place in written(sources, folder).items()]
-            done = subprocess.run(
-                [self.program, "run", *words], input=data, capture_output=True, timeout=MOST_SECONDS
-            )
-        if done.returncode not in (0, 1):
-            raise Refused(done.stderr.decode("utf-8", "backslashreplace").strip())
-        return done.stdout.splitlines(keepends=True)[1:] if done.returncode == 0 else None
+    def __init__(self, theirs: Daemon, ours: Daemon) -> None:
+        self.theirs = theirs
+        self.ours = ours
+        self.rules = {one["name"] for one in program.answers("texts") if one["kind"] in NAMED}
 
     def compare(self, case: Case) -> Verdict:
-        """Runs a definition on both, as it is and adopted."""
-        sources = {name: without_owners(tree) for name, tree in case.sources.items()}
+        """Builds a definition or a Dockerfile by both."""
         try:
-            return self.compared(case, sources)
+            return self.dockerfile(case) if case.is_dockerfile else self.definition(case)
         except subprocess.TimeoutExpired:
             return Verdict([f"left out: no answer in {MOST_SECONDS} seconds"], [])
         except DaemonBusy:
-            return Verdict(["left out: the daemon was too busy"], [])
+            return Verdict(["left out: a daemon was too busy"], [])
 
-    def compared(self, case: Case, sources: dict[str, Tree]) -> Verdict:
-        """Does that; a run that takes too long raises TimeoutExpired, and a busy daemon DaemonBusy."""
-        if kills(case.data):
+    def dockerfile(self, case: Case) -> Verdict:
+        """Builds a Dockerfile by both."""
+        there, here = (one.run_dockerfile(case.data, case.sources["context"]) for one in (self.theirs, self.ours))
+        verdict = self.verdict(case.name, there, here, "Dockerfiles")
+        if lines_of(there.tree) == lines_of(here.tree) or verdict.lines:
+            return verdict
+        return verdict._replace(lines=[f"{case.name}: ends otherwise: {', '.join(sorted(self.named(here)))}"])
+
+    def definition(self, case: Case) -> Verdict:
+        """Builds a definition by both."""
+        found = notes.notes_of(case.data, [], True)
+        if any(one.kind == notes.BREAKS for one in found):
             return Verdict(["left out: the daemon dies of it"], [])
-        first = self.run(case.name, case.data, sources, "")
-        adopted = adopting.adopt(case.data, LIKE)
-        if not adopted.changes:
-            return Verdict([*first.counts, *(f"adopted, {one}" for one in first.counts)], first.lines)
-        if kills(adopted.data):
-            return Verdict([*first.counts, "adopted, left out: the daemon dies of it"], first.lines)
-        second = self.run(case.name, adopted.data, sources, "adopted, ")
-        return Verdict(first.counts + second.counts, first.lines + second.lines)
+        sources = {name: without_owners(tree) for name, tree in case.sources.items()}
+        there, here = self.theirs.run(case.data, sources), self.ours.run(case.data, sources)
+        verdict = self.verdict(case.name, there, here, "definitions")
+        if not NOT_MODELLED & {one.name for one in found}:
+            verdict.counts.append("definitions of the model")
+            if modelled(case.data, sources) != lines_of(there.tree):
+                verdict.counts.append("definitions otherwise than the model")
+                verdict.lines.append(f"{case.name}: ends otherwise than the model: {there.said or 'another tree'}")
+        return verdict
 
-    def run(self, name: str, data: bytes, sources: dict[str, Tree], what: str) -> Verdict:
-        """Runs a definition on both."""
-        ran = self.daemon.run(data, sources)
-        there, here = lines_of(ran.tree), self.here(data, sources)
-        noted = {one.name for one in notes.notes_of(data, [], True)} - QUIET
-        counts, lines = [f"{what}all"], []
-        if there != here:
-            counts.append(f"{what}otherwise")
-            if not noted:
-                counts.append(f"{what}otherwise without a note")
-                lines.append(f"{name}: {what}ends otherwise without a note: {ran.said or 'another tree'}")
-        if not noted & NOT_MODELLED and modelled(data, sources) != there:
-            counts.append(f"{what}otherwise than the model")
-            lines.append(f"{name}: {what}ends otherwise than the model: {ran.said or 'another tree'}")
+    def named(self, ran: Ran) -> set[str]:
+        """Returns the rules that warnings named."""
+        return self.rules & ran.names
+
+    def verdict(self, name: str, there: Ran, here: Ran, what: str) -> Verdict:
+        """Returns how a build ended on both."""
+        counts, lines = [what], []
+        is_same, is_warned = lines_of(there.tree) == lines_of(here.tree), bool(self.named(here))
+        if is_same and is_warned:
+            counts.append(f"{what} that end alike, with a warning")
+        if not is_same:
+            counts.append(f"{what} otherwise")
+        if not is_same and not is_warned:
+            counts.append(f"{what} otherwise without a warning")
+            said = there.said or here.said or "another tree"
+            lines.append(f"{name}: ends otherwise without a warning: {said}")
         return Verdict(counts, lines)
 
 
 def keep(folder: str | None, case: Case) -> None:
-    """Stores a definition and its trees in a new folder, if a folder is given."""
+    """Stores a case and its trees in a new folder, if a folder is given."""
     if folder is None:
         return
     place = pathlib.Path(folder, "".join(one if one.isalnum() else "-" for one in case.name))
     place.mkdir(parents=True, exist_ok=True)
-    (place / "definition").write_bytes(case.data)
+    (place / ("Dockerfile" if case.is_dockerfile else "definition")).write_bytes(case.data)
     for name, tree in case.sources.items():
         (place / f"{name}.tree").write_bytes(b"".join(maps.lines_of(tree)))
 
 
-def verdicts(comparison: Comparison, options: argparse.Namespace) -> Iterator[tuple[Case, Verdict]]:
+def verdicts(one: Comparison, options: argparse.Namespace) -> Iterator[tuple[Case, Verdict]]:
     """Yields all cases with how they ended. The random ones, whose sources have names of their own, are run in
-    parallel, until the time is over; sources of one name would share a transfer."""
-    end = time.monotonic() + MOST_OF_STORED
+    parallel; sources of one name would share a transfer."""
     for case in [*stored_cases(), *least_cases()]:
-        if time.monotonic() < end:
-            yield case, comparison.compare(case)
-    end = time.monotonic() + (options.seconds or math.inf)
-    cases = random_cases(itertools.count() if options.seconds else range(options.count), options.seed)
+        yield case, one.compare(case)
+    cases = random_cases(options.count, options.seed)
     with concurrent.futures.ThreadPoolExecutor(options.jobs) as pool:
-        while time.monotonic() < end and (some := list(itertools.islice(cases, AT_ONCE * options.jobs))):
-            yield from zip(some, pool.map(comparison.compare, some))
+        while some := list(itertools.islice(cases, AT_ONCE * options.jobs)):
+            yield from zip(some, pool.map(one.compare, some))
 
 
-def compare_all(daemon: Daemon, options: argparse.Namespace) -> tuple[int, int]:
-    """Compares all definitions, prints what was found, and returns how many had none, and how many had something."""
-    comparison = Comparison(daemon, program_at(options.llbm))
+def compare_all(theirs: Daemon, ours: Daemon, options: argparse.Namespace) -> tuple[int, int]:
+    """Compares all cases, prints what was found, and returns how many had none, and how many had something."""
     counts: collections.Counter[str] = collections.Counter()
     cases, wrong = 0, 0
     try:
-        for case, verdict in verdicts(comparison, options):
+        for case, verdict in verdicts(Comparison(theirs, ours), options):
             counts.update(verdict.counts)
-            cases += "all" in verdict.counts
+            cases += not verdict.counts[0].startswith("left out")
             wrong += bool(verdict.lines)
             for line in verdict.lines:
                 print(common.printable(line), flush=True)
             if verdict.lines:
                 keep(options.keep, case)
     except DaemonLost as fault:
-        raise Refused(f"the daemon died: {fault}") from fault
+        raise Refused(f"a daemon died: {fault}") from fault
     for what in sorted(counts):
         print(f"{what}: {counts[what]:,}")
     return cases - wrong, wrong
 
 
+@contextlib.contextmanager
+def ours(options: argparse.Namespace, buildctl: str) -> Iterator[Daemon]:
+    """Runs llbmd, or raises NoDaemon."""
+    frontend = options.llbmd.with_name(FRONTEND)
+    for place in (options.llbmd, frontend, options.llbmd.with_name(program.NAME)):
+        if not place.is_file():
+            raise started_daemon.NoDaemon(f"there is no program {place}: `tools/daemon --clients` builds it")
+    with tempfile.TemporaryDirectory(prefix="l") as made:
+        words = ["-frontend", f"{runs.FRONTEND}={frontend}"]
+        folder = pathlib.Path(made)
+        with started_daemon.llbmd(options.llbmd, program_at(options.llbm), folder, *words) as (address, _):
+            yield Daemon(buildctl, address)
+
+
 def against(options: argparse.Namespace) -> int:
-    """Compares all definitions with the daemon that is given, or with one that is started, and returns the status."""
+    """Compares all cases with the daemon that is given, or with one that is started, and returns the status."""
     common.check_open(sys.stdout, "standard output")
     if options.start:
         return against_started(options)
     buildctl = shutil.which(options.buildctl)
-    daemon = Daemon(buildctl or "", options.address)
-    if buildctl is None or not daemon.answers():
+    theirs = Daemon(buildctl or "", options.address, started_daemon.NO_CACHE)
+    if buildctl is None or not theirs.answers():
         cause = f"no daemon answers: {options.address}" if buildctl else f"there is no such program: {options.buildctl}"
         raise Refused(cause)
-    return int(compare_all(daemon, options)[1] > 0)
+    try:
+        with ours(options, buildctl) as daemon:
+            return int(compare_all(theirs, daemon, options)[1] > 0)
+    except started_daemon.NoDaemon as fault:
+        raise Refused(str(fault)) from fault
 
 
 def against_started(options: argparse.Namespace) -> int:
-    """Compares all definitions with a daemon of this program's own, prints counts, and returns the status."""
+    """Compares all cases with a daemon of this program's own, prints counts, and returns the status."""
     try:
-        with started_daemon.started(options.packages) as daemon:
-            passed, failed = compare_all(daemon, options)
-    except started_daemon.NoDaemon as fault:
+        with started_daemon.started(options.packages) as theirs, ours(options, theirs.command[0]) as daemon:
+            passed, failed = compare_all(theirs, daemon, options)
+    except (started_daemon.NoDaemon, program.Missing) as fault:
         print(f"skipped: {fault}\n0 passed, 0 failed, 1 skipped")
         return 0
     print(f"{passed} passed, {failed} failed, 0 skipped")
@@ -263,19 +270,19 @@ def against_started(options: argparse.Namespace) -> int:
 
 def parse_options() -> argparse.Namespace:
     """Parses the command line."""
-    parser = argparse.ArgumentParser(description="Compares BuildKit's daemon with llbm.", allow_abbrev=False)
+    parser = argparse.ArgumentParser(description="Compares BuildKit's daemon with llbmd.", allow_abbrev=False)
     add = parser.add_argument
     which = parser.add_mutually_exclusive_group(required=True)
     which.add_argument("--address", metavar="ADDRESS", help="the daemon's address, such as unix:///run/buildkitd.sock")
     which.add_argument("--start", action="store_true", help="build the daemon, and run one")
     add("--packages", metavar="FOLDER", type=pathlib.Path, default=debian_packages.FOLDER, help="where packages are")
     add("--buildctl", metavar="PROGRAM", default="buildctl", help="BuildKit's client")
+    add("--llbmd", metavar="PROGRAM", type=pathlib.Path, default=daemons.PROGRAM, help="the daemon llbmd")
     add("--llbm", metavar="PROGRAM", help="the program llbm")
-    add("--count", metavar="N", type=int, default=100, help="how many random definitions of each kind")
-    add("--seconds", metavar="N", type=int, help="for how long random definitions are compared, instead of --count")
-    add("--seed", metavar="N", type=int, default=1, help="what the random definitions depend on")
-    add("--jobs", metavar="N", type=int, default=2, help="how many definitions are run at once")
-    add("--keep", metavar="FOLDER", help="where definitions with a finding are stored")
+    add("--count", metavar="N", type=int, default=100, help="how many random ones of each kind")
+    add("--seed", metavar="N", type=int, default=1, help="what the random ones depend on")
+    add("--jobs", metavar="N", type=int, default=2, help="how many are built at once")
+    add("--keep", metavar="FOLDER", help="where those with a finding are stored")
     return parser.parse_args()
 
 

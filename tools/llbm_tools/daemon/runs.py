@@ -1,11 +1,14 @@
-"""Runs definitions with BuildKit's own daemon, by its command `buildctl`."""
+"""Runs definitions and Dockerfiles with a daemon, BuildKit's own or llbmd, by BuildKit's command `buildctl`."""
 
 import contextlib
+import itertools
 import os
 import pathlib
+import re
 import subprocess
 import tarfile
 import tempfile
+from collections.abc import Callable
 from typing import NamedTuple
 
 from llbm_tools.trees import maps
@@ -18,6 +21,11 @@ BUSY = ("no active session", "deadline exceeded", "context canceled", "code = Ca
 LOST = ("connection refused", "error reading from server", "connection reset", "EOF", "no such file or directory\"\n")
 
 
+# A warning of what ends otherwise ends with names, and can have more paths.
+WARNED = re.compile(r"^#\d+ WARN: .*: ([A-Z]\w+(?:, [A-Z]\w+)*)(?:, and \d+ more)?$", re.M)
+FRONTEND = "dockerfile.v0"
+
+
 class DaemonLost(Exception):
     """The daemon does not answer; the message is the last line that buildctl printed."""
 
@@ -27,10 +35,12 @@ class DaemonBusy(Exception):
 
 
 class Ran(NamedTuple):
-    """How a definition ended: its tree, or None and the last line that buildctl printed."""
+    """How a build ended: its tree, or None and the last line that buildctl printed, and the names at the ends of
+    warnings, among them those of rules."""
 
     tree: Tree | None
     said: str = ""
+    names: frozenset[str] = frozenset()
 
 
 def write_tree(tree: Tree, place: bytes) -> None:
@@ -67,11 +77,19 @@ def tree_in(archive: str) -> Tree:
     return tree
 
 
-class Daemon:
-    """BuildKit's daemon at an address."""
+def names_in(text: str) -> frozenset[str]:
+    """Returns the names at the ends of the warnings that buildctl printed."""
+    return frozenset(name for names in WARNED.findall(text) for name in names.split(", "))
 
-    def __init__(self, buildctl: str, address: str) -> None:
+
+class Daemon:
+    """A daemon at an address; each build has the options of `words`."""
+
+    numbers = itertools.count()
+
+    def __init__(self, buildctl: str, address: str, *words: str) -> None:
         self.command = [buildctl, "--addr", address, "--timeout", str(MOST_SECONDS)]
+        self.words = words
 
     def answers(self) -> bool:
         """Returns whether the daemon answers."""
@@ -79,37 +97,56 @@ class Daemon:
         return done.returncode == 0
 
     def run(self, data: bytes, sources: dict[str, Tree]) -> Ran:
-        """Runs a definition on the trees of its sources, again if it was too busy.
+        """Runs a definition on the trees of its sources."""
+        return self.again(sources, lambda places: (data, local_words(places)))
 
-        Nothing comes from the daemon's cache.
-        """
+    def run_dockerfile(self, dockerfile: bytes, context: Tree) -> Ran:
+        """Runs a Dockerfile on its context."""
+        file: Tree = {(): maps.ROOT, (b"Dockerfile",): Entry(0o644, 0, 0, dockerfile.hex().encode("ascii"))}
+
+        def words_of(places: dict[str, str]) -> tuple[bytes, list[str]]:
+            # What BuildKit keeps of a directory has its name, so each build has names of its own.
+            number = next(self.numbers)
+            keys = {f"{name}key": f"{name}-{os.getpid()}-{number}" for name in places}
+            named = {keys[f"{name}key"]: place for name, place in places.items()}
+            options = [word for key, value in keys.items() for word in ("--opt", f"{key}={value}")]
+            return b"", ["--frontend", FRONTEND, *options, *local_words(named)]
+
+        return self.again({"context": context, "dockerfile": file}, words_of)
+
+    def again(self, trees: dict[str, Tree], given: Callable[[dict[str, str]], tuple[bytes, list[str]]]) -> Ran:
+        """Builds with directories of trees, again if the daemon was too busy."""
         for _ in range(TRIES - 1):
             with contextlib.suppress(DaemonBusy):
-                return self.once(data, sources)
-        return self.once(data, sources)
+                return self.once(trees, given)
+        return self.once(trees, given)
 
-    def once(self, data: bytes, sources: dict[str, Tree]) -> Ran:
-        """Runs a definition, once."""
+    def once(self, trees: dict[str, Tree], given: Callable[[dict[str, str]], tuple[bytes, list[str]]]) -> Ran:
+        """Builds with directories of trees, once."""
         with tempfile.TemporaryDirectory(prefix="llbm-against-") as folder:
-            places = {name: os.path.join(folder, f"source{number}") for number, name in enumerate(sources)}
+            places = {name: os.path.join(folder, f"source{number}") for number, name in enumerate(trees)}
             for name, place in places.items():
-                write_tree(sources[name], os.fsencode(place))
-            return self.built(data, places, os.path.join(folder, "result.tar"))
+                write_tree(trees[name], os.fsencode(place))
+            return self.built(*given(places), os.path.join(folder, "result.tar"))
 
-    def built(self, data: bytes, places: dict[str, str], archive: str) -> Ran:
-        """Runs a definition on directories."""
-        words = [word for name, place in places.items() for word in ("--local", f"{name}={place}")]
+    def built(self, data: bytes, words: list[str], archive: str) -> Ran:
+        """Builds a definition, or what the words say."""
         output = f"type=tar,dest={archive}"
         done = subprocess.run(
-            [*self.command, "build", "--no-cache", "--progress=plain", *words, "--output", output],
+            [*self.command, "build", "--progress=plain", *self.words, *words, "--output", output],
             input=data, capture_output=True, timeout=MOST_SECONDS,
         )  # fmt: skip
-        if done.returncode == 0:
-            return Ran(tree_in(archive))
         text = done.stderr.decode("utf-8", "replace")
+        if done.returncode == 0:
+            return Ran(tree_in(archive), "", names_in(text))
         last = text.strip().splitlines()[-1:]
         if any(word in "".join(last) for word in LOST) and not self.answers():
             raise DaemonLost("".join(last))
         if any(word in "".join(last) for word in BUSY):
             raise DaemonBusy("".join(last))
-        return Ran(None, "".join(last))
+        return Ran(None, "".join(last), names_in(text))
+
+
+def local_words(places: dict[str, str]) -> list[str]:
+    """Returns the words for local directories."""
+    return [word for name, place in places.items() for word in ("--local", f"{name}={place}")]

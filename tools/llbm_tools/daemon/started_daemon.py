@@ -1,4 +1,5 @@
-"""BuildKit's own daemon, built from Debian's packages if it is not there, and run until the comparison ends."""
+"""BuildKit's own daemon, built from Debian's packages if it is not there, and llbmd, both run until the comparison ends.
+"""
 
 import contextlib
 import os
@@ -17,6 +18,7 @@ from llbm_tools.rules import examples
 MEMORY = pathlib.Path("/dev/shm")
 ENOUGH = 1 << 30
 SPACE = " \t*"
+NO_CACHE = "--no-cache"
 
 
 class NoDaemon(Exception):
@@ -66,6 +68,24 @@ def started(packages: pathlib.Path) -> Iterator[Daemon]:
             address, _ = stack.enter_context(buildkitd.running(folder))
         except (debian_packages.Missing, NotBuilt, OSError) as fault:
             raise NoDaemon(f"buildkitd does not start here: {fault}") from fault
-        daemon = Daemon(str(OUT / "buildctl"), address)
+        daemon = Daemon(str(OUT / "buildctl"), address, NO_CACHE)
         check(daemon)
         yield daemon
+
+
+@contextlib.contextmanager
+def llbmd(program: pathlib.Path, llbm: str, folder: pathlib.Path, *words: str) -> Iterator[tuple[str, int]]:
+    """Runs llbmd with its state in a folder, whose path has to be short, and yields its address and its process."""
+    address = f"unix://{folder}/s"
+    line = [str(program), "-addr", address, "-llbm", llbm, "-store", str(folder), *words]
+    with (
+        open(folder / "printed", "wb") as printed,
+        subprocess.Popen(
+            line, env={**os.environ, "TMPDIR": str(folder)}, stdin=subprocess.DEVNULL, stdout=printed, stderr=printed
+        ) as child,
+    ):
+        try:
+            buildkitd.wait_for(address, child)
+            yield address, child.pid
+        finally:
+            child.terminate()

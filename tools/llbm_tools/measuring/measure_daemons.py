@@ -45,7 +45,7 @@ from collections.abc import Iterator
 from typing import NamedTuple
 
 from llbm_tools import common
-from llbm_tools.daemon import buildkitd, daemon, debian_packages, go_building
+from llbm_tools.daemon import buildkitd, daemon, debian_packages, go_building, runs, started_daemon
 from llbm_tools.daemon.go_building import OUT
 from llbm_tools.llb.messages import definition_of, edge, encoded, made
 from llbm_tools.measuring import bigdef
@@ -300,22 +300,6 @@ def rows_of(costs: dict[str, dict[str, list[Cost]]]) -> Iterator[str]:
         yield "| " + " | ".join(cells) + " |"
 
 
-@contextlib.contextmanager
-def ours(options: argparse.Namespace, folder: pathlib.Path) -> Iterator[Daemon]:
-    """Runs llbmd with its state in a folder."""
-    words = [str(options.daemon), "-addr", str(folder / "s"), "-llbm", options.llbm, "-store", str(folder)]
-    words += ["-frontend", f"dockerfile.v0={FRONTEND}"]
-    with open(folder / "printed", "wb") as printed, subprocess.Popen(
-        words, env={**os.environ, "TMPDIR": str(folder)}, stdin=subprocess.DEVNULL, stdout=printed, stderr=printed
-    ) as child:  # fmt: skip
-        try:
-            address = f"unix://{folder}/s"
-            buildkitd.wait_for(address, child)
-            yield Daemon(OURS, address, child.pid)
-        finally:
-            child.terminate()
-
-
 def measure(options: argparse.Namespace) -> int:
     """Prints the table, and returns the exit status."""
     options.llbm = program_at(options.llbm)
@@ -328,7 +312,9 @@ def measure(options: argparse.Namespace) -> int:
             folder = pathlib.Path(stack.enter_context(tempfile.TemporaryDirectory(prefix="m", dir=options.folder)))
             for name in (OURS, THEIRS):
                 (folder / name).mkdir()
-            daemons = [stack.enter_context(ours(options, folder / OURS))]
+            words = ["-frontend", f"{runs.FRONTEND}={FRONTEND}"]
+            running = started_daemon.llbmd(options.daemon, options.llbm, folder / OURS, *words)
+            daemons = [Daemon(OURS, *stack.enter_context(running))]
             if os.geteuid() == 0:
                 buildkitd.build(options.packages)
                 daemons.append(Daemon(THEIRS, *stack.enter_context(buildkitd.running(folder / THEIRS))))

@@ -7,8 +7,8 @@ library, and `tools/bindings`, which tries it in each language that is there; `t
 browser, Node and `wasm-opt` are there; on each of the two programs that `rt ci` left in crates/llbm/out, or on --llbm
 PROGRAM alone: `tools/transcripts` on the files of tests/ and the pages of the examples; on the first of them
 `tools/daemon-tests`, which builds the daemon and skips all if its packages are not there and can't be had,
-`tools/against-buildkit --start`, which compares llbm with BuildKit's own daemon for a minute and is skipped where that
-can't be built or run, `tools/test`, which tests the built daemon too, `tools/page-tests` on the page, if it was made,
+`tools/against-buildkit --start`, which compares llbmd with BuildKit's own daemon and is skipped where that can't be
+built or run, `tools/test`, which tests the built daemon too, `tools/page-tests` on the page, if it was made,
 `tools/transcripts` on the pages with commands (README.md, and docs/ARCHITECTURE.md, BUILDKIT.md, FORMATS.md and
 TOOLS.md), and `tools/fuzz` on a fixed number of cases or on --fuzz N, with the seed 1 or --seed N.
 
@@ -61,8 +61,8 @@ TOO_LONG = {"chain::a_chain_of_65535_vertices_is_evaluated_run_and_walked", "cro
 # How many cases of `tools/fuzz` are run: about a minute of the proved program, and half a minute of the one without proof.
 CASES = 8000
 FEWER = 500
-# How long random definitions are compared with BuildKit's daemon; the stored ones take about as long.
-BESIDE = 40
+# How many random definitions of each kind, and Dockerfiles, are built by BuildKit's daemon and by llbmd.
+BESIDE = 20
 PAUSE = 0.2
 
 JOBS = "RT_JOBS"
@@ -313,7 +313,7 @@ def parts_with(programs: list[str], cases: int, seed: str, *tried: str) -> Itera
         yield tool("transcripts", *tried, "--llbm", program, *TRANSCRIPTS)
     first = programs[0]
     yield tool("daemon-tests", "--llbm", first)
-    yield tool("against-buildkit", "--start", "--seconds", str(BESIDE), "--llbm", first)
+    yield tool("against-buildkit", "--start", "--count", str(BESIDE), "--llbm", first)
     yield tool("test", "--llbm", first)
     yield tool("page-tests", "--llbm", first)
     yield tool("transcripts", "--llbm", first, *PAGES)

@@ -86,6 +86,7 @@ MODULES = [
     "measuring.measuring_daemons",
     "daemon.daemon_clients",
     "daemon.daemon_warnings",
+    "daemon.daemon_hostile",
     "rules.rule_examples",
     "rules.rule_tools",
     "daemon.against",

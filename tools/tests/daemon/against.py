@@ -1,167 +1,224 @@
-"""Tests of `against-buildkit` with a daemon that the test plays, and with a real one where its address is given."""
+"""Tests of `against-buildkit` with daemons that the test plays, and with real ones where an address is given."""
 
 import argparse
 import contextlib
 import io
-import math
 import os
 import pathlib
 import re
 import shutil
 import subprocess
+import tempfile
 import unittest
 from unittest import mock
 
-from llbm_tools.daemon import against_buildkit, runs, started_daemon
+from llbm_tools.daemon import against_buildkit, daemon, random_dockerfiles, runs, started_daemon
+from llbm_tools.rules import examples
 from llbm_tools.trees import maps
 from tests import base
 
 ADDRESS = "LLBM_BUILDKIT_ADDRESS"
-COUNT = 4
-
-
-def by_rules(data, sources):
-    """Returns what BuildKit's rules make of a definition, without the root."""
-    return against_buildkit.modelled(data, sources)
-
-
-def by_llbm(data, sources):
-    """Returns what the program makes of a definition, without the root."""
-    return against_buildkit.Comparison(None, str(base.llbm)).here(data, sources)
-
-
-def with_whole_modes(data, sources):
-    """Returns what BuildKit's rules make; the directory of the example of `Mode` has its whole mode."""
-    lines = by_rules(data, sources)
-    return [b"d 1777 0 0 /t\n"] if lines == [b"d 0777 0 0 /t\n"] else lines
+COUNT = 3
+FILE = {(): maps.ROOT, (b"f",): maps.Entry(0o644, 0, 0, b"78")}
+OTHER = {(): maps.ROOT, (b"f",): maps.Entry(0o604, 0, 0, b"78")}
 
 
 class Played:
-    """A daemon that makes of a definition what a function returns."""
+    """A daemon whose results the test says: by a function of what is built, or one result for all."""
 
-    def __init__(self, make):
-        self.make = make
+    command = ("buildctl",)
+
+    def __init__(self, ran):
+        self.run = ran if callable(ran) else lambda *_: ran
+        self.run_dockerfile = self.run
 
     def answers(self):
         """Returns that it answers."""
         return True
 
-    def run(self, data, sources):
-        """Returns what is made of a definition."""
-        lines = self.make(data, sources)
-        return runs.Ran(None, "it failed") if lines is None else runs.Ran(maps.tree_of([b"d 0755 0 0 /\n", *lines]))
+
+def options(**others):
+    """Returns the options of a command line."""
+    words = {
+        "address": "unix:///none", "start": False, "packages": pathlib.Path("none"), "buildctl": "buildctl",
+        "llbmd": daemon.PROGRAM, "llbm": base.llbm, "count": COUNT, "seed": 3, "jobs": 2, "keep": None, **others,
+    }  # fmt: skip
+    return argparse.Namespace(**words)
 
 
-def options(address="unix:///none", count=COUNT, **others):
-    """Returns the words of a command line."""
-    words = {"seconds": None, "start": False, "packages": pathlib.Path("none"), **others}
-    return argparse.Namespace(
-        address=address, buildctl="buildctl", llbm=str(base.llbm), count=count, seed=3, jobs=2, keep=None, **words
-    )
+def called(function, *words):
+    """Calls a function, and returns what it returns, and the lines that it printed."""
+    output = io.StringIO()
+    with contextlib.redirect_stdout(output):
+        returned = function(*words)
+    return returned, output.getvalue().splitlines()
+
+
+def counts_in(lines):
+    """Returns the counts that were printed."""
+    return {name: int(count) for name, _, count in (line.rpartition(": ") for line in lines) if count.isdigit()}
+
+
+class Verdicts(unittest.TestCase):
+    """What is said of how a case ended."""
+
+    def setUp(self):
+        base.skip_without_rules(self)
+
+    def verdict(self, there, here, is_dockerfile=False):
+        """Returns what is said of an example, or of a Dockerfile, that the daemons end so."""
+        one = against_buildkit.Comparison(Played(there), Played(here))
+        case = next(against_buildkit.least_cases())
+        return one.compare(case._replace(sources={"context": maps.empty()}, is_dockerfile=is_dockerfile))
+
+    def test_what_ends_alike_has_no_line(self):
+        for ran in (runs.Ran(FILE), runs.Ran(None, "it failed")):
+            self.assertEqual(self.verdict(ran, ran, True), against_buildkit.Verdict(["Dockerfiles"], []))
+        counts, lines = self.verdict(runs.Ran(FILE), runs.Ran(FILE, "", frozenset({"MkfileOver", "Nothing"})), True)
+        self.assertEqual((counts, lines), (["Dockerfiles", "Dockerfiles that end alike, with a warning"], []))
+
+    def test_a_difference_without_a_warning_has_a_line(self):
+        for here, said in [(runs.Ran(OTHER), "another tree"), (runs.Ran(None, "why"), "why")]:
+            counts, lines = self.verdict(runs.Ran(FILE), here, True)
+            self.assertEqual(counts[1:], ["Dockerfiles otherwise", "Dockerfiles otherwise without a warning"])
+            self.assertEqual(lines, [f"Mode: mkdir with mode 1777: ends otherwise without a warning: {said}"])
+
+    def test_a_difference_with_a_warning_has_a_line_for_a_dockerfile_alone(self):
+        warned = runs.Ran(OTHER, "", frozenset({"MkfileOver"}))
+        self.assertEqual(
+            self.verdict(runs.Ran(FILE), warned, True).lines,
+            ["Mode: mkdir with mode 1777: ends otherwise: MkfileOver"],
+        )
+        there = next(iter(examples.examples())).buildkit
+        tree = maps.tree_of([b"d 0755 0 0 /\n", *(f"{line}\n".encode() for line in there or [])])
+        counts, lines = self.verdict(runs.Ran(tree), warned)
+        self.assertEqual((counts, lines), (["definitions", "definitions otherwise", "definitions of the model"], []))
+
+    def test_what_ends_otherwise_than_the_model_has_a_line(self):
+        counts, lines = self.verdict(runs.Ran(FILE), runs.Ran(FILE))
+        self.assertEqual(counts[1:], ["definitions of the model", "definitions otherwise than the model"])
+        self.assertEqual(lines, ["Mode: mkdir with mode 1777: ends otherwise than the model: another tree"])
+
+    def test_a_run_that_takes_too_long_or_a_daemon_that_is_busy_is_left_out(self):
+        for fault, said in [
+            (subprocess.TimeoutExpired("buildctl", 120), "no answer in 600 seconds"),
+            (runs.DaemonBusy("no active session"), "a daemon was too busy"),
+        ]:
+            played = mock.Mock(side_effect=fault)
+            self.assertEqual(self.verdict(played, played), against_buildkit.Verdict([f"left out: {said}"], []))
 
 
 class Against(unittest.TestCase):
     """What the tool prints."""
 
     def setUp(self):
-        if base.llbm is None:
-            raise unittest.SkipTest("the program llbm is needed (--llbm PROGRAM)")
         base.skip_without_rules(self)
-        self.enterContext(mock.patch.object(against_buildkit, "MOST_OF_STORED", math.inf))
 
-    def lines(self, make):
-        """Runs the tool with a daemon that is played, and returns its status and its lines."""
-        output = io.StringIO()
-        with mock.patch.object(against_buildkit, "Daemon", lambda *_: Played(make)), contextlib.redirect_stdout(output):
-            with mock.patch.object(shutil, "which", lambda word: word):
-                status = against_buildkit.against(options())
-        return status, output.getvalue().splitlines()
-
-    def test_a_daemon_that_does_as_the_rules_say_has_no_finding(self):
-        status, lines = self.lines(by_rules)
-        counts = dict(line.split(": ") for line in lines)
-        self.assertEqual(status, 0, lines)
-        self.assertEqual({name for name in counts if "without" in name or "model" in name}, set())
-        self.assertGreater(int(counts["otherwise"]), int(counts["adopted, otherwise"]))
-
-    def test_a_daemon_that_does_otherwise_is_named_with_what_makes_the_definition(self):
-        status, lines = self.lines(by_llbm)
-        self.assertEqual(status, 1)
-        self.assertIn("Mode: mkdir with mode 1777: ends otherwise than the model: another tree", lines)
-
-    def started(self, played, **others):
-        """Runs the tool with a daemon of its own, which is played, and returns its status and its lines."""
+    def compared(self, there, here, **others):
+        """Compares two daemons that are played, and returns the status and the lines."""
 
         @contextlib.contextmanager
         def start(_):
-            started_daemon.check(played)
-            yield played
+            started_daemon.check(there)
+            yield there
 
-        output = io.StringIO()
-        with mock.patch.object(started_daemon, "started", start), contextlib.redirect_stdout(output):
-            status = against_buildkit.against(options(start=True, **others))
-        return status, output.getvalue().splitlines()
+        with (
+            mock.patch.object(started_daemon, "started", start),
+            mock.patch.object(against_buildkit, "ours", lambda *_: contextlib.nullcontext(here)),
+        ):
+            return called(against_buildkit.against, options(start=True, **others))
 
-    def test_a_daemon_that_is_started_is_compared_for_some_seconds(self):
-        status, lines = self.started(Played(by_rules), seconds=1)
-        counts = dict(line.split(": ") for line in lines[:-1])
-        self.assertEqual((status, lines[-1]), (0, f"{counts['all']} passed, 0 failed, 0 skipped"))
-        status, lines = self.started(Played(with_whole_modes), count=1)
+    def test_the_count_says_how_many_random_ones_are_built(self):
+        ran = Played(runs.Ran(None, "it failed"))
+        with mock.patch.object(started_daemon, "check", lambda _: None):
+            few, many = (counts_in(self.compared(ran, ran, count=count)[1]) for count in (1, 1 + COUNT))
+        self.assertEqual((few["Dockerfiles"], many["Dockerfiles"]), (1, 1 + COUNT))
+        self.assertGreater(many["definitions"], few["definitions"])
+
+    def test_those_with_a_finding_are_named_and_stored(self):
+        with tempfile.TemporaryDirectory() as folder, mock.patch.object(started_daemon, "check", lambda _: None):
+            status, lines = self.compared(Played(runs.Ran(FILE)), Played(runs.Ran(OTHER)), count=1, keep=folder)
+            stored = sorted(os.listdir(pathlib.Path(folder, "dockerfile-3-0")))
+        self.assertEqual((status, stored), (1, ["Dockerfile", "context.tree"]))
+        self.assertIn("dockerfile 3 0: ends otherwise without a warning: another tree", lines)
         passed, failed = map(int, re.fullmatch("([0-9]+) passed, ([0-9]+) failed, 0 skipped", lines[-1]).groups())
-        self.assertEqual((status, failed > 0, passed > 0), (1, True, True))
+        self.assertEqual((passed, failed), (0, counts_in(lines)["definitions"] + 1))
 
     def test_all_is_skipped_where_the_daemon_does_not_build(self):
-        played = Played(by_rules)
-        played.run = lambda *_: runs.Ran(None, "failed to mount: operation not permitted")
+        played = Played(runs.Ran(None, "failed to mount: operation not permitted"))
         said = "skipped: buildkitd does not build here: failed to mount: operation not permitted"
-        self.assertEqual(self.started(played), (0, [said, "0 passed, 0 failed, 1 skipped"]))
+        self.assertEqual(self.compared(played, played), (0, [said, "0 passed, 0 failed, 1 skipped"]))
 
     def test_all_is_skipped_without_packages(self):
-        output = io.StringIO()
-        with contextlib.redirect_stdout(output):
-            status = against_buildkit.against(options(start=True))
-        reason, counts = output.getvalue().splitlines()
+        status, (reason, counts) = called(against_buildkit.against, options(start=True))
         self.assertEqual((status, counts), (0, "0 passed, 0 failed, 1 skipped"))
         missing = "buildkitd is not built: the packages are not there: none; "
         self.assertRegex(reason, f"^skipped: ({missing}|only root can run buildkitd)")
 
-    def test_a_run_that_takes_too_long_is_left_out(self):
-        played = Played(by_rules)
-        played.run = mock.Mock(side_effect=subprocess.TimeoutExpired("buildctl", 120))
-        case = next(against_buildkit.least_cases())
-        verdict = against_buildkit.Comparison(played, "llbm").compare(case)
-        self.assertEqual(verdict, against_buildkit.Verdict(["left out: no answer in 600 seconds"], []))
+    def test_all_is_skipped_without_llbmd(self):
+        with self.assertRaisesRegex(started_daemon.NoDaemon, "there is no program nowhere/llbmd: `tools/daemon"):
+            with against_buildkit.ours(options(llbmd=pathlib.Path("nowhere/llbmd")), "buildctl"):
+                pass
+
+    def test_a_real_daemon_does_as_llbmd_and_the_rules_say(self):
+        address = os.environ.get(ADDRESS)
+        if not address or shutil.which("buildctl") is None:
+            raise unittest.SkipTest(f"BuildKit's daemon is needed: its address in {ADDRESS}, and buildctl on the path")
+        status, lines = called(against_buildkit.against, options(address=address, count=40))
+        self.assertEqual(status, 0, lines)
+
+
+class Runs(unittest.TestCase):
+    """Runs of `buildctl`."""
 
     def test_a_daemon_that_is_busy_is_asked_again(self):
-        daemon = runs.Daemon("buildctl", "unix:///none")
+        one = runs.Daemon("buildctl", "unix:///none")
         busy = [runs.DaemonBusy("no active session")] * 4
-        daemon.once = mock.Mock(side_effect=[*busy, runs.Ran(None, "failed")])
-        self.assertEqual(daemon.run(b"", {}).said, "failed")
-        daemon.once = mock.Mock(side_effect=runs.DaemonBusy("no active session"))
-        case = next(against_buildkit.least_cases())
-        verdict = against_buildkit.Comparison(daemon, "llbm").compare(case)
-        self.assertEqual(verdict, against_buildkit.Verdict(["left out: the daemon was too busy"], []))
+        one.built = mock.Mock(side_effect=[*busy, runs.Ran(None, "failed")])
+        self.assertEqual(one.run(b"", {}).said, "failed")
+        one.built = mock.Mock(side_effect=runs.DaemonBusy("no active session"))
+        self.assertRaises(runs.DaemonBusy, one.run, b"", {})
 
     def test_what_a_busy_daemon_says_is_no_result(self):
         for said, fault in [(b"failed: no active session for x: context deadline exceeded", True), (b"x", False)]:
             done = subprocess.CompletedProcess([], 1, b"", b"#1 x\n" + said + b"\n")
             with mock.patch.object(subprocess, "run", return_value=done):
-                daemon = runs.Daemon("buildctl", "unix:///none")
+                one = runs.Daemon("buildctl", "unix:///none")
                 if fault:
-                    self.assertRaises(runs.DaemonBusy, daemon.built, b"", {}, "result")
+                    self.assertRaises(runs.DaemonBusy, one.built, b"", [], "result")
                 else:
-                    self.assertEqual(daemon.built(b"", {}, "result"), runs.Ran(None, "x"))
+                    self.assertEqual(one.built(b"", [], "result"), runs.Ran(None, "x"))
+
+    def test_warnings_have_names(self):
+        text = (
+            "#3 WARN: action 0: /a has mode 0755 (here 0700): ContentsTarget, ParentOwner, and 3 more\n"
+            "#3 WARN: User has no effect: the user of the process\n#4 WARN: /a is missing (here a file): MergeLayers\n"
+        )
+        self.assertEqual(runs.names_in(text), {"ContentsTarget", "ParentOwner", "MergeLayers"})
+
+    def test_each_dockerfile_has_directories_of_names_of_its_own(self):
+        one, seen = runs.Daemon("buildctl", "unix:///none"), []
+        one.built = lambda data, words, archive: seen.append((data, words)) or runs.Ran(None)
+        for _ in range(2):
+            one.run_dockerfile(b"FROM scratch\n", maps.empty())
+        names = [re.findall(r"(?:context|dockerfile)-[0-9]+-[0-9]+", " ".join(words)) for _, words in seen]
+        self.assertEqual([len(set(found)) for found in names], [2, 2])
+        self.assertFalse(set(names[0]) & set(names[1]))
 
     def test_a_result_is_compared_without_its_root(self):
         tree = {(): maps.ROOT, (b"d",): maps.Entry(0o1750, 7, 8), (b"d", b"f"): maps.Entry(0o4755, 0, 9, b"6162")}
         self.assertEqual(against_buildkit.without_owners(tree)[b"d", b"f"], maps.Entry(0o4755, 0, 0, b"6162"))
         self.assertEqual(against_buildkit.lines_of(tree), [b"d 1750 7 8 /d\n", b"f 4755 0 9 6162 /d/f\n"])
 
-    def test_a_real_daemon_does_as_the_rules_say(self):
-        address = os.environ.get(ADDRESS)
-        if not address or shutil.which("buildctl") is None:
-            raise unittest.SkipTest(f"BuildKit's daemon is needed: its address in {ADDRESS}, and buildctl on the path")
-        output = io.StringIO()
-        with contextlib.redirect_stdout(output):
-            status = against_buildkit.against(options(address, 40))
-        self.assertEqual(status, 0, output.getvalue())
+
+class Dockerfiles(unittest.TestCase):
+    """Random Dockerfiles."""
+
+    def test_a_seed_makes_one_dockerfile_without_run_and_without_links(self):
+        for number in range(200):
+            made = random_dockerfiles.make(f"test {number}")
+            self.assertEqual(made, random_dockerfiles.make(f"test {number}"))
+            self.assertRegex(made.dockerfile, rb"^FROM scratch AS s0\n")
+            self.assertNotIn(b"RUN", made.dockerfile)
+            parents = {path[:-1] for path in made.context if path}
+            self.assertTrue(all(made.context[path].is_directory() for path in parents))

@@ -72,7 +72,7 @@ class Gate(base.WithPrograms):
             self.assertIn(gate.tool("transcripts", "--llbm", programs[0], *gate.PAGES).command, commands)
             self.assertEqual(commands[-1][2:], ["--cases", "7", "--llbm", programs[0], "--seed", "3"])
             daemon = gate.tool("daemon-tests", "--llbm", programs[0]).command
-            beside = gate.tool("against-buildkit", "--start", "--seconds", "40", "--llbm", programs[0]).command
+            beside = gate.tool("against-buildkit", "--start", "--count", "20", "--llbm", programs[0]).command
             test = gate.tool("test", "--llbm", programs[0]).command
             self.assertEqual(sorted([daemon, beside, test], key=commands.index), [daemon, beside, test])
 

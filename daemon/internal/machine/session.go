@@ -1,0 +1,267 @@
+package machine
+
+import (
+	"bufio"
+	"bytes"
+	"context"
+	"errors"
+	"fmt"
+	"io"
+	"os"
+	"strconv"
+	"strings"
+	"sync/atomic"
+
+	"golang.org/x/sys/unix"
+	"llbm/daemon/internal/tree"
+)
+
+// A Source is a local source by its name, with the text of its tree.
+type Source struct {
+	Name string
+	Text *os.File
+}
+
+// InMemory makes a file in memory, without a name.
+func InMemory(name string) (*os.File, error) {
+	fd, err := unix.MemfdCreate(name, unix.MFD_CLOEXEC)
+	if err != nil {
+		return nil, fmt.Errorf("memfd_create: %w", err)
+	}
+	return os.NewFile(uintptr(fd), name), nil
+}
+
+// PathOf returns a path by which a child of the daemon can open one of its files.
+func PathOf(file *os.File) string { return fmt.Sprintf("/proc/%d/fd/%d", os.Getpid(), file.Fd()) }
+
+// A Run is a session of `llbm step`.
+type Run struct {
+	*process
+	in          io.WriteCloser
+	out         io.ReadCloser
+	lines       *bufio.Reader
+	outstanding int
+	aside       *int // how many bytes may still be read aside, while that is done
+}
+
+// window is how many events are asked for at a time.
+const window = 64
+
+// Step begins a run of a definition, which is in a file, on local sources. What it writes is added to a number, which the
+// runs of one build share: the bound on output is on all of them.
+func (p *Program) Step(ctx context.Context, definition *os.File, sources []Source, workers int, written *atomic.Int64) (*Run, error) {
+	const firstFile = 3
+	files := []*os.File{definition}
+	words := []string{"step", place(firstFile), "--workers", strconv.Itoa(workers)}
+	for i, source := range sources {
+		files = append(files, source.Text)
+		words = append(words, source.Name+"="+place(firstFile+1+i))
+	}
+	process, err := p.start(ctx, nil, nil, files, words...)
+	if err != nil {
+		return nil, err
+	}
+	process.written = written
+	r := &Run{process: process}
+	if r.in, err = r.cmd.StdinPipe(); err != nil {
+		return nil, err
+	}
+	if r.out, err = r.cmd.StdoutPipe(); err != nil {
+		return nil, err
+	}
+	if err := r.begin(); err != nil {
+		return nil, err
+	}
+	r.lines = bufio.NewReaderSize(r.out, 1<<16)
+	return r, nil
+}
+
+func place(fd int) string { return "/proc/self/fd/" + strconv.Itoa(fd) }
+
+// read returns the next line of the program's, without its end. It is overwritten by the next read.
+func (r *Run) read() ([]byte, error) {
+	line, err := r.part()
+	if errors.Is(err, bufio.ErrBufferFull) {
+		long := append([]byte(nil), line...)
+		for errors.Is(err, bufio.ErrBufferFull) {
+			line, err = r.part()
+			long = append(long, line...)
+		}
+		line = long
+	}
+	if err != nil {
+		return nil, r.broken(err)
+	}
+	return line[:len(line)-1], nil
+}
+
+// part reads a line, or as much of one as the buffer holds. It fails as soon as too much has been written.
+func (r *Run) part() ([]byte, error) {
+	line, err := r.lines.ReadSlice('\n')
+	if over := r.counted(len(line)); over != nil {
+		return nil, over
+	}
+	return line, err
+}
+
+// counted counts bytes of a line: as output of the build, or of what is read aside.
+func (r *Run) counted(n int) error {
+	if r.aside == nil {
+		return r.count(n)
+	}
+	if *r.aside -= n; *r.aside < 0 {
+		r.cancel(errAside)
+		return errAside
+	}
+	return nil
+}
+
+// ask sends commands. If they can't be sent the process has ended, and its last words are still to be read: they say why.
+func (r *Run) ask(commands string) { _, _ = io.WriteString(r.in, commands) }
+
+// broken ends the process, and returns why it stopped talking.
+func (r *Run) broken(err error) error {
+	_ = r.in.Close()
+	if ended := r.wait(); ended != nil {
+		return ended
+	}
+	return fmt.Errorf("llbm: the session ended early: %w", err)
+}
+
+// Next does the next event, and returns its line, or false if there is none. Some events are asked for in advance.
+func (r *Run) Next() (Event, bool, error) {
+	if r.outstanding <= window/2 {
+		r.ask(strings.Repeat("next\n", window-r.outstanding))
+		r.outstanding = window
+	}
+	line, err := r.read()
+	if err != nil {
+		return Event{}, false, err
+	}
+	r.outstanding--
+	if string(line) == "end" {
+		return Event{}, false, nil
+	}
+	if bytes.HasPrefix(line, []byte("fault ")) {
+		err := Fault(string(line))
+		r.Stop()
+		return Event{}, false, err
+	}
+	event, err := parseEvent(string(line))
+	return event, err == nil, err
+}
+
+// settle skips the replies to events that were asked for in advance.
+func (r *Run) settle() error {
+	for ; r.outstanding > 0; r.outstanding-- {
+		if _, err := r.read(); err != nil {
+			return err
+		}
+	}
+	return nil
+}
+
+// Failure returns how a vertex failed, of a board with some vertices.
+func (r *Run) Failure(vertex, vertices int) (found Failure, err error) {
+	if err := r.settle(); err != nil {
+		return found, err
+	}
+	r.ask("status\n")
+	err = fmt.Errorf("llbm: it does not say how vertex %d failed", vertex)
+	for range vertices {
+		line, broken := r.read()
+		if broken != nil {
+			return found, broken
+		}
+		if failure, ok := parseFailure(string(line)); ok && failure.Vertex == vertex {
+			found, err = failure, nil
+		}
+	}
+	return found, err
+}
+
+// Tree returns the tree of an output of a board that is complete.
+func (r *Run) Tree(vertex, output int) (tree.Tree, error) {
+	t, last, err := r.tree(vertex, output, "next")
+	if err == nil && last != "end" {
+		return nil, fmt.Errorf("llbm: %.80q after a tree", last)
+	}
+	return t, err
+}
+
+// TreeOf returns the tree of an output of a board with some vertices, or nil if there is none yet.
+func (r *Run) TreeOf(vertex, output, vertices int) (tree.Tree, error) {
+	t, _, err := r.tree(vertex, output, "status")
+	for i := 1; err == nil && i < vertices; i++ {
+		_, err = r.read()
+	}
+	return t, err
+}
+
+// Aside writes the text of the tree of an output of a board with some vertices, and returns how many bytes it has, 0 if there is
+// none yet. They do not count as output of the build. If they are more than some, the session ends.
+func (r *Run) Aside(vertex, output, vertices, most int, to io.Writer) (int, error) {
+	if err := r.settle(); err != nil {
+		return 0, err
+	}
+	left, written := most, 0
+	r.aside = &left
+	defer func() { r.aside = nil }()
+	_, err := r.treeLines(vertex, output, "status", func(line []byte) error {
+		written += len(line) + 1
+		_, err := to.Write(append(line, '\n'))
+		return err
+	})
+	for i := 1; err == nil && i < vertices; i++ {
+		_, err = r.read()
+	}
+	if left < 0 {
+		r.Stop()
+		return 0, errAside
+	}
+	return written, err
+}
+
+// tree asks for a tree and then for what ends it, and returns the first line of the latter.
+func (r *Run) tree(vertex, output int, after string) (tree.Tree, string, error) {
+	var out tree.Tree
+	last, err := r.treeLines(vertex, output, after, func(line []byte) error {
+		entry, err := tree.ParseLine(line)
+		out = append(out, entry)
+		return err
+	})
+	if err != nil {
+		return nil, "", err
+	}
+	return out, last, nil
+}
+
+// treeLines asks for a tree and then for what ends it, calls a function for each line of the tree, and returns the first line of
+// what ends it.
+func (r *Run) treeLines(vertex, output int, after string, found func(line []byte) error) (string, error) {
+	if err := r.settle(); err != nil {
+		return "", err
+	}
+	r.ask(fmt.Sprintf("tree %d %d\n%s\n", vertex, output, after))
+	for {
+		line, err := r.read()
+		if err != nil {
+			return "", err
+		}
+		if string(line) == "none" {
+			continue
+		}
+		if !bytes.HasPrefix(line, []byte("d ")) && !bytes.HasPrefix(line, []byte("f ")) {
+			return string(line), nil
+		}
+		if err := found(line); err != nil {
+			return "", err
+		}
+	}
+}
+
+// Stop ends the run at once.
+func (r *Run) Stop() {
+	r.cancel(nil)
+	_ = r.wait()
+}
