@@ -1,7 +1,6 @@
 package rewriting
 
 import (
-	"context"
 	"fmt"
 	"testing"
 
@@ -55,7 +54,7 @@ func TestWhatLooksLikeAnotherSpellingStaysWhatBuildKitReads(t *testing.T) {
 	} {
 		given := op(action)
 		f := newFileOp(given)
-		f.treeless(context.Background())
+		f.treeless()
 		if !areSame(t, made(t, given.GetFile(), trees, rules.All), made(t, &pb.FileOp{Actions: f.new}, trees, rules.All), trees[1]) {
 			t.Errorf("%s: %v", name, f.new)
 		}
@@ -69,7 +68,7 @@ func TestAnActionThatIsNotNeededCountsForLayers(t *testing.T) {
 	first.Output = noOutput
 	given := op(first, onto(plainRemoval("/a"), 2, nothing, 0), onto(making("/b", nil), 2, nothing, noOutput))
 	f := newFileOp(given)
-	f.treeless(context.Background())
+	f.treeless()
 	if !areSame(t, made(t, given.GetFile(), trees, rules.All), made(t, &pb.FileOp{Actions: f.new}, trees, rules.All), trees[1]) {
 		t.Error(f.new)
 	}
@@ -77,16 +76,16 @@ func TestAnActionThatIsNotNeededCountsForLayers(t *testing.T) {
 
 func TestADirectoryIsMadeBeforeACopyIntoIt(t *testing.T) {
 	f := newFileOp(op(copying("/a", "/n/", nil)))
-	f.treeless(context.Background())
-	isMade := len(f.new) == 2 && f.new[0].GetMkdir().GetPath() == "/n" && f.new[1].Input == 2
-	if !isMade || fmt.Sprint(f.Actions, f.Changes) != "[0 0] [action 0: an mkdir before it]" {
+	f.treeless()
+	if len(f.new) != 2 || f.new[0].GetMkdir().GetPath() != "/n" || f.new[1].Input != 2 ||
+		fmt.Sprint(f.Actions, f.Changes) != "[0 0] [action 0: an mkdir before it]" {
 		t.Error(f.new, f.Row)
 	}
 }
 
 func TestACopyOfAMissingNameFailsAlthoughAWildcardMayMatchNothing(t *testing.T) {
 	f := newFileOp(op(copying("/missing", "/b", wild)))
-	f.treeless(context.Background())
+	f.treeless()
 	if f.new[0].GetCopy().AllowEmptyWildcard || fmt.Sprint(f.Changes) != "[action 0: no allowEmptyWildcard]" {
 		t.Error(f.new, f.Row)
 	}
@@ -95,7 +94,7 @@ func TestACopyOfAMissingNameFailsAlthoughAWildcardMayMatchNothing(t *testing.T) 
 func TestWhatAgreesStaysAsItIs(t *testing.T) {
 	given := op(copying("/a*", "/b", func(c *pb.FileActionCopy) { c.AllowWildcard, c.AllowEmptyWildcard, c.CreateDestPath = true, true, true }))
 	f := newFileOp(given)
-	f.treeless(context.Background())
+	f.treeless()
 	if len(f.Changes) > 0 || (&pb.FileOp{Actions: f.new}).String() != given.GetFile().String() {
 		t.Error(f.new, f.Row)
 	}
