@@ -1,6 +1,7 @@
 package rewriting
 
 import (
+	"context"
 	"fmt"
 	"testing"
 
@@ -54,7 +55,7 @@ func TestWhatLooksLikeAnotherSpellingStaysWhatBuildKitReads(t *testing.T) {
 	} {
 		given := op(action)
 		f := newFileOp(given)
-		f.treeless()
+		f.treeless(context.Background())
 		if !areSame(t, made(t, given.GetFile(), trees, rules.All), made(t, &pb.FileOp{Actions: f.new}, trees, rules.All), trees[1]) {
 			t.Errorf("%s: %v", name, f.new)
 		}
@@ -68,7 +69,7 @@ func TestAnActionThatIsNotNeededCountsForLayers(t *testing.T) {
 	first.Output = noOutput
 	given := op(first, onto(plainRemoval("/a"), 2, nothing, 0), onto(making("/b", nil), 2, nothing, noOutput))
 	f := newFileOp(given)
-	f.treeless()
+	f.treeless(context.Background())
 	if !areSame(t, made(t, given.GetFile(), trees, rules.All), made(t, &pb.FileOp{Actions: f.new}, trees, rules.All), trees[1]) {
 		t.Error(f.new)
 	}
@@ -76,7 +77,7 @@ func TestAnActionThatIsNotNeededCountsForLayers(t *testing.T) {
 
 func TestADirectoryIsMadeBeforeACopyIntoIt(t *testing.T) {
 	f := newFileOp(op(copying("/a", "/n/", nil)))
-	f.treeless()
+	f.treeless(context.Background())
 	if len(f.new) != 2 || f.new[0].GetMkdir().GetPath() != "/n" || f.new[1].Input != 2 ||
 		fmt.Sprint(f.Actions, f.Changes) != "[0 0] [action 0: an mkdir before it]" {
 		t.Error(f.new, f.Row)
@@ -85,7 +86,7 @@ func TestADirectoryIsMadeBeforeACopyIntoIt(t *testing.T) {
 
 func TestACopyOfAMissingNameFailsAlthoughAWildcardMayMatchNothing(t *testing.T) {
 	f := newFileOp(op(copying("/missing", "/b", wild)))
-	f.treeless()
+	f.treeless(context.Background())
 	if f.new[0].GetCopy().AllowEmptyWildcard || fmt.Sprint(f.Changes) != "[action 0: no allowEmptyWildcard]" {
 		t.Error(f.new, f.Row)
 	}
@@ -94,7 +95,7 @@ func TestACopyOfAMissingNameFailsAlthoughAWildcardMayMatchNothing(t *testing.T) 
 func TestWhatAgreesStaysAsItIs(t *testing.T) {
 	given := op(copying("/a*", "/b", func(c *pb.FileActionCopy) { c.AllowWildcard, c.AllowEmptyWildcard, c.CreateDestPath = true, true, true }))
 	f := newFileOp(given)
-	f.treeless()
+	f.treeless(context.Background())
 	if len(f.Changes) > 0 || (&pb.FileOp{Actions: f.new}).String() != given.GetFile().String() {
 		t.Error(f.new, f.Row)
 	}

@@ -6,6 +6,7 @@ import (
 	"context"
 	"io"
 	"log"
+	"os"
 	"slices"
 
 	"github.com/moby/buildkit/solver/errdefs"
@@ -156,6 +157,23 @@ func (s *Solver) run(
 		return nil, err
 	}
 	return &results.Result{Tree: t}, nil
+}
+
+// entriesOf returns a file with what llbm reads of a definition.
+func entriesOf(def *pb.Definition) (*os.File, error) {
+	entries, err := graph.Entries(def)
+	if err != nil {
+		return nil, err
+	}
+	file, err := machine.InMemory("definition")
+	if err != nil {
+		return nil, err
+	}
+	if _, err := file.Write(entries); err != nil {
+		_ = file.Close()
+		return nil, err
+	}
+	return file, nil
 }
 
 // session does the events that llbm chooses, up to the end or to the first vertex that fails. The record is returned if it
