@@ -154,7 +154,8 @@ func notesOf(rows []Row, message []records.Record, kinds []protowire.Number) []N
 // isPlatform is whether an op's platform is a given one.
 func isPlatform(op []records.Record, own pb.Platform) bool {
 	var p pb.Platform
-	return p.Unmarshal(records.Joined(records.Counted(op, nil, platform))) == nil && p.OS == own.OS && p.Architecture == own.Architecture && p.Variant == own.Variant
+	err := p.Unmarshal(records.Joined(records.Counted(op, nil, platform)))
+	return err == nil && p.OS == own.OS && p.Architecture == own.Architecture && p.Variant == own.Variant
 }
 
 // ofAttributes returns a note for each attribute of a source that is set and has an effect in BuildKit, or is not in the table.

@@ -122,7 +122,8 @@ func randomAction(random *rand.Rand, plain bool, base, second *rules.Node) *pb.F
 		wild := random.Intn(3) > 0
 		a.SecondaryInput = 1
 		a.Action = &pb.FileAction_Copy{Copy: &pb.FileActionCopy{
-			Src: texts{random, plain, second}.text(wild), Dest: t.text(false), Mode: pick(random, keptMode, keptMode, mode), Owner: randomOwner(random), DirCopyContents: flag(random),
+			Src: texts{random, plain, second}.text(wild), Dest: t.text(false), Mode: pick(random, keptMode, keptMode, mode),
+			Owner: randomOwner(random), DirCopyContents: flag(random),
 			CreateDestPath: flag(random), AllowWildcard: wild, AllowEmptyWildcard: flag(random), Timestamp: pick(random, int64(-1), 0),
 		}}
 	}

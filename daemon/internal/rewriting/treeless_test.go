@@ -78,7 +78,8 @@ func TestAnActionThatIsNotNeededCountsForLayers(t *testing.T) {
 func TestADirectoryIsMadeBeforeACopyIntoIt(t *testing.T) {
 	f := newFileOp(op(copying("/a", "/n/", nil)))
 	f.treeless(context.Background())
-	if len(f.new) != 2 || f.new[0].GetMkdir().GetPath() != "/n" || f.new[1].Input != 2 || fmt.Sprint(f.Actions, f.Changes) != "[0 0] [action 0: an mkdir before it]" {
+	if len(f.new) != 2 || f.new[0].GetMkdir().GetPath() != "/n" || f.new[1].Input != 2 ||
+		fmt.Sprint(f.Actions, f.Changes) != "[0 0] [action 0: an mkdir before it]" {
 		t.Error(f.new, f.Row)
 	}
 }

@@ -1,4 +1,4 @@
-"""BuildKit's own daemon, built from Debian's packages if it is not there, and llbmd, both run until the comparison ends.
+"""BuildKit's own daemon, built from Debian's packages if it is not there, and llbmd: both run until a comparison ends.
 """
 
 import contextlib

@@ -1,7 +1,8 @@
 """Runs the program llbm on random inputs, and prints which rule an input breaks.
 
-In: SECONDS, the duration, or --cases N, the number of cases; with both it ends by what is sooner. The program is --llbm PROGRAM, or else
-crates/llbm/out/llbm of the repository, or else its out/llbm-unproved, which is named on standard error as not proved.
+In: SECONDS, the duration, or --cases N, the number of cases; with both it ends by what is sooner. The program is --llbm
+PROGRAM, or else crates/llbm/out/llbm of the repository, or else its out/llbm-unproved, which is named on standard error
+as not proved.
 The inputs are the examples of the repository and random definitions, texts of entries, texts of trees and sessions;
 half of the definitions are changed at random, in most cases so that digests and inputs match again. --seed N makes the
 same cases in the same order; without it a random seed is used. With --jobs N the cases are shared by N processes. Each

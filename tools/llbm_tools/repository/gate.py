@@ -58,7 +58,7 @@ TRANSCRIPTS = ("tests", "examples/README.md", "examples/from-buildkit/README.md"
 TESTED = ("llb_refusals", "llb_examples", "llbm")
 # Tests that need more than the 60 seconds that `rt try` gives each, or may need them on a host with other work.
 TOO_LONG = {"chain::a_chain_of_65535_vertices_is_evaluated_run_and_walked", "crowds::runs_by_any_number_of_workers_end"}
-# How many cases of `tools/fuzz` are run: about a minute of the proved program, and half a minute of the one without proof.
+# How many cases of `tools/fuzz` are run: about a minute by the proved program, and less by the one without proof.
 CASES = 8000
 FEWER = 500
 # How many random definitions of each kind, and Dockerfiles, are built by BuildKit's daemon and by llbmd.

@@ -1,4 +1,4 @@
-"""Tests that small definitions which stand for much do not take the memory of the daemon, nor what other builds need."""
+"""Tests that small definitions of large trees take neither the memory of the daemon nor what other builds need."""
 
 import re
 import signal
