@@ -19,6 +19,7 @@ type sideBySide struct {
 	inputsHere            []*Node
 	outputsThere          []*Ref
 	outputsHere           []*Node
+	outputsAgree          bool // then what an action makes otherwise is seen by nobody
 }
 
 // compareFileOps does a file op as it was sent, on the inputs in BuildKit, and as it runs, on those in llbm. For each action that
@@ -51,6 +52,8 @@ func compareFileOps(ctx context.Context, sent, run *pb.FileOp, from []int, there
 	if there == nil || here == nil {
 		return c, nil
 	}
+	ended := f.faultThere == nil && f.faultHere == nil && len(f.outputsThere) == len(f.outputsHere)
+	f.outputsAgree = ended && len(pairsOf(asTrees(f.outputsThere), f.outputsHere)) == 0
 	c.Steps, err = f.steps()
 	return c, err
 }
@@ -149,7 +152,7 @@ func (f *sideBySide) action(number int) (Step, error) {
 		s.Lines = []Line{lineOf("is not done (here it fails)", []Rule{UnusedAction})}
 	case f.faultHere != nil && f.sentAs(f.faultHere.Action) == number:
 		s.Lines = []Line{f.lineOfFault(wordsOfFault(f.faultHere), f.causesOf(number, there, here).ofFault(), number)}
-	case isThere && here != nil:
+	case isThere && here != nil && !f.outputsAgree:
 		var err error
 		if s, err = f.trees(number, there, here); err != nil {
 			return s, err

@@ -129,6 +129,7 @@ func TestWhatEndsOtherwiseInBuildKitIsAWarning(t *testing.T) {
 		"a removal that counts":        {llb.Merge([]llb.State{again, removed}), "/a is missing (here a file): MergeLayers"},
 		"a removal of what is not":     {llb.Merge([]llb.State{other, removed}), ""},
 		"a removal that comes first":   {llb.Merge([]llb.State{removed, again}), ""},
+		"what a later action removes":  {file.File(llb.Mkfile("/a", 0o755, nil).Rm("/a")), ""},
 		"what follows of a difference": {file.File(llb.Mkfile("/a", 0o755, nil)).File(llb.Mkdir("/y", 0o755)), "action 0: /a has mode 0604 (here 0755): MkfileOver"},
 		"a directory over another one": {made, "action 0: /d/e has mode 0755 (here 0700): NestedDirectory"},
 		"over what an execution made":  {run.File(llb.Mkfile("/f", 0o600, nil)), anExecution + "\naction 0: /f has mode 0644 (here 0600): MkfileOver"},
