@@ -1,8 +1,9 @@
 -- What a schedule does to a board, event by event.
-use Rattle.std.proofs.Common.{◌≡◌, ℕ, ◌+◌, ◌<◌, ◌≤◌, Bool, true, false, List, [], ◌∷◌, ◌++◌, length, Option, Some, None, is_some, option_map}
+use Rattle.std.proofs.Common.{◌≡◌, ℕ, ◌+◌, ◌<◌, ◌≤◌, Bool, true, false, cond, List, [], ◌∷◌, ◌++◌, length, Option, Some, None, is_some, option_map}
 use Rattle.std.proofs.Common.{inl, inr, refl, sym, ap, subst, ◌∙◌, append_assoc, arith}
 use Rattle.std.proofs.lemmas.List.{append-nil, length-append}
-use Rattle.std.specs.Prelude.{slice_get, Result, Ok, Err, IfOk}
+use Rattle.std.proofs.Common.{drop, get_or, add-one, drop-cons}
+use Rattle.std.specs.Prelude.{slice_get, Result, Ok, Err, IfOk, OnOk}
 use Rattle.std.specs.Result.{result_ok}
 use Rattle.llb_events.specs.declared.event.Event.{Event}
 use Rattle.llb_events.specs.declared.event.Event.TheVariants.{Claim, Step, Settle, Cancel}
@@ -23,7 +24,7 @@ use Rattle.llb_board.specs.declared.fault.WalkFault.TheVariants as walk
 use Rattle.llb_board.specs.declared.status.WorkerStatus.TheVariants as worker
 use Rattle.llb_board.proofs.UndoOfGrantedEvents.{granted}
 use Rattle.llb_progress.specs.Progress.{GoOnly, HasFewToCome, IsHeldUp, ReadyIsClaimedOrHeldUp, all_events, is_cancel}
-use Rattle.llb_progress.specs.Schedules.{Follows, GoesBy}
+use Rattle.llb_progress.specs.Schedules.{Follows, GoesBy, after_schedule, done_by, taken}
 use Rattle.llb_progress.proofs.BoundedRuns.{cancel_none}
 
 -- ---- one event
@@ -116,6 +117,30 @@ pub goes_if : (a b c : BoardValue) (e : Event) (done : Bool) → GoesBy a b → 
     → (done ≡ false → c ≡ b) → GoesBy a c
 goes_if a b c e true before is taken kept = goes_further a b c e before is (taken refl)
 goes_if a b c e false before is taken kept = stays a b c before (kept refl)
+
+-- ---- a schedule
+
+-- the board after an event of a schedule that is no cancel
+pub taken_if : (b c : BoardValue) (e : Event) (done : Bool) → is_cancel e ≡ false → (done ≡ true → Follows b e c)
+    → (done ≡ false → table b.build b.state e ≡ None) → (done ≡ false → c ≡ b) → c ≡ taken b e
+taken_if b c e true is goes none kept =
+    let next = goes refl in
+    next.is ∙ sym (ap (done_by b e) next.granted) ∙ sym (ap (λ t. cond t b (done_by b e (table b.build b.state e))) is)
+taken_if b c e false is goes none kept =
+    kept refl ∙ sym (ap (done_by b e) (none refl)) ∙ sym (ap (λ t. cond t b (done_by b e (table b.build b.state e))) is)
+
+next : (es : List Event) (i : ℕ) → i < length es → drop i es ≡ get_or es i (Claim 0 0) ∷ drop (i + 1) es
+next es i inside = rw add-one (drop-cons es i (Claim 0 0) inside)
+
+-- after one event more, the other events lead to the same board
+pub after_more : (b c : BoardValue) (es : List Event) (i : ℕ) → i < length es → c ≡ taken b (get_or es i (Claim 0 0))
+    → after_schedule c (drop (i + 1) es) ≡ after_schedule b (drop i es)
+after_more b c es i inside same = ap (λ x. after_schedule x (drop (i + 1) es)) same ∙ sym (ap (after_schedule b) (next es i inside))
+
+-- what holds anyway
+pub on_ok : {A E P : Type 0} (r : Result A E) → P → OnOk r P
+on_ok (Ok x) h = h
+on_ok (Err e) h = tt
 
 -- other events after these
 pub goes_on : (a b c : BoardValue) → GoesBy a b → GoesBy b c → GoesBy a c

@@ -9,7 +9,7 @@ ghost use Rattle.llb_model.specs.State.{Idle, is_ready, runs};
 ghost use Rattle.llb_model.specs.Table.{table};
 ghost use Rattle.llb_model.specs.WholeRunLaws.{HasNoCaches};
 ghost use Rattle.llb_progress.specs.Progress.{IsHeldUp, all_events, is_cancel};
-ghost use Rattle.llb_progress.specs.Schedules.{EndsBy, Follows, GoesBy, IsNextOf};
+ghost use Rattle.llb_progress.specs.Schedules.{EndsBy, Follows, GoesBy, IsNextOf, after_schedule};
 
 use crate::laws::{complete_boards_agree, ends_whatever_comes, never_stuck, ready_or_held_up};
 use llb_board::laws::{chosen_is_granted, chosen_until_complete};
@@ -89,7 +89,8 @@ pub fn claim_ready(board: &mut Board, w: u32, v: u32) -> Result<bool, Memory>
 
 // Does the events of a schedule, one after another, without cancels and without those that are refused. Fails with 141 `Memory` alone, after some of them.
 fn go_by(board: &mut Board, schedule: &[Event]) -> Result<(), Memory>
-    ensures { GoesBy board.old board.new }
+    ensures goes { GoesBy board.old board.new }
+    ensures all { OnOk result (board.new ≡ after_schedule board.old schedule.now) }
 {
     for event in schedule {
         if is_cancel(*event) {
@@ -120,6 +121,7 @@ fn go_to_end(board: &mut Board) -> Result<(), Memory>
 /// The record grows by at most the events of all vertices. Fails with 141 `Memory` alone, after some of the events.
 pub fn run_by(board: &mut Board, schedule: &[Event]) -> Result<(), Memory>
     ensures goes { GoesBy board.old board.new }
+    ensures schedule { OnOk result (GoesBy (after_schedule board.old schedule.now) board.new) }
     ensures few { length board.new.events ≤ length board.old.events + all_events board.old.build }
     ensures complete { OnOk result (is_complete board.new.build board.new.state ≡ true) }
 {
@@ -135,8 +137,8 @@ pub fn run_both(
     schedule: &[Event],
     other: &[Event],
 ) -> Result<(Board, Board), Memory>
-    ensures first { IfOk result (λ ends. EndsBy board.now ends.0) }
-    ensures second { IfOk result (λ ends. EndsBy board.now ends.1) }
+    ensures first { IfOk result (λ ends. EndsBy (after_schedule board.now schedule.now) ends.0) }
+    ensures second { IfOk result (λ ends. EndsBy (after_schedule board.now other.now) ends.1) }
     ensures agree { IfOk result (λ ends. HasNoCaches board.now.build → ends.0.state.statuses ≡ ends.1.state.statuses) }
 {
     let mut one = board.copy()?;
