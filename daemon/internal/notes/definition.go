@@ -46,7 +46,7 @@ type rows struct {
 // read reads a definition, whatever its entries are.
 func read(data []byte) (*rows, error) {
 	message := records.Of(data)
-	if len(message) == 0 {
+	if len(message) == 0 && len(data) > 0 {
 		return nil, errors.New("this is no definition")
 	}
 	r := &rows{first: map[digest.Digest]int{}, metadata: map[string][]byte{}}
