@@ -59,7 +59,7 @@ class Lists(Folder):
             functions[test.package, test.function].add((test.section, test.does))
         self.assertEqual(len(functions), 374)
         inside = [does for does in functions.values() if {section for section, _ in does} <= set(daemon_suite.SECTIONS)]
-        self.assertEqual(len(inside), 65)
+        self.assertEqual(len(inside), 64)
         passing = [does for does in inside if {does for _, does in does} - {"skips"} == {"passes"}]
         self.assertGreaterEqual(len(passing), 60)
 
