@@ -16,6 +16,7 @@ import (
 
 	gatewaypb "github.com/moby/buildkit/frontend/gateway/pb"
 	"golang.org/x/sys/unix"
+	"google.golang.org/grpc/status"
 	"llbm/daemon/internal/builds"
 	"llbm/daemon/internal/gateway"
 	"llbm/daemon/internal/machine"
@@ -90,23 +91,21 @@ func (f *Frontends) try(ctx context.Context, program string, env []string) (*chi
 
 // await waits for the frontend's result, or for its end without one, which is errEnded.
 func (c *child) await(ctx context.Context, b *builds.Build, returned <-chan *gatewaypb.ReturnRequest) (*gateway.Returned, error) {
-	waiting, cancel := context.WithCancel(ctx)
-	defer cancel()
-	go func() {
-		select {
-		case <-c.ended:
-			cancel()
-		case <-waiting.Done():
-		}
-	}()
-	result, err := gateway.Await(waiting, b, returned)
-	if waiting.Err() == nil || ctx.Err() != nil {
-		return result, err
+	select {
+	case req := <-returned:
+		return gateway.ReturnedBy(b, req)
+	case <-ctx.Done():
+	case <-c.ended:
 	}
-	if len(returned) > 0 { // the result came just before the end
-		return gateway.Await(ctx, b, returned)
+	if ctx.Err() != nil {
+		return nil, status.FromContextError(ctx.Err()).Err()
 	}
-	return nil, errEnded
+	select {
+	case req := <-returned: // the result came just before the end
+		return gateway.ReturnedBy(b, req)
+	default:
+		return nil, errEnded
+	}
 }
 
 var errEnded = errors.New("the frontend ended without a result")

@@ -2,12 +2,14 @@ package frontends
 
 import (
 	"context"
+	"errors"
 	"fmt"
 	"os"
 	"path/filepath"
 	"strings"
 	"testing"
 
+	gatewaypb "github.com/moby/buildkit/frontend/gateway/pb"
 	"google.golang.org/grpc/codes"
 	"google.golang.org/grpc/status"
 	"llbm/daemon/internal/builds"
@@ -189,6 +191,28 @@ func TestFrontendsWaitForOneAnotherButNotForTheirCallers(t *testing.T) {
 	}()
 	leave()
 	if err := <-entered; err != nil {
+		t.Error(err)
+	}
+}
+
+// A frontend ends as soon as it knows that its result was taken.
+func TestAResultIsTakenAlsoFromAFrontendThatHasEnded(t *testing.T) {
+	c := &child{messages: &messages{}, ended: make(chan struct{})}
+	close(c.ended)
+	b := build(t)
+	for range 1000 {
+		returned := make(chan *gatewaypb.ReturnRequest, 1)
+		returned <- &gatewaypb.ReturnRequest{Result: &gatewaypb.Result{}}
+		if result, err := c.await(context.Background(), b, returned); err != nil || result == nil {
+			t.Fatal(result, err)
+		}
+	}
+	if _, err := c.await(context.Background(), b, nil); !errors.Is(err, errEnded) {
+		t.Error(err)
+	}
+	canceled, cancel := context.WithCancel(context.Background())
+	cancel()
+	if _, err := c.await(canceled, b, nil); status.Code(err) != codes.Canceled {
 		t.Error(err)
 	}
 }

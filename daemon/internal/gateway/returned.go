@@ -25,13 +25,18 @@ type Returned struct {
 func Await(ctx context.Context, b *builds.Build, from <-chan *gatewaypb.ReturnRequest) (*Returned, error) {
 	select {
 	case req := <-from:
-		if req.Error != nil {
-			return nil, errorOf(req)
-		}
-		return read(b, req.Result)
+		return ReturnedBy(b, req)
 	case <-ctx.Done():
 		return nil, status.FromContextError(ctx.Err()).Err()
 	}
+}
+
+// ReturnedBy reads what a frontend returns.
+func ReturnedBy(b *builds.Build, req *gatewaypb.ReturnRequest) (*Returned, error) {
+	if req.Error != nil {
+		return nil, errorOf(req)
+	}
+	return read(b, req.Result)
 }
 
 func errorOf(req *gatewaypb.ReturnRequest) error {

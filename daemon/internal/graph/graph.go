@@ -16,7 +16,11 @@ import (
 	"google.golang.org/grpc/status"
 	"llbm/daemon/internal/machine"
 	"llbm/daemon/internal/messages"
+	"llbm/daemon/internal/printable"
 )
+
+// mostOfName bounds the bytes of a vertex' name in a message.
+const mostOfName = 200
 
 // A Vertex is a line of `llbm show`, with the entry that it is.
 type Vertex struct {
@@ -304,7 +308,8 @@ func WrapRow(sent *pb.Definition, err error, advice func(*pb.Op) string) error {
 	d := digest.FromBytes(sent.Def[k])
 	op := &pb.Op{}
 	if op.Unmarshal(sent.Def[k]) == nil {
-		text := fmt.Sprintf("%s (%s)", st.Message(), Describe(sent.Metadata[d], op))
+		name := printable.Cut(printable.Of(Describe(sent.Metadata[d], op)), mostOfName)
+		text := fmt.Sprintf("%s (%s)", st.Message(), name)
 		if more := advice(op); more != "" {
 			text += ": " + more
 		}

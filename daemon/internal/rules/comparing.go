@@ -6,6 +6,7 @@ import (
 	"fmt"
 
 	"github.com/moby/buildkit/solver/pb"
+	"llbm/daemon/internal/printable"
 )
 
 // Notes of a comparison without a rule.
@@ -39,13 +40,13 @@ const Follows = "its inputs differ"
 
 func (l Line) String() string {
 	if len(l.Notes) == 0 {
-		return printable(l.Words) + ": " + Follows
+		return printable.Of(l.Words) + ": " + Follows
 	}
 	names := ""
 	for _, name := range l.Notes {
 		names += ", " + name
 	}
-	return printable(l.Words) + ": " + names[2:]
+	return printable.Of(l.Words) + ": " + names[2:]
 }
 
 func lineOf(words string, causes []Rule) Line {

@@ -5,7 +5,6 @@ import (
 	"fmt"
 	"slices"
 	"strings"
-	"unicode"
 
 	"llbm/daemon/internal/persistent"
 )
@@ -73,30 +72,6 @@ func above(root *Node, path []string) entry {
 
 // shown returns a path for a person.
 func shown(path []string) string { return "/" + strings.Join(path, "/") }
-
-// printable returns a text with what can't be printed escaped.
-func printable(text string) string {
-	var out strings.Builder
-	for _, c := range text {
-		switch {
-		case unicode.IsPrint(c):
-			out.WriteRune(c)
-		case c == '\t':
-			out.WriteString(`\t`)
-		case c == '\n':
-			out.WriteString(`\n`)
-		case c == '\r':
-			out.WriteString(`\r`)
-		case c < 0x100:
-			fmt.Fprintf(&out, `\x%02x`, c)
-		case c < 0x10000:
-			fmt.Fprintf(&out, `\u%04x`, c)
-		default:
-			fmt.Fprintf(&out, `\U%08x`, c)
-		}
-	}
-	return out.String()
-}
 
 // below returns a path with one name more.
 func below(path []string, name string) []string { return append(slices.Clip(path), name) }

@@ -133,13 +133,15 @@ func TestRefusalsHaveACodeAndLlbmsNumber(t *testing.T) {
 		code  codes.Code
 		text  string
 	}{
-		"an image":          {llb.Image("docker.io/library/a:b"), none, codes.Unimplemented, "llbm: fault 88 0 Source (docker-image://docker.io/library/a:b)"},
-		"no script":         {llb.Scratch().Run(llb.Shlex("make all")).Root(), none, codes.InvalidArgument, "llbm: fault 89 0 Script 71 make"},
-		"a failing action":  {llb.Scratch().File(llb.Rm("/a/b")), none, codes.Unknown, "llbm: failed 0 action 0 fault 21 NotFound: /a/b: no such file"},
-		"a failing copy":    {llb.Scratch().File(llb.Copy(file, "/b", "/c")), none, codes.Unknown, `0 fault 21 NotFound: "/b": not found: lstat /b: no such`},
-		"a failing command": {again, none, codes.Unknown, "llbm: failed 0 command 1 status 1: mkdir a"},
-		"an exporter":       {file, image, codes.Unimplemented, `exporter "image"`},
-		"a cache export":    {file, cache, codes.Unimplemented, "cache exports"},
+		"an image":            {llb.Image("docker.io/library/a:b"), none, codes.Unimplemented, "llbm: fault 88 0 Source (docker-image://docker.io/library/a:b)"},
+		"no script":           {llb.Scratch().Run(llb.Shlex("make all")).Root(), none, codes.InvalidArgument, "llbm: fault 89 0 Script 71 make"},
+		"a failing action":    {llb.Scratch().File(llb.Rm("/a/b")), none, codes.Unknown, "llbm: failed 0 action 0 fault 21 NotFound: /a/b: no such file"},
+		"a long name, cut":    {llb.Scratch().Run(llb.Args([]string{"make", strings.Repeat("x", 300)})).Root(), none, codes.InvalidArgument, "xx ..)"},
+		"a name with escapes": {llb.Scratch().File(llb.Mkdir("/a\x1b[1m", 0o755)), none, codes.Unknown, `26 BadName: /a\x1b[1m: a part of the path`},
+		"a failing copy":      {llb.Scratch().File(llb.Copy(file, "/b", "/c")), none, codes.Unknown, `0 fault 21 NotFound: "/b": not found: lstat /b: no such`},
+		"a failing command":   {again, none, codes.Unknown, "llbm: failed 0 command 1 status 1: mkdir a"},
+		"an exporter":         {file, image, codes.Unimplemented, `exporter "image"`},
+		"a cache export":      {file, cache, codes.Unimplemented, "cache exports"},
 	} {
 		_, err := d.Solve(context.Background(), marshal(t, c.state), c.opt, nil)
 		if status.Code(unwrapped(err)) != c.code || !strings.Contains(fmt.Sprint(err), c.text) {

@@ -11,6 +11,7 @@ import (
 	"llbm/daemon/internal/graph"
 	"llbm/daemon/internal/machine"
 	"llbm/daemon/internal/plan"
+	"llbm/daemon/internal/printable"
 	"llbm/daemon/internal/tree"
 )
 
@@ -30,7 +31,7 @@ func (s *Solver) failure(run *machine.Run, p *progress, v int) error {
 		}
 		text := fmt.Sprintf("fault %d %s", code, machine.Name(code))
 		if why != "" {
-			text += ": " + why
+			text += ": " + printable.Of(why)
 		}
 		if action < 0 {
 			return failed(sent, nil, status.Errorf(codes.Unknown, "llbm: failed %d %s", v, text))
@@ -40,9 +41,9 @@ func (s *Solver) failure(run *machine.Run, p *progress, v int) error {
 	}
 	text := fmt.Sprintf("llbm: failed %d command %d status %d", v, place, code)
 	if calls := plan.Calls(op); place < len(calls) {
-		text += ": " + strings.Join(calls[place], " ")
+		text += ": " + printable.Of(strings.Join(calls[place], " "))
 		if why := notRead(run, g, v, place, calls[place]); why != "" {
-			text += ": " + why
+			text += ": " + printable.Of(why)
 		}
 	}
 	return failed(sent, nil, status.Error(codes.Unknown, text))
