@@ -30,6 +30,13 @@ func TestABuildGoesOnWithoutItsComparison(t *testing.T) {
 		if got, err := d.solved(t, state, client.SolveOpt{}); err != nil || got != "0604 0:0 a \"\"\n0644 0:0 b \"\"\n" {
 			t.Errorf("%s: %q %v", name, got, err)
 		}
+		strict := started(t, func(o *Options) {
+			one.change(o)
+			o.Strict = true
+		})
+		if got, err := strict.solved(t, state, client.SolveOpt{}); err == nil || !strings.Contains(err.Error(), "the build is strict: "+notAll+one.why) {
+			t.Errorf("%s, strict: %q %v", name, got, err)
+		}
 	}
 }
 
