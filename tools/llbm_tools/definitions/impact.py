@@ -6,7 +6,9 @@ local sources have another tree for NEW than for OLD: the names after --changed;
 one side only. PLACE is a directory, an archive (a path that is not a directory and ends in .tar, .tar.gz, .tgz,
 .tar.bz2, .tar.xz or .tar.zst), an image or the text of a tree. Directories and archives get the owner 0:0, as `build`
 reads them, and what cannot be in a tree is named on standard error. A digest is the program's, the SHA-256 of the text.
-All other sources are taken to have the same trees for both.
+All other sources are taken to have the same trees for both. With --run both definitions are run by the program
+(--llbm PROGRAM, else that of the installation or repository), and each local source needs a tree for each definition
+that has it.
 
 Out: on standard output a line for the result, and then one for each vertex of NEW, by number:
 
@@ -19,6 +21,12 @@ Out: on standard output a line for the result, and then one for each vertex of N
     V KIND cached         OLD has a vertex that matches it or has its digest, and a cache mount is at or before it: no
                           law says what it leaves in a run, which depends on caches and the order of events
     V KIND new            OLD has no vertex that matches it or has its digest: no law says anything
+
+With --run a vertex that would be `fed` has one of two words in place of it, and so has the result:
+
+    V KIND same by NAMES      these changed sources are before it, and it ended in the same way as OLD's vertex with its
+                              digest, with equal outputs
+    V KIND changed by NAMES   it ended in another way, or with other outputs
 
 each vertex with its name and its place in its source after a tab, if NEW or OLD has them. Two vertices match if their
 ops are the same but for the digests of inputs, and their inputs match, one by one; two local sources, if their trees
@@ -42,9 +50,9 @@ import json
 from typing import NamedTuple
 
 from llbm_tools import common, inputs
-from llbm_tools.definitions import impacts
+from llbm_tools.definitions import both_runs, impacts
 from llbm_tools.definitions.impacts import Comparison, Impact, Names, Result
-from llbm_tools.streams import Refused, exit_status, write_output
+from llbm_tools.streams import Refused, exit_status, program_at, write_output
 from llbm_tools.trees.digests import tree_digest
 
 
@@ -79,7 +87,15 @@ def impacts_of(options: argparse.Namespace, comparison: Comparison) -> tuple[lis
 
 def word_of(impact: Impact) -> str:
     """Returns the word of a vertex, with the changed sources if they are why."""
-    return f"fed by {', '.join(sorted(impact.changed))}" if impact.word == impacts.FED else impact.word
+    by_sources = impact.word in (impacts.FED, impacts.SAME, impacts.CHANGED)
+    return f"{impact.word} by {', '.join(sorted(impact.changed))}" if by_sources else impact.word
+
+
+def laws_of(is_run: bool) -> dict[str, str]:
+    """Returns what each word says, by word: with runs two words take the place of one."""
+    if not is_run:
+        return impacts.LAWS
+    return {word: text for word, text in impacts.LAWS.items() if word != impacts.FED} | impacts.BY_RUNS
 
 
 def line_of(number: int, impact: Impact) -> str:
@@ -88,26 +104,28 @@ def line_of(number: int, impact: Impact) -> str:
     return f"{line}\t{impact.name}\n" if impact.name else f"{line}\n"
 
 
-def counts_of(found: list[Impact]) -> dict[str, int]:
+def counts_of(found: list[Impact], laws: dict[str, str]) -> dict[str, int]:
     """Returns how many vertices have each word."""
     counts = collections.Counter(impact.word for impact in found)
-    return {word: counts[word] for word in impacts.LAWS}
+    return {word: counts[word] for word in laws}
 
 
 def result_line(result: Result, found: list[Impact]) -> str:
     """Returns the line of the result."""
+    if result.word in impacts.BY_RUNS:
+        return f"result {result.vertex}.{result.output} {result.word}\n"
     if result.word == impacts.OTHER:
         return f"result {result.vertex}.{result.output} other, in OLD {result.old[0]}.{result.old[1]}\n"
     return common.printable(f"result {result.vertex}.{result.output} {word_of(found[result.vertex])}") + "\n"
 
 
-def lines_of(found: list[Impact], gone: list[int], result: Result) -> str:
+def lines_of(found: list[Impact], gone: list[int], result: Result, laws: dict[str, str]) -> str:
     """Returns all lines."""
-    counts = counts_of(found)
+    counts = counts_of(found, laws)
     lines = [result_line(result, found), *(line_of(number, impact) for number, impact in enumerate(found))]
     parts = [f"{count} {word}" for word, count in counts.items()]
     lines.append(f"{len(found)} vertices: {', '.join(parts)}; {len(gone)} of OLD gone\n")
-    lines += [f"{word}: {impacts.LAWS[word]}\n" for word, count in counts.items() if count]
+    lines += [f"{word}: {laws[word]}\n" for word, count in counts.items() if count]
     lines += [f"{impacts.OTHER}: {impacts.OTHER_RESULT}\n"] if result.word == impacts.OTHER else []
     return "".join(lines)
 
@@ -120,11 +138,11 @@ def vertex_object(number: int, impact: Impact) -> dict[str, object]:
     return {**about, **why}
 
 
-def json_of(found: list[Impact], gone: list[int], changed: Names, result: Result) -> str:
+def json_of(found: list[Impact], gone: list[int], changed: Names, result: Result, laws: dict[str, str]) -> str:
     """Returns the object of the result and of all vertices, with one line for each."""
     vertices = ",\n".join(f"    {json.dumps(vertex_object(*one))}" for one in enumerate(found))
     shown = {"vertex": result.vertex, "output": result.output, "impact": result.word, "old": list(result.old)}
-    rest = {"counts": counts_of(found), "gone": gone, "changed": sorted(changed), "laws": impacts.LAWS}
+    rest = {"counts": counts_of(found, laws), "gone": gone, "changed": sorted(changed), "laws": laws}
     members = ",\n".join(f"  {json.dumps(name)}: {json.dumps(value)}" for name, value in rest.items())
     return f'{{\n  "result": {json.dumps(shown)},\n  "vertices": [\n{vertices}\n  ],\n{members}\n}}\n'
 
@@ -133,10 +151,15 @@ def compare(options: argparse.Namespace) -> None:
     """Prints what is known of each vertex of NEW."""
     before, after = dict(options.before), dict(options.after)
     inputs.check_inputs(options.old, options.new, *before.values(), *after.values())
-    comparison = Comparison(inputs.data_at(options.old), inputs.data_at(options.new), (options.old, options.new))
+    data = inputs.data_at(options.old), inputs.data_at(options.new)
+    comparison = Comparison(*data, (options.old, options.new))
     found, changed = impacts_of(options, comparison)
     gone, result = comparison.gone(found), comparison.result(found)
-    text = json_of(found, gone, changed, result) if options.json else lines_of(found, gone, result)
+    if options.run:
+        found, word = both_runs.compared(program_at(options.llbm), comparison, data, (before, after), found)
+        result = result._replace(word=word)
+    laws = laws_of(options.run)
+    text = json_of(found, gone, changed, result, laws) if options.json else lines_of(found, gone, result, laws)
     write_output(io.BytesIO(text.encode("utf-8", "surrogateescape")), "the output")
 
 
@@ -169,6 +192,8 @@ def parse_options() -> argparse.Namespace:
             default=[],
             help=f"its tree for {side}: {place}",
         )
+    parser.add_argument("--run", action="store_true", help="run both, and compare what vertices that are fed made")
+    parser.add_argument("--llbm", metavar="PROGRAM", help="the program llbm, for --run")
     parser.add_argument("--json", action="store_true", help="print one object")
     return parser.parse_args()
 

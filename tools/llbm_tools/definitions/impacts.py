@@ -15,6 +15,8 @@ from llbm_tools.llb import definition, findings, names, op_reading, op_rules
 from llbm_tools.streams import Refused
 
 KEPT, NEW, FED, CACHED = "kept", "new", "fed", "cached"
+# Both definitions were run, and a vertex that changed sources feed made the same in both, or not.
+SAME, CHANGED = "same", "changed"
 OTHER = "other"
 OTHER_RESULT = "OLD's result is an output of another vertex, or another output of this one; no law says anything"
 
@@ -23,6 +25,10 @@ LAWS = {
     NEW: "OLD has no vertex that matches it or has its digest; no law says anything",
     FED: "its outcome depends on the sources before it alone, and these of them have changed (outcome_by_sources)",
     CACHED: "a cache mount is at or before it; no law says what it leaves in a run",
+}
+BY_RUNS = {
+    SAME: "both definitions were run: it is fed by changed sources, and ended in the same way with equal outputs",
+    CHANGED: "both definitions were run: it ended in another way than OLD's vertex, or with other outputs",
 }
 
 Names = frozenset[str]
@@ -58,7 +64,7 @@ class Result(NamedTuple):
 
 
 class Impact(NamedTuple):
-    """What is known of a vertex of the newer definition: one of the four words, and why.
+    """What is known of a vertex of the newer definition: one of the words, and why.
 
     `old` is the vertex of the older definition that matches it or, if none does, that has its digest; `changed` has the
     changed sources at or before it, and `cached` says whether a cache mount is at or before it.

@@ -74,6 +74,7 @@ MODULES = [
     "statuses",
     "llb.properties",
     "definitions.impacting",
+    "definitions.impact_runs",
     "page.page_adopting",
     "page.page_serving",
     "page.paging",
