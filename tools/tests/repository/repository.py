@@ -40,7 +40,7 @@ KEPT_EDITS = {
     "llb_ready": ["number_that_met_full_is_lost", "number_given_twice"],
     "llb_work": ["another_graph_comes_back", "opening_board_without_a_fault"],
     "llb_stepper": ["stops_one_event_late", "back_to_the_opening"],
-    "llb_embed": ["output_is_cut_without_its_length", "keeps_the_old_definition"],
+    "llb_embed": ["keeps_the_old_definition"],
 }
 
 ERROR = re.compile(r'#\[error\("(.*)"\)\]')
