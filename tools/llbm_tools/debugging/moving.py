@@ -41,6 +41,8 @@ class Mover:
         self.breakpoints: list[Breakpoint] = []
         self.stops_at_failures = False
         self.stops_at_breakpoints = True
+        # Returns the stop after an event for another reason than its kind and vertex, or None.
+        self.stops_for: Callable[[Event], Stop | None] = lambda _: None
 
     def is_hit(self, one: Breakpoint, event: Event) -> bool:
         """Returns whether the last event of the record is a hit at which a breakpoint stops.
@@ -60,7 +62,7 @@ class Mover:
             return Stop("exception", f"vertex {event.vertex} failed", event.worker, hits)
         if hits:
             return Stop("breakpoint", f"{event.kind} of vertex {event.vertex}", event.worker, hits)
-        return None
+        return self.stops_for(event)
 
     def print_messages(self, event: Event) -> None:
         """Prints the messages of the breakpoints that an event hits."""

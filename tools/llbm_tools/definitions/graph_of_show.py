@@ -10,8 +10,8 @@ box, each with its numbers of steps and outputs. With a definition each vertex h
 source, if the definition has them, and what it does: the identifier of a source, the kind and the paths of each action,
 the script of an execution, each in at most 60 characters, and at most 8 actions. An edge goes from an input's vertex to
 the vertex that uses it, labeled with the number of the output; the double circle `result` follows the output that is
-the result. With an impact the vertices have colors: green is kept or made the same, gold fed by a changed source or made
-otherwise, blue new, gray cached.
+the result. With an impact the vertices have colors: green is kept or made the same, gold fed by a changed source or
+made otherwise, blue new, gray cached.
 With DEFINITION all entries are drawn, also those that the result does not depend on; one that is no vertex has its row,
 `%K`, in place of a number. What the program refuses in an entry is a line `refused: NUMBER NAME` of its label, and the
 entry is red; an octagon is of another kind, or is no op.
@@ -34,7 +34,8 @@ from llbm_tools.sessions.shows import Edge, Show, Vertex, show_of
 from llbm_tools.streams import Refused, exit_status
 
 COLORS = {
-    "kept": "palegreen", "same": "palegreen", "fed": "gold", "changed": "gold", "new": "lightblue", "cached": "lightgray",
+    "kept": "palegreen", "same": "palegreen", "fed": "gold", "changed": "gold", "new": "lightblue",
+    "cached": "lightgray",
 }
 
 

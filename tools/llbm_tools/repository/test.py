@@ -36,6 +36,7 @@ MODULES = [
     "debugging.adapter_eyes",
     "debugging.adapter_breaks",
     "debugging.reasons",
+    "debugging.prompting",
     "sessions.tracing",
     "debugging.adapter_parts",
     "program",

@@ -24,10 +24,9 @@ from collections.abc import Iterator
 
 from llbm_tools import common, inputs
 from llbm_tools.debugging import launching
-from llbm_tools.debugging.changes import Change, Compared
+from llbm_tools.debugging.described import changed_lines, otherwise_lines
 from llbm_tools.debugging.happened import Happened, Watch
 from llbm_tools.debugging.views import Views
-from llbm_tools.rules.lines import more_paths
 from llbm_tools.running import summary
 from llbm_tools.sessions.session import Event, Refusal, Session, SessionFailed
 from llbm_tools.streams import FAILED, Refused, exit_status
@@ -37,34 +36,16 @@ MOST_OF_A_LINE = 200
 USUAL_PATHS = 20
 
 
-def change_line(change: Change) -> str:
-    """Returns a change in one line: what happened, to which path, and the rest."""
-    kind, _, rest = change.shown().partition(" ")
-    return f"{kind} {change.path}: {rest}"
-
-
-def compared_lines(compared: Compared, most: int) -> Iterator[str]:
-    """Yields a line for each change of a tree that is shown, and one that counts the others."""
-    if compared.left:
-        yield f"{compared.name}: {compared.left}"
-    for change in compared.changes[:most]:
-        yield f"{compared.name}: {change_line(change)}"
-    more = sum(compared.counts.values()) - len(compared.changes[:most])
-    if more > 0:
-        yield f"{compared.name}: {more_paths(more)}"
-
-
 def step_lines(happened: Happened, most: int) -> Iterator[str]:
     """Yields the lines of a micro-step."""
     yield f"  {happened.text}"
-    for compared in happened.compared:
-        yield from (f"    {line}" for line in compared_lines(compared, most))
-    yield from otherwise_lines(happened)
+    yield from (f"    {line}" for line in changed_lines(happened, most))
+    yield from below(happened)
 
 
-def otherwise_lines(happened: Happened | None) -> Iterator[str]:
-    """Yields a line for each way in which an event ends otherwise in BuildKit."""
-    yield from (f"    BuildKit: {line}" for line in (happened.otherwise if happened else []))
+def below(happened: Happened | None) -> Iterator[str]:
+    """Yields the lines of what ends otherwise in BuildKit, below those of the event."""
+    yield from (f"    {line}" for line in otherwise_lines(happened))
 
 
 def event_lines(event: Event, watch: Watch, views: Views, options: argparse.Namespace) -> Iterator[str]:
@@ -72,13 +53,13 @@ def event_lines(event: Event, watch: Watch, views: Views, options: argparse.Name
     if event.kind == "claim":
         place = views.place_of(event.vertex)
         yield f"vertex {views.title(event.vertex)}" + (f" ({place})" if place else "")
-        yield from [] if options.summary else otherwise_lines(watch.last())
+        yield from [] if options.summary else below(watch.last())
     elif event.kind == "settle":
         if options.summary and not event.fails():
             outputs = watch.graph.vertices[event.vertex].outputs
             yield from summary.output_lines(watch.session, event.vertex, outputs)
         yield "  failed" if event.fails() else "  done"
-        yield from [] if options.summary else otherwise_lines(watch.last(options.paths))
+        yield from [] if options.summary else below(watch.last(options.paths))
     elif happened := watch.last(summary.ALL_PATHS if options.summary else options.paths):
         yield from [summary.step_line(happened)] if options.summary else step_lines(happened, options.paths)
 
