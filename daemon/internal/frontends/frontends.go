@@ -10,6 +10,7 @@ import (
 	"os"
 	"os/exec"
 	"path/filepath"
+	"slices"
 	"sort"
 	"strings"
 	"sync"
@@ -17,6 +18,7 @@ import (
 	"syscall"
 	"time"
 
+	"github.com/distribution/reference"
 	apitypes "github.com/moby/buildkit/api/types"
 	gatewaypb "github.com/moby/buildkit/frontend/gateway/pb"
 	"golang.org/x/net/http2"
@@ -38,7 +40,12 @@ const (
 	mostOfOption = 32*4096 - 1
 	// images is the frontend of BuildKit that runs a frontend's image, which its option `source` names.
 	images = "gateway.v0"
+	// dockerfiles is the frontend whose images a Dockerfile names in its first line.
+	dockerfiles = "dockerfile.v0"
 )
+
+// ofDockerfiles are the images of the frontend for Dockerfiles, whatever their tags are.
+var ofDockerfiles = []string{"docker.io/docker/dockerfile", "docker.io/docker/dockerfile-upstream"}
 
 // Frontends are programs by name.
 type Frontends struct {
@@ -95,14 +102,25 @@ func (f *Frontends) String() string {
 }
 
 func (f *Frontends) find(frontend gateway.Frontend) (string, error) {
-	name := frontend.Name
-	if _, ok := f.Programs[name]; !ok && name == images {
-		name = frontend.Options["source"]
+	asked, names := frontend.Name, []string{frontend.Name}
+	if source := frontend.Options["source"]; asked == images && source != "" {
+		asked, names = source, append(names, source)
+		if isOfDockerfiles(source) {
+			names = append(names, dockerfiles)
+		}
 	}
-	if program, ok := f.Programs[name]; ok {
-		return program, nil
+	for _, name := range names {
+		if program, ok := f.Programs[name]; ok {
+			return program, nil
+		}
 	}
-	return "", status.Errorf(codes.Unimplemented, "llbmd has no frontend %q: it was started with %q (-frontend NAME=PROGRAM adds one)", name, f.String())
+	return "", status.Errorf(codes.Unimplemented, "llbmd has no frontend %q: it was started with %q (-frontend NAME=PROGRAM adds one)", asked, f.String())
+}
+
+// isOfDockerfiles is whether an image is one of the frontend for Dockerfiles, as in `# syntax=docker/dockerfile:1`.
+func isOfDockerfiles(image string) bool {
+	named, err := reference.ParseNormalizedNamed(image)
+	return err == nil && slices.Contains(ofDockerfiles, named.Name())
 }
 
 // Run runs a frontend for a build, and returns its result.

@@ -216,3 +216,33 @@ func TestAResultIsTakenAlsoFromAFrontendThatHasEnded(t *testing.T) {
 		t.Error(err)
 	}
 }
+
+func TestTheImagesOfTheDockerfileFrontendAreTheFrontend(t *testing.T) {
+	f := Frontends{Programs: map[string]string{"dockerfile.v0": "/dockerfile", "example/own:1": "/own"}}
+	for source, want := range map[string]string{
+		"docker/dockerfile":                        "/dockerfile",
+		"docker/dockerfile:1":                      "/dockerfile",
+		"docker.io/docker/dockerfile:1.7-labs":     "/dockerfile",
+		"docker/dockerfile-upstream:master":        "/dockerfile",
+		"docker/dockerfile:1@sha256:" + sum:        "/dockerfile",
+		"example/own:1":                            "/own",
+		"example/dockerfile:1":                     "",
+		"registry.example.com/docker/dockerfile:1": "",
+		"docker/dockerfiles:1":                     "",
+		"DOCKER/dockerfile":                        "",
+	} {
+		got, err := f.find(gateway.Frontend{Name: "gateway.v0", Options: map[string]string{"source": source}})
+		if got != want || (err == nil) != (want != "") {
+			t.Errorf("%s: %q %v, not %q", source, got, err, want)
+		}
+		if err != nil && !strings.Contains(err.Error(), `no frontend "`+source+`"`) {
+			t.Errorf("%s: %v", source, err)
+		}
+	}
+	f.Programs["docker/dockerfile:1"] = "/other"
+	if got, err := f.find(gateway.Frontend{Name: "gateway.v0", Options: map[string]string{"source": "docker/dockerfile:1"}}); got != "/other" {
+		t.Errorf("a program of the image's own name is not taken: %q %v", got, err)
+	}
+}
+
+const sum = "e3b0c44298fc1c149afbf4c8996fb92427ae41e4649b934ca495991b7852b855"
