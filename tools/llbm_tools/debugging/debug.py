@@ -1,11 +1,11 @@
 """Lets a person step through the run of a definition at a prompt, forwards and backwards.
 
-In: a definition, or the text of its entries, and NAME=PATH for each local source: a directory, a tar (both with owner 0:0) or a tree text. Commands
-come from standard input: `help` prints all of them. At a terminal there is a prompt, with history and completion by the
-Tab key; else lines are read without one. Ctrl-C pauses a run that goes on, between two events. The program is --llbm
-PROGRAM, else the one on PATH, else crates/llbm/out/llbm of the repository, or else its out/llbm-unproved, which is
-named on standard error as not proved. --workers N has N workers, 1 by default, and --paths N shows at most N paths of
-one tree, 20 by default.
+In: a definition, or the text of its entries, and NAME=PATH for each local source: a directory, a tar (both with owner
+0:0) or a tree text. Commands come from standard input: `help` prints all of them. At a terminal there is a prompt, with
+history and completion by the Tab key; else lines are read without one. Ctrl-C pauses a run that goes on, between two
+events. The program is --llbm PROGRAM, else the one on PATH, else crates/llbm/out/llbm of the repository, or else its
+out/llbm-unproved, which is named on standard error as not proved. --workers N has N workers, 1 by default, and
+--paths N shows at most N paths of one tree, 20 by default.
 
 Out: on standard output a line for each event that a command does, and what a command shows. What is refused is a line
 there too, and changes nothing.

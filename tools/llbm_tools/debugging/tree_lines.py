@@ -24,7 +24,7 @@ def below(path: str, node: Node) -> Iterator[tuple[str, Node]]:
 
 
 def tree_lines(path: str, node: Node, most: int) -> list[str]:
-    """Returns the lines of an entry and of those below it, at most `most` of them, and a line that counts the others."""
+    """Returns the lines of an entry and of those below it, at most `most`, and a line that counts the others."""
     entries = list(below(path, node))
     more = len(entries) - most
     lines = [entry_line(*entry) for entry in entries[:most]]

@@ -65,7 +65,9 @@ class Moving(Prompt):
 
     def test_events_of_a_session_can_be_done(self):
         lines = self.lines("do claim 0 1", "do cancel 0", "do step 7", "do next")
-        self.assertEqual(lines[:3], ["1 claim 0: 1 file: mkdir /out", "2 cancel 0: vertex 1 is given up", "fault 171 131"])
+        self.assertEqual(lines[:3], [
+            "1 claim 0: 1 file: mkdir /out", "2 cancel 0: vertex 1 is given up", "fault 171 131",
+        ])
         self.assertEqual(lines[-1], "this is none of claim W V, step W, settle W and cancel W")
 
 
@@ -82,7 +84,8 @@ class Stopping(Prompt):
         ])
 
     def test_a_settle_stops_the_run(self):
-        self.assertEqual(self.lines("break 1 settle", "go")[1:], ["6 settle 0: vertex 1 done", "stopped: settle of vertex 1"])
+        lines = self.lines("break 1 settle", "go")
+        self.assertEqual(lines[1:], ["6 settle 0: vertex 1 done", "stopped: settle of vertex 1"])
 
     def test_a_path_stops_the_run_where_it_changes(self):
         lines = self.lines("break path /out/bin/all", "go", "go", "go", "rewind", "rewind")
@@ -93,7 +96,8 @@ class Stopping(Prompt):
 
     def test_a_line_of_a_dockerfile_stops_the_run(self):
         given = (str(DOCKERFILE / "definition"), f"context={DOCKERFILE / 'context.tree'}")
-        lines = self.lines("break line Dockerfile:4", "go", "break line Dockerfile:99", "break line none:1", given=given)
+        commands = ["break line Dockerfile:4", "go", "break line Dockerfile:99", "break line none:1"]
+        lines = self.lines(*commands, given=given)
         self.assertEqual(lines[0], "breakpoint 1: line Dockerfile:4 (vertex 3)")
         self.assertTrue(lines[1].endswith("RUN mkdir -p out && concat out/all one two (Dockerfile:4)"), lines[1])
         self.assertEqual(lines[3:], [
@@ -134,7 +138,8 @@ class Looking(Prompt):
         ])
 
     def test_a_tree_has_all_entries(self):
-        lines = self.lines("go", "tree 0.0", "tree 2.0:/out/bin/all", "tree 2.0:/none", "tree 9", "print 0.0:/text/head")
+        trees = ["tree 0.0", "tree 2.0:/out/bin/all", "tree 2.0:/none", "tree 9"]
+        lines = self.lines("go", *trees, "print 0.0:/text/head")
         self.assertEqual(lines[1:5], [
             "/  0755 0:0, 1 name", "/text/  0755 0:0, 2 names", "/text/head  0644 0:0, text of 7 bytes: hello,\\n",
             "/text/tail  0644 0:0, text of 6 bytes: world\\n",

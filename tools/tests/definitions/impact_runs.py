@@ -69,7 +69,8 @@ class Runs(Folder):
         data = base.ending(LEFT, base.file_op(taken("/b/f"), on=[LEFT]))
         os.unlink(self.place(b"in", b"b", b"f"))
         gone = self.tree(b"gone")
-        lines = self.lines(self.impact("--before", f"left={self.before}", "--after", f"left={gone}", old=data, new=data))
+        words = ["--before", f"left={self.before}", "--after", f"left={gone}"]
+        lines = self.lines(self.impact(*words, old=data, new=data))
         self.assertEqual(lines[:3], ["result 1.0 changed", "0 source changed by left", "1 file changed by left"])
 
     def test_the_same_failure_on_both_sides_is_no_change(self):
