@@ -72,6 +72,7 @@ MODULES = [
     "installing.installing",
     "running.words",
     "running.running",
+    "running.checking",
     "statuses",
     "llb.properties",
     "definitions.impacting",

@@ -100,15 +100,20 @@ def difference(one: Entry | None, two: Entry | None) -> str:
     return f"removed {whole(one)}" if one else f"added {whole(two)}" if two else ""
 
 
+def difference_lines(first: Iterator[Entry], second: Iterator[Entry]) -> Iterator[bytes]:
+    """Yields the line of each path at which two trees differ, in path order."""
+    for one, two in pairs_of(first, second):
+        text, shown = difference(one, two), one or two
+        if text and shown:
+            yield text.encode() + b" " + path_of(shown.names) + b"\n"
+
+
 def compare(options: argparse.Namespace) -> int:
     """Prints all differences, and returns the exit status."""
     inputs.check_inputs(options.first, options.second)
     lines, reading = io.BytesIO(), Reading(options.owner, options.strict, quiet=True)
     with text_at(options.first, reading) as first, text_at(options.second, reading) as second:
-        for one, two in pairs_of(entries_of(options.first, first), entries_of(options.second, second)):
-            text, shown = difference(one, two), one or two
-            if text and shown:
-                lines.write(text.encode() + b" " + path_of(shown.names) + b"\n")
+        lines.writelines(difference_lines(entries_of(options.first, first), entries_of(options.second, second)))
     different = lines.tell() > 0
     write_output(lines, "the differences")
     return DIFFERENT if different else EQUAL
