@@ -39,6 +39,15 @@ type Talk struct {
 
 // Talk starts a helper, which is killed when the context ends.
 func (p *Program) Talk(ctx context.Context, words ...string) (*Talk, error) {
+	t, err := p.talk(ctx, words...)
+	if err == nil {
+		t.limitTime()
+	}
+	return t, err
+}
+
+// talk starts a helper whose time has not begun.
+func (p *Program) talk(ctx context.Context, words ...string) (*Talk, error) {
 	process, err := p.start(ctx, nil, nil, nil, words...)
 	if err != nil {
 		return nil, err

@@ -131,7 +131,7 @@ func (p *Program) sanitizer() string {
 	return settings
 }
 
-// begin starts the process and bounds it, before it has been sent anything.
+// begin starts the process and bounds its memory, before it has been sent anything.
 func (r *process) begin() error {
 	if err := Start(r.cmd); err != nil {
 		r.cancel(nil)
@@ -145,12 +145,16 @@ func (r *process) begin() error {
 	if err != nil {
 		r.cancel(err)
 		_ = r.wait()
-		return fmt.Errorf("llbm can't be bounded: %w", err)
-	}
-	if limits.Time > 0 {
-		r.timer = time.AfterFunc(limits.Time, func() { r.cancel(errTime) })
+		return fmt.Errorf("%s can't be bounded: %w", filepath.Base(r.program.Path), err)
 	}
 	return nil
+}
+
+// limitTime begins the time that the process may take.
+func (r *process) limitTime() {
+	if most := r.program.Limits.Time; most > 0 {
+		r.timer = time.AfterFunc(most, func() { r.cancel(errTime) })
+	}
 }
 
 // bounded returns the resource by which the kernel bounds the program's memory, if it does. A program in Go reserves more address
@@ -238,6 +242,7 @@ func (p *Program) Show(ctx context.Context, definition []byte) (string, error) {
 	if err := run.begin(); err != nil {
 		return "", err
 	}
+	run.limitTime()
 	if err := run.wait(); err != nil {
 		return "", err
 	}

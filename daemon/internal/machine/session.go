@@ -72,6 +72,7 @@ func (p *Program) Step(ctx context.Context, definition *os.File, sources []Sourc
 	if err := r.begin(); err != nil {
 		return nil, err
 	}
+	r.limitTime()
 	r.lines = bufio.NewReaderSize(r.out, 1<<16)
 	return r, nil
 }

@@ -381,7 +381,7 @@ func TestManyBuildsAtOnce(t *testing.T) {
 		}()
 	}
 	group.Wait()
-	eventually(t, "no child runs", func() bool { return len(children(t)) == 0 })
+	eventually(t, "no child runs", func() bool { return len(d.children(t)) == 0 })
 }
 
 func TestTheHistoryHasTheLastBuilds(t *testing.T) {

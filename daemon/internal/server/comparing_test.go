@@ -40,6 +40,24 @@ func TestABuildGoesOnWithoutItsComparison(t *testing.T) {
 	}
 }
 
+// A build finds a process that compares, which was started before it, and after it the next one waits. None is left of the daemon.
+func TestOneProcessWaitsForTheNextComparison(t *testing.T) {
+	d := started(t, nil)
+	last := 0
+	for range 3 {
+		eventually(t, "another one waits", func() bool { return d.rules.Waiting() != 0 && d.rules.Waiting() != last })
+		last = d.rules.Waiting()
+		if _, err := d.solved(t, llb.Scratch().File(llb.Mkfile("/a", 0o600, nil)), client.SolveOpt{}); err != nil {
+			t.Fatal(err)
+		}
+	}
+	eventually(t, "nothing else runs", func() bool { return len(d.children(t)) == 0 })
+	d.stop()
+	if left := childrenOf(t, os.Getpid()); len(left) > 0 {
+		t.Error(left)
+	}
+}
+
 // A build without a file op and without a merge starts no process to compare.
 func TestABuildWithNothingToCompareHasNoComparison(t *testing.T) {
 	d := started(t, func(o *Options) { o.Rules = as(t, dyingName) })

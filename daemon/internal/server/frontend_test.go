@@ -107,7 +107,7 @@ func TestAFrontendIsAChild(t *testing.T) {
 	if err == nil || !strings.Contains(err.Error(), `no frontend "other.v0"`) {
 		t.Error(err)
 	}
-	eventually(t, "no child runs", func() bool { return len(children(t)) == 0 })
+	eventually(t, "no child runs", func() bool { return len(d.children(t)) == 0 })
 }
 
 func TestARefusalThatCameThroughAFrontendHasItsCodeOnce(t *testing.T) {
@@ -147,10 +147,10 @@ func TestAFrontendEndsWithItsBuild(t *testing.T) {
 		_, err := said(t, d, ctx, "hang")
 		done <- err
 	}()
-	eventually(t, "the frontend runs", func() bool { return len(children(t)) == 1 })
+	eventually(t, "the frontend runs", func() bool { return len(d.children(t)) == 1 })
 	cancel()
 	if err := <-done; err == nil {
 		t.Error("it was built")
 	}
-	eventually(t, "no child runs", func() bool { return len(children(t)) == 0 })
+	eventually(t, "no child runs", func() bool { return len(d.children(t)) == 0 })
 }

@@ -9,6 +9,8 @@ import (
 	"io"
 	"os"
 	"path/filepath"
+	"slices"
+	"strconv"
 	"strings"
 	"testing"
 	"time"
@@ -199,10 +201,19 @@ func directory(t testing.TB, files map[string]string) string {
 	return root
 }
 
-// children returns the processes that this one has started and that it has not waited for.
-func children(t testing.TB) []string {
+// children returns the processes that this one has started and that it has not waited for, but for the one that waits for a build
+// of the daemon.
+func (d *daemon) children(t testing.TB) []string {
 	t.Helper()
-	lists, err := filepath.Glob("/proc/self/task/*/children")
+	out := childrenOf(t, os.Getpid())
+	waiting := strconv.Itoa(d.rules.Waiting())
+	return slices.DeleteFunc(out, func(pid string) bool { return pid == waiting })
+}
+
+// childrenOf returns the processes that one has started and that it has not waited for.
+func childrenOf(t testing.TB, process int) []string {
+	t.Helper()
+	lists, err := filepath.Glob(fmt.Sprintf("/proc/%d/task/*/children", process))
 	if err != nil {
 		t.Fatal(err)
 	}

@@ -40,7 +40,7 @@ func TestMain(m *testing.M) {
 	case dialName:
 		dial(os.Args[1])
 	case daemonName:
-		serve(os.Args[1], os.Args[2])
+		serve(os.Args[1], os.Args[2], os.Args[3])
 	case frontendName:
 		beFrontend()
 	case dyingName:
@@ -56,8 +56,8 @@ func TestMain(m *testing.M) {
 }
 
 // serve is a daemon with its socket and its store in a folder.
-func serve(folder, program string) {
-	o := Options{Program: program, Workers: 1, AtOnce: 1, Store: folder, StoreBytes: 1 << 20, Idle: patience, Frontends: &frontends.Frontends{}}
+func serve(folder, program, rules string) {
+	o := Options{Program: program, Rules: rules, Workers: 1, AtOnce: 1, Store: folder, StoreBytes: 1 << 20, Idle: patience, Frontends: &frontends.Frontends{}}
 	d, err := New(context.Background(), o)
 	if err == nil {
 		err = d.Serve(context.Background(), filepath.Join(folder, "s"))

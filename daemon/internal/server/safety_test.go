@@ -33,9 +33,9 @@ func phases(t *testing.T) map[string]func(ctx context.Context, d *daemon, c *cli
 			o := client.SolveOpt{LocalMounts: map[string]fsutil.FS{"context": stuck{ctx, reached}}}
 			_, _ = c.Solve(ctx, marshal(t, llb.Local("context")), o, nil)
 		},
-		"while llbm runs": func(ctx context.Context, _ *daemon, c *client.Client, reached func()) {
+		"while llbm runs": func(ctx context.Context, d *daemon, c *client.Client, reached func()) {
 			go func() {
-				eventually(t, "llbm runs", func() bool { return len(children(t)) > 0 })
+				eventually(t, "llbm runs", func() bool { return len(d.children(t)) > 0 })
 				reached()
 			}()
 			_, _ = c.Solve(ctx, marshal(t, long(llb.Scratch())), client.SolveOpt{LocalDirs: dirs}, nil)
@@ -100,7 +100,7 @@ func TestNothingIsLeftOfAClientThatVanishes(t *testing.T) {
 				vanish(c, cancel)
 				<-ended
 				eventually(t, "no build runs", func() bool { return d.builds.Running() == 0 })
-				eventually(t, "no child runs", func() bool { return len(children(t)) == 0 })
+				eventually(t, "no child runs", func() bool { return len(d.children(t)) == 0 })
 				if err := d.Prune(context.Background(), nil); err != nil {
 					t.Error(err)
 				}
@@ -218,9 +218,10 @@ func TestABuildIsBounded(t *testing.T) {
 		if status.Code(unwrapped(err)) != codes.ResourceExhausted || !strings.Contains(fmt.Sprint(err), c.want) {
 			t.Errorf("%s: %v", name, err)
 		}
-		if len(children(t)) > 0 {
-			t.Errorf("%s: %v run", name, children(t))
+		if left := d.children(t); len(left) > 0 {
+			t.Errorf("%s: %v run", name, left)
 		}
+		d.stop()
 	}
 }
 
@@ -321,7 +322,7 @@ func dial(path string) {
 
 func TestNothingIsLeftOfADaemonThatIsKilled(t *testing.T) {
 	folder := short(t)
-	cmd := exec.Command(self(t, daemonName), folder, llbm(t))
+	cmd := exec.Command(self(t, daemonName), folder, llbm(t), as(t, rulesName))
 	cmd.Stderr = os.Stderr
 	if err := cmd.Start(); err != nil {
 		t.Fatal(err)
@@ -335,23 +336,20 @@ func TestNothingIsLeftOfADaemonThatIsKilled(t *testing.T) {
 		_, err := c.Solve(context.Background(), marshal(t, long(llb.Local("context"))), o, nil)
 		ended <- err
 	}()
-	running := func() string {
-		data, _ := os.ReadFile(fmt.Sprintf("/proc/%d/task/%d/children", cmd.Process.Pid, cmd.Process.Pid))
-		lists, _ := filepath.Glob(fmt.Sprintf("/proc/%d/task/*/children", cmd.Process.Pid))
-		for _, list := range lists {
-			more, _ := os.ReadFile(list)
-			data = append(data, more...)
-		}
-		for _, pid := range strings.Fields(string(data)) {
-			if words, _ := os.ReadFile("/proc/" + pid + "/cmdline"); strings.Contains(string(words), "\x00step\x00") {
+	running := func(word string) string {
+		for _, pid := range childrenOf(t, cmd.Process.Pid) {
+			if words, _ := os.ReadFile("/proc/" + pid + "/cmdline"); strings.Contains(string(words), "\x00"+word+"\x00") {
 				return pid
 			}
 		}
 		return ""
 	}
-	child := ""
-	eventually(t, "llbm runs", func() bool { child = running(); return child != "" })
-	if child == "" {
+	run, spare := "", ""
+	eventually(t, "llbm runs, and llbm-rules waits", func() bool {
+		run, spare = running("step"), running("compare")
+		return run != "" && spare != ""
+	})
+	if run == "" || spare == "" {
 		return
 	}
 	if err := cmd.Process.Kill(); err != nil {
@@ -363,10 +361,12 @@ func TestNothingIsLeftOfADaemonThatIsKilled(t *testing.T) {
 	} else {
 		t.Log(err)
 	}
-	eventually(t, "llbm has ended", func() bool { // it may be a while until somebody waits for it
-		words, err := os.ReadFile("/proc/" + child + "/cmdline")
-		return err != nil || len(words) == 0
-	})
+	for _, child := range []string{run, spare} {
+		eventually(t, "it has ended", func() bool { // it may be a while until somebody waits for it
+			words, err := os.ReadFile("/proc/" + child + "/cmdline")
+			return err != nil || len(words) == 0
+		})
+	}
 	left, err := os.ReadDir(folder)
 	if err != nil || len(left) != 1 || left[0].Name() != "s" {
 		t.Errorf("%v %v", left, err)

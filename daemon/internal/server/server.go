@@ -73,6 +73,7 @@ type Daemon struct {
 	grpc   *grpc.Server
 	builds *builds.Builds
 	store  *contents.Store
+	rules  *machine.Ahead // or nil
 }
 
 // New makes a daemon that does not listen yet.
@@ -113,26 +114,29 @@ func New(ctx context.Context, o Options) (*Daemon, error) {
 	})
 	gatewaypb.RegisterLLBBridgeServer(g, bridge)
 	grpc_health_v1.RegisterHealthServer(g, health.NewServer())
-	return &Daemon{grpc: g, builds: all, store: store}, nil
+	return &Daemon{grpc: g, builds: all, store: store, rules: solver.Rules}, nil
 }
 
-// findRules returns the program llbm-rules: the one that is named, or else the one beside this program. If that is missing, builds
-// go on without it.
-func findRules(path string, limits machine.Limits) (*machine.Program, error) {
-	if path != "" {
-		return machine.FindHelper(path, limits)
+// findRules returns the program llbm-rules, which compares: the one that is named, or else the one beside this program. If that is
+// missing, builds go on without it.
+func findRules(path string, limits machine.Limits) (*machine.Ahead, error) {
+	named := path != ""
+	if !named {
+		own, err := os.Executable()
+		if err != nil {
+			return nil, err
+		}
+		path = filepath.Join(filepath.Dir(own), "llbm-rules")
 	}
-	own, err := os.Executable()
-	if err != nil {
+	program, err := machine.FindHelper(path, limits)
+	switch {
+	case err == nil:
+		return program.Ahead("compare"), nil
+	case named:
 		return nil, err
 	}
-	path = filepath.Join(filepath.Dir(own), "llbm-rules")
-	program, err := machine.FindHelper(path, limits)
-	if err != nil {
-		log.Printf("llbmd: %s is missing, so no build is compared with what BuildKit would make: tools/daemon builds it", path)
-		return nil, nil
-	}
-	return program, nil
+	log.Printf("llbmd: %s is missing, so no build is compared with what BuildKit would make: tools/daemon builds it", path)
+	return nil, nil
 }
 
 func serverOptions(c credentials.TransportCredentials) []grpc.ServerOption {
@@ -184,6 +188,10 @@ func (d *Daemon) Serve(ctx context.Context, address string) error {
 	listener, err := peers.Listen(path)
 	if err != nil {
 		return err
+	}
+	if d.rules != nil {
+		go d.rules.Ready()
+		defer d.rules.Close()
 	}
 	log.Printf("llbmd: listening on %s", path)
 	stopped := make(chan struct{})

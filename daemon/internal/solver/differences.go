@@ -98,11 +98,14 @@ func (s *Solver) begin(c *comparing, def *pb.Definition, in *inputs, texts []mac
 	}
 	select {
 	case s.comparisons <- struct{}{}:
-		c.leave = func() { <-s.comparisons }
+		c.leave = func() {
+			<-s.comparisons
+			go s.Rules.Ready() // the next build finds one that runs
+		}
 	case <-c.ctx.Done():
 		return c.ctx.Err()
 	}
-	if c.child, err = s.Rules.Talk(c.ctx, "compare"); err != nil {
+	if c.child, err = s.Rules.Talk(c.ctx); err != nil {
 		c.child = nil
 		return err
 	}

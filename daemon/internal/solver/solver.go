@@ -32,12 +32,12 @@ type Solver struct {
 	Workers  int
 	Sessions *sessions.Sessions
 	Keeper   *sources.Keeper
-	Kept     *kept.Folder     // or nil
-	Notes    *notes.Table     // or nil
-	Platform pb.Platform      // the worker's
-	Literal  bool             // whether definitions run by llbm's rules where they differ from BuildKit's
-	Strict   bool             // whether a build fails of which BuildKit would make something else
-	Rules    *machine.Program // llbm-rules, or nil
+	Kept     *kept.Folder   // or nil
+	Notes    *notes.Table   // or nil
+	Platform pb.Platform    // the worker's
+	Literal  bool           // whether definitions run by llbm's rules where they differ from BuildKit's
+	Strict   bool           // whether a build fails of which BuildKit would make something else
+	Rules    *machine.Ahead // llbm-rules that compares, or nil
 
 	slots       chan struct{}
 	comparisons chan struct{}

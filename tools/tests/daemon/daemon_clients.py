@@ -61,13 +61,21 @@ def without_owners(text):
     return OWNED.sub(rb"\1 0 0 ", text)
 
 
+def is_comparison(process):
+    """Returns whether a process is llbm-rules that compares, or waits for a build to compare."""
+    with contextlib.suppress(FileNotFoundError, ProcessLookupError):
+        return pathlib.Path(f"/proc/{process}/cmdline").read_bytes().endswith(b"\0compare\0")
+    return False
+
+
 def children_of(process):
-    """Returns the processes that a process has started and that have not ended."""
+    """Returns the processes that run for a daemon, but for one that compares or waits to compare: one always does."""
     place, found = f"/proc/{process}/task", []
     for task in os.listdir(place):
         with contextlib.suppress(FileNotFoundError, ProcessLookupError):  # the thread has ended meanwhile
             found += pathlib.Path(place, task, "children").read_text().split()
-    return found
+    comparisons = [one for one in found if is_comparison(one)]
+    return [one for one in found if one not in comparisons[:1]]
 
 
 class WithDaemon(unittest.TestCase):
