@@ -203,7 +203,7 @@ class Table(Folder):
         for tool, words in TOOLS_ON_STANDARD_INPUT.items():
             with open("/dev/zero", "rb") as device:
                 done = subprocess.run(
-                    command(tool, *self.words(words)), stdin=device, capture_output=True, timeout=120
+                    command(tool, *self.words(words)), stdin=device, capture_output=True, timeout=base.GUARD
                 )
             self.check(done, 2, [tool])
             self.assertTrue(done.stderr.startswith(b"is a device: standard input\n"), (tool, done.stderr))
@@ -227,7 +227,7 @@ class Table(Folder):
     def test_a_standard_input_that_is_a_directory(self):
         for tool in sorted(name for name in os.listdir(TOOLS) if (TOOLS / name).is_file()):
             descriptor = os.open("/", os.O_RDONLY)
-            done = subprocess.run([TOOLS / tool], stdin=descriptor, capture_output=True, timeout=120)
+            done = subprocess.run([TOOLS / tool], stdin=descriptor, capture_output=True, timeout=base.GUARD)
             os.close(descriptor)
             self.assertEqual((done.returncode, done.stderr), (2, b"is a directory: standard input\n"), tool)
 
@@ -250,7 +250,7 @@ class Table(Folder):
             os.close(reading)
             with open(writing, "wb") as output:
                 done = subprocess.run(
-                    command(tool, *words), input=text, stdout=output, stderr=subprocess.PIPE, timeout=120
+                    command(tool, *words), input=text, stdout=output, stderr=subprocess.PIPE, timeout=base.GUARD
                 )
             self.assertEqual((done.returncode, done.stderr), (3, b""), tool)
 

@@ -6,6 +6,7 @@ import pathlib
 import subprocess
 import sys
 import tempfile
+import time
 import unittest
 
 from llbm_tools import common
@@ -40,8 +41,26 @@ if sys.argv[1:] == ["--version"]:
     sys.exit("llbm 1.0, a fake")
 """
 
+# How many seconds a program that a test waits for may take: more than ten times what any takes on a slow host. No test
+# asserts how long something takes; where this is over, the test has got no answer.
+GUARD = 600
+PAUSE = 0.02
+
 runs = 0
 llbm: str | None = None
+
+
+class NoAnswer(Exception):
+    """What a test waits for is not there when its time is over."""
+
+
+def wait_until(is_so, what):
+    """Waits until something is so; `what` says for what."""
+    end = time.monotonic() + GUARD
+    while not is_so():
+        if time.monotonic() > end:
+            raise NoAnswer(f"waited {GUARD} s for {what}")
+        time.sleep(PAUSE)
 
 
 def command(tool, *words, before=()):
@@ -54,19 +73,19 @@ def command(tool, *words, before=()):
 def run(tool, *words, text=b"", before=(), **settings):
     """Runs a tool with these words, and this text on standard input."""
     return subprocess.run(
-        command(tool, *words, before=before), input=text, capture_output=True, timeout=600, **settings
+        command(tool, *words, before=before), input=text, capture_output=True, timeout=GUARD, **settings
     )
 
 
 def run_into(output, tool, *words):
     """Runs a tool with an open file as its standard output."""
-    return subprocess.run(command(tool, *words), stdout=output, stderr=subprocess.PIPE, timeout=600)
+    return subprocess.run(command(tool, *words), stdout=output, stderr=subprocess.PIPE, timeout=GUARD)
 
 
 def run_closed(descriptor, tool, *words):
     """Runs a tool with a closed standard stream."""
     return subprocess.run(
-        command(tool, *words), capture_output=True, timeout=600, preexec_fn=lambda: os.close(descriptor)
+        command(tool, *words), capture_output=True, timeout=GUARD, preexec_fn=lambda: os.close(descriptor)
     )
 
 

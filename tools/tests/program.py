@@ -36,7 +36,7 @@ class WithProgram(Folder):
 
     def llbm(self, *words, given, **settings):
         """Runs the program on this input."""
-        return subprocess.run([base.llbm, *words], input=given, capture_output=True, timeout=120, **settings)
+        return subprocess.run([base.llbm, *words], input=given, capture_output=True, timeout=base.GUARD, **settings)
 
     def output(self, *words, given, **settings):
         """Returns what the program prints; it has to succeed."""

@@ -54,7 +54,7 @@ class Script(Folder):
     def run_it(self, *words, script=None, text=b"input", folder=None):
         """Runs the script with these words."""
         return subprocess.run(
-            [script or self.top / "llbm", *words], input=text, capture_output=True, timeout=600, cwd=folder
+            [script or self.top / "llbm", *words], input=text, capture_output=True, timeout=base.GUARD, cwd=folder
         )
 
     def test_the_proved_program_comes_first(self):
@@ -75,7 +75,7 @@ class Script(Folder):
         output, errors = b"unproved;show;input", b"error\n"
         self.check_success(self.run_it("show", script=link), output, errors)
         self.check_success(self.run_it("show", script="./llbm", folder=self.top), output, errors)
-        done = subprocess.run(["sh", "llbm", "show"], input=b"input", capture_output=True, timeout=600, cwd=self.top)
+        done = subprocess.run(["sh", "llbm", "show"], input=b"input", capture_output=True, timeout=base.GUARD, cwd=self.top)
         self.check_success(done, output, errors)
 
     def test_a_program_is_made_if_there_is_none(self):
@@ -118,7 +118,7 @@ class Kept(Folder):
         settings = {**{name: value for name, value in os.environ.items() if name not in names}, **cache, **settings}
         done = subprocess.run(
             [sys.executable, "-S", "-v", self.tools / "tool"],
-            capture_output=True, timeout=600, env=settings, text=True,
+            capture_output=True, timeout=base.GUARD, env=settings, text=True,
             preexec_fn=lambda: resource.setrlimit(resource.RLIMIT_FSIZE, (most, resource.RLIM_INFINITY)),
         )  # fmt: skip
         self.assertEqual(done.returncode, 0, done.stderr)
@@ -146,7 +146,7 @@ class Kept(Folder):
         self.cache.mkdir()
         os.chown(self.cache, 65534, 65534)
         done = subprocess.run(
-            [sys.executable, "-S", "-c", AS_NOBODY, self.tools], capture_output=True, timeout=600,
+            [sys.executable, "-S", "-c", AS_NOBODY, self.tools], capture_output=True, timeout=base.GUARD,
             env={"XDG_CACHE_HOME": str(self.cache)},
         )
         self.check_success(done, b"one\n")

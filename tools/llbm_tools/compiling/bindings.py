@@ -29,6 +29,7 @@ from collections.abc import Callable
 from typing import NamedTuple
 
 from llbm_tools.compiling.library import ARCHIVE
+from llbm_tools.counts import Counts
 from llbm_tools.paths import ROOT
 from llbm_tools.streams import Refused, exit_status
 
@@ -159,8 +160,9 @@ def try_all(archive: pathlib.Path, names: list[str]) -> int:
             except Wrong as fault:
                 failed += 1
                 print(f"{trial.name}: failed: {fault}", flush=True)
-    print(f"{passed} passed, {failed} failed, {skipped} skipped")
-    return int(failed > 0)
+    counts = Counts(passed, failed, skipped)
+    print(counts.line())
+    return counts.status()
 
 
 def main() -> int:

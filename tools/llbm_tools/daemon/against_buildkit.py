@@ -38,6 +38,7 @@ from collections.abc import Iterator
 from typing import NamedTuple
 
 from llbm_tools import common
+from llbm_tools.counts import Counts
 from llbm_tools.daemon import debian_packages, random_definitions, random_dockerfiles, runs, started_daemon
 from llbm_tools.daemon import daemon as daemons
 from llbm_tools.daemon.runs import MOST_SECONDS, Daemon, DaemonBusy, DaemonLost, Ran
@@ -262,9 +263,9 @@ def against_started(options: argparse.Namespace) -> int:
         with started_daemon.started(options.packages) as theirs, ours(options, theirs.command[0]) as daemon:
             passed, failed = compare_all(theirs, daemon, options)
     except (started_daemon.NoDaemon, program.Missing) as fault:
-        print(f"skipped: {fault}\n0 passed, 0 failed, 1 skipped")
+        print(f"skipped: {fault}\n{Counts(skipped=1).line()}")
         return 0
-    print(f"{passed} passed, {failed} failed, 0 skipped")
+    print(Counts(passed, failed).line())
     return int(failed > 0)
 
 

@@ -30,6 +30,7 @@ import tempfile
 from collections.abc import Iterable
 
 from llbm_tools import common
+from llbm_tools.counts import Counts
 from llbm_tools.daemon import daemon, debian_packages, go_building, suite_lists
 from llbm_tools.daemon.go_building import BUILDKIT, OUT, Go
 from llbm_tools.daemon.suite_lists import HOLLOW, PACKAGES, PASSES, SKIPS, Listed
@@ -179,7 +180,7 @@ def totals(tests: Iterable[Listed], faults: list[str]) -> str:
     print(f"of {len(functions)} functions {whole} pass")
     print(", ".join(f"{count} {does}" for does, count in sorted(counts.items())))
     skipped = sum(count for does, count in counts.items() if does not in (PASSES, "failed"))
-    return f"{counts[PASSES]} passed, {counts['failed']} failed, {skipped} skipped"
+    return Counts(counts[PASSES], counts["failed"], skipped).line()
 
 
 def run_all(options: argparse.Namespace) -> tuple[list[Listed], list[str]]:

@@ -22,8 +22,8 @@ import pathlib
 import re
 import subprocess
 from collections.abc import Callable
-from typing import NamedTuple
 
+from llbm_tools.counts import Counts, total
 from llbm_tools.daemon import daemon, daemon_suite, debian_packages, go_building, suite_lists
 from llbm_tools.daemon.go_building import DAEMON, MODULE, OUT, Go
 from llbm_tools.streams import exit_status, program_at
@@ -38,14 +38,6 @@ MINUTE = 60
 # How long the tests in Go may take, on the slowest host.
 HOUR = 3600
 MOST_LINES = 100
-
-
-class Counts(NamedTuple):
-    """How many tests passed, failed and were skipped."""
-
-    passed: int
-    failed: int = 0
-    skipped: int = 0
 
 
 def packages() -> list[str]:
@@ -128,7 +120,7 @@ def counts_of(name: str, go: Go, options: argparse.Namespace) -> Counts:
     except go_building.NotBuilt as fault:
         print("\n".join(str(fault).splitlines()[-MOST_LINES:]))
         counts = Counts(0, 1)
-    print(f"{name}: {counts.passed} passed, {counts.failed} failed, {counts.skipped} skipped", flush=True)
+    print(f"{name}: {counts.line()}", flush=True)
     return counts
 
 
@@ -141,16 +133,16 @@ def make(options: argparse.Namespace) -> int:
     except debian_packages.Missing as fault:
         for name in names:
             print(f"{name}: skipped, the packages can't be had: {fault}")
-        print(f"0 passed, 0 failed, {len(names)} skipped")
+        print(Counts(skipped=len(names)).line())
         return 0
-    total = Counts(0)
+    each = []
     for name in names:
-        counts = counts_of(name, go, options)
-        total = Counts(*(one + other for one, other in zip(total, counts)))
-        if name == "build" and counts.failed:
+        each.append(counts_of(name, go, options))
+        if name == "build" and each[-1].failed:
             break
-    print(f"{total.passed} passed, {total.failed} failed, {total.skipped} skipped")
-    return int(total.failed > 0)
+    counts = total(each)
+    print(counts.line())
+    return counts.status()
 
 
 def main() -> int:

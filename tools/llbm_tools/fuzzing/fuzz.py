@@ -15,9 +15,9 @@ same entries; a text of a tree comes back or is refused at its first faulty line
 if no cache is mounted; a session ends where `run` ends, and the same record always has the same status; a run on tokens
 in the place of contents prints the same with the contents put back.
 
-Out: on standard output the seed, a line for each finding, and at the end how many cases ran and how many failed. The
-files of a finding and the commands that repeat it are stored in their own folder in --keep FOLDER, by default a new
-temporary folder. After 100 findings further ones are printed but not stored.
+Out: on standard output the seed, a line for each finding, how many cases ran, and at the end `N passed, M failed, K
+skipped`. The files of a finding and the commands that repeat it are stored in their own folder in --keep FOLDER, by
+default a new temporary folder. After 100 findings further ones are printed but not stored.
 
 Exit status: 0 there is no finding; 1 there are findings; 2 the command line is refused, or the program or the examples
 do not exist; 3 a read or a write failed; 130 interrupted.
@@ -38,6 +38,7 @@ import time
 from collections.abc import Callable, Iterator
 
 from llbm_tools.common import check_open, printable, say
+from llbm_tools.counts import Counts
 from llbm_tools.fuzzing import cases as fuzz_cases
 from llbm_tools.fuzzing import limited
 from llbm_tools.paths import ROOT
@@ -139,8 +140,9 @@ def fuzz(options: argparse.Namespace) -> int:
     count = collect(options, findings)
     seconds = time.monotonic() - start
     ended = f"{count} cases in {seconds:.0f} seconds with seed {options.seed}"
-    print(f"{ended}: {findings.count} failed", flush=True)
-    return 1 if findings.count else 0
+    counts = Counts(count - findings.count, findings.count)
+    print(ended, counts.line(), sep="\n", flush=True)
+    return counts.status()
 
 
 def number_from(least: int, most: int) -> Callable[[str], int]:

@@ -7,9 +7,9 @@ command on each example and sessions over it, and with --cases FOLDER the stored
 answer of its session is compared with that of `llbm step` to the same line. --pictures FOLDER writes pictures of its
 views there.
 
-Out: on standard output a line for each test that failed, measured times, and then how many tests there were. A test in
-the browser that fails is tried once more, and a line says so. Where
-Node, a browser, or the page is missing, the tests that need it are counted as skipped, and the line says why.
+Out: on standard output a line for each test that failed, measured times, and at the end `N passed, M failed, K
+skipped`. A test in the browser that fails is tried once more, and a line says so. Where Node, a browser, or the page is
+missing, the tests that need it are skipped, and a line says why.
 
 Exit status: 0 all tests pass; 1 some fail; 2 the command line is refused, or there is no program; 3 a read or a write
 failed, or Node or the browser did.
@@ -22,6 +22,7 @@ import tempfile
 from collections.abc import Callable, Iterator
 
 from llbm_tools import common, streams
+from llbm_tools.counts import Counts
 from llbm_tools.page import assets, browser, module_cases, pictures
 from llbm_tools.page import cases as page_cases
 from llbm_tools.page.driver import Page, Wrong
@@ -47,16 +48,13 @@ class Outcome:
 
     def leave(self, count: int, why: str) -> None:
         """Counts tests that are left out."""
-        self.count += count
         self.skipped[why] = self.skipped.get(why, 0) + count
 
     def lines(self) -> Iterator[str]:
         """Yields the lines at the end."""
-        yield f"{self.count} tests, of the module and the page: {'some failed' if self.failed else 'all passed'}"
-        if self.failed:
-            yield f"FAILED (failures={self.failed})"
-        if self.skipped:
-            yield f"{sum(self.skipped.values())} of them skipped: {'; '.join(self.skipped)}"
+        for why, count in self.skipped.items():
+            yield f"{count} skipped: {why}"
+        yield Counts(self.count - self.failed, self.failed, sum(self.skipped.values())).line()
 
 
 def missing(options: argparse.Namespace) -> str:

@@ -16,17 +16,18 @@ TOOLS.md), and `tools/fuzz` on a fixed number of cases or on --fuzz N, with the 
 memory holds. Then each check has one process. Without RT_JOBS a check may have several, which together take up to half
 as much processor time again.
 
-With --quick nothing is proved, and no wrong body is tried. `tools/unproved-program` compiles the program, and `rt try
---test` the tests of the crates of tests, as many at a time as there are processors, or --jobs N; the other parts follow
-on the program without proof, with fewer cases of `tools/fuzz`. `rt ci`, `tools/refuse`, `tools/library` and
-`tools/bindings` are left out, since nothing builds a static library without a proof.
+With --quick nothing is proved, and no wrong body is tried. `tools/unproved-program` compiles the program; the parts
+that read the sources, the transcripts, the daemon's tests in Go, the tests of the tools and few cases of `tools/fuzz`
+follow. --more adds what takes longer: `rt try --test` in the crates of tests, as many at a time as there are
+processors, or --jobs N; BuildKit's own tests, `tools/against-buildkit`, `tools/page-tests` and the pages with commands.
 
-Out: on standard output a line for each part, its output, and its counts; after all parts the processor minutes that
-`rt ci` took for each crate, as `tools/minutes` prints them. The last line is `N passed, M failed`, the sum over all
-parts, with `, K skipped` where tests were skipped; with --quick a line before it says what was not done, and the parts
-that are left out and the tests that need more time than `rt try` gives a test are skipped too. A part that counts
-nothing is one test; of `tools/transcripts` each command that is compared is one. If all passed, without --after, --llbm
-and --quick, out/gate-passed has the digest of the program that `rt ci` left.
+Out: on standard output a line for each part, with its counts and its processor time, and below it what the part printed,
+if it failed; the lines of `rt ci` are printed as they come. After all parts follow the processor minutes that `rt ci`
+took for each crate, as `tools/minutes` prints them. The last line is `N passed, M failed, K skipped`, the sum over all
+parts; with --quick lines before it say what was not done, and the parts that are left out and the tests that need more
+time than `rt try` gives a test are skipped too. A part that counts nothing is one test; of `tools/transcripts` each
+command that is compared is one. If all passed, without --after, --llbm and --quick, out/gate-passed has the digest of
+the program that `rt ci` left.
 
 Exit status: 0 nothing failed; 1 something failed; 2 the command line is refused; 130 interrupted.
 """
@@ -34,254 +35,44 @@ Exit status: 0 nothing failed; 1 something failed; 2 the command line is refused
 import argparse
 import contextlib
 import os
-import pathlib
-import re
 import shutil
 import signal
 import subprocess
 import sys
-import tempfile
-import time
 from collections.abc import Iterator
-from typing import IO, NamedTuple
 
 from llbm_tools import paths
+from llbm_tools.counts import Counts, total
 from llbm_tools.installing import installation
-from llbm_tools.os_errors import os_error_text
 from llbm_tools.page import browser, module_cases, wasm
 from llbm_tools.paths import ROOT
-from llbm_tools.repository import minutes
+from llbm_tools.repository import checks, minutes, parts
+from llbm_tools.repository.parts import Part
 
 PROGRAMS = [ROOT / "crates" / "llbm" / "out" / name for name in ("llbm", "llbm.by-rattle")]
 PAGES = ("README.md", "docs/ARCHITECTURE.md", "docs/BUILDKIT.md", "docs/FORMATS.md", "docs/TOOLS.md")
 TRANSCRIPTS = ("tests", "examples/README.md", "examples/from-buildkit/README.md")
 TESTED = ("llb_refusals", "llb_examples", "llbm")
-# Tests that need more than the 60 seconds that `rt try` gives each, or may need them on a host with other work.
-TOO_LONG = {"chain::a_chain_of_65535_vertices_is_evaluated_run_and_walked", "crowds::runs_by_any_number_of_workers_end"}
 # How many cases of `tools/fuzz` are run: about a minute by the proved program, and less by the one without proof.
 CASES = 8000
 FEWER = 500
 # How many random definitions of each kind, and Dockerfiles, are built by BuildKit's daemon and by llbmd.
 BESIDE = 20
-PAUSE = 0.2
-
 JOBS = "RT_JOBS"
-MEMORY = pathlib.Path("/proc/meminfo")
-FREE = r"MemAvailable: +([0-9]+) kB"
-KILO = 1024
-# What a check may take of the memory, in bytes (`llb_refusals`, its tests: 4.96 GB), and what one of them takes more
-# (`llb_examples`, its tests: 6.4 GB).
-CHECK = 5_000_000_000
-MORE = 1_500_000_000
-# In both versions of control groups: the files with the limit of the memory and with what is in use, and with how long
-# the processors may be used in a period.
-GROUPS = pathlib.Path("/sys/fs/cgroup")
-LIMITS = [
-    (("memory.max", r"^([0-9]+)"), ("memory.stat", r"^anon ([0-9]+)")),
-    (("memory/memory.limit_in_bytes", r"^([0-9]+)"), ("memory/memory.stat", r"^total_rss ([0-9]+)")),
-]
-QUOTAS = [
-    (("cpu.max", r"^([0-9]+)"), ("cpu.max", r" ([0-9]+)")),
-    (("cpu/cpu.cfs_quota_us", r"^([0-9]+)"), ("cpu/cpu.cfs_period_us", r"^([0-9]+)")),
-]
-
-COUNTS = re.compile(r"([0-9]+) passed, ([0-9]+) failed(?:, ([0-9]+) skipped)?(?: .*)?")
-TRIED = re.compile(r"test result: \w+\. ([0-9]+) passed; ([0-9]+) failed; ([0-9]+) ignored; .*")
-NO_ANSWER = re.compile(r"test (\S+) \.\.\. FAILED\n +checked: no-answer: ")
-TESTS = re.compile(r"([0-9]+) tests, .*: (?:all passed|some failed)")
-SKIPPED = re.compile(r"([0-9]+) of them skipped: .*")
-WRONG_TESTS = re.compile(r"FAILED \((.*)\)")
-WRONG = re.compile(r"(?:failures|errors|unexpected successes)=([0-9]+)")
-FUZZED = re.compile(r"[0-9]+ cases in .*: ([0-9]+) failed")
-
 PROOFS = ["rt", "ci"]
-LEFT_OUT = ("rt ci", "tools/refuse", "tools/library", "tools/bindings")
+
+# What the quick gate does not do, and what it does only with --more.
+NEVER = ("rt ci", "tools/refuse", "tools/library", "tools/bindings")
 NOT_DONE = (
     "not done: proofs, wrong bodies and the second compiler's program (rt ci), refused memory (tools/refuse), "
-    "the static library and its bindings (tools/library, tools/bindings), "
-    "and the tests of 65,535 vertices and of 64 workers (llb_examples) that did not end in 60 seconds"
+    "the static library and its bindings (tools/library, tools/bindings)"
 )
-
-
-class Counts(NamedTuple):
-    """How many tests passed, how many failed, and how many were skipped."""
-
-    passed: int
-    failed: int
-    skipped: int = 0
-
-
-class Part(NamedTuple):
-    """A command, and the folder that it runs in."""
-
-    command: list[str]
-    folder: pathlib.Path = ROOT
-
-    def proves(self) -> bool:
-        """Returns whether the part does all proofs."""
-        return self.command == PROOFS
-
-    def shown(self) -> str:
-        """Returns the part as one line."""
-        words = self.command[1:] if self.command[0] == sys.executable else self.command
-        line = " ".join(os.path.relpath(word, ROOT) if word.startswith(str(ROOT)) else word for word in words)
-        return line if self.folder == ROOT else f"(cd {os.path.relpath(self.folder, ROOT)} && {line})"
-
-    def start(self, out: int) -> subprocess.Popen[bytes]:
-        """Starts the part, with all its output to one stream."""
-        known = {JOBS: str(checks_at_once()), **os.environ} if self.proves() else None
-        return subprocess.Popen(
-            self.command, cwd=self.folder, env=known, stdin=subprocess.DEVNULL, stdout=out, stderr=subprocess.STDOUT
-        )
-
-
-def number_in(path: pathlib.Path, pattern: str) -> int | None:
-    """Returns the number that a pattern finds in a file, if there is one."""
-    try:
-        found = re.search(pattern, path.read_text("utf-8"), re.M)
-    except OSError:
-        return None
-    return int(found[1]) if found else None
-
-
-def numbers_of_group(rows: list[tuple[tuple[str, str], tuple[str, str]]]) -> Iterator[tuple[int, int]]:
-    """Yields the two numbers of each row that the control group of this process has."""
-    for row in rows:
-        one, other = (number_in(GROUPS / name, pattern) for name, pattern in row)
-        if one is not None and other is not None:
-            yield one, other
-
-
-def checks_at_once() -> int:
-    """Returns how many checks to run at a time: one on each processor, as many as the free memory holds."""
-    quotas = (quota // period for quota, period in numbers_of_group(QUOTAS) if period)
-    processors = min([len(os.sched_getaffinity(0)), *quotas])
-    free = [limit - used for limit, used in numbers_of_group(LIMITS)]
-    machine = number_in(MEMORY, FREE)
-    if machine is not None:
-        free.append(KILO * machine)
-    return max(1, min([processors, *((size - MORE) // CHECK for size in free)]))
-
-
-def counts_in(lines: list[str], status: int) -> Counts:
-    """Returns the counts of a part, from its last line with counts; a nonzero status is always a failure."""
-    counts = None
-    for line in lines:
-        if found := COUNTS.fullmatch(line):
-            counts = Counts(int(found[1]), int(found[2]), int(found[3] or 0))
-        elif found := TRIED.fullmatch(line):
-            late = too_long(lines)
-            counts = Counts(int(found[1]), int(found[2]) - late, int(found[3]) + late)
-            status = status if counts.failed or not late else 0
-        elif found := TESTS.fullmatch(line):
-            wrong = wrong_tests(lines)
-            counts = Counts(int(found[1]) - wrong, wrong)
-        elif found := FUZZED.fullmatch(line):
-            counts = Counts(int(found[1] == "0"), int(found[1]))
-        elif counts and (found := SKIPPED.fullmatch(line)):
-            skipped = int(found[1])
-            counts = counts._replace(passed=counts.passed - skipped, skipped=counts.skipped + skipped)
-    if counts is None:
-        return Counts(int(status == 0), int(status != 0))
-    return counts._replace(failed=max(counts.failed, 1)) if status else counts
-
-
-def too_long(lines: list[str]) -> int:
-    """Returns how many of the tests that need more time than `rt try` gives did not end in it."""
-    return sum(name in TOO_LONG for name in NO_ANSWER.findall("\n".join(lines)))
-
-
-def wrong_tests(lines: list[str]) -> int:
-    """Returns how many tests of the tools failed."""
-    counts = [found[1] for line in lines if (found := WRONG_TESTS.fullmatch(line))]
-    return sum(map(int, WRONG.findall(counts[-1]))) if counts else 0
-
-
-def text_of(line: bytes) -> str:
-    """Returns a line of output as text."""
-    return line.decode("utf-8", "backslashreplace").rstrip("\n")
-
-
-def print_counts(part: Part, counts: Counts) -> Counts:
-    """Prints the counts of a part, and returns them."""
-    skipped = f", {counts.skipped} skipped" if counts.skipped else ""
-    print(f"-- {part.shown()}: {counts.passed} passed, {counts.failed} failed{skipped}", flush=True)
-    return counts
-
-
-def print_fault(fault: OSError) -> Counts:
-    """Prints why a part did not start, and returns its counts."""
-    print(os_error_text(fault))
-    return Counts(0, 1)
-
-
-def minutes_of(watch: minutes.Watch | None) -> list[str]:
-    """Returns the table of processor minutes, if they were watched. What fails in it does not fail the gate."""
-    with contextlib.suppress(Exception):
-        return watch.lines() if watch else []
-    return []
-
-
-def run_part(part: Part, table: list[str]) -> Counts:
-    """Runs a part, prints its output line by line, and returns its counts; minutes of proofs are added to the table."""
-    print(f"== {part.shown()}", flush=True)
-    lines = []
-    watch = None
-    try:
-        with part.start(subprocess.PIPE) as child, contextlib.ExitStack() as stack:
-            if part.proves():
-                watch = stack.enter_context(minutes.watched(child.pid))
-            try:
-                for line in child.stdout or ():
-                    lines.append(text_of(line))
-                    print(lines[-1], flush=True)
-            except KeyboardInterrupt:
-                child.terminate()
-                raise
-        counts = counts_in(lines, child.returncode)
-    except OSError as fault:
-        counts = print_fault(fault)
-    table += minutes_of(watch)
-    return print_counts(part, counts)
-
-
-class Running(NamedTuple):
-    """A part that runs beside others: its process, and the file of its output."""
-
-    part: Part
-    child: subprocess.Popen[bytes]
-    out: IO[bytes]
-
-    def end(self) -> Counts:
-        """Prints the output of the part, which has ended, and returns its counts."""
-        self.out.seek(0)
-        lines = [text_of(line) for line in self.out]
-        self.out.close()
-        print("\n".join([f"== {self.part.shown()}", *lines]), flush=True)
-        return print_counts(self.part, counts_in(lines, self.child.returncode))
-
-
-def run_together(parts: list[Part], jobs: int) -> Iterator[Counts]:
-    """Runs parts, at most this many at a time, and yields their counts as they end; their output is printed then."""
-    waiting = list(parts)
-    running: list[Running] = []
-    try:
-        while waiting or running:
-            while waiting and len(running) < jobs:
-                part, out = waiting.pop(0), tempfile.TemporaryFile()
-                try:
-                    running.append(Running(part, part.start(out.fileno()), out))
-                except OSError as fault:
-                    yield print_counts(part, print_fault(fault))
-            ended = next((one for one in running if one.child.poll() is not None), None)
-            if ended:
-                running.remove(ended)
-                yield ended.end()
-            else:
-                time.sleep(PAUSE)
-    finally:
-        for one in running:
-            one.child.terminate()
+TOO_LONG = ", and the tests of 65,535 vertices and of 64 workers (llb_examples) if they did not end in 60 seconds"
+LATER = ("llb_refusals", "llb_examples", "llbm", "suite", "tools/against-buildkit", "tools/page-tests", "pages")
+LEFT = (
+    "with --more: the tests of the crates (llb_examples, llb_refusals, llbm), BuildKit's tests, BuildKit's daemon "
+    "(tools/against-buildkit), the page (tools/page-tests), the pages with commands"
+)
 
 
 def is_repository() -> bool:
@@ -307,10 +98,10 @@ def parts_without_program() -> Iterator[Part]:
     yield tool("floors")
 
 
-def parts_with(programs: list[str], cases: int, seed: str, *tried: str) -> Iterator[Part]:
+def parts_with(programs: list[str], cases: int, seed: str) -> Iterator[Part]:
     """Yields the parts that run programs; those of the tools run the first one."""
     for program in programs:
-        yield tool("transcripts", *tried, "--llbm", program, *TRANSCRIPTS)
+        yield tool("transcripts", "--llbm", program, *TRANSCRIPTS)
     first = programs[0]
     yield tool("daemon-tests", "--llbm", first)
     yield tool("against-buildkit", "--start", "--count", str(BESIDE), "--llbm", first)
@@ -326,11 +117,16 @@ def parts_of_page() -> Iterator[Part]:
         yield tool("wasm")
 
 
-def parts(options: argparse.Namespace) -> Iterator[Part]:
+def proofs() -> Part:
+    """Returns the part that does all proofs."""
+    return Part(PROOFS, settings=((JOBS, str(checks.checks_at_once())),))
+
+
+def parts_of(options: argparse.Namespace) -> Iterator[Part]:
     """Yields the parts of the whole gate, in order."""
     yield from parts_without_program()
     if not options.after:
-        yield Part(PROOFS)
+        yield proofs()
     yield tool("refuse")
     yield tool("library")
     yield tool("bindings")
@@ -339,20 +135,62 @@ def parts(options: argparse.Namespace) -> Iterator[Part]:
     yield from parts_with(programs, options.fuzz or CASES, options.seed)
 
 
-def quick_parts() -> list[Part]:
-    """Returns the parts that compile, which run at the same time: the program, and the tests of the crates of tests."""
-    tests = [Part(["rt", "try", "--test"], ROOT / "crates" / crate) for crate in TESTED]
-    return [tool("unproved-program"), *tests]
+def parts_of_crates() -> list[Part]:
+    """Returns the parts that compile and run the tests of the crates of tests."""
+    return [Part(["rt", "try", "--test"], ROOT / "crates" / crate) for crate in TESTED]
+
+
+def only(*names: str) -> list[str]:
+    """Returns the words by which a tool does these parts alone."""
+    return [word for name in names for word in ("--only", name)]
+
+
+def parts_that_are_quick(cases: int, seed: str) -> Iterator[Part]:
+    """Yields the parts of the quick gate that run the program without proof."""
+    program = str(paths.UNPROVED)
+    yield tool("transcripts", "--unproved", "--llbm", program, *TRANSCRIPTS)
+    yield tool("daemon-tests", "--llbm", program, *only("build", "format", "vet", "go"))
+    yield tool("test", "--llbm", program)
+    yield tool("fuzz", "--cases", str(cases), "--llbm", program, "--seed", seed)
+
+
+def parts_with_more() -> Iterator[Part]:
+    """Yields the parts that --more adds and that run the program without proof."""
+    program = str(paths.UNPROVED)
+    yield tool("daemon-tests", "--llbm", program, *only("suite"))
+    yield tool("against-buildkit", "--start", "--count", str(BESIDE), "--llbm", program)
+    yield tool("page-tests", "--llbm", program)
+    yield tool("transcripts", "--llbm", program, *PAGES)
 
 
 def run_quick(options: argparse.Namespace) -> Iterator[Counts]:
     """Runs the parts that need no proof, and yields their counts."""
-    yield from run_together(quick_parts(), options.jobs)
-    for part in parts_without_program():
-        yield run_part(part, [])
-    for part in parts_with([str(paths.UNPROVED)], options.fuzz or FEWER, options.seed, "--unproved"):
-        yield run_part(part, [])
-    yield Counts(0, 0, len(LEFT_OUT))
+    yield from map(parts.run, parts_without_program())
+    yield parts.run(tool("unproved-program"))
+    yield from map(parts.run, parts_that_are_quick(options.fuzz or FEWER, options.seed))
+    if options.more:
+        yield from parts.run_together(parts_of_crates(), options.jobs)
+        yield from map(parts.run, parts_with_more())
+    yield Counts(skipped=len(NEVER) + (0 if options.more else len(LATER)))
+
+
+def minutes_of(watch: minutes.Watch) -> list[str]:
+    """Returns the table of processor minutes. What fails in it does not fail the gate."""
+    with contextlib.suppress(Exception):
+        return watch.lines()
+    return []
+
+
+def run_part(part: Part, table: list[str]) -> Counts:
+    """Runs a part, and returns its counts; minutes of proofs are added to the table."""
+    if part.command != PROOFS:
+        return parts.run(part)
+    with contextlib.ExitStack() as stack:
+        watches: list[minutes.Watch] = []
+        counts = parts.run(part, True, lambda process: watches.append(stack.enter_context(minutes.watched(process))))
+    for watch in watches:
+        table += minutes_of(watch)
+    return counts
 
 
 def keep_receipt() -> None:
@@ -365,7 +203,8 @@ def parse_options() -> argparse.Namespace:
     """Parses the command line."""
     parser = argparse.ArgumentParser(description="Runs all tests of the repository.", allow_abbrev=False)
     parser.add_argument("--after", action="store_true", help="leave out `rt ci`, in a checkout where it has run")
-    parser.add_argument("--quick", action="store_true", help="all tests without proofs, on a program without proof")
+    parser.add_argument("--quick", action="store_true", help="the tests that are soon done, on a program without proof")
+    parser.add_argument("--more", action="store_true", help="with --quick: all tests that need no proof")
     parser.add_argument("--llbm", metavar="PROGRAM", help="test only this program")
     parser.add_argument("--fuzz", metavar="N", type=int, help="how many cases of `tools/fuzz` are run")
     parser.add_argument("--seed", metavar="N", default="1", help="the seed of `tools/fuzz`")
@@ -374,7 +213,19 @@ def parse_options() -> argparse.Namespace:
     options = parser.parse_args()
     if options.quick and (options.after or options.llbm):
         parser.error("--quick compiles its own program, and has no --after and no --llbm")
+    if options.more and not options.quick:
+        parser.error("--more is for --quick: without it all is tested")
     return options
+
+
+def lines_at_the_end(options: argparse.Namespace, counts: Counts, table: list[str]) -> Iterator[str]:
+    """Yields the last lines."""
+    yield from table
+    if options.quick:
+        yield NOT_DONE + (TOO_LONG if options.more else "")
+    if options.quick and not options.more:
+        yield LEFT
+    yield counts.line()
 
 
 def main() -> int:
@@ -383,14 +234,11 @@ def main() -> int:
     signal.signal(signal.SIGTERM, signal.default_int_handler)
     table: list[str] = []
     try:
-        counts = list(run_quick(options)) if options.quick else [run_part(part, table) for part in parts(options)]
+        each = run_quick(options) if options.quick else (run_part(part, table) for part in parts_of(options))
+        counts = total(each)
     except KeyboardInterrupt:
         return 130
-    passed, failed, skipped = (sum(each) for each in zip(*counts))
-    if options.quick:
-        print(f"{NOT_DONE}\n{passed} passed, {failed} failed, {skipped} skipped")
-    else:
-        if not failed and not options.after and not options.llbm:
-            keep_receipt()
-        print(*table, f"{passed} passed, {failed} failed" + (f", {skipped} skipped" if skipped else ""), sep="\n")
-    return 1 if failed else 0
+    if not (counts.failed or options.quick or options.after or options.llbm):
+        keep_receipt()
+    print(*lines_at_the_end(options, counts, table), sep="\n")
+    return counts.status()

@@ -8,7 +8,7 @@ test, which is run by itself, and refuses the growth, or the start of the thread
 Out: on standard output a line for each call: how often it was refused a growth or a thread, the number of its fault (or
 `none`), and the call with what it was made on. A test fails if its exit status is not 0, if the library counted another
 number of refusals than the test, if a call that takes memory or threads was refused none, or if one that takes neither
-was refused some. The last line is `N passed, M failed`, over the tests.
+was refused some. The last line is `N passed, M failed, K skipped`, over the tests.
 
 Exit status: 0 all passed; 1 one or more failed; 2 the command line is refused, or the tests or the toolchain do not
 exist; 3 a write failed.
@@ -24,6 +24,7 @@ import tempfile
 from typing import NamedTuple
 
 from llbm_tools.common import check_open, discard_output, printable, say
+from llbm_tools.counts import Counts
 from llbm_tools.os_errors import os_error_text
 from llbm_tools.paths import ROOT
 
@@ -127,7 +128,7 @@ def run_all(tests: str, library: str, folder: str) -> int:
         refused += ran.refused
         calls += len(ran.calls())
     print(f"{refused} refusals of {calls} calls")
-    print(f"{len(names) - failed} passed, {failed} failed")
+    print(Counts(len(names) - failed, failed).line())
     return failed + (not names)
 
 

@@ -14,6 +14,7 @@ import subprocess
 import sys
 
 from llbm_tools.common import check_open
+from llbm_tools.counts import Counts
 from llbm_tools.paths import ROOT
 from llbm_tools.streams import exit_status
 
@@ -43,9 +44,9 @@ def check() -> int:
     for name, word in found.items():
         print(f"{name}: {'skipped, since it is not installed' if word == 'skipped' else word}")
     words = list(found.values())
-    print(f"{words.count('passed')} passed, {words.count('failed')} failed")
-    sys.stdout.flush()
-    return 1 if "failed" in words else 0
+    counts = Counts(*map(words.count, ("passed", "failed", "skipped")))
+    print(counts.line(), flush=True)
+    return counts.status()
 
 
 def main() -> int:

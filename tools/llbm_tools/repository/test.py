@@ -4,10 +4,13 @@ In: the tools, with their tests in tools/tests; names of test cases on the comma
 as in `test trees.RoundTrip`, or none for all. Some tests need the program: it is --llbm PROGRAM, or else
 crates/llbm/out/llbm of the repository, or else its out/llbm-unproved, which is named on standard error as not proved;
 without one they are skipped. It can run as root, who can set owners, or as another user, who cannot: the number of
-examples is the same. Test cases run in parallel, in --jobs N processes, or in one for each processor.
+examples is the same. Test cases run in parallel, in --jobs N processes, or in one for each processor; with --order SEED
+in an order that follows from the seed, a number. No test depends on the order.
 
-Out: on standard output the number of tests and of runs of the tools, and how many tests were skipped and why; failures
-are printed on standard error. --slowest N also lists there the N tests that took longest, in seconds.
+Out: on standard output the number of runs of the tools, how many tests were skipped and why, and at the end `N passed,
+M failed, K skipped`; failures are printed on standard error. A test has failed with the words `no answer` if a program
+did not end within the test's limit: that says nothing of the code, only that the host was too busy or that the program
+hangs. --slowest N also lists there the N tests that took longest, in seconds.
 
 Exit status: 0 all tests pass; 1 some fail; 2 the command line is refused; 130 interrupted.
 """
@@ -17,16 +20,20 @@ import collections
 import io
 import multiprocessing
 import os
+import random
 import shutil
 import signal
+import subprocess
 import sys
 import tempfile
 import time
 import unittest
 from collections.abc import Iterator
+from types import TracebackType
 from typing import NamedTuple, TextIO, cast
 
 from llbm_tools import common, paths, streams
+from llbm_tools.counts import Counts, total
 from tests import base
 
 MODULES = [
@@ -99,14 +106,23 @@ MODULES = [
 
 PLACES = {module.rpartition(".")[2]: module for module in MODULES}
 
+OptExcInfo = tuple[type[BaseException], BaseException, TracebackType] | tuple[None, None, None]
+
 
 class Timed(unittest.TextTestResult):
-    """A result that measures how long each test takes."""
+    """A result that measures how long each test takes, and tells tests that got no answer from those that are wrong."""
 
     def __init__(self, stream: TextIO, descriptions: bool, verbosity: int) -> None:
         super().__init__(stream, descriptions, verbosity)
         self.seconds: list[tuple[float, str]] = []
+        self.silent: list[str] = []
         self.start = 0.0
+
+    def addError(self, test: unittest.TestCase, err: OptExcInfo) -> None:
+        """Adds a test that ended in an exception; one that a limit of time ended has got no answer."""
+        super().addError(test, err)
+        if isinstance(err[1], (subprocess.TimeoutExpired, base.NoAnswer)):
+            self.silent.append(f"no answer: {test.id()}: {err[1]}")
 
     def startTest(self, test: unittest.TestCase) -> None:
         """Starts the clock of a test."""
@@ -123,9 +139,8 @@ class GroupResult(NamedTuple):
     """The result of some tests: the output of those that failed, and counts."""
 
     output: str
-    tests: int
+    counts: Counts
     runs: int
-    wrong: collections.Counter[str]
     left_out: collections.Counter[str]
     seconds: list[tuple[float, str]]
 
@@ -163,16 +178,19 @@ def run_group(number: int) -> GroupResult:
     base.runs = 0
     out = io.StringIO()
     result = cast(Timed, unittest.TextTestRunner(out, verbosity=0, resultclass=Timed).run(groups[number]))
-    wrong = collections.Counter(
-        {
-            "failures": len(result.failures),
-            "errors": len(result.errors),
-            "unexpected successes": len(result.unexpectedSuccesses),
-        }
-    )
     output = "" if result.wasSuccessful() else out.getvalue().rpartition("-" * 70)[0]
+    output += "".join(f"{line}\n" for line in result.silent)
     left_out = collections.Counter(cause for _, cause in result.skipped)
-    return GroupResult(output, result.testsRun, base.runs, +wrong, left_out, result.seconds)
+    return GroupResult(output, counts_of(result), base.runs, left_out, result.seconds)
+
+
+def counts_of(result: unittest.TestResult) -> Counts:
+    """Returns the counts of a result: a test with several wrong parts has failed once."""
+    wrong = {test.id().partition(" ")[0] for test, _ in [*result.failures, *result.errors]}
+    wrong.update(test.id() for test in result.unexpectedSuccesses)
+    skipped = {test.id().partition(" ")[0] for test, _ in result.skipped} - wrong
+    # (a class that can't be set up fails or is skipped without that a test of it ran)
+    return Counts(max(0, result.testsRun - len(wrong) - len(skipped)), len(wrong), len(skipped))
 
 
 def end_at_once() -> None:
@@ -214,6 +232,7 @@ def parse_options() -> argparse.Namespace:
     jobs = len(os.sched_getaffinity(0))
     parser.add_argument("--jobs", metavar="N", type=positive, default=jobs, help="the number of processes")
     parser.add_argument("--slowest", metavar="N", type=positive, default=0, help="list the N tests that took longest")
+    parser.add_argument("--order", metavar="SEED", help="run the tests in an order that follows from this seed")
     named = "a module of tests, or a part of it"
     parser.add_argument("name", nargs="*", metavar="NAME", type=known, default=MODULES, help=named)
     return parser.parse_args()
@@ -222,27 +241,37 @@ def parse_options() -> argparse.Namespace:
 def test_all(options: argparse.Namespace) -> int:
     """Runs all tests, prints the results, and returns the exit status."""
     groups.extend(grouped(unittest.defaultTestLoader.loadTestsFromNames([f"tests.{name}" for name in options.name])))
+    if options.order is not None:
+        reorder(groups, random.Random(options.order))
     start = time.monotonic()
-    tests, runs = 0, 0
-    wrong: collections.Counter[str] = collections.Counter()
+    each: list[Counts] = []
+    runs = 0
     left_out: collections.Counter[str] = collections.Counter()
     seconds: list[tuple[float, str]] = []
     for one in run_groups(options.jobs):
         sys.stderr.write(one.output)
-        tests, runs, seconds = tests + one.tests, runs + one.runs, seconds + one.seconds
-        wrong += one.wrong
+        each.append(one.counts)
+        runs, seconds = runs + one.runs, seconds + one.seconds
         left_out += one.left_out
-    print(f"Ran {tests} tests in {time.monotonic() - start:.1f} s", file=sys.stderr)
+    print(f"Ran the tests in {time.monotonic() - start:.1f} s", file=sys.stderr)
     for taken, name in sorted(seconds, reverse=True)[: options.slowest]:
         print(f"{taken:6.2f} s {name}", file=sys.stderr)
-    if wrong:
-        print(f"FAILED ({', '.join(f'{cause}={count}' for cause, count in wrong.items())})", file=sys.stderr)
     sys.stderr.flush()
-    user = "root" if base.IS_ROOT else "another user"
-    print(f"{tests} tests, {runs} runs of the tools, as {user}: {'some failed' if wrong else 'all passed'}")
     for cause, count in left_out.items():
-        print(f"{count} of them skipped: {cause}")
-    return 1 if wrong else 0
+        print(f"{count} skipped: {cause}")
+    print(f"{runs} runs of the tools, as {'root' if base.IS_ROOT else 'another user'}")
+    counts = total(each)
+    print(counts.line())
+    return counts.status()
+
+
+def reorder(suites: list[unittest.TestSuite], dice: random.Random) -> None:
+    """Puts groups, and the tests of each, into a random order."""
+    dice.shuffle(suites)
+    for place, suite in enumerate(suites):
+        tests = list(tests_in(suite))
+        dice.shuffle(tests)
+        suites[place] = unittest.TestSuite(tests)
 
 
 def test(options: argparse.Namespace) -> int:

@@ -26,8 +26,8 @@ commands of the tools that print BuildKit's rules are left out, too.
 At the end the copy must have no other files than before, and these unchanged, but for files that git ignores.
 
 Out: on standard output a line for each command or block that differs, those left out, and each file of the copy that
-was made or changed, and at the end `N passed, M failed`. Each command or block counts once, with all lines that are
-typed to it; a command that begins with `cat > FILE <<` only makes a file, and counts only if it fails.
+was made or changed, and at the end `N passed, M failed, K skipped`. Each command or block counts once, with all lines
+that are typed to it; skipped are those left out; a command that begins with `cat > FILE <<` only makes a file, and counts only if it fails.
 
 Exit status: 0 all agree with the pages, and nothing was made or changed; 1 otherwise; 2 the command line is refused, or
 a page does not exist or shows no command; 3 a read or a write failed.
@@ -44,6 +44,7 @@ from collections.abc import Iterator
 from typing import NamedTuple
 
 from llbm_tools.common import NOT_PROVED, PROVER, check_open, printable
+from llbm_tools.counts import Counts, total
 from llbm_tools.inputs import data_at
 from llbm_tools.paths import ROOT, RULES
 from llbm_tools.repository.fresh_copy import Copy
@@ -57,11 +58,15 @@ TESTS = "tests"
 
 
 class Result:
-    """How many commands passed and failed, and a line for each that failed or was left out."""
+    """How many commands passed, failed and were left out, and a line for each that failed or was left out."""
 
     def __init__(self) -> None:
-        self.passed = self.failed = 0
+        self.passed = self.failed = self.skipped = 0
         self.lines: list[str] = []
+
+    def counts(self) -> Counts:
+        """Returns the counts."""
+        return Counts(self.passed, self.failed, self.skipped)
 
     def run(self, page: pathlib.Path, shown: Shown, place: Place) -> None:
         """Runs a command of a page, and counts it."""
@@ -74,6 +79,11 @@ class Result:
     def fail(self, line: str) -> None:
         """Counts a failure."""
         self.failed += 1
+        self.lines.append(line)
+
+    def leave(self, line: str) -> None:
+        """Counts a command that is left out."""
+        self.skipped += 1
         self.lines.append(line)
 
 
@@ -135,9 +145,9 @@ def run_pages(pages: list[Page], copy: Copy, settings: dict[str, str]) -> Result
     result = Result()
     for page, shown in ((page, shown) for page in pages for shown in page.shown):
         if LEFT_OUT.search(shown.commands):
-            result.lines.append(f"{page.path}:{shown.number}: left out, since it compiles or runs the gate")
+            result.leave(f"{page.path}:{shown.number}: left out, since it compiles or runs the gate")
         elif BY_RULES.search(shown.commands) and not RULES.exists():
-            result.lines.append(f"{page.path}:{shown.number}: left out, since there is no out/llbm-rules")
+            result.leave(f"{page.path}:{shown.number}: left out, since there is no out/llbm-rules")
         else:
             result.run(page.path, shown, Place(copy.folder, {**copy.settings, "PATH": settings["PATH"]}))
     for path in copy.changed():
@@ -167,14 +177,15 @@ def transcripts(options: argparse.Namespace) -> int:
     check_open(sys.stdout, "standard output")
     pages = list(all_pages(options.page))
     program = program_at(options.llbm)
-    passed = failed = 0
+    each = []
     with tempfile.TemporaryDirectory(prefix="transcripts-") as folder:
         for result in results(pages, folder, program, options.unproved):
-            passed, failed = passed + result.passed, failed + result.failed
+            each.append(result.counts())
             for line in result.lines:
                 print(printable(line), flush=True)
-    print(f"{passed} passed, {failed} failed", flush=True)
-    return 1 if failed else 0
+    counts = total(each)
+    print(counts.line(), flush=True)
+    return counts.status()
 
 
 def parse_options() -> argparse.Namespace:

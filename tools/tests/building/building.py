@@ -260,14 +260,14 @@ class Build(Builds):
             child = self.start()
             child.send_signal(number)
             self.assertEqual(child.stderr.read(), b"interrupted: nothing is written\n")
-            self.assertEqual(child.wait(600), 128 + number)
+            self.assertEqual(child.wait(base.GUARD), 128 + number)
             self.check_nothing_is_left()
 
     def test_several_interrupts_leave_nothing(self):
         child = self.start()
         for number in [signal.SIGINT, signal.SIGTERM, signal.SIGINT]:
             child.send_signal(number)
-        self.assertIn(child.wait(600), (128 + signal.SIGINT, 128 + signal.SIGTERM))
+        self.assertIn(child.wait(base.GUARD), (128 + signal.SIGINT, 128 + signal.SIGTERM))
         self.check_nothing_is_left()
 
     def test_a_signal_that_was_ignored_stays_ignored(self):
@@ -280,7 +280,7 @@ class Build(Builds):
         while child.stderr.readline() not in (b"waiting\n", b""):
             pass
         child.send_signal(signal.SIGHUP)
-        self.assertEqual(child.wait(600), 0)
+        self.assertEqual(child.wait(base.GUARD), 0)
         self.check_nothing_is_left({"out"})
 
 
@@ -306,7 +306,7 @@ class Pipes(Builds):
         self.set_behavior(PRINTS)
         child = subprocess.Popen(["cp", "definition", "pipe"], cwd=self.at)
         done = self.build("pipe", "out")
-        self.assertEqual((child.wait(600), done.returncode), (0, 0), done.stderr)
+        self.assertEqual((child.wait(base.GUARD), done.returncode), (0, 0), done.stderr)
         self.assertEqual((self.at / "given").read_text(), f"\nrun\n{len(self.given)}")
         self.check_nothing_is_left({"out", "pipe"})
 

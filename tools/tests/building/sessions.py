@@ -202,5 +202,5 @@ class Progress(Builds):
             self.assertIsNone(child.poll())
         child.send_signal(signal.SIGTERM)
         self.assertEqual(child.stderr.read(), b"running definition\ninterrupted: nothing is written\n")
-        self.assertEqual(child.wait(60), 128 + signal.SIGTERM)
+        self.assertEqual(child.wait(base.GUARD), 128 + signal.SIGTERM)
         self.check_nothing_is_left()

@@ -13,8 +13,6 @@ WORKER = pathlib.Path("crates", "llb_work", "src", "worker.rt")
 # A worker puts into the queue what a hold of the lock made Ready; if it does not, only the first numbers are there.
 PUTS = "            let put = self.put_all(w, &mut kit);\n            let own"
 LOSES = f"            kit.news.clear();\n{PUTS}"
-# A run that hangs is ended after this many seconds, far more than one takes on a slow host.
-PATIENCE = 600
 
 
 class Losing(base.Folder):
@@ -39,6 +37,6 @@ class Losing(base.Folder):
     def result(self, program, definition, workers):
         """Returns what a run prints, which has to end well."""
         words = [program, "run", "--workers", str(workers)]
-        done = subprocess.run(words, input=definition, capture_output=True, timeout=PATIENCE)
+        done = subprocess.run(words, input=definition, capture_output=True, timeout=base.GUARD)
         self.assertEqual((done.returncode, done.stderr), (0, b""))
         return done.stdout

@@ -26,7 +26,6 @@ from tests.base import ROOT, run
 BUILDCTL = go_building.OUT / "buildctl"
 FRONTEND = go_building.OUT / "dockerfile-frontend"
 STORED = ROOT / "examples" / "from-buildkit"
-PATIENCE = 600
 NOBODY = {"user": 65534, "group": 65534, "extra_groups": []}
 ANOTHER = {"user": 1234, "group": 1234, "extra_groups": []}
 OWNED = re.compile(rb"^([df] [0-7]+) \d+ \d+ ", re.M)
@@ -106,25 +105,18 @@ class WithDaemon(unittest.TestCase):
                 self.assertIn("listening", child.stderr.readline())
                 self.process = child.pid
                 yield
-                self.wait_until(lambda: not children_of(child.pid))
+                base.wait_until(lambda: not children_of(child.pid), "the end of the daemon's children")
             finally:
                 child.send_signal(signal.SIGTERM)
                 child.stderr.read()
         self.assertEqual(child.returncode, 0)
         self.assertEqual(os.listdir(store), [])
 
-    def wait_until(self, is_so):
-        """Waits until something is so."""
-        end = time.monotonic() + PATIENCE
-        while not is_so():
-            self.assertLess(time.monotonic(), end)
-            time.sleep(0.05)
-
     def client(self, *words, given=b"", **settings):
         """Runs `buildctl`."""
-        line = [self.programs["buildctl"], "--addr", self.address, "--timeout", str(PATIENCE), *words]
+        line = [self.programs["buildctl"], "--addr", self.address, "--timeout", str(base.GUARD), *words]
         settings = {"env": {**os.environ, "HOME": str(self.at)}, **settings}
-        return subprocess.run(line, input=given, capture_output=True, timeout=PATIENCE, **settings)
+        return subprocess.run(line, input=given, capture_output=True, timeout=base.GUARD, **settings)
 
     def directory(self, name, text):
         """Makes a directory of a tree's text, if it is not there, and returns its path."""
@@ -234,7 +226,7 @@ class Buildctl(WithDaemon):
                 with subprocess.Popen(line, stdout=subprocess.DEVNULL, stderr=subprocess.DEVNULL) as child:
                     time.sleep(whole * share / 6)
                     child.kill()
-                self.wait_until(lambda: not children_of(self.process))
+                base.wait_until(lambda: not children_of(self.process), "the end of the daemon's children")
             # A client that is killed while it writes leaves an unfinished file of its own in `out`.
             self.assertEqual(self.client(*words, *to_last).returncode, 0)
             self.assertEqual(len(os.listdir(self.at / "last" / "b")), 501)
@@ -281,7 +273,7 @@ class Buildx(WithDaemon):
     def call(self, *words):
         """Runs docker-buildx."""
         line = [buildx(), *words]
-        return subprocess.run(line, env=self.known, capture_output=True, timeout=PATIENCE, cwd=self.at)
+        return subprocess.run(line, env=self.known, capture_output=True, timeout=base.GUARD, cwd=self.at)
 
     def built(self, text, *words):
         """Builds a Dockerfile into the directory `out`."""

@@ -100,8 +100,8 @@ class Hostile(daemon_clients.WithDaemon):
     def test_what_has_no_end_takes_little_of_the_daemon_and_ends_with_its_client(self):
         with self.daemon():
             hostile = self.beside(doubled(40))
-            self.wait_until(lambda: daemon_clients.children_of(self.process))
+            base.wait_until(lambda: daemon_clients.children_of(self.process), "the program")
             hostile.send_signal(signal.SIGKILL)
             hostile.wait()
-            self.wait_until(lambda: not daemon_clients.children_of(self.process))
+            base.wait_until(lambda: not daemon_clients.children_of(self.process), "the end of the program")
             self.assertLess(self.most(), MOST)

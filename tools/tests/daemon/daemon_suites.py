@@ -6,7 +6,6 @@ import contextlib
 import io
 import os
 import pathlib
-import time
 from unittest import mock
 
 from llbm_tools.daemon import daemon_suite, daemon_tests, go_building, suite_lists
@@ -135,9 +134,7 @@ class Processes(Folder):
     def test_one_that_takes_too_long_is_killed_with_what_it_started(self):
         runs = self.runs(seconds=1, LASTS="600")
         with mock.patch.object(daemon_suite, "GRACE", 0):
-            start = time.monotonic()
             self.assertIn("did not end in time", runs.fault(listed("passes")))
-        self.assertLess(time.monotonic() - start, 300)
 
     def test_the_registry_is_no_longer_found_once_tests_run(self):
         environment = self.runs().environment

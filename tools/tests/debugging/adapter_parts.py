@@ -87,7 +87,7 @@ class Messages(WithAdapter):
         """Checks that the adapter ends with this status and this text on standard error."""
         client.child.stdin.close()
         self.assertIsNone(client.receive())
-        self.assertEqual((client.child.wait(60), client.child.stderr.read().decode()), (status, errors))
+        self.assertEqual((client.child.wait(base.GUARD), client.child.stderr.read().decode()), (status, errors))
 
     def test_input_that_is_not_a_message_ends_the_adapter(self):
         for head, errors in [
@@ -311,7 +311,7 @@ class Crashes(WithFake):
         client = self.launched(stopOnEntry=True)
         client.ask("configurationDone")
         client.child.terminate()
-        self.assertEqual(client.child.wait(60), 143)
+        self.assertEqual(client.child.wait(base.GUARD), 143)
         self.check_no_file_is_left()
 
 

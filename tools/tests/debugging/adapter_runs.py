@@ -41,7 +41,7 @@ class WithRun(WithAdapter):
 
     def llbm(self, *words, given=b""):
         """Returns what the program prints."""
-        return subprocess.run([base.llbm, *words], input=given, capture_output=True, timeout=120).stdout
+        return subprocess.run([base.llbm, *words], input=given, capture_output=True, timeout=base.GUARD).stdout
 
     def example(self, name, *sources):
         """Returns the launch arguments of an example, with its text."""
@@ -206,7 +206,7 @@ class WholeRuns(WithRun):
         for number in client.send_at_once("continue", "disconnect", threadId=1):
             self.assertTrue(client.response(number)["success"])
         self.assertIsNone(client.receive())
-        self.assertEqual((client.ended(), client.child.wait(60)), (0, 0))
+        self.assertEqual((client.ended(), client.child.wait(base.GUARD)), (0, 0))
         self.assertLess(len(self.record(client)), 800)
 
 
@@ -407,7 +407,7 @@ class Documented(WithRun):
                     self.assertEqual(client.send(message["command"], message.get("arguments")), message["seq"])
                 else:
                     self.assertEqual(client.receive(), message)
-            self.assertEqual(client.child.wait(60), 0)
+            self.assertEqual(client.child.wait(base.GUARD), 0)
         self.assertEqual(lengths, [69, 32, 30])
 
     def test_the_launch_file_of_vs_code_starts_the_adapter(self):

@@ -385,7 +385,7 @@ class Leaving(WithRun):
         children = self.children(client)
         client.child.stdin.close()
         self.assertIsNone(client.receive())
-        self.assertEqual(client.child.wait(60), 0)
+        self.assertEqual(client.child.wait(base.GUARD), 0)
         self.check_ended(children)
 
     def test_a_closed_output_ends_the_program(self):
@@ -393,5 +393,5 @@ class Leaving(WithRun):
         children = self.children(client)
         client.child.stdout.close()
         client.send("continue", {"threadId": 1})
-        self.assertEqual(client.child.wait(60), 3)
+        self.assertEqual(client.child.wait(base.GUARD), 3)
         self.check_ended(children)

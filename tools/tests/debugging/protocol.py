@@ -7,6 +7,8 @@ is a type, the name of a shape, a list of one of these, or a tuple of allowed te
 import json
 import subprocess
 
+from tests import base
+
 SHAPES = {
     "Capabilities": {
         "supportsConfigurationDoneRequest?": bool, "supportsConditionalBreakpoints?": bool,
@@ -267,4 +269,4 @@ class Client:
         self.child.stdin.close()
         if self.receive() is not None:
             raise Wrong("a message comes after the response to disconnect")
-        return self.child.wait(60)
+        return self.child.wait(base.GUARD)

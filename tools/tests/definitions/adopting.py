@@ -426,7 +426,7 @@ class RandomDefinitions(Folder):
         self.check_accepted(place)
         trees = [f"alpine={EXAMPLES / 'failure' / 'empty.tree'}", f"context={EXAMPLES / 'tour.tree'}"]
         with open(place, "rb") as data:
-            done = subprocess.run([base.llbm, "run", *trees], stdin=data, capture_output=True, timeout=60)
+            done = subprocess.run([base.llbm, "run", *trees], stdin=data, capture_output=True, timeout=base.GUARD)
         text = [b"d 0755 0 0 /", b"d 0755 0 0 /etc", b"f 0644 0 0 6769740a /etc/packages", b"d 0755 0 0 /srv"]
         text += [b"f 0644 0 0 68656c6c6f2c0a /srv/head", b"f 0644 0 0 776f726c640a /srv/tail"]
         self.check_run(done, 0, b"".join(line + b"\n" for line in text))
@@ -444,5 +444,5 @@ class RandomDefinitions(Folder):
         self.check_accepted(place)
         words = [base.llbm, "run", f"alpine={os.fsdecode(tree)}"]
         with open(place, "rb") as data:
-            done = subprocess.run(words, stdin=data, capture_output=True, timeout=60)
+            done = subprocess.run(words, stdin=data, capture_output=True, timeout=base.GUARD)
         self.check_run(done, 0, b"d 0755 0 0 /\nf 0644 0 0 61 /a\nf 0644 0 0 630a /b\n")

@@ -84,7 +84,7 @@ class StoredRuns(unittest.TestCase):
 
     def llbm(self, *words, given):
         """Returns what the program prints for this input; it has to succeed."""
-        done = subprocess.run([base.llbm, *words], input=given, capture_output=True, timeout=120)
+        done = subprocess.run([base.llbm, *words], input=given, capture_output=True, timeout=base.GUARD)
         self.assertEqual((done.returncode, done.stderr), (0, b""), words)
         return done.stdout
 
@@ -112,7 +112,7 @@ class StoredRuns(unittest.TestCase):
     def test_an_image_is_refused_with_its_row(self):
         image, script, last = definition.entries_of(stored("image"))
         for given, row in [(stored("image"), 0), (base.definition(script, image, last), 1)]:
-            done = subprocess.run([base.llbm, "show"], input=given, capture_output=True, timeout=120)
+            done = subprocess.run([base.llbm, "show"], input=given, capture_output=True, timeout=base.GUARD)
             self.assertEqual((done.returncode, done.stdout, done.stderr), (2, b"", f"fault 88 {row} Source\n".encode()))
 
     def test_the_trees_of_the_frontend_test_are_valid(self):

@@ -323,7 +323,7 @@ class Ran:
         commands += [f"tree {vertex} {index}" for vertex, count in enumerate(outputs) for index in range(count)]
         words = ["step", str(folder / "definition"), "--workers", str(workers), *places]
         given = "".join(f"{line}\n" for line in commands).encode()
-        done = subprocess.run([base.llbm, *words], input=given, capture_output=True, timeout=120)
+        done = subprocess.run([base.llbm, *words], input=given, capture_output=True, timeout=base.GUARD)
         assert (done.returncode, done.stderr) == (0, b""), (words, done.stderr)
         _, _, text = done.stdout.decode().partition("end\n")
         lines = text.splitlines(keepends=True)[: len(outputs)]

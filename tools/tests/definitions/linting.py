@@ -449,7 +449,7 @@ class BesideTheProgram(unittest.TestCase):
 
     def program(self, word, data):
         """Runs the program on these bytes."""
-        return subprocess.run([base.llbm, word], input=data, capture_output=True, timeout=60)
+        return subprocess.run([base.llbm, word], input=data, capture_output=True, timeout=base.GUARD)
 
     def beside(self, data):
         """Returns whether the program accepts the definition, and checks that it prints the first finding if not."""

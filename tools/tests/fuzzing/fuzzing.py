@@ -185,22 +185,23 @@ class Fuzz(Folder):
     def fuzz(self, program, *words, cases=3):
         """Runs the tool with the seed 1."""
         keep = os.fsdecode(self.place(b"stored"))
-        return run("fuzz", "60", "--llbm", program, "--seed", "1", "--cases", str(cases), "--keep", keep, *words)
+        return run("fuzz", "--llbm", program, "--seed", "1", "--cases", str(cases), "--keep", keep, *words)
 
     def test_broken_rules_are_found(self):
-        for line, cause in [
+        for line, cause, *words in [
             ("exit 4", "status 4"), ("kill -9 $$", "signal 9"),
             ("echo x; echo fault 83 >&2; exit 2", "output with status 2"),
             ("echo wrong >&2; exit 2", "standard error with status 2"),
             ("echo fault 9999 >&2; exit 2", "does not know"), ("echo fault 181 >&2; exit 2", "fault 181 with status 2"),
-            ("[ $1 = asm ] || exec sleep 9", "end in time"),
+            ("exec sleep 3600", "end in time", "--patience", "1"),
         ]:
-            done = self.fuzz(self.program(line), "--patience", "1", cases=2)
+            done = self.fuzz(self.program(line), *words, cases=2)
             self.assertEqual((done.returncode, done.stderr), (1, b""), line)
             lines = done.stdout.decode().splitlines()
             self.assertEqual(lines[0], "seed 1")
             self.assertRegex(lines[1], rf"^case 0 \(\w+\): .*{re.escape(cause)}.*: stored in /")
-            self.assertRegex(lines[-1], "^2 cases in [0-9]+ seconds with seed 1: 2 failed$")
+            self.assertRegex(lines[-2], "^2 cases in [0-9]+ seconds with seed 1$")
+            self.assertEqual(lines[-1], "0 passed, 2 failed, 0 skipped")
 
     def test_a_finding_is_stored_with_its_command(self):
         done = self.fuzz(self.program("exit 9"), cases=1)
@@ -237,7 +238,8 @@ class Fuzz(Folder):
             self.skipTest("the program llbm is needed (--llbm PROGRAM)")
         done = self.fuzz(base.llbm, cases=40)
         self.assertEqual((done.returncode, done.stderr), (0, b""), done.stdout)
-        self.assertRegex(done.stdout, rb"^seed 1\n40 cases in [0-9]+ seconds with seed 1: 0 failed\n$")
+        lines = rb"^seed 1\n40 cases in [0-9]+ seconds with seed 1\n40 passed, 0 failed, 0 skipped\n$"
+        self.assertRegex(done.stdout, lines)
 
     def test_workers_that_print_something_else_are_found(self):
         if base.llbm is None:

@@ -342,7 +342,7 @@ class Umoci(Images):
         """Returns the text of what umoci unpacks, or None if it refuses the image."""
         bundle = self.place(b"bundle%d" % number)
         words = ["umoci", "unpack", "--image", os.fsdecode(place) + ":one", os.fsdecode(bundle)]
-        if subprocess.run(words, capture_output=True, timeout=120).returncode:
+        if subprocess.run(words, capture_output=True, timeout=base.GUARD).returncode:
             return None
         done = run("tree-of-directory", os.path.join(bundle, b"rootfs"))
         self.assertEqual(done.returncode, 0)
@@ -379,6 +379,6 @@ class Umoci(Images):
             words = ["--dest-compress-format", "zstd", "--dest-compress"] if name == b"packed" else []
             target = form.format(os.fsdecode(self.folder))
             words = ["skopeo", "copy", "-q", *words, f"oci:{place}:two", target]
-            subprocess.run(words, check=True, capture_output=True, timeout=120)
+            subprocess.run(words, check=True, capture_output=True, timeout=base.GUARD)
             self.assertEqual(source_texts.kind_of(os.fsdecode(self.place(name))), source_texts.IMAGE)
             self.assertEqual(run("tree-of-image", self.place(name)).stdout, wanted, name)

@@ -145,7 +145,7 @@ class Layout(Folder):
     def test_skopeo_reads_the_image(self):
         image = self.image(b'{"config": {"Env": ["A=b"], "Labels": {"k": "v"}}}')
         place = os.fsdecode(self.file(b"result.oci", image))
-        done = subprocess.run(["skopeo", "inspect", f"oci-archive:{place}"], capture_output=True, timeout=60)
+        done = subprocess.run(["skopeo", "inspect", f"oci-archive:{place}"], capture_output=True, timeout=base.GUARD)
         self.assertEqual((done.returncode, done.stderr), (0, b""))
         found = json.loads(done.stdout)
         self.assertEqual(found["Layers"], [f"sha256:{digest(self.layer())}"])

@@ -9,7 +9,7 @@ from llbm_tools.llb.ops import Op
 from tests import base
 
 try:
-    from hypothesis import given, settings, strategies
+    from hypothesis import HealthCheck, given, settings, strategies
 except ImportError:
     HAS_HYPOTHESIS = False
 else:
@@ -23,7 +23,7 @@ PYTHON_OF_THE_SYSTEM = "/usr/bin/python3"
 def system_has_hypothesis():
     """Returns whether the Python of the system has hypothesis, for which Debian packs it."""
     try:
-        done = subprocess.run([PYTHON_OF_THE_SYSTEM, "-c", "import hypothesis"], capture_output=True, timeout=60)
+        done = subprocess.run([PYTHON_OF_THE_SYSTEM, "-c", "import hypothesis"], capture_output=True, timeout=base.GUARD)
     except OSError:
         return False
     return done.returncode == 0
@@ -38,12 +38,14 @@ class Skipped(unittest.TestCase):
         if not system_has_hypothesis():
             self.skipTest("hypothesis is needed (Debian: python3-hypothesis)")
         words = [PYTHON_OF_THE_SYSTEM, base.TOOLS / "test", "properties"]
-        done = subprocess.run(words, capture_output=True, text=True, timeout=600)
+        done = subprocess.run(words, capture_output=True, text=True, timeout=base.GUARD)
         self.assertEqual(done.returncode, 0, done.stderr)
-        self.assertRegex(done.stdout, "^[0-9]+ tests, .*: all passed\\n$")
+        self.assertRegex(done.stdout, "^.*\\n[0-9]+ passed, 0 failed, 1 skipped\\n$")
 
 
 if HAS_HYPOTHESIS:
+    # The same cases in each run, however long they take.
+    FIXED = settings(deadline=None, derandomize=True, database=None, suppress_health_check=list(HealthCheck))
     NUMBERS = strategies.integers(0, (1 << 64) - 1)
     VALUES = strategies.one_of(NUMBERS, strategies.binary(max_size=20))
     RECORDS = strategies.lists(strategies.tuples(strategies.integers(1, wire.MOST_FIELDS), VALUES), max_size=8)
@@ -51,13 +53,13 @@ if HAS_HYPOTHESIS:
     class Records(unittest.TestCase):
         """Records come back as they were written, and any bytes are records or have a fault."""
 
-        @settings(deadline=None)
+        @FIXED
         @given(NUMBERS, strategies.binary(max_size=5))
         def test_a_varint_comes_back(self, number, after):
             text = wire.varint(number)
             self.assertEqual(wire.varint_at(text + after, 0), (number, len(text)))
 
-        @settings(deadline=None)
+        @FIXED
         @given(RECORDS)
         def test_records_come_back(self, records):
             text = messages.encoded(records)
@@ -66,7 +68,7 @@ if HAS_HYPOTHESIS:
             self.assertEqual(b"".join(one.text for one in found), text)
             self.assertEqual(rewriting.changed(text, lambda same: same), text)
 
-        @settings(deadline=None)
+        @FIXED
         @given(strategies.binary(max_size=60))
         def test_bytes_are_an_op_or_have_a_fault(self, text):
             try:
@@ -77,7 +79,7 @@ if HAS_HYPOTHESIS:
                 members = [found.exec, found.source, found.file, found.merge, found.build, found.diff]
                 self.assertEqual(sum(member is not None for member in members), int(found.kind is not None))
 
-        @settings(deadline=None)
+        @FIXED
         @given(strategies.binary(max_size=60))
         def test_a_message_that_is_parsed_has_the_same_bytes_if_they_are_the_shortest(self, text):
             try:

@@ -83,7 +83,7 @@ class Definitions(Folder):
         self.assertEqual(graph.inputs, [[], [(0, 0)], [(1, 0)]])
         if base.llbm:
             given = run("bigdef", "files", "600").stdout
-            done = subprocess.run([base.llbm], input=given, capture_output=True, timeout=120)
+            done = subprocess.run([base.llbm], input=given, capture_output=True, timeout=base.GUARD)
             self.assertEqual(done.stdout.count(b"\nf "), 600)
 
     def test_one_pattern_removes_files_and_another_copies_directories(self):
@@ -95,7 +95,7 @@ class Definitions(Folder):
         lower = "".join(f"d 0755 0 0 /s0000{k}\nf 0644 0 0 0000000{k} /s0000{k}/f00000{k}\n" for k in range(4))
         for kind, text in [("rm", upper), ("copy", "d 0755 0 0 /\n" + lower)]:
             words = [base.llbm, "run", f"p={tree}"]
-            done = subprocess.run(words, input=run("bigdef", kind, "1").stdout, capture_output=True, timeout=120)
+            done = subprocess.run(words, input=run("bigdef", kind, "1").stdout, capture_output=True, timeout=base.GUARD)
             self.check_run(done, 0, text.encode())
 
     def test_mounts_and_caches_have_their_commands(self):
@@ -115,7 +115,7 @@ class Definitions(Folder):
         for kind in [kind.strip("'") for kind in kinds]:
             given = run("bigdef", kind, "3").stdout
             words = [base.llbm, "run", f"p={tree}", f"q={tree}"]
-            done = subprocess.run(words, input=given, capture_output=True, timeout=120)
+            done = subprocess.run(words, input=given, capture_output=True, timeout=base.GUARD)
             self.assertEqual((done.returncode, done.stderr), (0, b""), kind)
             self.assertIsNone(tree_fault(done.stdout), kind)
 
@@ -246,9 +246,9 @@ class Go(Measured):
             graph = definition.graph_of(definition.entries_of(given))
             edges = [*graph.inputs, [graph.result]]
             lines = [f"{row} inputs" + "".join(f" {v}.{i}" for v, i in named) for row, named in enumerate(edges)]
-            done = subprocess.run([program], input=given, capture_output=True, timeout=120)
+            done = subprocess.run([program], input=given, capture_output=True, timeout=base.GUARD)
             self.check_success(done, self.text(lines))
-        done = subprocess.run([program], input=part(1, part(1, part(1, digest(b"")))), capture_output=True, timeout=120)
+        done = subprocess.run([program], input=part(1, part(1, part(1, digest(b"")))), capture_output=True, timeout=base.GUARD)
         self.check_run(done, 1, b"", b"row 0: an input names no row\n")
 
     def test_the_pair_has_its_row(self):

@@ -13,6 +13,7 @@ from llbm_tools.definitions import adopting
 from llbm_tools.fuzzing import changed
 from llbm_tools.llb import findings, wire
 from llbm_tools.page import assets, foreign
+from tests import base
 from tests.base import ROOT, Folder
 from tests.definitions import adopting as adopt_tests
 
@@ -108,7 +109,7 @@ class LikeTheTools(Folder):
         tables = self.file(b"tables.json", assets.tables())
         given = "".join(base64.b64encode(data).decode() + "\n" for data in definitions if data)
         words = ["node", "--input-type=module", "-e", SCRIPT, PAGE.as_uri(), tables]
-        done = subprocess.run(words, input=given.encode(), capture_output=True, timeout=300)
+        done = subprocess.run(words, input=given.encode(), capture_output=True, timeout=base.GUARD)
         self.assertEqual((done.returncode, done.stderr), (0, b""))
         for data, line in zip(filter(None, definitions), done.stdout.splitlines(), strict=True):
             found, made = json.loads(line)

@@ -11,6 +11,7 @@ import sys
 from urllib.parse import quote
 
 from llbm_tools.page import builds, server
+from tests import base
 from tests.base import ROOT, TOOLS, Folder, run
 
 FILES = {"index.html": b"the page", "main.mjs": b"code", "examples/list.json": b"[]"}
@@ -98,7 +99,7 @@ class Served(WithBuilds):
 
     def ask(self, path, method="GET", host=None, **headers):
         """Returns the status of a request for a path as it is, the headers and the content."""
-        connection = http.client.HTTPConnection("127.0.0.1", self.port, timeout=600)
+        connection = http.client.HTTPConnection("127.0.0.1", self.port, timeout=base.GUARD)
         connection.putrequest(method, path, skip_host=True, skip_accept_encoding=True)
         for name, value in {"Host": host or f"127.0.0.1:{self.port}", **headers}.items():
             connection.putheader(name, value)
@@ -189,7 +190,7 @@ class Tool(WithBuilds):
         with subprocess.Popen(words, stdout=subprocess.PIPE, stderr=subprocess.PIPE, cwd=ROOT) as child:
             lines = [child.stdout.readline().decode().strip() for _ in range(3)]
             child.send_signal(signal.SIGINT)
-            out, err = child.communicate(timeout=600)
+            out, err = child.communicate(timeout=base.GUARD)
         self.assertEqual((child.returncode, out), (130, b""))
         self.assertTrue(err.startswith(b"the machine is missing: "), err)
         self.assertRegex(lines[0], r"^http://127\.0\.0\.1:[0-9]+/[\w-]{20,}/$")

@@ -93,8 +93,9 @@ class Module(Folder):
         done = run("page-tests", "--llbm", base.llbm, "--page", self.folder)
         lines = done.stdout.decode().splitlines()
         self.assertEqual((done.returncode, done.stderr), (0, b""))
-        self.assertRegex(lines[-2], r"^[0-9]+ tests, of the module and the page: all passed$")
-        self.assertEqual(lines[-1], f"{lines[-2].split()[0]} of them skipped: no page is there, tools/wasm makes it")
+        skipped, why = lines[-2].split(" ", 1)
+        self.assertEqual(why, "skipped: no page is there, tools/wasm makes it")
+        self.assertEqual(lines[-1], f"0 passed, 0 failed, {skipped} skipped")
 
 
 class Files(unittest.TestCase):
@@ -131,7 +132,7 @@ class InNode(Folder):
         """Returns what an expression over a module of the page prints as JSON."""
         script = f"import * as m from {json.dumps((PAGE / module).as_uri())};"
         script += f"import fs from 'node:fs'; console.log(JSON.stringify(await ({text})))"
-        done = subprocess.run(["node", "--input-type=module", "-e", script], capture_output=True, timeout=60)
+        done = subprocess.run(["node", "--input-type=module", "-e", script], capture_output=True, timeout=base.GUARD)
         self.assertEqual((done.returncode, done.stderr), (0, b""))
         return json.loads(done.stdout)
 

@@ -5,6 +5,7 @@ import importlib.util
 import io
 import os
 import pathlib
+import re
 import signal
 import subprocess
 import sys
@@ -12,7 +13,10 @@ import tempfile
 import unittest
 from unittest import mock
 
+from llbm_tools.counts import Counts, total
 from llbm_tools.installing import tool_parsers
+from llbm_tools.repository import checks, parts
+from llbm_tools.repository.parts import Part
 from tests import base
 from tests.base import ROOT
 
@@ -25,30 +29,37 @@ def loaded(name):
     return module
 
 
-TESTS = "tests, 7 runs of the tools, as root"
 LATE = [
     "test chain::a_chain_of_65535_vertices_is_evaluated_run_and_walked ... FAILED",
     "    checked: no-answer: the program did not end within the time limit",
 ]
 OTHER = ["test crew::a_worker_is_stopped ... FAILED", "    checked: fault: index out of bounds"]
+# Uses the processor for 0.6 seconds at least, in a process that it starts.
+SPINS = """import os, time
+child = os.fork()
+while not child and time.process_time() < 0.6:
+    pass
+child and os.wait()
+"""
 RESULT = "test result: {}. {} passed; {} failed; {} ignored; 0 filtered out"
 
 
-class Gate(base.WithPrograms):
-    """The counts of the gate."""
+def printed(work):
+    """Returns what some work returns, and the lines that it prints."""
+    with contextlib.redirect_stdout(io.StringIO()) as out:
+        found = work()
+    return found, out.getvalue().splitlines()
+
+
+class Parts(base.WithPrograms):
+    """Parts that are run, and their counts."""
 
     def test_the_last_line_with_counts_counts(self):
-        counts_in = loaded("gate").counts_in
-        for lines, status, *counts in [
+        for lines, status, *found in [
             ([], 0, 1, 0), ([], 1, 0, 1), (["190 passed, 0 failed"], 0, 190, 0),
-            (["3 passed, 2 failed"], 1, 3, 2), (["3 passed, 0 failed"], 1, 3, 1),
+            (["3 passed, 2 failed, 4 skipped"], 1, 3, 2, 4), (["3 passed, 0 failed, 0 skipped"], 1, 3, 1),
             (["5 passed, 0 failed"], 0, 5, 0), (["190 passed, 0 failed (162 edits refused)"], 0, 190, 0),
             (["1 passed, 1 failed", "2 passed, 0 failed"], 0, 2, 0), (["6 passed, 0 failed, 1 skipped"], 0, 6, 0, 1),
-            (["FAILED (failures=2, errors=1, skipped=4)", f"90 {TESTS}: some failed"], 1, 87, 3),
-            (["OK", f"90 {TESTS}: all passed"], 0, 90, 0),
-            ([f"90 {TESTS}: all passed", "3 of them skipped: a", "4 of them skipped: b"], 0, 83, 0, 7),
-            (["9 cases in 1 seconds with seed 3: 0 failed"], 0, 1, 0),
-            (["9 cases in 1 seconds with seed 3: 2 failed"], 1, 0, 2),
             ([RESULT.format("ok", 71, 0, 2), "run=ended status=0 proved=no"], 0, 71, 0, 2),
             ([RESULT.format("FAILED", 70, 1, 0), "run=ended status=101 proved=no"], 101, 70, 1, 0),
             (["run=none proved=no"], 6, 0, 1),
@@ -56,14 +67,46 @@ class Gate(base.WithPrograms):
             ([*LATE, *OTHER, RESULT.format("FAILED", 59, 2, 0), "run=no-answer proved=no"], 6, 59, 1, 1),
             ([LATE[0], OTHER[1], RESULT.format("FAILED", 60, 1, 0)], 4, 60, 1),
         ]:
-            self.assertEqual(counts_in(lines, status), (*counts, *[0] * (3 - len(counts))), lines)
+            self.assertEqual(parts.Ended(status, 0.0, lines).counts(), (*found, *[0] * (3 - len(found))), lines)
+
+    def test_a_part_that_passes_has_one_line(self):
+        part = Part([self.program("echo said", "echo 3 passed, 0 failed, 1 skipped")])
+        counts, lines = printed(lambda: parts.run(part))
+        self.assertEqual(counts, (3, 0, 1))
+        self.assertRegex(lines[0], r"^.*/program\S*: 3 passed, 0 failed, 1 skipped \([0-9.]+ processor minutes\)$")
+        self.assertEqual(len(lines), 1)
+
+    def test_a_part_that_fails_shows_what_it_printed_but_not_what_is_expected(self):
+        wants = "==7==WARNING: AddressSanitizer failed to allocate 0x100000000 bytes"
+        part = Part([self.program(f"echo '{wants}' >&2", "echo wrong", "exit 3")])
+        for work in (lambda: parts.run(part), lambda: total(parts.run_together([part], 1))):
+            counts, lines = printed(work)
+            self.assertEqual((counts, lines[1:]), ((0, 1, 0), ["    wrong"]))
+
+    def test_the_time_of_a_part_is_that_of_its_processes(self):
+        part = Part([sys.executable, "-c", SPINS])
+        for work in (lambda: parts.run(part), lambda: total(parts.run_together([part], 1))):
+            found = re.search(r"\(([0-9.]+) processor minutes\)$", printed(work)[1][-1])
+            self.assertGreaterEqual(float(found[1]), 0.01)
+
+    def test_parts_that_run_together_are_all_counted(self):
+        says = [Part([self.program(f"echo '{number} passed, 0 failed'")]) for number in (3, 4, 5)]
+        given = [*says, Part([self.program("exit 7")]), Part(["/none"])]
+        counts, lines = printed(lambda: sorted(parts.run_together(given, 2)))
+        self.assertEqual(counts, [(0, 1, 0), (0, 1, 0), (3, 0, 0), (4, 0, 0), (5, 0, 0)])
+        self.assertEqual(len(lines), 6)
+        self.assertIn("    there is no such file or directory: /none", lines)
+
+
+class Gate(base.WithPrograms):
+    """The parts of the gate, and its last lines."""
 
     def test_parts_run_on_one_program_or_on_both(self):
         gate = loaded("gate")
         for given, programs in [("/p", ["/p"]), (None, list(map(str, gate.PROGRAMS)))]:
             after = given is not None
             words = gate.argparse.Namespace(llbm=given, after=after, fuzz=7, seed="3")
-            commands = [part.command for part in gate.parts(words)]
+            commands = [part.command for part in gate.parts_of(words)]
             self.assertEqual(["rt", "ci"] in commands, given is None)
             for name in ("refuse", "library", "bindings"):
                 self.assertIn(gate.tool(name).command, commands)
@@ -78,21 +121,21 @@ class Gate(base.WithPrograms):
 
     def checks(self, processors, free, group=()):
         """Returns how many checks run at a time with so many processors, kB of free memory, and files of a group."""
-        gate = loaded("gate")
         folder = pathlib.Path(tempfile.mkdtemp(dir=os.fsdecode(self.folder)))
-        gate.MEMORY, gate.GROUPS = folder / "meminfo", folder
         for name, text in [("meminfo", f"MemFree: 1 kB\nMemAvailable: {free} kB"), *group]:
             (folder / name).parent.mkdir(exist_ok=True)
             (folder / name).write_text(f"{text}\n")
-        with mock.patch("os.sched_getaffinity", return_value=set(range(processors))):
-            return gate.checks_at_once()
+        with (
+            mock.patch("os.sched_getaffinity", return_value=set(range(processors))),
+            mock.patch.multiple(checks, MEMORY=folder / "meminfo", GROUPS=folder),
+        ):
+            return checks.checks_at_once()
 
     def test_a_check_gets_a_processor_and_its_memory(self):
         for processors, free, jobs in [(4, 24, 4), (2, 24, 2), (8, 24, 4), (4, 12, 2), (4, 3, 1), (1, 24, 1)]:
             self.assertEqual(self.checks(processors, 1_000_000 * free), jobs, (processors, free))
-        gate = loaded("gate")
-        gate.MEMORY = gate.GROUPS = pathlib.Path("/none")
-        self.assertEqual(gate.checks_at_once(), len(os.sched_getaffinity(0)))
+        with mock.patch.multiple(checks, MEMORY=pathlib.Path("/none"), GROUPS=pathlib.Path("/none")):
+            self.assertEqual(checks.checks_at_once(), len(os.sched_getaffinity(0)))
 
     def test_a_control_group_limits_the_checks(self):
         period = ("cpu/cpu.cfs_period_us", "100000")
@@ -107,67 +150,74 @@ class Gate(base.WithPrograms):
 
     def test_rt_ci_is_told_how_many_checks_to_run_unless_it_was(self):
         gate = loaded("gate")
-        gate.checks_at_once = lambda: 3
         gate.PROOFS = [self.program("echo $RT_JOBS passed, 0 failed")]
         for known, jobs in [({}, 3), ({"RT_JOBS": "7"}, 7)]:
-            with mock.patch.dict(os.environ), contextlib.redirect_stdout(io.StringIO()):
+            with mock.patch.dict(os.environ), mock.patch.object(checks, "checks_at_once", lambda: 3):
                 os.environ.pop("RT_JOBS", None)
                 os.environ.update(known)
-                self.assertEqual(gate.run_part(gate.Part(gate.PROOFS), []).passed, jobs)
+                counts, _ = printed(lambda: gate.run_part(gate.proofs(), []))
+                self.assertEqual(counts.passed, jobs)
 
-    def test_the_quick_parts_compile_and_do_not_prove(self):
+    def test_the_quick_parts_do_not_prove(self):
         gate = loaded("gate")
-        one, *others = gate.quick_parts()
-        self.assertEqual(one, gate.tool("unproved-program"))
+        others = gate.parts_of_crates()
         self.assertEqual({tuple(part.command) for part in others}, {("rt", "try", "--test")})
-        crates = [part.folder.name for part in others]
-        self.assertEqual(sorted(crates), ["llb_examples", "llb_refusals", "llbm"])
+        self.assertEqual(sorted(part.folder.name for part in others), ["llb_examples", "llb_refusals", "llbm"])
         self.assertTrue(all(part.folder.is_dir() for part in others))
+        quick = [part.shown().split()[0] for part in gate.parts_that_are_quick(7, "3")]
+        self.assertEqual(quick, [f"tools/{name}" for name in ("transcripts", "daemon-tests", "test", "fuzz")])
 
-    def test_parts_that_run_together_are_all_counted(self):
-        gate = loaded("gate")
-        says = [gate.Part([self.program(f"echo '{number} passed, 0 failed'")]) for number in (3, 4, 5)]
-        parts = [*says, gate.Part([self.program("sleep 0.2", "exit 7")]), gate.Part(["/none"])]
-        with contextlib.redirect_stdout(io.StringIO()) as out:
-            counts = list(gate.run_together(parts, 2))
-        self.assertEqual(sorted(counts), [(0, 1, 0), (0, 1, 0), (3, 0, 0), (4, 0, 0), (5, 0, 0)])
-        lines = out.getvalue().splitlines()
-        self.assertEqual(len([line for line in lines if line.startswith("== ")]), 4)
-        self.assertIn("there is no such file or directory: /none", lines)
+    def run_quick(self, *words):
+        """Runs the quick gate with parts that say that they pass; returns its status, its parts, and its lines."""
+        gate, ran = loaded("gate"), []
 
-    def run_main(self, *words, quick=(), whole=()):
+        def run(part):
+            ran.append(part.shown())
+            return Counts(2)
+
+        together = mock.Mock(side_effect=lambda given, jobs: map(run, given))
+        with (
+            mock.patch.multiple(parts, run=run, run_together=together),
+            mock.patch.object(sys, "argv", ["gate", "--quick", *words]),
+        ):
+            status, lines = printed(gate.main)
+        return status, ran, lines
+
+    def test_more_adds_parts(self):
+        _, quick, lines = self.run_quick()
+        self.assertTrue(lines[0].startswith("not done: proofs, "))
+        self.assertTrue(lines[1].startswith("with --more: "))
+        self.assertEqual(lines[2], f"{2 * len(quick)} passed, 0 failed, 11 skipped")
+        _, more, lines = self.run_quick("--more")
+        self.assertEqual(quick, [part for part in more if part in quick])
+        self.assertEqual(len(more) - len(quick), 7)
+        self.assertEqual(lines[1:], [f"{2 * len(more)} passed, 0 failed, 4 skipped"])
+
+    def run_main(self, *words, whole=()):
         """Runs the gate with these counts, and lines of a table, in place of its parts; returns its status, its lines,
         and its receipts."""
         gate, receipts = loaded("gate"), []
-        gate.run_quick = lambda options: [gate.Counts(*counts) for counts in quick]
-        gate.parts = lambda options: whole
-        gate.run_part = lambda part, table: table.extend(part[3:]) or gate.Counts(*part[:3])
+        gate.parts_of = lambda options: whole
+        gate.run_part = lambda part, table: table.extend(part[3:]) or Counts(*part[:3])
         gate.keep_receipt = lambda: receipts.append("receipt")
         handler = signal.getsignal(signal.SIGTERM)
-        with mock.patch.object(sys, "argv", ["gate", *words]), contextlib.redirect_stdout(io.StringIO()) as out:
-            status = gate.main()
+        with mock.patch.object(sys, "argv", ["gate", *words]):
+            status, lines = printed(gate.main)
         signal.signal(signal.SIGTERM, handler)
-        return status, out.getvalue().splitlines(), receipts
+        return status, lines, receipts
 
     def test_the_last_line_has_the_sums(self):
-        self.assertEqual(self.run_main(whole=[(2, 0), (3, 0)]), (0, ["5 passed, 0 failed"], ["receipt"]))
-        self.assertEqual(self.run_main(whole=[(2, 1), (3, 0)]), (1, ["5 passed, 1 failed"], []))
+        self.assertEqual(self.run_main(whole=[(2, 0), (3, 0)]), (0, ["5 passed, 0 failed, 0 skipped"], ["receipt"]))
+        self.assertEqual(self.run_main(whole=[(2, 1), (3, 0)]), (1, ["5 passed, 1 failed, 0 skipped"], []))
         self.assertEqual(self.run_main(whole=[(2, 0, 1)])[1], ["2 passed, 0 failed, 1 skipped"])
         lines = self.run_main(whole=[(2, 0, 0, "crate", "all"), (3, 0)])[1]
-        self.assertEqual(lines, ["crate", "all", "5 passed, 0 failed"])
-        self.assertEqual(self.run_main("--after", whole=[(2, 0)]), (0, ["2 passed, 0 failed"], []))
-        self.assertEqual(self.run_main("--llbm", "/p", whole=[(2, 0)]), (0, ["2 passed, 0 failed"], []))
-
-    def test_the_quick_gate_says_what_it_did_not_do(self):
-        status, lines, receipts = self.run_main("--quick", quick=[(2, 0, 1), (3, 0, 0)])
-        self.assertEqual((status, lines[1:], receipts), (0, ["5 passed, 0 failed, 1 skipped"], []))
-        self.assertTrue(lines[0].startswith("not done: proofs, "))
-        status, lines, _ = self.run_main("--quick", quick=[(2, 1, 0)])
-        self.assertEqual((status, lines[1:]), (1, ["2 passed, 1 failed, 0 skipped"]))
+        self.assertEqual(lines, ["crate", "all", "5 passed, 0 failed, 0 skipped"])
+        self.assertEqual(self.run_main("--after", whole=[(2, 0)])[2], [])
+        self.assertEqual(self.run_main("--llbm", "/p", whole=[(2, 0)])[2], [])
 
     def test_command_lines_are_refused(self):
-        for words in [("--nosuch",), ("--quick", "--after"), ("--quick", "--llbm", "/p")]:
-            done = subprocess.run([ROOT / "gate", *words], capture_output=True, timeout=60)
+        for words in [("--nosuch",), ("--quick", "--after"), ("--quick", "--llbm", "/p"), ("--more",)]:
+            done = subprocess.run([ROOT / "gate", *words], capture_output=True, timeout=base.GUARD)
             self.assertEqual((done.returncode, done.stdout), (2, b""), words)
 
 
@@ -182,6 +232,6 @@ class Scripts(unittest.TestCase):
             link = pathlib.Path(folder, "link")
             link.symlink_to(ROOT / "gate")
             for place in (link, ROOT / "gate", ROOT / "tools" / "gate"):
-                done = subprocess.run([place, "--help"], cwd=folder, capture_output=True, text=True, timeout=60)
+                done = subprocess.run([place, "--help"], cwd=folder, capture_output=True, text=True, timeout=base.GUARD)
                 self.assertEqual((done.returncode, done.stderr), (0, ""), place)
                 self.assertTrue(done.stdout.startswith("usage: gate "), done.stdout)

@@ -37,7 +37,7 @@ else:
         tests = self.tests("refused 2 (27): put /a", "refused 0 (none): copy", refused=2)
         self.assertEqual(self.refuse(tests), (0, [
             "one::calls: passed, 2 refusals", "     2  27    put /a", "     0  none  copy",
-            "2 refusals of 2 calls", "1 passed, 0 failed",
+            "2 refusals of 2 calls", "1 passed, 0 failed, 0 skipped",
         ]))
 
     def test_wrong_counts_and_bad_ends_fail(self):
@@ -50,11 +50,11 @@ else:
             (["refused 1 (27): put /a"], 1, 3, "it ended with status 3"),
         ]:
             ended, lines_printed = self.refuse(self.tests(*lines, refused=refused, status=status))
-            self.assertEqual((ended, lines_printed[-1]), (1, "0 passed, 1 failed"), lines)
+            self.assertEqual((ended, lines_printed[-1]), (1, "0 passed, 1 failed, 0 skipped"), lines)
             self.assertIn(f"    {wrong}", lines_printed)
 
     def test_a_program_without_tests_fails(self):
-        none = ["0 refusals of 0 calls", "0 passed, 0 failed"]
+        none = ["0 refusals of 0 calls", "0 passed, 0 failed, 0 skipped"]
         self.assertEqual(self.refuse(self.tests(names=())), (1, none))
 
     def test_command_lines_are_refused(self):

@@ -133,12 +133,12 @@ class Transcripts(base.WithPrograms):
         status, lines = self.transcripts(self.page("\nand\n\n".join(text for text, _ in cases), *names))
         *lines, last = lines
         self.assertEqual([line.split(": ", 1)[1] for line in lines], [cause for _, cause in cases])
-        self.assertEqual((status, last), (1, f"0 passed, {len(cases)} failed"))
+        self.assertEqual((status, last), (1, f"0 passed, {len(cases)} failed, 0 skipped"))
 
     def test_all_forms_of_a_page_are_run(self):
         status, lines = self.transcripts(self.page(PAGE))
         *lines, last = lines
-        self.assertEqual((status, last), (0, "6 passed, 0 failed"), lines)
+        self.assertEqual((status, last), (0, "6 passed, 0 failed, 3 skipped"), lines)
         self.assertEqual([line.split(": ", 1)[1].split(",")[0] for line in lines], ["left out"] * 3)
         self.assertIn(":25: left out", lines[0])
 
@@ -148,7 +148,7 @@ class Transcripts(base.WithPrograms):
         for place in ("tests", "tests/one/page.md"):
             passed = 5 * (2 if place == "tests" else 1)
             found = self.transcripts(pathlib.Path(os.fsdecode(self.folder), place))
-            self.assertEqual(found, (0, [f"{passed} passed, 0 failed"]))
+            self.assertEqual(found, (0, [f"{passed} passed, 0 failed, 0 skipped"]))
 
     def test_pages_that_lie_are_found(self):
         self.check_causes([
@@ -179,11 +179,11 @@ class Transcripts(base.WithPrograms):
     def test_files_of_tests_begin_in_empty_folders(self):
         self.page("    $ llbm one > a; ls\n    a\n", "tests", "one")
         self.page("    $ llbm one > b; ls\n    b\n", "tests", "two")
-        self.assertEqual(self.transcripts(self.place(b"tests")), (0, ["2 passed, 0 failed"]))
+        self.assertEqual(self.transcripts(self.place(b"tests")), (0, ["2 passed, 0 failed, 0 skipped"]))
 
     def test_a_command_that_fails_in_a_pipe_has_its_status(self):
         self.page("    $ llbm wrong 2>&1 | cat\n    wrong\n    status 3\n", "tests")
-        self.assertEqual(self.transcripts(self.place(b"tests")), (0, ["1 passed, 0 failed"]))
+        self.assertEqual(self.transcripts(self.place(b"tests")), (0, ["1 passed, 0 failed, 0 skipped"]))
 
     @unittest.skipUnless(shutil.which("git") and (ROOT / ".git").exists(), "the repository is not one of git")
     def test_files_of_a_page_are_written_to_a_copy_and_named_unless_git_ignores_them(self):
@@ -191,7 +191,7 @@ class Transcripts(base.WithPrograms):
         written = f"    ./llbm two > {name}\n    ./llbm one >> README.md\n"
         found = self.transcripts(self.page(f"{written}\nand\n\n    mkdir -p out/a\n    ./llbm two > out/a/b\n"))
         lines = [f"{path}: made or changed by these commands, and not ignored by git" for path in ("README.md", name)]
-        self.assertEqual(found, (1, [*lines, "2 passed, 2 failed"]))
+        self.assertEqual(found, (1, [*lines, "2 passed, 2 failed, 0 skipped"]))
         self.assertFalse((ROOT / name).exists())
 
     def test_a_program_that_is_not_proved_has_its_own_place(self):
@@ -200,7 +200,7 @@ class Transcripts(base.WithPrograms):
         program = self.file(b"unproved", f"#!/bin/sh\necho \"${{0#./}}\"; echo '{version}' >&2\n".encode())
         os.chmod(program, 0o755)
         done = run("transcripts", "--llbm", program, page)
-        self.assertEqual((done.returncode, done.stdout), (0, b"1 passed, 0 failed\n"))
+        self.assertEqual((done.returncode, done.stdout), (0, b"1 passed, 0 failed, 0 skipped\n"))
 
     def test_the_version_says_whether_it_is_proved(self):
         page = self.page(f"    $ llbm --version 2>&1\n    llbm 1.0, proved with {common.PROVER}\n", "tests")

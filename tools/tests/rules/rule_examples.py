@@ -71,7 +71,7 @@ class Examples(Folder):
             for name, tree in one.sources.items():
                 place = self.file(name.encode(), b"".join(maps.lines_of(tree)))
                 words.append(f"{name}={os.fsdecode(place)}")
-            done = subprocess.run([base.llbm, "run", *words], input=one.data, capture_output=True, timeout=120)
+            done = subprocess.run([base.llbm, "run", *words], input=one.data, capture_output=True, timeout=base.GUARD)
             self.assertIn(done.returncode, (0, 1), done.stderr)
             lines = done.stdout.decode().splitlines()[1:] if done.returncode == 0 else None
             self.assertEqual(lines, one.llbm, one.shows)

@@ -3,6 +3,7 @@
 import json
 import subprocess
 
+from tests import base
 from tests.base import ROOT, Folder, command, run, run_closed
 
 
@@ -32,7 +33,7 @@ class Conversion(Folder):
         place = self.file(b"lines", text)
         with open("/dev/full", "wb") as output, open(place, "rb") as given:
             words = command(self.tool)
-            done = subprocess.run(words, stdin=given, stdout=output, stderr=subprocess.PIPE, timeout=120)
+            done = subprocess.run(words, stdin=given, stdout=output, stderr=subprocess.PIPE, timeout=base.GUARD)
         self.assertEqual(done.returncode, 3)
         self.assertRegex(done.stderr, rb"^the (object|array) could not be written: No space left on device\n$")
         self.assertEqual(run(self.tool, "word").returncode, 2)

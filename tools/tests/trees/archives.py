@@ -13,6 +13,7 @@ import subprocess
 import tarfile
 import unittest
 
+from tests import base
 from tests.base import Folder, command, run, run_closed, run_into
 
 NOTHING = b"left out: nothing\n"
@@ -187,7 +188,7 @@ class TreeOfTar(Folder):
         for before in [b"", b"x" * 77]:
             with open(self.file(b"x.tar", before + given), "rb", buffering=0) as file:
                 file.seek(len(before))
-                done = subprocess.run(command("tree-of-tar"), stdin=file, capture_output=True, timeout=120)
+                done = subprocess.run(command("tree-of-tar"), stdin=file, capture_output=True, timeout=base.GUARD)
             self.check_success(done, self.text(["d 0755 0 0 /", "f 0644 0 0 61 /a"]), NOTHING)
 
     def test_hard_links_are_files(self):

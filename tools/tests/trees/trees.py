@@ -9,6 +9,7 @@ import subprocess
 import sys
 import unittest
 
+from tests import base
 from tests.base import AS_NOBODY, IS_ROOT, TOOLS, Folder, command, run, run_closed, run_into
 
 NOTHING = b"left out: nothing\n"
@@ -203,7 +204,7 @@ class TreeOfDirectory(Folder):
         )
         child.stdout.read(1)
         child.send_signal(signal.SIGINT)
-        self.assertEqual((child.wait(60), child.stderr.read()), (130, b""))
+        self.assertEqual((child.wait(base.GUARD), child.stderr.read()), (130, b""))
         child.stdout.close()
         child.stderr.close()
 
@@ -332,7 +333,7 @@ class DirectoryOfTree(Folder):
         )
         child.stdin.write(b"d 0755 0 0 /\nx\n")
         child.stdin.flush()
-        self.assertEqual(child.wait(60), 2)
+        self.assertEqual(child.wait(base.GUARD), 2)
         self.assertEqual(child.stderr.readline()[-9:], b": line 2\n")
         child.stdin.close()
         child.stderr.close()
@@ -354,7 +355,7 @@ class DirectoryOfTree(Folder):
         with open(text, "rb") as given:
             done = subprocess.run(
                 [sys.executable, "-c", PEAK, TOOLS, *command("directory-of-tree", self.place(name))[2:]],
-                stdin=given, stderr=subprocess.PIPE, timeout=120,
+                stdin=given, stderr=subprocess.PIPE, timeout=base.GUARD,
             )
         self.assertEqual(done.returncode, 0, done.stderr)
         return int(done.stderr)
