@@ -75,7 +75,8 @@ class Script(Folder):
         output, errors = b"unproved;show;input", b"error\n"
         self.check_success(self.run_it("show", script=link), output, errors)
         self.check_success(self.run_it("show", script="./llbm", folder=self.top), output, errors)
-        done = subprocess.run(["sh", "llbm", "show"], input=b"input", capture_output=True, timeout=base.GUARD, cwd=self.top)
+        words = ["sh", "llbm", "show"]
+        done = subprocess.run(words, input=b"input", capture_output=True, timeout=base.GUARD, cwd=self.top)
         self.check_success(done, output, errors)
 
     def test_a_program_is_made_if_there_is_none(self):

@@ -21,13 +21,13 @@ that read the sources, the transcripts, the daemon's tests in Go, the tests of t
 follow. --more adds what takes longer: `rt try --test` in the crates of tests, as many at a time as there are
 processors, or --jobs N; BuildKit's own tests, `tools/against-buildkit`, `tools/page-tests` and the pages with commands.
 
-Out: on standard output a line for each part, with its counts and its processor time, and below it what the part printed,
-if it failed; the lines of `rt ci` are printed as they come. After all parts follow the processor minutes that `rt ci`
-took for each crate, as `tools/minutes` prints them. The last line is `N passed, M failed, K skipped`, the sum over all
-parts; with --quick lines before it say what was not done, and the parts that are left out and the tests that need more
-time than `rt try` gives a test are skipped too. A part that counts nothing is one test; of `tools/transcripts` each
-command that is compared is one. If all passed, without --after, --llbm and --quick, out/gate-passed has the digest of
-the program that `rt ci` left.
+Out: on standard output a line for each part, with its counts and its processor time, and below it what the part
+printed, if it failed; the lines of `rt ci` are printed as they come. After all parts follow the processor minutes that
+`rt ci` took for each crate, as `tools/minutes` prints them. The last line is `N passed, M failed, K skipped`, the sum
+over all parts; with --quick lines before it say what was not done, and the parts that are left out and the tests that
+need more time than `rt try` gives a test are skipped too. A part that counts nothing is one test; of
+`tools/transcripts` each command that is compared is one. If all passed, without --after, --llbm and --quick,
+out/gate-passed has the digest of the program that `rt ci` left.
 
 Exit status: 0 nothing failed; 1 something failed; 2 the command line is refused; 130 interrupted.
 """

@@ -27,7 +27,8 @@ At the end the copy must have no other files than before, and these unchanged, b
 
 Out: on standard output a line for each command or block that differs, those left out, and each file of the copy that
 was made or changed, and at the end `N passed, M failed, K skipped`. Each command or block counts once, with all lines
-that are typed to it; skipped are those left out; a command that begins with `cat > FILE <<` only makes a file, and counts only if it fails.
+that are typed to it; a command that begins with `cat > FILE <<` only makes a file, and counts only if it fails.
+Skipped are those left out.
 
 Exit status: 0 all agree with the pages, and nothing was made or changed; 1 otherwise; 2 the command line is refused, or
 a page does not exist or shows no command; 3 a read or a write failed.

@@ -23,7 +23,8 @@ PYTHON_OF_THE_SYSTEM = "/usr/bin/python3"
 def system_has_hypothesis():
     """Returns whether the Python of the system has hypothesis, for which Debian packs it."""
     try:
-        done = subprocess.run([PYTHON_OF_THE_SYSTEM, "-c", "import hypothesis"], capture_output=True, timeout=base.GUARD)
+        words = [PYTHON_OF_THE_SYSTEM, "-c", "import hypothesis"]
+        done = subprocess.run(words, capture_output=True, timeout=base.GUARD)
     except OSError:
         return False
     return done.returncode == 0

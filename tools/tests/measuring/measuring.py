@@ -248,7 +248,8 @@ class Go(Measured):
             lines = [f"{row} inputs" + "".join(f" {v}.{i}" for v, i in named) for row, named in enumerate(edges)]
             done = subprocess.run([program], input=given, capture_output=True, timeout=base.GUARD)
             self.check_success(done, self.text(lines))
-        done = subprocess.run([program], input=part(1, part(1, part(1, digest(b"")))), capture_output=True, timeout=base.GUARD)
+        given = part(1, part(1, part(1, digest(b""))))
+        done = subprocess.run([program], input=given, capture_output=True, timeout=base.GUARD)
         self.check_run(done, 1, b"", b"row 0: an input names no row\n")
 
     def test_the_pair_has_its_row(self):

@@ -102,8 +102,8 @@ class Minutes(Folder):
         return os.fsdecode(place)
 
     def watched(self, program):
-        """Looks at a run of a program when each process below it has used the processor, and returns the seconds by crate
-        and kind."""
+        """Looks at a run of a program when each process below it has used the processor, and returns the seconds by
+        crate and kind."""
         ends = os.fsdecode(self.place(b"ends"))
         known = {**os.environ, "ENDS": ends}
         with subprocess.Popen([program, "ci"], stdout=subprocess.DEVNULL, env=known) as child:

@@ -153,7 +153,8 @@ class Run(Folder):
         self.assertEqual(run_closed(0, "run", "--llbm", self.program("fault 181", 3), "show").returncode, 3)
         with open(TOUR, "rb") as given:
             done = subprocess.run(
-                command("run", "--llbm", self.program("", 0), "show"), stdin=given, capture_output=True, timeout=base.GUARD
+                command("run", "--llbm", self.program("", 0), "show"), stdin=given, capture_output=True,
+                timeout=base.GUARD,
             )
         self.check_success(done, TOUR.read_bytes())
 
