@@ -417,7 +417,7 @@ func TestASourceDoesNotHoldEverMorePacks(t *testing.T) {
 	}
 }
 
-// FuzzReceive sends any packets: a transfer either fails, or becomes a tree whose text llbm takes, and nothing is left.
+// FuzzReceive sends any packets (checkTransfer).
 func FuzzReceive(f *testing.F) {
 	for _, packets := range [][]*fstypes.Packet{
 		{dir("a"), stat("a/b", 0o644, 3), last, data(1, "abc"), data(1, ""), fin},
@@ -447,14 +447,7 @@ func FuzzReceive(f *testing.F) {
 			}
 			all = all[1+n:]
 		}
-		m, err := Receive(client, store, Options{LeaveOut: leaveOut})
-		if err == nil {
-			checkText(t, text(t, m))
-			m.Drop()
-		}
-		if store.Used() != 0 {
-			t.Errorf("%d bytes are left after %v", store.Used(), err)
-		}
+		checkTransfer(t, store, client, leaveOut)
 	})
 }
 

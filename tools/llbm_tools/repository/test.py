@@ -102,6 +102,7 @@ MODULES = [
     "rules.rule_tools",
     "daemon.against",
     "repository.layering",
+    "repository.ordering",
 ]
 
 PLACES = {module.rpartition(".")[2]: module for module in MODULES}

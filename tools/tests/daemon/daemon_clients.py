@@ -15,7 +15,6 @@ import signal
 import subprocess
 import tarfile
 import tempfile
-import time
 import unittest
 
 from llbm_tools import paths
@@ -218,13 +217,15 @@ class Buildctl(WithDaemon):
         words += ["--local", f"dockerfile={context}"]
         to_out, to_last = (["--output", f"type=local,dest={self.at / name}"] for name in ("out", "last"))
         with self.daemon("-frontend", f"dockerfile.v0={FRONTEND}"):
-            start = time.monotonic()
-            self.assertEqual(self.client(*words, *to_out).returncode, 0)
-            whole = time.monotonic() - start
-            for share in range(1, 6):
-                line = [self.programs["buildctl"], "--addr", self.address, *words, *to_out]
-                with subprocess.Popen(line, stdout=subprocess.DEVNULL, stderr=subprocess.DEVNULL) as child:
-                    time.sleep(whole * share / 6)
+            line = [self.programs["buildctl"], "--addr", self.address, *words, "--progress=plain", *to_out]
+            whole = subprocess.run(line, capture_output=True, timeout=base.GUARD)
+            self.assertEqual(whole.returncode, 0, whole.stderr)
+            said = whole.stderr.count(b"\n")
+            # A client is killed as soon as it has said a share of what a whole build says.
+            for share in range(6):
+                with subprocess.Popen(line, stdout=subprocess.DEVNULL, stderr=subprocess.PIPE) as child:
+                    for _ in range(said * share // 6):
+                        child.stderr.readline()
                     child.kill()
                 base.wait_until(lambda: not children_of(self.process), "the end of the daemon's children")
             # A client that is killed while it writes leaves an unfinished file of its own in `out`.

@@ -1,0 +1,60 @@
+"""Tests of `test`: the order of the tests, their counts, and those that get no answer."""
+
+import io
+import random
+import subprocess
+import unittest
+
+from llbm_tools.repository import test as tested
+from tests import base
+
+
+class Sample(unittest.TestCase):
+    """Tests that end in all ways; `Run` below runs them."""
+
+    def passes(self):
+        pass
+
+    def fails_twice(self):
+        for _ in range(2):
+            with self.subTest():
+                self.fail("wrong")
+
+    def is_skipped(self):
+        self.skipTest("not here")
+
+    def hears_nothing(self):
+        raise base.NoAnswer("waited 600 s for a daemon")
+
+    def is_cut_off(self):
+        raise subprocess.TimeoutExpired(["llbm"], 600)
+
+
+class Run(unittest.TestCase):
+    """Runs of tests."""
+
+    def ran(self, *names):
+        """Returns the result of some tests of the sample."""
+        suite = unittest.TestSuite(map(Sample, names))
+        return unittest.TextTestRunner(io.StringIO(), verbosity=0, resultclass=tested.Timed).run(suite)
+
+    def test_each_test_counts_once(self):
+        result = self.ran("passes", "fails_twice", "is_skipped", "passes", "hears_nothing")
+        self.assertEqual(tested.counts_of(result), (2, 2, 1))
+
+    def test_one_that_is_not_answered_says_so(self):
+        silent = self.ran("fails_twice", "hears_nothing", "is_cut_off").silent
+        self.assertEqual([line.split(": ")[0] for line in silent], ["no answer"] * 2)
+        self.assertIn("waited 600 s for a daemon", silent[0])
+        self.assertIn("600 seconds", silent[1])
+
+    def test_an_order_follows_from_its_seed_and_has_all(self):
+        def order(seed):
+            suites = [unittest.TestSuite(map(Sample, ["passes", "is_skipped"])), unittest.TestSuite([Sample("passes")])]
+            suites += [unittest.TestSuite([Sample(name)]) for name in ("fails_twice", "hears_nothing", "is_cut_off")]
+            tested.reorder(suites, random.Random(seed))
+            return [[one.id() for one in tested.tests_in(suite)] for suite in suites]
+
+        self.assertEqual(order("7"), order("7"))
+        self.assertNotEqual(order("7"), order("8"))
+        self.assertEqual(sorted(map(sorted, order("7"))), sorted(map(sorted, order("8"))))
