@@ -7,8 +7,8 @@ given. If they can't be had, all is skipped. The parts are:
 - `build`: `tools/daemon --clients` builds the daemon, `buildctl` and the frontend for Dockerfiles into out/;
 - `format` and `vet`: gofmt would change no file, and `go vet` finds nothing;
 - `go`: the tests in Go, of all packages of the daemon;
-- `fuzz`, only with --fuzz SECONDS: what hostile clients send as a source, for so long, at random as Go's fuzzing makes it
-  (the tests in Go have a fixed number of such cases, the same in each run);
+- `fuzz`, only with --fuzz SECONDS: what hostile clients send as a source, for so long, at random as Go's fuzzing makes
+  it (the tests in Go have a fixed number of such cases, the same in each run);
 - `suite`: the sections `plain` and `daemon` of BuildKit's own tests.
 
 Out: on standard output a line for each part that passed or was skipped, and the output of each that failed. The last
@@ -128,7 +128,7 @@ def counts_of(name: str, go: Go, options: argparse.Namespace) -> Counts:
 def make(options: argparse.Namespace) -> int:
     """Does the parts, prints their results, and returns the exit status."""
     options.llbm = program_at(options.llbm)
-    names = [name for name in PARTS if (name in options.only or not options.only) and (name != "fuzz" or options.fuzz)]
+    names = [name for name in PARTS if name in (options.only or PARTS) and (name != "fuzz" or options.fuzz)]
     try:
         go = daemon.go_of(options.packages, options.offline)
     except debian_packages.Missing as fault:
