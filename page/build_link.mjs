@@ -8,8 +8,11 @@ const USUAL_WORKERS = 2;
 
 async function loaded(url) {
   const response = await fetch(url);
-  if (!response.ok) throw new Error(`${(await response.text()).trim() || response.statusText}: ${url}`);
-  return response;
+  if (response.ok) return response;
+  // Servers of files answer with a page of HTML, which is nothing to show.
+  const isPlain = (response.headers.get('content-type') ?? '').startsWith('text/plain');
+  const why = isPlain ? (await response.text()).trim() : '';
+  throw new Error(`${why || response.statusText || `status ${response.status}`}: ${url}`);
 }
 
 /** Returns the builds that the page's server has, each with its name; none if it is a server of files alone. */
@@ -21,9 +24,15 @@ export async function servedBuilds() {
   }
 }
 
-/** Returns the name of the build that a fragment is for, or null. */
+/** Returns the name of the build that a fragment is for, or null; one that is not encoded is taken as it is. */
 export function buildNamedBy(fragment) {
-  return fragment.startsWith(MARK) ? decodeURIComponent(fragment.slice(MARK.length)) : null;
+  if (!fragment.startsWith(MARK)) return null;
+  const name = fragment.slice(MARK.length);
+  try {
+    return decodeURIComponent(name);
+  } catch {
+    return name;
+  }
 }
 
 /** Returns the fragment for a build of a name. */

@@ -1,6 +1,6 @@
 /** What an event changed: trees before and after it, compared path by path. */
 
-import { keysOf, partsOf } from './looks.mjs';
+import { keysOf, partsLeft, partsOf } from './looks.mjs';
 import { entryOf, linesByPath } from './tree_text.mjs';
 
 const EMPTY = 'd 0755 0 0 /\n';
@@ -86,7 +86,8 @@ function treesOf(session, event) {
   if (event.kind === 'claim') {
     return partsOf(session, event.worker).map(({ name, line }) => ({ name, line }));
   }
-  if (event.kind !== 'settle' || !event.reply.endsWith(' done')) return [];
+  if (event.kind !== 'settle') return [];
+  if (!event.reply.endsWith(' done')) return partsLeft(session);
   const { outputs } = session.graph.vertices[event.vertex];
   return Array.from({ length: outputs }, (_, i) => ({ name: `output ${i}`, line: `tree ${event.vertex} ${i}` }));
 }

@@ -4,7 +4,7 @@ import { contentsOf } from './contents.mjs';
 import { by, make } from './dom.mjs';
 import { explained } from './faults.mjs';
 import { FolderView } from './folders.mjs';
-import { faultOf, wordsOf as eventWords } from './record.mjs';
+import { failedStep, faultOf, isFailure, wordsOf as eventWords } from './record.mjs';
 import { counted } from './summary.mjs';
 
 const SIGNS = { added: '+', removed: '−', changed: '~' };
@@ -34,9 +34,12 @@ export class ChangesView {
 
   /** Shows what happened at the session's place, at once. */
   happened() {
-    const { event } = this.session.ways.at;
+    const { at } = this.session.ways;
+    const { event } = at;
     const entry = event ? this.entries[event.vertex] : null;
-    const done = event ? `${eventWords(event, entry)}. ${explained(faultOf(event))}`.trim() : '';
+    const failed = event && isFailure(event) ? failedStep(at) : null;
+    const why = failed ? ` by ${eventWords(failed, entry)}. ${explained(faultOf(failed))}` : '.';
+    const done = event ? `${eventWords(event, entry)}${why} ${explained(faultOf(event))}`.trim() : '';
     const words = done || 'Nothing has happened yet.';
     by('happened').textContent = words;
     const notes = event ? this.notes.at(event) : [];

@@ -59,10 +59,16 @@ function mountOf(bytes, inputs) {
   };
 }
 
+// What is between two commands of a script: a separator is a word of its own.
+const SEPARATOR = /(?:^|(?<= ))(?:;|&&|\|\|)(?= |$)/;
+
 function execOf(fields, inputs) {
   const words = parts(message(fields, 1) ?? new Map(), 1).map((bytes) => new TextDecoder().decode(bytes));
-  const script = words[1] === '-c' ? words[2] ?? '' : words.join(' ');
-  return { kind: 'exec', line: script, actions: [], mounts: parts(fields, 2).map((one) => mountOf(one, inputs)) };
+  const isShell = words[1] === '-c';
+  const script = isShell ? words[2] ?? '' : words.join(' ');
+  const commands = isShell ? script.split(SEPARATOR).map((command) => command.trim()).filter(Boolean) : [script];
+  const mounts = parts(fields, 2).map((one) => mountOf(one, inputs));
+  return { kind: 'exec', line: script, actions: [], commands, mounts };
 }
 
 function inputAt(bytes, from, to) {
@@ -78,7 +84,7 @@ function opOf(fields, inputs) {
   const kind = [EXEC, SOURCE, FILE, MERGE].findLast((field) => fields.has(field));
   const body = kind ? message(fields, kind) : new Map();
   if (kind === EXEC) return execOf(body, inputs);
-  const none = { actions: [], mounts: [] };
+  const none = { actions: [], commands: [], mounts: [] };
   if (kind === SOURCE) return { ...none, kind: 'source', line: text(body, 1) };
   if (kind === MERGE) return { ...none, kind: 'merge', line: `merge of ${parts(body, 1).length}` };
   if (kind !== FILE) return NOTHING;
@@ -86,7 +92,7 @@ function opOf(fields, inputs) {
   return { ...none, kind: 'file', line: actions.map((action) => action.line).join('; '), actions };
 }
 
-const NOTHING = { kind: '', line: '', actions: [], mounts: [] };
+const NOTHING = { kind: '', line: '', actions: [], commands: [], mounts: [] };
 
 /** An entry of a definition. Its inputs are read at once, all else of it when it is asked for. */
 class Entry {
@@ -120,6 +126,8 @@ class Entry {
   get line() { return this.op.line; }
 
   get actions() { return this.op.actions; }
+
+  get commands() { return this.op.commands; }
 
   get mounts() { return this.op.mounts; }
 

@@ -8,6 +8,10 @@ function contentElement({ text, size, isCut }) {
   return make('pre', { class: 'content', tabindex: 0, text: text + more });
 }
 
+function goneElement() {
+  return make('p', { class: 'note', text: 'The session has moved on, and this tree is no longer there.' });
+}
+
 function nameOf(path) {
   return path === '/' ? '' : path.slice(path.lastIndexOf('/') + 1);
 }
@@ -33,9 +37,10 @@ export class FolderView {
     const row = make('li', {}, more);
     more.addEventListener('click', async () => {
       const next = from + found.inside.length;
-      const answer = await this.ask('folder', this.line, path, next);
+      const answer = await this.asked('folder', path, next);
       row.remove();
-      this.listInto(list, path, answer, next);
+      if (answer) this.listInto(list, path, answer, next);
+      else list.append(make('li', {}, goneElement()));
     });
     list.append(row);
   }
@@ -46,9 +51,20 @@ export class FolderView {
     return list;
   }
 
+  // Asks for a part of the tree; null if the session has moved on, and the tree is no longer there.
+  async asked(what, ...given) {
+    try {
+      return await this.ask(what, this.line, ...given);
+    } catch {
+      return null;
+    }
+  }
+
   async inside(entry) {
-    if (entry.kind === 'f') return contentElement(await this.ask('file', this.line, entry.path));
-    return this.list(entry.path, await this.ask('folder', this.line, entry.path, 0));
+    const isFile = entry.kind === 'f';
+    const found = isFile ? await this.asked('file', entry.path) : await this.asked('folder', entry.path, 0);
+    if (!found) return goneElement();
+    return isFile ? contentElement(found) : this.list(entry.path, found);
   }
 
   // An entry of a tree, which opens by a click; one whose list is given is open.

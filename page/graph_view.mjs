@@ -1,9 +1,12 @@
 /** The view *Graph*: vertices as boxes in layers. Only boxes and edges inside the window are in the page. */
 
 import { by, draw, make, oncePerFrame } from './dom.mjs';
-import { BOX, boxesIn, layout, neighbor } from './layout.mjs';
+import { BOX, boxesIn, edgeWay, layout, neighbor } from './layout.mjs';
 
 const AROUND = 120;
+// Edges in one gap are so many pixels apart, on so many tracks.
+const SHIFT = 3;
+const SHIFTS = 5;
 const MOST_OF_A_LINE = 60;
 const MARKS = { none: '○', claim: '◐', settle: '●' };
 const BREAK_WORDS = { none: 'no breakpoint', claim: 'stops when it is claimed', settle: 'stops when it is settled' };
@@ -64,6 +67,7 @@ export class GraphView {
 
   /** Selects a vertex, and scrolls to it if it is not seen. */
   select(vertex, focus = false) {
+    if (vertex !== null && !this.placed.boxes[vertex]) return;
     this.selected = vertex;
     if (vertex !== null) this.reveal(vertex);
     this.render();
@@ -89,14 +93,13 @@ export class GraphView {
 
   // The edges with the window that each of them lies in.
   edgeSpans() {
-    return this.graph.vertices.flatMap(({ number, inputs }) => inputs.map(({ vertex }) => {
-      const from = this.placed.boxes[vertex];
-      const to = this.placed.boxes[number];
-      return {
-        from: vertex, to: number, left: Math.min(from.x, to.x), right: Math.max(from.x, to.x) + BOX.width,
-        top: from.y + BOX.height, bottom: to.y,
-      };
-    }));
+    const edges = this.graph.vertices.flatMap(({ number, inputs }) => inputs.map(({ vertex }) => [vertex, number]));
+    return edges.map(([from, to], number) => {
+      const way = edgeWay(this.placed, from, to, ((number % SHIFTS) - (SHIFTS - 1) / 2) * SHIFT);
+      const across = way.map(({ x }) => x);
+      const [top, bottom] = [way[0].y, way.at(-1).y];
+      return { from, to, way, left: Math.min(...across), right: Math.max(...across), top, bottom };
+    });
   }
 
   /** Draws what is inside the window. */
@@ -150,13 +153,16 @@ export class GraphView {
     return this.selected === from || this.selected === to ? 'edge near' : 'edge';
   }
 
+  // The places of a way in pairs: from the first to the second it bends, and on to the next pair it goes straight down.
   edge(span) {
-    const a = this.placed.boxes[span.from];
-    const b = this.placed.boxes[span.to];
-    const [x, y] = [a.x + BOX.width / 2, a.y + BOX.height];
-    const [u, v] = [b.x + BOX.width / 2, b.y];
-    const bend = Math.max(20, (v - y) / 2);
-    return draw('path', { d: `M${x} ${y}C${x} ${y + bend} ${u} ${v - bend} ${u} ${v}`, class: this.edgeClass(span) });
+    const d = span.way.map(({ x, y }, i, way) => {
+      if (i === 0) return `M${x} ${y}`;
+      if (i % 2 === 0) return `V${y}`;
+      const before = way[i - 1];
+      const middle = (before.y + y) / 2;
+      return `C${before.x} ${middle} ${x} ${middle} ${x} ${y}`;
+    });
+    return draw('path', { d: d.join(''), class: this.edgeClass(span) });
   }
 
   box(vertex) {
@@ -169,7 +175,8 @@ export class GraphView {
       make('span', { class: 'vertex-line', text: short(said) }),
     );
     main.addEventListener('keydown', (event) => this.key(event, vertex));
-    const mark = make('button', { class: 'mark', type: 'button', onclick: () => this.turn(vertex) });
+    // The graph has one stop for the Tab key, the selected vertex: the arrows go on, and `.` turns the breakpoint.
+    const mark = make('button', { class: 'mark', type: 'button', tabindex: -1, onclick: () => this.turn(vertex) });
     return make('div', { class: 'box', style: `left:${x}px;top:${y}px`, 'data-vertex': vertex }, main, mark);
   }
 
@@ -211,6 +218,7 @@ export class GraphView {
       + `${entry?.name ? `, ${entry.name}` : ''}${isResult ? ', the result' : ''}`
       + `${notes ? `, ${notes} ${notes === 1 ? 'note' : 'notes'} of BuildKit` : ''}`);
     main.setAttribute('aria-pressed', String(this.selected === vertex));
+    main.tabIndex = vertex === (this.selected ?? 0) ? 0 : -1;
     mark.textContent = MARKS[at];
     mark.className = `mark ${at}`;
     mark.title = BREAK_WORDS[at];

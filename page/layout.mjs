@@ -4,6 +4,8 @@ export const BOX = { width: 168, height: 54, across: 24, down: 46, margin: 24 };
 
 const SWEEPS = 6;
 const MOST_IN_ROW = 24;
+// The most rows that an edge goes through one by one.
+const MOST_ROWS = 12;
 
 // The layer of a vertex is the length of the longest way to it. Inputs have smaller numbers than their users.
 function layersOf(vertices) {
@@ -72,6 +74,44 @@ export function layout(graph) {
     rows, boxes, below, width: 2 * BOX.margin + widest * step - BOX.across,
     height: 2 * BOX.margin + rows.length * (BOX.height + BOX.down) - BOX.down,
   };
+}
+
+// The middle of the gap of a row that is nearest to a place: between two boxes, or beside the first or the last one.
+function gapNear(placed, row, x) {
+  const step = BOX.width + BOX.across;
+  const vertices = placed.rows[row];
+  const first = placed.boxes[vertices[0]].x - BOX.across / 2;
+  return first + Math.min(vertices.length, Math.max(0, Math.round((x - first) / step))) * step;
+}
+
+// An edge over many rows goes beside all boxes, on the side that is nearer.
+function sideNear(placed, x) {
+  return x < placed.width / 2 ? BOX.margin / 2 : placed.width - BOX.margin / 2;
+}
+
+/**
+ * Returns the way of an edge: places from the lower side of a box to the upper side of another one below. Between two
+ * rows it bends, and through a row it goes straight down in a gap, so no edge passes behind a box. `shift` moves it in
+ * its gaps, so that edges that share one stay apart.
+ */
+export function edgeWay(placed, from, to, shift = 0) {
+  const [a, b] = [placed.boxes[from], placed.boxes[to]];
+  const start = { x: a.x + BOX.width / 2, y: a.y + BOX.height };
+  const end = { x: b.x + BOX.width / 2, y: b.y };
+  const count = b.row - a.row;
+  const topOf = (row) => BOX.margin + row * (BOX.height + BOX.down);
+  const found = [start];
+  if (count > MOST_ROWS) {
+    const x = sideNear(placed, (start.x + end.x) / 2) + shift / 2;
+    found.push({ x, y: topOf(a.row + 1) }, { x, y: topOf(b.row - 1) + BOX.height });
+  } else {
+    for (let row = a.row + 1; row < b.row; row += 1) {
+      const wanted = start.x + ((end.x - start.x) * (row - a.row)) / count;
+      const x = gapNear(placed, row, wanted) + shift;
+      found.push({ x, y: topOf(row) }, { x, y: topOf(row) + BOX.height });
+    }
+  }
+  return [...found, end];
 }
 
 /** Returns the vertices whose boxes touch a window of the layout, found by rows. */

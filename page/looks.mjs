@@ -1,6 +1,7 @@
 /** What a session shows of its trees: those that a worker works on, the outputs of vertices, and caches. */
 
-import { GIVEN } from './session.mjs';
+import { isFailure } from './record.mjs';
+import { BEFORE, GIVEN } from './session.mjs';
 
 const PART = /^([0-9]+) (local|input|result [0-9]+|laid|mount \/.*)$/;
 const KEY = /^([0-9]+) (shared|locked|private) ([0-9]+) (\S+) (.*)$/;
@@ -62,6 +63,14 @@ function outputsOf(session, statuses) {
   return found;
 }
 
+/** Returns the trees that a vertex had when it failed, if the last event settled it. */
+export function partsLeft(session) {
+  const { event } = session.ways.at;
+  if (!event || !isFailure(event)) return [];
+  const parts = session.before(() => partsOf(session, event.worker));
+  return parts.map(({ name, line }) => ({ name: `${name}, when it failed`, line: BEFORE + line }));
+}
+
 /** Returns the trees that can be chosen: of local sources, running workers, caches, and of up to 200 vertices. */
 export function allTrees(session) {
   const found = [...session.locals.keys()].map((name) => ({ name: `local source ${name}`, line: GIVEN + name }));
@@ -75,5 +84,5 @@ export function allTrees(session) {
       found.push({ name: `cache ${key.id}, instance ${i} (${key.mode})`, line: `cache ${key.number} ${i}` });
     }
   }
-  return [...found, ...outputsOf(session, statuses)];
+  return [...found, ...partsLeft(session), ...outputsOf(session, statuses)];
 }

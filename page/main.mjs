@@ -5,14 +5,16 @@ import { ChangesView } from './changes_view.mjs';
 import { verticesOf } from './definition.mjs';
 import { by, make, oncePerFrame } from './dom.mjs';
 import { explained } from './faults.mjs';
+import { whyIdle } from './idle.mjs';
 import { foreignOf, foreignStatuses } from './foreign.mjs';
 import { detailsOf, showForeign } from './foreign_view.mjs';
 import { GraphView } from './graph_view.mjs';
+import { KeptState, reloaded } from './kept_state.mjs';
 import { listen } from './keyboard.mjs';
 import { Looker } from './looker.mjs';
 import { Machine } from './machine.mjs';
 import { VertexNotes } from './notes.mjs';
-import { OpenView } from './open_view.mjs';
+import { canBeDrawn, OpenView } from './open_view.mjs';
 import { assembled, refusalOf, Session } from './session.mjs';
 import { SearchView } from './search_view.mjs';
 import { givenBy } from './share.mjs';
@@ -21,6 +23,8 @@ import { loadTables } from './tables.mjs';
 import { TimeView } from './time_view.mjs';
 
 const MODULE = 'llbm.wasm';
+// The page goes on for so many milliseconds at once: then it shows how far it is, and what a person does is looked at.
+const SLICE = 25;
 const NO_BREAKS = { claim: new Set(), settle: new Set() };
 
 class Page {
@@ -33,12 +37,16 @@ class Page {
     this.graph = new GraphView(
       (vertex, focus) => this.select(vertex, focus), (vertex, kind) => this.setBreak(vertex, kind),
     );
-    this.time = new TimeView((place) => this.move(() => this.session.to(place)));
+    this.time = new TimeView((place) => this.travel(() => this.session.going(place)));
     this.looker = new Looker();
     this.changes = new ChangesView(this.looker);
-    this.search = new SearchView(this.looker, (event) => this.move(() => this.goTo(event)));
+    this.search = new SearchView(this.looker, ({ number }) => this.travel(() => this.session.goingTo(number)));
     this.share = shareView();
+    this.kept = new KeptState();
     this.isLooking = false;
+    this.isMoving = false;
+    this.isStopped = false;
+    this.after = null;
     this.lookLater = oncePerFrame(() => setTimeout(() => this.look()));
   }
 
@@ -47,6 +55,8 @@ class Page {
     const session = new Session(this.machine, given.definition, given.locals, given.workers);
     for (const line of given.lines ?? []) session.event(line);
     session.follow(given.record ?? []);
+    session.setBreakAtFailures(by('break-fail').checked);
+    this.stop();
     this.session = session;
     this.foreign = null;
     this.given = given;
@@ -71,6 +81,18 @@ class Page {
     this.update();
   }
 
+  // What a link of the session carries, or null for a build of a server, which has a link of its own.
+  carried() {
+    if (!this.session || this.given.name) return null;
+    this.given.text ??= this.openView.textOf(this.given.definition);
+    const { text, locals, workers } = this.given;
+    return { text, locals, workers, lines: this.session.commands() };
+  }
+
+  keepLater() {
+    if (this.session && !this.given.name) this.kept.later(() => this.guarded(() => this.carried()));
+  }
+
   /** Opens a build of the page's server: at the beginning of its record, which *Next* follows. */
   openBuild(build) {
     if (refusalOf(this.machine, build.definition)) {
@@ -90,6 +112,7 @@ class Page {
   /** Draws a definition that the machine refuses. Throws where it can't be read into rows. */
   openForeign(definition) {
     const foreign = foreignOf(definition);
+    this.stop();
     this.session = null;
     this.foreign = foreign;
     this.entries = foreign.entries;
@@ -117,15 +140,90 @@ class Page {
     try {
       return call();
     } catch (fault) {
-      this.say(`${fault.message} ${explained(fault.message)}`.trim()
-        + (fault.name === 'Trap' ? ' Open the definition again: nothing that was shown before is wrong.' : ''));
+      this.sayFault(fault);
       return null;
     }
   }
 
-  /** Does a move of the session, and shows where it is then. */
-  move(call) {
+  sayFault(fault) {
+    this.say(`${fault.message} ${explained(fault.message)}`.trim()
+      + (fault.name === 'Trap' ? ' Open the definition again: nothing that was shown before is wrong.' : ''));
+  }
+
+  /**
+   * Goes on by a generator of `makeMoves`, in slices, and shows where the session is then. `atEnd` is called with what
+   * the generator returned. A move that is asked for meanwhile stops this one, and begins where it stopped.
+   */
+  async travel(makeMoves, atEnd = () => {}) {
     if (!this.session) return;
+    if (this.isMoving) {
+      this.after = () => this.travel(makeMoves, atEnd);
+      this.isStopped = true;
+      return;
+    }
+    this.say('');
+    const { session } = this;
+    const start = performance.now();
+    this.begin();
+    try {
+      const ended = await this.sliced(session, makeMoves());
+      if (ended) atEnd(ended.value);
+    } catch (fault) {
+      this.sayFault(fault);
+    }
+    if (this.session === session) this.arrive(start);
+  }
+
+  // Returns the last turn of a generator, or null if it was stopped. What is done in one slice is done at once.
+  sliced(session, moves) {
+    const turn = () => {
+      const end = performance.now() + SLICE;
+      let one = moves.next();
+      while (!one.done && performance.now() < end) one = moves.next();
+      return one;
+    };
+    const first = turn();
+    return first.done ? first : this.further(session, turn);
+  }
+
+  async further(session, turn) {
+    for (;;) {
+      by('stop').hidden = false;
+      this.time.progress();
+      await new Promise((done) => { setTimeout(done); });
+      if (this.isStopped || this.session !== session) return null;
+      const one = turn();
+      if (one.done) return one;
+    }
+  }
+
+  begin() {
+    this.isMoving = true;
+    this.isStopped = false;
+    document.body.dataset.looked = 'no';
+  }
+
+  arrive(start) {
+    this.isMoving = false;
+    by('stop').hidden = true;
+    document.body.dataset.spent = (performance.now() - start).toFixed(3);
+    this.update();
+    const { after } = this;
+    this.after = null;
+    after?.();
+  }
+
+  /** Stops a move that goes on. */
+  stop() {
+    this.after = null;
+    this.isStopped = true;
+    this.isMoving = false;
+    by('stop').hidden = true;
+  }
+
+  /** Does a move of the session, and shows where it is then; nothing while another move goes on. */
+  move(call) {
+    if (!this.session || this.isMoving) return;
     this.say('');
     const start = performance.now();
     this.guarded(call);
@@ -143,9 +241,13 @@ class Page {
       this.graph.select(this.selected);
       this.time.update();
       this.showVertex();
+      const focused = document.activeElement;
       by('back').disabled = by('first').disabled = !event;
       this.updateWorker();
+      // A button that is disabled loses the focus, and the keys would begin at the top of the page.
+      if (focused?.disabled) by('next').focus();
     });
+    this.keepLater();
     document.body.dataset.looked = 'no';
     this.changes.happened();
     this.lookLater();
@@ -181,19 +283,8 @@ class Page {
     document.body.dataset.looked = 'yes';
   }
 
-  /** Goes to an event of a search: on the way that the session is on, or on as the machine chooses. */
-  goTo({ number }) {
-    const { session } = this;
-    const place = session.ways.path(session.ways.end()).find((one) => one.event?.number === number);
-    if (place) {
-      session.to(place);
-      return;
-    }
-    session.to(session.ways.end());
-    while (session.ways.at.event?.number !== number && session.event('next'));
-  }
-
   select(vertex, focus = false) {
+    if (vertex >= this.graph.graph.vertices.length) return;
     this.selected = vertex;
     this.graph.select(vertex, focus);
     this.showVertex();
@@ -243,7 +334,7 @@ class Page {
 
   step() {
     this.move(() => {
-      if (!this.session.step(this.worker())) this.say(`Worker ${this.worker()} can do nothing now.`);
+      if (!this.session.step(this.worker())) this.say(whyIdle(this.worker(), this.session.statuses(), this.entries));
     });
   }
 
@@ -254,9 +345,7 @@ class Page {
   }
 
   go() {
-    this.move(() => {
-      if (this.session.go() === 'end') this.sayEnd();
-    });
+    this.travel(() => this.session.goingOn(), (how) => how === 'end' && this.sayEnd());
   }
 
   sayEnd() {
@@ -276,13 +365,13 @@ class Page {
     const at = forks.at(-1);
     if (!at) return;
     const beside = at.before.after;
-    this.move(() => this.session.to(beside[(beside.indexOf(at) + 1) % beside.length]));
+    this.travel(() => this.session.going(beside[(beside.indexOf(at) + 1) % beside.length]));
   }
 
   async showShare() {
     if (!this.session) return;
-    const text = this.openView.textOf(this.given.definition);
-    const { locals, workers } = this.given;
+    this.given.text ??= this.openView.textOf(this.given.definition);
+    const { text, locals, workers } = this.given;
     await this.share.update({ text, locals, workers, lines: this.session.commands() });
     by('share-view').showModal();
   }
@@ -291,10 +380,12 @@ class Page {
     const moves = {
       next: () => this.next(), back: () => this.move(() => this.session.back()), go: () => this.go(),
       step: () => this.step(), cancel: () => this.cancel(),
-      first: () => this.move(() => this.session.to(this.session.ways.root)),
-      last: () => this.move(() => this.session.to(this.session.ways.end())),
+      first: () => this.travel(() => this.session.going(this.session.ways.root)),
+      last: () => this.travel(() => this.session.going(this.session.ways.end())),
+      stop: () => { this.isStopped = true; },
     };
-    for (const id of ['next', 'back', 'go', 'step', 'cancel', 'first']) by(id).addEventListener('click', moves[id]);
+    const buttons = ['next', 'back', 'go', 'step', 'cancel', 'first', 'stop'];
+    for (const id of buttons) by(id).addEventListener('click', moves[id]);
     by('worker').addEventListener('change', () => this.updateWorker());
     by('break-fail').addEventListener('change', (event) => {
       if (this.session) this.guarded(() => this.session.setBreakAtFailures(event.target.checked));
@@ -304,7 +395,8 @@ class Page {
     by('to-keys').addEventListener('click', () => by('keys-view').showModal());
     listen({
       ArrowRight: moves.next, n: moves.next, ArrowLeft: moves.back, b: moves.back, g: moves.go, s: moves.step,
-      c: moves.cancel, Home: moves.first, End: moves.last, f: () => this.fork(), o: () => this.openView.show(),
+      c: moves.cancel, Home: moves.first, End: moves.last, Escape: moves.stop, f: () => this.fork(),
+      o: () => this.openView.show(),
       '/': () => by('search').focus(),
       h: () => this.showShare(), '?': () => by('keys-view').showModal(),
       v: () => (this.session || this.foreign) && this.select(this.selected ?? 0, true),
@@ -326,8 +418,8 @@ async function openLink(page, machine) {
     return;
   }
   try {
-    const given = await givenBy(location.hash);
-    if (given) page.open({ ...given, definition: assembled(machine, given.text) });
+    const given = await givenBy(location.hash) ?? await reloaded();
+    if (given) openGiven(page, machine, given);
     else page.openView.show();
   } catch (fault) {
     const words = `The link is not readable: ${fault.message}. ${explained(fault.message)}`.trim();
@@ -335,6 +427,13 @@ async function openLink(page, machine) {
     page.openView.show();
     page.openView.showFault(new Error(words));
   }
+}
+
+// Opens what a link carries; a definition that the machine refuses for its rows is drawn.
+function openGiven(page, machine, given) {
+  const definition = assembled(machine, given.text);
+  if (canBeDrawn(refusalOf(machine, definition))) page.openForeign(definition);
+  else page.open({ ...given, definition });
 }
 
 async function openServed(page, machine, name) {

@@ -99,6 +99,7 @@ export class OpenView {
       this.trees = new Map(trees);
       by('workers').value = example.workers;
       this.take(definition, example.title);
+      by('definition-file').value = '';
       this.dialog.dataset.example = name;
     } catch (fault) {
       this.showFault(new Error(`the example can't be loaded: ${fault.message}`));
@@ -108,13 +109,22 @@ export class OpenView {
   }
 
   async takeFile(file) {
-    if (file) this.take(new Uint8Array(await file.arrayBuffer()), file.name);
+    if (!file) return;
+    by('example').value = '';
+    try {
+      this.take(new Uint8Array(await file.arrayBuffer()), file.name);
+    } catch (fault) {
+      // What was there before must not be opened in its place.
+      this.take(new Uint8Array(0));
+      by('definition-file').value = '';
+      this.showFault(new Error(`${file.name} can't be read: ${fault.message}`));
+    }
   }
 
   /** Takes the bytes of a definition, or of its text. */
   take(bytes, name = '') {
     const text = isText(bytes) ? new TextDecoder().decode(bytes) : '';
-    this.given = text === '' || text.length > MOST_SHOWN ? bytes : null;
+    this.given = bytes.length && (text === '' || text.length > MOST_SHOWN) ? bytes : null;
     by('definition').value = this.given ? '' : text;
     this.name = this.given ? `${name || 'A definition'}: ${bytes.length} bytes` : '';
     this.origins.clear();
@@ -129,6 +139,8 @@ export class OpenView {
   }
 
   wrote() {
+    by('example').value = '';
+    by('definition-file').value = '';
     this.given = null;
     this.name = '';
     this.clearFault();
@@ -197,8 +209,9 @@ export class OpenView {
   row(name) {
     const said = make('span', { class: 'note' });
     const take = async (read, from) => {
-      this.trees.set(name, { bad: `${from} is being read` });
+      this.trees.set(name, { bad: `${from} is being read`, isRead: true });
       this.clearFault();
+      this.tell(said, name);
       try {
         const { text, leftOut } = await read();
         this.trees.set(name, { text, from, leftOut });
@@ -230,7 +243,8 @@ export class OpenView {
     const tree = this.trees.get(name);
     const isBad = Boolean(tree?.bad);
     said.className = isBad ? 'fault' : 'note';
-    if (isBad) said.textContent = `not taken: ${tree.bad}. It has no tree now.`;
+    if (tree?.isRead) said.textContent = `${tree.bad} …`;
+    else if (isBad) said.textContent = `not taken: ${tree.bad}. It has no tree now.`;
     else said.textContent = tree ? `${tree.from}: ${count(tree.text)}${leftWords(tree.leftOut ?? [])}` : 'no tree yet';
   }
 
@@ -273,8 +287,8 @@ export class OpenView {
   }
 }
 
-// Whether a definition is refused for what is in its rows.
-function canBeDrawn(refusal) {
+/** Returns whether a definition is refused for what is in its rows. */
+export function canBeDrawn(refusal) {
   return /^fault (?:8[2-9]|90)\b/.test(refusal);
 }
 

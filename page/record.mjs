@@ -33,14 +33,21 @@ export function isFault(event) {
   return event.reply.startsWith('fault ') || (/^ran [0-9]+ /.test(event.reply) && !event.reply.endsWith(' 0'));
 }
 
+function lineOf(entry, number) {
+  const line = entry?.actions[Number(number)]?.line;
+  return line ? ` (${line})` : '';
+}
+
 function stepWords(reply, entry) {
   const [word, number, status] = reply.split(' ');
   if (word === 'read') return 'reads the local source';
   if (word === 'merged') return `lays input ${number} over the tree so far`;
   if (word === 'acted') return `action ${number}: ${entry?.actions[Number(number)]?.line ?? 'done'}`;
-  if (word === 'fault') return `action ${number} fails: fault ${status}`;
-  if (word === 'skipped') return `command ${number} is skipped`;
-  return word === 'ran' ? `command ${number} runs, status ${status}` : reply;
+  if (word === 'fault') return `action ${number}${lineOf(entry, number)} fails: fault ${status}`;
+  const command = entry?.commands?.[Number(number)];
+  const named = `command ${number}${command ? `: ${command}` : ''}`;
+  if (word === 'skipped') return `${named}, skipped`;
+  return word === 'ran' ? `${named}, status ${status}` : reply;
 }
 
 /** Returns an event in words. `entry` is what the definition says of its vertex. */
@@ -51,6 +58,18 @@ export function wordsOf(event, entry = null) {
   if (kind === 'settle') return `event ${event.number}: ${who}: ${reply.endsWith(' failed') ? 'failed' : 'done'}`;
   if (kind === 'cancel') return `event ${event.number}: worker ${worker} gives vertex ${vertex} up`;
   return `event ${event.number}: ${who}: ${stepWords(reply, entry)}`;
+}
+
+/** Returns the step by which the vertex of a settle failed, given the place after the settle; null if there is none. */
+export function failedStep(place) {
+  const { event } = place;
+  for (let one = place.before; one?.event; one = one.before) {
+    if (one.event.worker === event.worker) {
+      if (one.event.kind === 'claim') return null;
+      if (isFault(one.event)) return one.event;
+    }
+  }
+  return null;
 }
 
 /** Returns the line of the fault with which an action failed, as `fault 21`; empty for any other event. */

@@ -15,6 +15,9 @@ const decoder = new TextDecoder();
 /** What is before the name of a local source in the line for its tree, which the page has and no line of a session. */
 export const GIVEN = 'given ';
 
+/** What is before the line of a tree as it was before the last event: a settle takes the trees of a failed vertex. */
+export const BEFORE = 'before ';
+
 /** The machine refused what it was given; the message has its line, as `fault 121 source`. */
 export class Refused extends Error {
   constructor(message, what) {
@@ -114,9 +117,13 @@ export class Session {
     return linesOf(decoder.decode(this.bytes(line)));
   }
 
-  /** Returns the text of a tree that a line asks for, or null where there is none; `given NAME` is a source's tree. */
+  /**
+   * Returns the text of a tree that a line asks for, or null where there is none; `given NAME` is a source's tree, and
+   * `before LINE` a tree before the last event.
+   */
   tree(line) {
     if (line.startsWith(GIVEN)) return this.locals.get(line.slice(GIVEN.length)) ?? null;
+    if (line.startsWith(BEFORE)) return this.before(() => this.tree(line.slice(BEFORE.length)));
     const text = decoder.decode(this.bytes(line));
     return text === 'none\n' || text.startsWith('fault ') ? null : text;
   }
@@ -135,10 +142,7 @@ export class Session {
 
   // A step is of the vertex that its worker claimed last.
   placed(event) {
-    if (event.vertex !== null) return event;
-    let place = this.ways.at;
-    while (place.event.kind !== 'claim' || place.event.worker !== event.worker) place = place.before;
-    return { ...event, vertex: place.event.vertex };
+    return event.vertex === null ? { ...event, vertex: this.ways.at.claims.get(event.worker) } : event;
   }
 
   /** Does the event of a line such as `next` or `claim 0 1`; returns the event, or null where it is refused. */
@@ -146,7 +150,7 @@ export class Session {
     return this.took(this.lines(line))[0] ?? null;
   }
 
-  /** Takes the events of a record: `next` and `go` follow them, and each line of the machine has to be the record's. */
+  /** Takes the events of a record: `next` and `goingOn` follow them, and the machine has to say each line again. */
   follow(events) {
     this.ways.lay(events);
     this.follows = events.length > 0;
@@ -160,23 +164,19 @@ export class Session {
     return place.event;
   }
 
-  // Goes along the record that is followed, to a breakpoint or its end.
-  goAlong() {
-    for (let place = this.ways.ahead(); place; place = this.ways.ahead()) {
-      this.to(place);
-      const { kind, vertex, reply } = place.event;
-      const isFail = kind === 'settle' && reply.endsWith(' failed') && this.breaks.fail;
-      if (isFail || this.breaks[kind]?.has?.(vertex)) return 'stop';
-    }
-    return 'end';
+  // Returns whether a breakpoint is after an event.
+  stopsAfter({ kind, vertex, reply }) {
+    const isFail = kind === 'settle' && reply.endsWith(' failed') && this.breaks.fail;
+    return isFail || Boolean(this.breaks[kind]?.has?.(vertex));
   }
 
-  /** Goes on to a breakpoint or to the end; returns `stop` or `end`. */
-  go() {
-    if (this.follows && this.ways.ahead()) return this.goAlong();
-    const lines = this.lines('go');
-    this.took(lines);
-    return lines.at(-1);
+  /** Goes on to a breakpoint or to the end, an event for each turn of the generator; returns `stop` or `end`. */
+  * goingOn() {
+    while (this.next()) {
+      if (this.stopsAfter(this.ways.at.event)) return 'stop';
+      yield;
+    }
+    return 'end';
   }
 
   /**
@@ -200,16 +200,36 @@ export class Session {
     return Boolean(found);
   }
 
-  /** Goes to a place on any way, by steps back and by the events from there. */
-  to(place) {
+  // Does the event of a place again; the machine has to say the same of it.
+  again(place) {
+    const line = this.event(place.event.command)?.line ?? 'nothing';
+    const wanted = place.event.line;
+    if (line !== wanted) throw new Differs(`The record has "${wanted}", and the machine says "${line}".`);
+  }
+
+  /** Goes to a place on any way, by steps back and by the events from there: one for each turn of the generator. */
+  * going(place) {
     const { back, forth } = this.ways.route(place);
-    for (let n = 0; n < back; n += 1) this.back();
-    for (const next of forth) {
-      const event = this.event(next.event.command);
-      const line = event?.line ?? 'nothing';
-      const wanted = next.event.line;
-      if (line !== wanted) throw new Differs(`The record has "${wanted}", and the machine says "${line}".`);
+    for (let n = 0; n < back; n += 1) {
+      this.back();
+      yield;
     }
+    for (const next of forth) {
+      this.again(next);
+      yield;
+    }
+  }
+
+  /** Goes to a place on any way, at once. */
+  to(place) {
+    for (const moves = this.going(place); !moves.next().done;);
+  }
+
+  /** Goes to the event of a number, on the way that the session is on, or on as the machine chooses. */
+  * goingTo(number) {
+    const found = this.ways.path(this.ways.end()).find(({ event }) => event?.number === number);
+    yield* this.going(found ?? this.ways.end());
+    while (!found && this.ways.at.event?.number !== number && this.event('next')) yield;
   }
 
   /** Does something at the place before the present one, and comes back; returns what it returned. */
@@ -229,20 +249,11 @@ export class Session {
     this.breaks.claim.delete(vertex);
     this.breaks.settle.delete(vertex);
     if (kind) this.breaks[kind].add(vertex);
-    this.sendBreaks();
   }
 
-  /** Sets whether `go` stops at a vertex that failed. */
+  /** Sets whether `goingOn` stops at a vertex that failed. */
   setBreakAtFailures(is) {
     this.breaks.fail = is;
-    this.sendBreaks();
-  }
-
-  sendBreaks() {
-    this.lines('clear');
-    for (const vertex of this.breaks.claim) this.lines(`break claim ${vertex}`);
-    for (const vertex of this.breaks.settle) this.lines(`break settle ${vertex}`);
-    if (this.breaks.fail) this.lines('break fail');
   }
 
   /** Returns the lines that bring a new session to the present place. */

@@ -26,16 +26,22 @@ function bytesOf(text) {
  * the lines of a session; null where it would be too long for a link.
  */
 export async function fragmentOf(given) {
-  const bytes = new TextEncoder().encode(JSON.stringify(given));
-  const fragment = MARK + base64Of(await through(new CompressionStream('deflate-raw'), bytes));
+  const fragment = await packed(given);
   return fragment.length > MOST_LINK ? null : fragment;
+}
+
+/** Returns the fragment of a link, however long. */
+export async function packed(given) {
+  const bytes = new TextEncoder().encode(JSON.stringify(given));
+  return MARK + base64Of(await through(new CompressionStream('deflate-raw'), bytes));
 }
 
 function isText(value) {
   return typeof value === 'string';
 }
 
-function checked({ text, locals, workers, lines }) {
+function checked(given) {
+  const { text, locals, workers, lines } = given ?? {};
   const isLocal = (local) => Array.isArray(local) && local.length === 2 && local.every(isText);
   const isGood = isText(text) && Number.isInteger(workers) && Array.isArray(lines) && lines.every(isText)
     && Array.isArray(locals) && locals.every(isLocal);

@@ -3,6 +3,9 @@
 import { by } from './dom.mjs';
 import { fragmentOf } from './share.mjs';
 
+// The path of a server of builds begins with a part that must not be told.
+const SECRET = /^\/[\w-]{20,}\//;
+
 async function copy(element) {
   try {
     await navigator.clipboard.writeText(element.value);
@@ -27,7 +30,9 @@ export function shareView() {
       by('share-said').textContent = '';
       const fragment = await fragmentOf(given);
       const { origin, pathname } = globalThis.location;
-      by('share-link').value = fragment ? `${origin}${pathname}${fragment}` : '';
+      const isSecret = SECRET.test(pathname);
+      by('share-link').value = fragment ? `${isSecret ? '' : `${origin}${pathname}`}${fragment}` : '';
+      by('share-secret').hidden = !fragment || !isSecret;
       by('copy-link').disabled = !fragment;
       by('share-none').hidden = Boolean(fragment);
     },

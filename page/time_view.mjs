@@ -8,7 +8,7 @@ import { by, draw, oncePerFrame } from './dom.mjs';
 import { isFailure, isFault, wordsOf } from './record.mjs';
 import { Track } from './track.mjs';
 
-const STEP = 22;
+const STEP = 24;
 const ROW = 24;
 const LEFT = 78;
 const TOP = 22;
@@ -54,12 +54,20 @@ export class TimeView {
     this.slider.max = this.end.number;
     this.slider.value = ways.at.number;
     const { event } = ways.at;
-    const words = event ? wordsOf(event) : 'the beginning';
+    const words = event ? wordsOf(event, this.track.entries[event.vertex]) : 'the beginning';
     this.slider.setAttribute('aria-valuetext', words);
     by('place').textContent = `${words} (${ways.at.number} of ${this.end.number} events)`;
     this.rows = this.rowsOf();
     this.reveal();
     this.render();
+  }
+
+  /** Shows how far the session is while it goes on: only what costs little. */
+  progress() {
+    const { ways } = this.session;
+    this.slider.max = Math.max(Number(this.slider.max), ways.at.number);
+    this.slider.value = ways.at.number;
+    by('place').textContent = `event ${ways.at.number.toLocaleString('en')} …`;
   }
 
   slid() {
@@ -158,12 +166,12 @@ export class TimeView {
     const isAhead = number > this.session.ways.at.number;
     const shape = event.kind === 'step' ? draw('circle', { r: 5 }) : draw('path', { d: SHAPES[event.kind] });
     const name = event.kind === 'claim' ? [draw('text', { y: -9, text: event.vertex })] : [];
-    const words = wordsOf(event);
+    const words = wordsOf(event, this.track.entries[event.vertex]);
     return draw('g', {
       class: `${classOf(event)}${isAt ? ' at' : ''}${isAhead ? ' ahead' : ''}`, role: 'button', tabindex: -1,
       'aria-label': words,
       transform: `translate(${this.x(number)} ${y})`, 'data-number': number, onclick: () => this.onPlace(place),
-    }, draw('title', { text: words }), draw('rect', { class: 'target', x: -11, y: -11, width: 22, height: 22 }),
+    }, draw('title', { text: words }), draw('rect', { class: 'target', x: -12, y: -12, width: 24, height: 24 }),
     shape, ...name);
   }
 

@@ -30,16 +30,20 @@ export class Track {
     this.workers = new Set();
   }
 
-  /** Follows the way to a place: by one more event, or anew if it is another way. */
+  /** Follows the way to a place: by the events after those that are known, or anew if it is another way. */
   follow(ways, end) {
     const last = this.path.at(-1);
-    if (last === end) return;
-    if (last && end.before === last) {
-      this.add(end);
-      return;
+    const more = [];
+    let one = end;
+    while (last && one !== last && one.number > last.number) {
+      more.push(one);
+      one = one.before;
     }
-    this.begin();
-    for (const place of ways.path(end)) this.add(place);
+    if (one !== last) {
+      this.begin();
+      for (const place of ways.path(one)) this.add(place);
+    }
+    for (const place of more.reverse()) this.add(place);
   }
 
   add(place) {

@@ -1,9 +1,15 @@
 /**
  * The ways that a session went: a tree of events, in which each path from the root is a record. Going back and on with
  * another event begins a way of its own; what was done before stays.
+ *
+ * A record can have 200,000 events, so no call but `path`, `branches` and `route` walks over places: whether one place
+ * is before another is told by the ways between them, which are few.
  */
 
-/** A place on a way: the event that leads to it, null at the beginning, and the places after it. */
+/**
+ * A place on a way: the event that leads to it, null at the beginning, and the places after it. The first of these is
+ * on the same way; each other one begins a way. `claims` has the vertex that each worker runs here.
+ */
 class Place {
   constructor(before, event, way) {
     this.before = before;
@@ -11,7 +17,17 @@ class Place {
     this.after = [];
     this.number = before ? before.number + 1 : 0;
     this.way = way;
+    this.claims = before ? claimsAfter(before.claims, event) : new Map();
   }
+}
+
+// What workers run after an event. Most events are steps, which change nothing here: the map is shared then.
+function claimsAfter(claims, { kind, worker, vertex }) {
+  if (kind === 'step') return claims;
+  const next = new Map(claims);
+  if (kind === 'claim') next.set(worker, vertex);
+  else next.delete(worker);
+  return next;
 }
 
 /** All ways of a session, and the place where it is. */
@@ -20,6 +36,8 @@ export class Ways {
     this.root = new Place(null, null, 0);
     this.at = this.root;
     this.count = 1;
+    // The first place of each way, and the last one on which the session was.
+    this.first = [this.root];
     this.newest = [this.root];
     this.last = this.root;
   }
@@ -29,9 +47,12 @@ export class Ways {
     const { command, line } = event;
     let next = this.at.after.find((place) => place.event.command === command && place.event.line === line);
     if (!next) {
-      const way = this.at.after.length ? this.count : this.at.way;
-      if (this.at.after.length) this.count += 1;
-      next = new Place(this.at, event, way);
+      const isFork = this.at.after.length > 0;
+      next = new Place(this.at, event, isFork ? this.count : this.at.way);
+      if (isFork) {
+        this.first[this.count] = next;
+        this.count += 1;
+      }
       this.at.after.push(next);
     }
     this.at = next;
@@ -54,10 +75,19 @@ export class Ways {
 
   /** Returns the next place of the way that the session is on, or null at its end. */
   ahead() {
-    let one = this.end();
-    if (one === this.at) return null;
-    while (one.before !== this.at) one = one.before;
-    return one;
+    const end = this.end();
+    return end === this.at ? null : this.towards(end);
+  }
+
+  // Returns the place after the present one on the way to a place that comes later.
+  towards(end) {
+    let one = end;
+    while (one.way !== this.at.way) {
+      const first = this.first[one.way];
+      if (first.before === this.at) return first;
+      one = first.before;
+    }
+    return this.at.after[0];
   }
 
   // Each way remembers where it was last: the slider goes over the places up to there.
@@ -78,14 +108,16 @@ export class Ways {
     return found.reverse();
   }
 
+  // Returns whether the present place is a given one or before it.
+  isOn(place) {
+    let one = place;
+    while (one && one.way !== this.at.way) one = this.first[one.way].before;
+    return Boolean(one) && one.number >= this.at.number;
+  }
+
   /** Returns the last place of the way that the session was last on, if the present one is on it, or of its own way. */
   end() {
-    const isOn = (place) => {
-      let one = place;
-      while (one.number > this.at.number) one = one.before;
-      return one === this.at;
-    };
-    if (!isOn(this.last)) this.last = isOn(this.newest[this.at.way]) ? this.newest[this.at.way] : this.at;
+    if (!this.isOn(this.last)) this.last = this.newest[this.at.way];
     return this.last;
   }
 

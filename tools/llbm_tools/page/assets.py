@@ -13,6 +13,8 @@ STATIC = ROOT / "page"
 EXAMPLES = ROOT / "examples"
 MODULE = "llbm.wasm"
 TABLES = "tables.json"
+# A server of files has no builds; `tools/page --serve` answers with its own.
+BUILDS, NO_BUILDS = "builds.json", b"[]\n"
 # The fields without an effect, which the daemon and the tools know from the program llbm-rules.
 FIELDS = ROOT / "daemon" / "internal" / "notes" / "fields.json"
 
@@ -104,7 +106,7 @@ def static_files() -> Iterator[tuple[str, bytes]]:
 def files(module: bytes | None) -> dict[str, bytes]:
     """Returns all files of the page by path, with a module if one is given."""
     made = {} if module is None else {MODULE: module}
-    return {**dict(static_files()), **dict(example_files()), TABLES: tables(), **made}
+    return {**dict(static_files()), **dict(example_files()), TABLES: tables(), BUILDS: NO_BUILDS, **made}
 
 
 def write(folder: pathlib.Path, module: bytes | None) -> None:

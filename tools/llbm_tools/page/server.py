@@ -34,6 +34,8 @@ BYTES = "application/octet-stream"
 HEADERS = {
     "X-Content-Type-Options": "nosniff", "Cross-Origin-Resource-Policy": "same-origin", "Cache-Control": "no-store",
     "Referrer-Policy": "no-referrer", "X-Frame-Options": "DENY",
+    "Content-Security-Policy": "default-src 'self'; script-src 'self' 'wasm-unsafe-eval'; "
+    "style-src 'self' 'unsafe-inline'; connect-src 'self'; img-src 'self' data:; frame-ancestors 'none'",
 }  # fmt: skip
 MOST_SECONDS = 60
 # The owner of directories and archives, as `tools/build` reads them.

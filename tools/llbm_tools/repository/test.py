@@ -87,6 +87,7 @@ MODULES = [
     "page.page_adopting",
     "page.page_serving",
     "page.paging",
+    "page.page_parts",
     "starting",
     "definitions.dumping",
     "images.layouts",

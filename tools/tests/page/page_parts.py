@@ -1,0 +1,196 @@
+"""Tests of parts of the page in Node: long records, edges, and what is said of failures and idle workers."""
+
+import json
+import shutil
+import subprocess
+import unittest
+
+from tests.base import ROOT
+
+PAGE = ROOT / "page"
+# No part takes as long: what takes longer has no answer.
+GUARD = 600
+
+
+class Parts(unittest.TestCase):
+    """Values of expressions over a module of the page, which is `m`."""
+
+    def setUp(self):
+        if not shutil.which("node"):
+            self.skipTest("Node is needed")
+
+    def node(self, module, text):
+        """Returns the value of an expression."""
+        script = f"import * as m from {json.dumps((PAGE / module).as_uri())};\n"
+        script += f"Promise.resolve({text}).then(value => process.stdout.write(JSON.stringify(value)));"
+        command = ["node", "--input-type=module", "-e", script]
+        done = subprocess.run(command, capture_output=True, text=True, timeout=GUARD)
+        self.assertEqual((done.returncode, done.stderr), (0, ""))
+        return json.loads(done.stdout)
+
+
+class LongRecords(Parts):
+    """Records of 200,000 events: a walk over them for each event would not end."""
+
+    EVENTS = """Array.from({ length: 200000 }, (_, n) => (
+      { command: `step ${n}`, line: `${n}`, kind: 'step', worker: 0 }))"""
+
+    def test_a_record_is_gone_along_and_back(self):
+        text = f"""(() => {{
+          const ways = new m.Ways();
+          ways.lay({self.EVENTS});
+          const end = ways.end();
+          let count = 0;
+          for (let place = ways.ahead(); place; place = ways.ahead()) {{ ways.add(place.event); count += 1; }}
+          for (let n = count; n >= 0; n -= 1) {{ ways.back(n); if (ways.end() !== end) return 'another end'; }}
+          return [count, ways.count, ways.at === ways.root];
+        }})()"""
+        self.assertEqual(self.node("ways.mjs", text), [200000, 1, True])
+
+    def test_a_fork_keeps_both_ways(self):
+        text = """(() => {
+          const ways = new m.Ways();
+          const add = (command) => ways.add({ command, line: command, kind: 'step', worker: 0 });
+          ['a', 'b', 'c', 'd'].forEach(add);
+          ways.back(2); ['x', 'y'].forEach(add);
+          ways.back(3); ['z'].forEach(add);
+          const names = (places) => places.map(({ event }) => event?.command ?? '').join('');
+          const found = [names(ways.path(ways.end()))];
+          ways.back(2); found.push(names([ways.ahead()]));
+          ways.back(1); found.push(names([ways.ahead()]), names(ways.path(ways.end())));
+          ['b', 'c'].forEach(add); found.push(names(ways.path(ways.end())));
+          return [...found, ways.count];
+        })()"""
+        self.assertEqual(self.node("ways.mjs", text), ["abxz", "x", "b", "abxz", "abcd", 3])
+
+    def test_a_place_has_what_workers_run(self):
+        text = """(() => {
+          const ways = new m.Ways();
+          const add = (kind, worker, vertex) => ways.add(
+            { command: `${kind} ${worker}`, line: '', kind, worker, vertex });
+          add('claim', 0, 7); add('claim', 1, 8); add('step', 0, 7);
+          const first = [...ways.at.claims];
+          add('settle', 0, 7); const second = [...ways.at.claims];
+          ways.back(1);
+          return [first, second, [...ways.at.claims]];
+        })()"""
+        self.assertEqual(self.node("ways.mjs", text), [[[0, 7], [1, 8]], [[1, 8]], [[0, 7]]])
+
+    def test_a_track_follows_by_the_events_that_are_new(self):
+        text = f"""(async () => {{
+          const {{ Ways }} = await import({json.dumps((PAGE / 'ways.mjs').as_uri())});
+          const ways = new Ways();
+          const track = new m.Track([]);
+          let added = 0;
+          const add = track.add.bind(track);
+          track.add = (place) => {{ added += 1; add(place); }};
+          const events = {self.EVENTS};
+          for (let n = 0; n < 1000; n += 1) {{
+            for (let i = 0; i < 100; i += 1) ways.add(events[n * 100 + i]);
+            track.follow(ways, ways.end());
+          }}
+          return [added, track.path.length];
+        }})()"""
+        self.assertEqual(self.node("track.mjs", text), [100001, 100001])
+
+
+class Edges(Parts):
+    """Edges of 50 random graphs: none passes through a box."""
+
+    def test_no_edge_passes_behind_a_box(self):
+        text = """(() => {
+          let seed = 7;
+          const dice = (n) => { seed = (seed * 1103515245 + 12345) % 2147483648; return seed % n; };
+          const made = (count, most) => ({ vertices: Array.from({ length: count }, (_, number) => ({
+            number, inputs: number ? Array.from({ length: dice(most) }, () => ({ vertex: dice(number) })) : [],
+          })) });
+          const wrong = [];
+          let edges = 0;
+          for (let n = 0; n < 50; n += 1) {
+            const graph = n % 5 ? made(20 + dice(200), 4) : { vertices: [
+              ...Array.from({ length: 30 + dice(400) }, (_, number) => ({ number, inputs: [] }))] };
+            const last = graph.vertices.length;
+            graph.vertices.push({ number: last, inputs: graph.vertices.map(({ number }) => ({ vertex: number })) });
+            const placed = m.layout(graph);
+            const inside = (x, y) => placed.boxes.some((box) => x > box.x && x < box.x + m.BOX.width
+              && y > box.y && y < box.y + m.BOX.height);
+            for (const { number, inputs } of graph.vertices) for (const { vertex } of inputs) {
+              const way = m.edgeWay(placed, vertex, number, (edges % 5 - 2) * 3);
+              edges += 1;
+              for (let i = 1; i < way.length; i += 1) {
+                const [a, b] = [way[i - 1], way[i]];
+                // A bend stays between two rows, since its places are; the rest is straight down.
+                const isBend = i % 2 === 1;
+                if (b.y < a.y || (!isBend && a.x !== b.x)) wrong.push(['shape', n, vertex, number]);
+                for (let part = 0; part <= 16; part += 1) {
+                  const t = part / 16;
+                  const s = isBend ? t * t * (3 - 2 * t) : t;
+                  const bent = a.y * (1 - t) ** 3 + 1.5 * (a.y + b.y) * (1 - t) * t + b.y * t ** 3;
+                  const y = isBend ? bent : a.y + (b.y - a.y) * t;
+                  if (inside(a.x + (b.x - a.x) * s, y)) wrong.push(['box', n, vertex, number]);
+                }
+              }
+            }
+          }
+          return [edges > 3000, wrong.slice(0, 5)];
+        })()"""
+        self.assertEqual(self.node("layout.mjs", text), [True, []])
+
+
+class Words(Parts):
+    """What is said of commands, failures and idle workers."""
+
+    def test_an_event_names_its_command(self):
+        entry = {"commands": ["true", "cp /none /b"], "actions": [{"line": "rm /a"}]}
+        event = {"number": 4, "kind": "step", "worker": 0, "vertex": 1}
+        for reply, words in [
+            ("ran 1 1", "command 1: cp /none /b, status 1"), ("skipped 0", "command 0: true, skipped"),
+            ("fault 0 21", "action 0 (rm /a) fails: fault 21"), ("acted 0", "action 0: rm /a"),
+        ]:
+            found = self.node("record.mjs", f"m.wordsOf({json.dumps({**event, 'reply': reply})}, {json.dumps(entry)})")
+            self.assertEqual(found, f"event 4: worker 0, vertex 1: {words}")
+
+    def test_a_failure_has_the_step_that_failed(self):
+        text = """(() => {
+          const events = [['claim', 0, ''], ['step', 0, 'ran 0 0'], ['step', 0, 'ran 1 1'], ['step', 1, 'ran 0 1'],
+            ['settle', 0, '3 failed']];
+          const places = events.map(([kind, worker, reply], number) => ({ event: { kind, worker, reply, number } }));
+          places.forEach((place, i) => { place.before = places[i - 1] ?? { event: null }; });
+          return [m.failedStep(places[4]).number, m.failedStep(places[1])];
+        })()"""
+        self.assertEqual(self.node("record.mjs", text), [2, None])
+
+    def test_an_idle_worker_has_its_reason(self):
+        made = """((text) => { const s = new S(text); return s; })"""
+        cache = {"id": "k", "mode": "locked", "seed": "-", "isCache": True}
+        entries = [{"mounts": [cache]}, {"mounts": [cache]}, {"mounts": []}]
+        statuses = json.dumps((PAGE / "statuses.mjs").as_uri())
+        texts = ["0 running 0\n1 ready\n2 blocked\n", "0 running 0\n1 waiting\n2 blocked\n", "0 done\n1 done\n2 done\n"]
+        text = f"""(async () => {{
+          const {{ Statuses: S }} = await import({statuses});
+          return {json.dumps(texts)}.map((text) => m.whyIdle(1, {made}(text), {json.dumps(entries)}));
+        }})()"""
+        self.assertEqual(self.node("idle.mjs", text), [
+            "Worker 1 can do nothing now: vertex 1 waits for the locked cache k, which worker 0 holds for vertex 0.",
+            "Worker 1 can do nothing now: no vertex is ready before vertex 0 (worker 0) is settled.",
+            "Worker 1 can do nothing now: no vertex is left.",
+        ])
+
+    def test_a_script_has_its_commands(self):
+        files = [str(ROOT / "examples" / "tour.definition")]
+        text = f"(await import('node:fs')).readFileSync({json.dumps(files[0])})"
+        found = self.node("definition.mjs", f"m.verticesOf(new Uint8Array({text})).map(v => v.commands)")
+        self.assertEqual(found[2][:2], ["mkdir -p bin", "concat bin/all /src/head /src/tail"])
+        self.assertEqual((found[0], found[1], len(found[2])), ([], [], 6))
+
+
+class Links(Parts):
+    """Links that carry nothing that can be read."""
+
+    def test_a_name_that_is_not_encoded_is_taken_as_it_is(self):
+        found = self.node("build_link.mjs", "['#build=%', '#build=a%20b', '#s=x', ''].map(m.buildNamedBy)")
+        self.assertEqual(found, ["%", "a b", None, None])
+
+    def test_a_link_without_a_session_says_so(self):
+        packed = "m.fragmentOf(null).then(m.givenBy).then(() => 'read', fault => fault.message)"
+        self.assertEqual(self.node("share.mjs", packed), "what it carries is not a session")
