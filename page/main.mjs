@@ -72,7 +72,7 @@ class Page {
     by('worker').replaceChildren(...workers.map((worker) => make('option', { value: worker, text: worker })));
     this.notes = new VertexNotes(this.entries);
     this.looker.open(this.machine, session, given).catch((fault) => this.say(fault.message));
-    this.search.clear();
+    this.search.open(this.entries);
     this.isLooking = false;
     this.graph.open(session.graph, this.entries, this.notes);
     this.time.open(session, this.entries);

@@ -241,7 +241,7 @@ export class OpenView {
   // Says which tree a source has, or why what was given is none.
   tell(said, name) {
     const tree = this.trees.get(name);
-    const isBad = Boolean(tree?.bad);
+    const isBad = Boolean(tree?.bad) && !tree.isRead;
     said.className = isBad ? 'fault' : 'note';
     if (tree?.isRead) said.textContent = `${tree.bad} …`;
     else if (isBad) said.textContent = `not taken: ${tree.bad}. It has no tree now.`;

@@ -8,6 +8,7 @@ export class SearchView {
   constructor(looker, onEvent) {
     this.looker = looker;
     this.onEvent = onEvent;
+    this.entries = [];
     by('search-form').addEventListener('submit', (event) => {
       event.preventDefault();
       this.search();
@@ -15,6 +16,12 @@ export class SearchView {
     by('search').addEventListener('input', () => {
       if (by('search').value === '') this.clear();
     });
+  }
+
+  /** Begins anew with another session. `entries` has what the definition says of each vertex. */
+  open(entries) {
+    this.entries = entries;
+    this.clear();
   }
 
   /** Shows nothing as found. */
@@ -44,7 +51,8 @@ export class SearchView {
     const count = (found.length + more).toLocaleString('en');
     by('found-said').textContent = `${count} changes of paths with “${text}”, in ${events} events.${rest}`;
     by('found').replaceChildren(...found.map(({ event, path, kind }) => make('li', {}, make('button', {
-      type: 'button', text: `${kind} ${path}: ${wordsOf(event)}`, onclick: () => this.onEvent(event),
+      type: 'button', text: `${kind} ${path}: ${wordsOf(event, this.entries[event.vertex])}`,
+      onclick: () => this.onEvent(event),
     }))));
   }
 }

@@ -115,7 +115,8 @@ def which_step_made_a_path(page: Page) -> None:
     page.run("document.querySelector('#search-form button').click()")
     page.browser.wait("document.querySelectorAll('#found button').length === 4")
     found = page.run("[...document.querySelectorAll('#found button')].map(e => e.textContent)")
-    same(found[0], "added /out/bin: event 8: worker 0, vertex 2: command 0 runs, status 0", "the first find")
+    first = "added /out/bin: event 8: worker 0, vertex 2: command 0: mkdir -p bin, status 0"
+    same(found[0], first, "the first find")
     others = ["added /out/bin/all", "added /out/bin/sum", "changed /out/bin/all"]
     same([one.split(":")[0] for one in found[1:]], others, "the other finds")
     page.run("document.querySelector('#found button').click()")

@@ -160,7 +160,8 @@ def a_step_is_spoken(page: Page) -> None:
     for _ in range(8):
         page.click("next")
     told = page.text("spoken")
-    same(told, "event 8: worker 0, vertex 2: command 0 runs, status 0. It added /out/bin.", "what is spoken")
+    words = "event 8: worker 0, vertex 2: command 0: mkdir -p bin, status 0. It added /out/bin."
+    same(told, words, "what is spoken")
     page.click("back")
     check("takes vertex 2" in page.text("spoken"), page.text("spoken"))
 
