@@ -10,12 +10,12 @@ from llbm_tools.page.driver import Page, check, same
 
 FILES = 2000
 SEARCHED = 700
-MOST_DRAWING = 50
-# What a definition can have at most, with the last entry, and bounds that hold on a machine with other work to do.
+# What a definition can have at most, with the last entry.
 MOST_VERTICES = 65535
-MOST_TO_OPEN, MOST_OF_A_STEP = 20000, 200
 ALL_FILES = 100000
-LONG, MOST_WITHOUT_A_FRAME = 20000, 1000
+LONG = 20000
+# A move over 196,605 events is done in many slices, between which frames are drawn. How long it takes is not tested.
+LEAST_FRAMES = 5
 
 
 def merge_of(inputs: list[int]) -> str:
@@ -56,7 +56,6 @@ def many_vertices(page: Page) -> None:
     frames, drawing = page.run(SCROLL)
     page.measure("a frame over 2,003 vertices", frames)
     page.measure("drawing in it", drawing)
-    check(sorted(drawing)[len(drawing) // 2] < MOST_DRAWING, f"drawing takes {drawing}")
     seen = int(page.run("document.querySelectorAll('.box').length"))
     check(0 < seen < 200, f"{seen} boxes are in the page after scrolling")
     for _ in range(5):
@@ -167,8 +166,6 @@ def steps(page: Page, what: str, names: list[str]) -> None:
         shown.append(1000 * (time.monotonic() - start))
     page.measure(what, spent)
     page.measure(f"{what}, until what changed is shown", shown)
-    middle = sorted(spent)[len(spent) // 2]
-    check(middle < MOST_OF_A_STEP, f"{what} takes {spent}")
 
 
 def nothing_waits_for_a_search(page: Page) -> None:
@@ -188,6 +185,30 @@ def nothing_waits_for_a_search(page: Page) -> None:
     check(found.startswith("added /698: event "), found)
 
 
+def a_long_move_stops(page: Page) -> None:
+    """Begins a move over all events, and stops it: the session is where it was stopped, and can step there."""
+    page.run("document.getElementById('go').click()")
+    page.browser.wait("!document.getElementById('stop').hidden")
+    page.click("stop")
+    place = page.place()[0]
+    check(0 < place < 3 * MOST_VERTICES, f"a move that was stopped is at {place}")
+    page.click("back")
+    same(page.place()[0], place - 1, "a step back after a move that was stopped")
+
+
+def moved(page: Page, what: str, name: str, place: tuple[int, int]) -> None:
+    """Presses a button, waits until the move ends at a place, and wants frames meanwhile."""
+    page.run("globalThis.llbmLongest = globalThis.llbmFrames = 0")
+    page.run(WATCH)
+    start = time.monotonic()
+    page.click(name)
+    page.measure(what, [1000 * (time.monotonic() - start)])
+    page.measure(f"{what}, the longest time without a frame", [float(page.run("globalThis.llbmLongest"))])
+    same(page.place(), place, what)
+    frames = int(page.run("globalThis.llbmFrames"))
+    check(frames >= LEAST_FRAMES, f"{frames} frames were drawn meanwhile")
+
+
 def as_many_vertices_as_there_can_be(page: Page) -> None:
     """Opens 65,535 vertices, steps at the beginning, goes to the end of 196,605 events, and steps there."""
     page.load()
@@ -199,10 +220,12 @@ def as_many_vertices_as_there_can_be(page: Page) -> None:
     opened = float(page.run(PRESS % "open-now")[1])
     page.measure("65,535 vertices, from the file to the graph", [taken + opened])
     check(f"{MOST_VERTICES} vertices" in page.text("graph-size"), page.text("graph-size"))
-    check(taken + opened < MOST_TO_OPEN, f"opening takes {taken} and {opened} ms")
     page.settle()
     steps(page, "a step of 65,535 vertices", ["next"] * 9)
-    page.click("go")
+    a_long_move_stops(page)
+    moved(page, "forward over the rest of 196,605 events", "go", (3 * MOST_VERTICES,) * 2)
+    moved(page, "back over 196,605 events", "first", (0, 3 * MOST_VERTICES))
+    page.press("End")
     same(page.place(), (3 * MOST_VERTICES,) * 2, "the end")
     steps(page, "a step after 196,605 events", ["back", "back", "back", "next", "next"])
     memory = float(page.run("performance.memory.usedJSHeapSize / 2 ** 20"))
@@ -236,7 +259,6 @@ def a_long_text_does_not_stop_the_page(page: Page) -> None:
     page.run("new Promise((done) => requestAnimationFrame(() => requestAnimationFrame(done)))")
     longest = float(page.run("globalThis.llbmLongest"))
     page.measure("the longest time without a frame, while a text of 20,000 vertices is read", [longest])
-    check(longest < MOST_WITHOUT_A_FRAME, f"there is no frame for {longest} ms")
     page.click("open-now")
     check(f"{LONG} vertices" in page.text("graph-size"), page.text("graph-size"))
     place.unlink()
@@ -256,7 +278,6 @@ def a_hundred_thousand_files(page: Page) -> None:
     page.run("globalThis.llbmTranscript = undefined")
     opened = float(page.run(PRESS % "open-now")[1])
     page.measure("a tree of 100,000 files, from the file to the graph", [taken + opened])
-    check(taken + opened < MOST_TO_OPEN, f"opening takes {taken} and {opened} ms")
     page.settle()
     page.run("globalThis.llbmLongest = 0")
     page.run(WATCH)
@@ -272,11 +293,12 @@ def a_hundred_thousand_files(page: Page) -> None:
     same(page.browser.faults, [], "faults of the page's code")
 
 
-# Keeps the longest time between two frames.
+# Keeps the longest time between two frames, and how many there are.
 WATCH = """(() => {
   let last = performance.now();
   const frame = (now) => {
     globalThis.llbmLongest = Math.max(globalThis.llbmLongest, now - last);
+    globalThis.llbmFrames += 1;
     last = now;
     requestAnimationFrame(frame);
   };
