@@ -228,14 +228,14 @@ func childrenOf(t testing.TB, process int) []string {
 }
 
 // patience is how long a host under load may take for what is done at once on an idle one.
-const patience = 300 * second
+const patience = 600 * second
 
 // eventually waits until a condition holds.
 func eventually(t testing.TB, what string, holds func() bool) {
 	t.Helper()
 	for end := time.Now().Add(patience); !holds(); time.Sleep(20 * time.Millisecond) {
 		if time.Now().After(end) {
-			t.Errorf("not so after %s: %s", patience, what)
+			t.Errorf("no answer after %s: %s", patience, what)
 			return
 		}
 	}

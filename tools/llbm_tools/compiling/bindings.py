@@ -33,7 +33,7 @@ from llbm_tools.counts import Counts
 from llbm_tools.paths import ROOT
 from llbm_tools.streams import Refused, exit_status
 
-PATIENCE = 600
+PATIENCE = 3000
 PAGE = "docs/EMBEDDING.md"
 BLOCK = re.compile(r"^`(bindings/[^`]+)`:\n\n((?: {4}.*\n|\n)+)", re.MULTILINE)
 WARNINGS = ["-std=gnu11", "-Wall", "-Wextra", "-Werror", "-g", "-O1"]
@@ -52,7 +52,7 @@ def call(words: list[str], folder: pathlib.Path, text: bytes = b"", **given: str
     try:
         done = subprocess.run(words, cwd=folder, input=text, capture_output=True, timeout=PATIENCE, env=environment)
     except subprocess.TimeoutExpired as fault:
-        raise Wrong(f"did not end in {PATIENCE} seconds: {words[0]}") from fault
+        raise Wrong(f"no answer in {PATIENCE} seconds: {words[0]}") from fault
     if done.returncode:
         said = (done.stdout + done.stderr).decode("utf-8", "replace")
         raise Wrong(f"ended with status {done.returncode}: {' '.join(words)}\n{said}")

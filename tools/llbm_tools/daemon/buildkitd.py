@@ -28,7 +28,7 @@ STUBS = DAEMON / "buildkitd" / "testdata"
 SYSTEMD = pathlib.Path("src", "github.com", "coreos", "go-systemd", "v22")
 TAGS = ["-tags", "no_containerd_worker,osusergo,netgo,static_build"]
 SETTINGS = "[worker.oci]\n  gc = false\n"
-PATIENCE = 300
+PATIENCE = 3000
 PAUSE = 0.1
 
 LEFT_OUT = {

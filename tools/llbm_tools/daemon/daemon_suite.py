@@ -135,7 +135,7 @@ class Runs:
 def ending(test: Listed, out: str) -> str:
     """Returns how a test ended, by what it printed: `PASS`, `FAIL`, `SKIP`, or what else happened."""
     if TIMED_OUT in out:
-        return "did not end in time"
+        return "no answer: did not end in time"
     name = "/".join(filter(None, [test.function, WORKER, test.variant]))
     found = re.findall(rf"--- (PASS|FAIL|SKIP): \w+/{re.escape(name)} \(", out)
     if found:

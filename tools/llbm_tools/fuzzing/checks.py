@@ -106,7 +106,7 @@ class Rules:
     def check(self, ran: Ran) -> None:
         """Checks that the run ended in an allowed way."""
         if ran.status is None:
-            raise Broken("it does not end in time")
+            raise Broken("no answer: it does not end in time")
         need(ran.status >= 0, f"signal {-ran.status}")
         need(ran.status <= LAST_STATUS, f"status {ran.status}")
         is_session = ran.words[:1] == ("step",)

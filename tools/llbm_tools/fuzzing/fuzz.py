@@ -7,7 +7,7 @@ The inputs are the examples of the repository and random definitions, texts of e
 half of the definitions are changed at random, in most cases so that digests and inputs match again. --seed N makes the
 same cases in the same order; without it a random seed is used. With --jobs N the cases are shared by N processes. Each
 run has limits on memory (--memory MEGABYTES, 4096 by default, 0 for none; none for a program that is built with an
-address sanitizer), on processor time and on file sizes, and may take --patience SECONDS, 60 by default.
+address sanitizer), on processor time and on file sizes, and may take --patience SECONDS, 600 by default.
 
 These rules must hold: each run exits with a status of 0 to 3; if the input is refused, nothing is printed except the
 answers of a session; docs/FAULTS.md has each line on standard error, with that status; `dis` and then `asm` return the
@@ -48,7 +48,7 @@ EXAMPLES = ROOT / "examples"
 
 MOST_STORED = 100
 MOST_JOBS = 64
-PATIENCE = 60
+PATIENCE = 600
 FOREVER = 1 << 62
 
 
@@ -168,7 +168,7 @@ def parse_options() -> argparse.Namespace:
     add("--cases", metavar="N", type=number_from(1, FOREVER), help="run at most N cases (no limit)")
     add("--keep", metavar="FOLDER", type=pathlib.Path, help="the folder for findings (a new temporary folder)")
     add("--jobs", metavar="N", type=number_from(1, MOST_JOBS), default=1, help="the number of processes (1)")
-    add("--patience", metavar="SECONDS", type=number_from(1, 1000), default=PATIENCE, help="the limit of a run (60)")
+    add("--patience", metavar="SECONDS", type=number_from(1, 1000), default=PATIENCE, help="the limit of a run (600)")
     add("--memory", metavar="MEGABYTES", type=number_from(0, 1 << 20), help="the limit of a run; 0 for none (4096)")
     options = parser.parse_args()
     if not options.seconds and not options.cases:

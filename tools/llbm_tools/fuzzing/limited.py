@@ -12,7 +12,7 @@ import signal
 from typing import NamedTuple
 
 MOST_MEGABYTES = 4096
-MOST_SECONDS = 20
+MOST_SECONDS = 200
 MOST_WRITTEN = 256 << 20
 
 SANITIZER = b"__asan_init"

@@ -19,7 +19,8 @@ as much processor time again.
 With --quick nothing is proved, and no wrong body is tried. `tools/unproved-program` compiles the program; the parts
 that read the sources, the transcripts, the daemon's tests in Go, the tests of the tools and few cases of `tools/fuzz`
 follow. --more adds what takes longer: `rt try --test` in the crates of tests, as many at a time as there are
-processors, or --jobs N; BuildKit's own tests, `tools/against-buildkit`, `tools/page-tests` and the pages with commands.
+processors, or --jobs N; the transcripts of tests/limits; BuildKit's own tests, `tools/against-buildkit`,
+`tools/page-tests` and the pages with commands.
 
 Out: on standard output a line for each part, with its counts and its processor time, and below it what the part
 printed, if it failed; the lines of `rt ci` are printed as they come. After all parts follow the processor minutes that
@@ -51,7 +52,9 @@ from llbm_tools.repository.parts import Part
 
 PROGRAMS = [ROOT / "crates" / "llbm" / "out" / name for name in ("llbm", "llbm.by-rattle")]
 PAGES = ("README.md", "docs/ARCHITECTURE.md", "docs/BUILDKIT.md", "docs/FORMATS.md", "docs/TOOLS.md")
-TRANSCRIPTS = ("tests", "examples/README.md", "examples/from-buildkit/README.md")
+EXAMPLES = ("examples/README.md", "examples/from-buildkit/README.md")
+# Its transcripts go to the limits of a definition, which takes the program without proof minutes.
+LIMITS = "tests/limits"
 TESTED = ("llb_refusals", "llb_examples", "llbm")
 # How many cases of `tools/fuzz` are run: about a minute by the proved program, and less by the one without proof.
 CASES = 8000
@@ -68,10 +71,10 @@ NOT_DONE = (
     "the static library and its bindings (tools/library, tools/bindings)"
 )
 TOO_LONG = ", and the tests of 65,535 vertices and of 64 workers (llb_examples) if they did not end in 60 seconds"
-LATER = ("llb_refusals", "llb_examples", "llbm", "suite", "tools/against-buildkit", "tools/page-tests", "pages")
+LATER = (*TESTED, LIMITS, "suite", "tools/against-buildkit", "tools/page-tests", "pages")
 LEFT = (
-    "with --more: the tests of the crates (llb_examples, llb_refusals, llbm), BuildKit's tests, BuildKit's daemon "
-    "(tools/against-buildkit), the page (tools/page-tests), the pages with commands"
+    "with --more: the tests of the crates (llb_examples, llb_refusals, llbm), the transcripts of the limits, BuildKit's "
+    "tests, BuildKit's daemon (tools/against-buildkit), the page (tools/page-tests), the pages with commands"
 )
 
 
@@ -101,7 +104,7 @@ def parts_without_program() -> Iterator[Part]:
 def parts_with(programs: list[str], cases: int, seed: str) -> Iterator[Part]:
     """Yields the parts that run programs; those of the tools run the first one."""
     for program in programs:
-        yield tool("transcripts", "--llbm", program, *TRANSCRIPTS)
+        yield tool("transcripts", "--llbm", program, "tests", *EXAMPLES)
     first = programs[0]
     yield tool("daemon-tests", "--llbm", first)
     yield tool("against-buildkit", "--start", "--count", str(BESIDE), "--llbm", first)
@@ -148,7 +151,8 @@ def only(*names: str) -> list[str]:
 def parts_that_are_quick(cases: int, seed: str) -> Iterator[Part]:
     """Yields the parts of the quick gate that run the program without proof."""
     program = str(paths.UNPROVED)
-    yield tool("transcripts", "--unproved", "--llbm", program, *TRANSCRIPTS)
+    folders = sorted(f"tests/{place.name}" for place in (ROOT / "tests").iterdir())
+    yield tool("transcripts", "--unproved", "--llbm", program, *(name for name in folders if name != LIMITS), *EXAMPLES)
     yield tool("daemon-tests", "--llbm", program, *only("build", "format", "vet", "go"))
     yield tool("test", "--llbm", program)
     yield tool("fuzz", "--cases", str(cases), "--llbm", program, "--seed", seed)
@@ -157,6 +161,7 @@ def parts_that_are_quick(cases: int, seed: str) -> Iterator[Part]:
 def parts_with_more() -> Iterator[Part]:
     """Yields the parts that --more adds and that run the program without proof."""
     program = str(paths.UNPROVED)
+    yield tool("transcripts", "--unproved", "--llbm", program, LIMITS)
     yield tool("daemon-tests", "--llbm", program, *only("suite"))
     yield tool("against-buildkit", "--start", "--count", str(BESIDE), "--llbm", program)
     yield tool("page-tests", "--llbm", program)

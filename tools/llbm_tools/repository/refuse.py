@@ -30,7 +30,7 @@ from llbm_tools.paths import ROOT
 
 TESTS = ROOT / "crates" / "llb_refusals" / "out" / "llb_refusals_tests"
 SOURCE = pathlib.Path(__file__).with_name("refuse.c")
-PATIENCE = 300
+PATIENCE = 3000
 
 NAMED = re.compile(r"(\S+): test")
 REFUSED = re.compile(r"refused ([0-9]+) \(([^()]+)\): (.*)")
@@ -91,7 +91,7 @@ def run(tests: str, name: str, library: str, folder: str) -> Ran:
                 text, status = child.communicate(timeout=PATIENCE)[0], child.returncode
             except subprocess.TimeoutExpired:
                 child.kill()
-                text, status = child.communicate()[0] + b"\nit did not end", 1
+                text, status = child.communicate()[0] + b"\nno answer: it did not end", 1
     lines = text.decode("utf-8", "backslashreplace").splitlines()
     return Ran(status, lines, os.path.getsize(counted))
 

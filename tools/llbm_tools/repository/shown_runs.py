@@ -12,9 +12,10 @@ from typing import IO, NamedTuple
 from llbm_tools.common import shortened
 from llbm_tools.repository.shown_commands import Shown
 
-PATIENCE = 300
-# How long a reply may take, and how long more output is waited for when a reply is wrong.
-REPLY_PATIENCE = 60
+# How long a command, and a reply, may take: ten times what the dearest takes without proof on a slow host. (For so long
+# more output is waited for, too, when a reply is wrong.)
+PATIENCE = 3000
+REPLY_PATIENCE = 600
 PAUSE = 0.2
 MOST_SHOWN = 400
 PIECE = 65536
@@ -151,7 +152,7 @@ def difference(shown: Shown, place: Place) -> str | None:
     try:
         ended = run_dialog(shown, place) if shown.replies else run(shown, place)
     except subprocess.TimeoutExpired:
-        return f"no end within {PATIENCE} seconds"
+        return f"no answer within {PATIENCE} seconds"
     if isinstance(ended, str):
         return ended
     output = "" if shown.replies else shown.output

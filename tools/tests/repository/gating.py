@@ -111,7 +111,7 @@ class Gate(base.WithPrograms):
             for name in ("refuse", "library", "bindings"):
                 self.assertIn(gate.tool(name).command, commands)
             for program in programs:
-                self.assertIn(gate.tool("transcripts", "--llbm", program, *gate.TRANSCRIPTS).command, commands)
+                self.assertIn(gate.tool("transcripts", "--llbm", program, "tests", *gate.EXAMPLES).command, commands)
             self.assertIn(gate.tool("transcripts", "--llbm", programs[0], *gate.PAGES).command, commands)
             self.assertEqual(commands[-1][2:], ["--cases", "7", "--llbm", programs[0], "--seed", "3"])
             daemon = gate.tool("daemon-tests", "--llbm", programs[0]).command
@@ -166,6 +166,9 @@ class Gate(base.WithPrograms):
         self.assertTrue(all(part.folder.is_dir() for part in others))
         quick = [part.shown().split()[0] for part in gate.parts_that_are_quick(7, "3")]
         self.assertEqual(quick, [f"tools/{name}" for name in ("transcripts", "daemon-tests", "test", "fuzz")])
+        transcripts = next(gate.parts_that_are_quick(7, "3")).command
+        self.assertIn("tests/actions", transcripts)
+        self.assertNotIn("tests/limits", transcripts)
 
     def run_quick(self, *words):
         """Runs the quick gate with parts that say that they pass; returns its status, its parts, and its lines."""
@@ -187,10 +190,10 @@ class Gate(base.WithPrograms):
         _, quick, lines = self.run_quick()
         self.assertTrue(lines[0].startswith("not done: proofs, "))
         self.assertTrue(lines[1].startswith("with --more: "))
-        self.assertEqual(lines[2], f"{2 * len(quick)} passed, 0 failed, 11 skipped")
+        self.assertEqual(lines[2], f"{2 * len(quick)} passed, 0 failed, 12 skipped")
         _, more, lines = self.run_quick("--more")
         self.assertEqual(quick, [part for part in more if part in quick])
-        self.assertEqual(len(more) - len(quick), 7)
+        self.assertEqual(len(more) - len(quick), 8)
         self.assertEqual(lines[1:], [f"{2 * len(more)} passed, 0 failed, 4 skipped"])
 
     def run_main(self, *words, whole=()):
