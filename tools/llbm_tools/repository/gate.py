@@ -73,8 +73,8 @@ NOT_DONE = (
 TOO_LONG = ", and the tests of 65,535 vertices and of 64 workers (llb_examples) if they did not end in 60 seconds"
 LATER = (*TESTED, LIMITS, "suite", "tools/against-buildkit", "tools/page-tests", "pages")
 LEFT = (
-    "with --more: the tests of the crates (llb_examples, llb_refusals, llbm), the transcripts of the limits, BuildKit's "
-    "tests, BuildKit's daemon (tools/against-buildkit), the page (tools/page-tests), the pages with commands"
+    "with --more: the tests of the crates (llb_examples, llb_refusals, llbm), the transcripts of tests/limits, "
+    "BuildKit's tests and its daemon (tools/against-buildkit), the page (tools/page-tests), the pages with commands"
 )
 
 
