@@ -44,6 +44,7 @@ export class KeptState {
     store(isShort ? '' : fragment);
     const { pathname, search } = location;
     history.replaceState(null, '', pathname + search + (isShort ? fragment : ''));
+    document.body.dataset.kept = isKept ? given.lines.length : 'no';
   }
 }
 

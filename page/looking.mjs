@@ -8,6 +8,7 @@ import { verticesOf } from './definition.mjs';
 import { pictureType, rowsOf } from './differences.mjs';
 import { FolderIndex } from './folder_index.mjs';
 import { allTrees, holdersOf, keysOf } from './looks.mjs';
+import { commandsOf, compareOrders } from './orders.mjs';
 import { eventOf } from './record.mjs';
 import { PathIndex } from './search.mjs';
 import { Session } from './session.mjs';
@@ -117,6 +118,12 @@ export class Looks {
       this.paths = { lines, index: new PathIndex(new Session(...this.given), this.entries) };
     }
     return this.paths.index.find(text, linesOf(lines).map(eventOf));
+  }
+
+  /** Returns how two orders of the run, given by their records, compare vertex by vertex. */
+  orders(first, second) {
+    const sessions = [new Session(...this.given), new Session(...this.given)];
+    return compareOrders(sessions, [first, second].map((lines) => commandsOf(linesOf(lines))), this.entries);
   }
 
   /** Returns all lines that the sessions for looks were asked, with their answers. */

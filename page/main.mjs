@@ -16,6 +16,7 @@ import { Machine } from './machine.mjs';
 import { VertexNotes } from './notes.mjs';
 import { canBeDrawn, OpenView } from './open_view.mjs';
 import { assembled, refusalOf, Session } from './session.mjs';
+import { OrdersView } from './orders_view.mjs';
 import { SearchView } from './search_view.mjs';
 import { givenBy } from './share.mjs';
 import { shareView } from './share_view.mjs';
@@ -41,6 +42,7 @@ class Page {
     this.looker = new Looker();
     this.changes = new ChangesView(this.looker);
     this.search = new SearchView(this.looker, ({ number }) => this.travel(() => this.session.goingTo(number)));
+    this.orders = new OrdersView(this.looker);
     this.share = shareView();
     this.kept = new KeptState();
     this.isLooking = false;
@@ -73,6 +75,7 @@ class Page {
     this.notes = new VertexNotes(this.entries);
     this.looker.open(this.machine, session, given).catch((fault) => this.say(fault.message));
     this.search.open(this.entries);
+    this.orders.open(session);
     this.isLooking = false;
     this.graph.open(session.graph, this.entries, this.notes);
     this.time.open(session, this.entries);
@@ -240,6 +243,7 @@ class Page {
       this.graph.update(this.statuses, this.session.breaks);
       this.graph.select(this.selected);
       this.time.update();
+      this.orders.update();
       this.showVertex();
       const focused = document.activeElement;
       by('back').disabled = by('first').disabled = !event;
@@ -338,6 +342,20 @@ class Page {
     });
   }
 
+  /** Does what each worker can do. */
+  stepAll() {
+    this.move(() => {
+      if (!this.session.stepAll()) this.sayEnd();
+    });
+  }
+
+  /** Goes on in an order at random, and takes the next seed for the next time. */
+  shuffle() {
+    const seed = Number(by('seed').value) || 0;
+    by('seed').value = seed + 1;
+    this.travel(() => this.session.goingAtRandom(seed), (how) => how === 'end' && this.sayEnd());
+  }
+
   next() {
     this.move(() => {
       if (!this.session.next()) this.sayEnd();
@@ -382,9 +400,9 @@ class Page {
       step: () => this.step(), cancel: () => this.cancel(),
       first: () => this.travel(() => this.session.going(this.session.ways.root)),
       last: () => this.travel(() => this.session.going(this.session.ways.end())),
-      stop: () => { this.isStopped = true; },
+      stop: () => { this.isStopped = true; }, all: () => this.stepAll(), shuffle: () => this.shuffle(),
     };
-    const buttons = ['next', 'back', 'go', 'step', 'cancel', 'first', 'stop'];
+    const buttons = ['next', 'back', 'go', 'step', 'cancel', 'first', 'stop', 'all', 'shuffle'];
     for (const id of buttons) by(id).addEventListener('click', moves[id]);
     by('worker').addEventListener('change', () => this.updateWorker());
     by('break-fail').addEventListener('change', (event) => {
@@ -396,7 +414,7 @@ class Page {
     listen({
       ArrowRight: moves.next, n: moves.next, ArrowLeft: moves.back, b: moves.back, g: moves.go, s: moves.step,
       c: moves.cancel, Home: moves.first, End: moves.last, Escape: moves.stop, f: () => this.fork(),
-      o: () => this.openView.show(),
+      o: () => this.openView.show(), a: moves.all, r: moves.shuffle,
       '/': () => by('search').focus(),
       h: () => this.showShare(), '?': () => by('keys-view').showModal(),
       v: () => (this.session || this.foreign) && this.select(this.selected ?? 0, true),

@@ -4,6 +4,7 @@
  * docs/FORMATS.md, "A stepping session", has the lines that a session takes and what it answers.
  */
 
+import { diceOf, shuffled } from './dice.mjs';
 import { STATUS } from './machine.mjs';
 import { eventOf, graphOf } from './record.mjs';
 import { Statuses } from './statuses.mjs';
@@ -181,16 +182,38 @@ export class Session {
 
   /**
    * Does what a worker can do: its next micro-step, or else the settle of its vertex, or else a claim of the first
-   * vertex that it may take. Returns the event, or null where there is none.
+   * vertex that it may take, in an order of the ready ones. Returns the event, or null where there is none.
    */
-  step(worker) {
+  step(worker, ordered = (vertices) => vertices) {
     const event = this.event(`step ${worker}`) ?? this.event(`settle ${worker}`);
     if (event) return event;
-    for (const vertex of this.statuses().all('ready')) {
+    for (const vertex of ordered(this.statuses().all('ready'))) {
       const claim = this.event(`claim ${worker} ${vertex}`);
       if (claim) return claim;
     }
     return null;
+  }
+
+  /** Does what each worker can do, one after another; returns how many events there were. */
+  stepAll() {
+    let count = 0;
+    for (let worker = 0; worker < this.workers; worker += 1) if (this.step(worker)) count += 1;
+    return count;
+  }
+
+  /**
+   * Goes on to a breakpoint or to the end in an order at random by a seed: of the workers that can do something one is
+   * next, and it claims one of the ready vertices. Returns `stop` or `end`.
+   */
+  * goingAtRandom(seed) {
+    const dice = diceOf(seed);
+    const workers = Array.from({ length: this.workers }, (_, worker) => worker);
+    const any = () => shuffled(workers, dice).some((worker) => this.step(worker, (ready) => shuffled(ready, dice)));
+    while (any()) {
+      if (this.stopsAfter(this.ways.at.event)) return 'stop';
+      yield;
+    }
+    return 'end';
   }
 
   /** Takes back the last event; returns whether there was one. */

@@ -184,6 +184,26 @@ class Words(Parts):
         self.assertEqual((found[0], found[1], len(found[2])), ([], [], 6))
 
 
+class Orders(Parts):
+    """Orders at random, and two orders side by side."""
+
+    def test_a_seed_has_one_order(self):
+        text = "[1, 1, 2].map((seed) => m.shuffled([0, 1, 2, 3, 4, 5, 6, 7, 8, 9], m.diceOf(seed)))"
+        first, again, other = self.node("dice.mjs", text)
+        self.assertEqual((first, sorted(first)), (again, list(range(10))))
+        self.assertNotEqual(first, other)
+
+    def test_two_orders_in_words(self):
+        claims = [{"worker": 0, "number": 1}, {"worker": 1, "number": 1}]
+        rows = [
+            {"claims": claims, "isSame": True, "isCached": False},
+            {"claims": claims[:1] * 2, "isSame": False, "isCached": True},
+        ]
+        words = "1 of 2 vertices ended the same in both orders, with equal trees, and 1 were claimed by another worker "
+        words += "or at another event. Of the 1 without a cache mount at or before them, all ended the same."
+        self.assertEqual(self.node("orders.mjs", f"m.ordersInWords({json.dumps(rows)})"), words)
+
+
 class Links(Parts):
     """Links that carry nothing that can be read."""
 
