@@ -6,7 +6,7 @@ given. If they can't be had, all is skipped. The parts are:
 
 - `build`: `tools/daemon --clients` builds the daemon, `buildctl` and the frontend for Dockerfiles into out/;
 - `format` and `vet`: gofmt would change no file, and `go vet` finds nothing;
-- `go`: the tests in Go, of all packages of the daemon;
+- `go`: the tests in Go, of all packages of the daemon, with --order N in an order that follows from the seed N;
 - `fuzz`, only with --fuzz SECONDS: what hostile clients send as a source, for so long, at random as Go's fuzzing makes
   it (the tests in Go have a fixed number of such cases, the same in each run);
 - `suite`: the sections `plain` and `daemon` of BuildKit's own tests.
@@ -79,7 +79,7 @@ def tried(go: Go, options: argparse.Namespace) -> Counts:
     """Runs the tests in Go."""
     known = go._replace(environment={**go.environment, "LLBM": options.llbm})
     try:
-        words = ["test", "-v", "-count=1", f"-timeout={HOUR}s"]
+        words = ["test", "-v", "-count=1", f"-timeout={HOUR}s", f"-shuffle={options.order or 'off'}"]
         return counts_in(known.call(*words, *packages(), seconds=HOUR + MINUTE))
     except go_building.NotBuilt as fault:
         counts = counts_in(str(fault))
@@ -158,6 +158,7 @@ def main() -> int:
     )  # fmt: skip
     parser.add_argument("--offline", action="store_true", help="fetch nothing")
     parser.add_argument("--fuzz", metavar="SECONDS", type=int, default=0, help="how long random inputs are sent")
+    parser.add_argument("--order", metavar="N", type=int, help="run the tests in Go in an order that follows from N")
     parser.add_argument("--only", metavar="NAME", action="append", default=[], choices=PARTS, help=", ".join(PARTS))
     options = parser.parse_args()
     if "fuzz" in options.only and not options.fuzz:

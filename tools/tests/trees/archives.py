@@ -7,6 +7,7 @@ import io
 import lzma
 import os
 import pathlib
+import random
 import shutil
 import stat
 import subprocess
@@ -289,7 +290,7 @@ class TreeOfTar(Folder):
         self.check_refused(header * 3000 + tar(entry("a", b"a")), "not a header of an entry: ")
 
     def test_damaged_packing_is_refused(self):
-        given = gzip.compress(tar(entry("a", os.urandom(2000))))
+        given = gzip.compress(tar(entry("a", random.Random(1).randbytes(2000))))
         self.check_refused(given[:-100], "^the archive could not be unpacked: ")
         self.check_refused(given[:-8] + b"\0" * 8, "^the archive could not be unpacked: ")
         self.check_refused(given[:100] + bytes(50) + given[150:], "^the archive could not be unpacked: ")

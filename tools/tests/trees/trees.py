@@ -1,6 +1,7 @@
 """Tests of `tree-of-directory` and `directory-of-tree`."""
 
 import os
+import random
 import resource
 import signal
 import socket
@@ -223,7 +224,7 @@ class RoundTrip(Folder):
         self.make(b"a-b", b"", mode=0o400)
         self.make(b"locked/ two  spaces ", b"x", mode=0o444)
         self.make(b"locked", mode=0o555)
-        long = os.urandom(3 << 20)
+        long = random.Random(1).randbytes(3 << 20)
         self.make(b"long", long)
         os.chmod(self.place(b"in"), 0o1700)
         first = self.read(b"in")
