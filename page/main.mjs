@@ -1,6 +1,5 @@
 /** The page: its views over one session. */
 
-import { buildNamedBy, buildOf } from './build_link.mjs';
 import { ChangesView } from './changes_view.mjs';
 import { verticesOf } from './definition.mjs';
 import { by, make, oncePerFrame } from './dom.mjs';
@@ -9,16 +8,16 @@ import { whyIdle } from './idle.mjs';
 import { foreignOf, foreignStatuses } from './foreign.mjs';
 import { detailsOf, showForeign } from './foreign_view.mjs';
 import { GraphView } from './graph_view.mjs';
-import { KeptState, reloaded } from './kept_state.mjs';
+import { KeptState } from './kept_state.mjs';
 import { listen } from './keyboard.mjs';
+import { openLink } from './links.mjs';
 import { Looker } from './looker.mjs';
 import { Machine } from './machine.mjs';
 import { VertexNotes } from './notes.mjs';
-import { canBeDrawn, OpenView } from './open_view.mjs';
-import { assembled, refusalOf, Session } from './session.mjs';
+import { OpenView } from './open_view.mjs';
+import { refusalOf, Session } from './session.mjs';
 import { OrdersView } from './orders_view.mjs';
 import { SearchView } from './search_view.mjs';
-import { givenBy } from './share.mjs';
 import { shareView } from './share_view.mjs';
 import { loadTables } from './tables.mjs';
 import { TimeView } from './time_view.mjs';
@@ -424,47 +423,6 @@ class Page {
         this.updateWorker();
       },
     });
-  }
-}
-
-/** Opens what the link of the page carries; shows the view *Open* if it carries nothing that can be read. */
-async function openLink(page, machine) {
-  page.say('');
-  const name = buildNamedBy(location.hash);
-  if (name !== null) {
-    await openServed(page, machine, name);
-    return;
-  }
-  try {
-    const given = await givenBy(location.hash) ?? await reloaded();
-    if (given) openGiven(page, machine, given);
-    else page.openView.show();
-  } catch (fault) {
-    const words = `The link is not readable: ${fault.message}. ${explained(fault.message)}`.trim();
-    page.say(words);
-    page.openView.show();
-    page.openView.showFault(new Error(words));
-  }
-}
-
-// Opens what a link carries; a definition that the machine refuses for its rows is drawn.
-function openGiven(page, machine, given) {
-  const definition = assembled(machine, given.text);
-  if (canBeDrawn(refusalOf(machine, definition))) page.openForeign(definition);
-  else page.open({ ...given, definition });
-}
-
-async function openServed(page, machine, name) {
-  let build = null;
-  try {
-    build = await buildOf(machine, name);
-    page.openBuild(build);
-  } catch (fault) {
-    const words = `The build ${name} can't be opened: ${fault.message}. ${explained(fault.message)}`.trim();
-    page.say(words);
-    if (build) page.openView.takeBuild(build);
-    page.openView.show();
-    page.openView.showFault(new Error(words));
   }
 }
 

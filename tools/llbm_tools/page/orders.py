@@ -79,7 +79,7 @@ def two_orders_side_by_side(page: Page) -> None:
 
 
 def orders_on_a_cache_differ(page: Page) -> None:
-    """Runs two executions on one locked cache in both orders: what they read of the cache differs, and the page says it."""
+    """Runs two executions on one locked cache in both orders: what they read of it differs, and the page says so."""
     page.load()
     text = locked().encode()
     page.give_file("locked.text", text, "#definition-file")
