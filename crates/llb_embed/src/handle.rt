@@ -31,8 +31,9 @@ pub(crate) fn take(it: &mut Llb, alloc: Global) -> Option<Box<Held>>
     Some(kept.into_box(alloc))
 }
 
-/// Puts a value into the handle. If the handle holds a value already, the caller must take it out before.
+/// Puts a value into the handle, which has to hold none: a value that it held would never be freed.
 pub(crate) fn put(it: &mut Llb, held: Box<Held>)
+    requires { held_in it.old ≡ None }
     ensures sound { IsSound it.new }
     ensures holds { held_in it.new ≡ Some held.value }
 {
