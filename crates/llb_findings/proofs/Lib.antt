@@ -1,5 +1,6 @@
 mod SelectionParts
 mod BrokenRules
+mod OpsAndRules
 mod FindingsAgree
 mod RowFindings
 mod EveryFault

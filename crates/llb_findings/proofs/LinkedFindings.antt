@@ -16,10 +16,10 @@ use Rattle.llb_loader.specs.Numbering.{IsNumbering, HasCycle, rank_in}
 use Rattle.llb_loader.specs.WaitingRows.{IsMarked}
 use Rattle.llb_loader.specs.RowLookup.{IsTerminal, terminal_in, row_named, graph_of}
 use Rattle.llb_loader.specs.Linking.{op_at, input_at, input_row, links_in, IsStarted}
-use Rattle.llb_findings.specs.Findings.{ops_in, plan_for, Stands, unknown_digests, unsupported, invalid, bad_indexes, linked_faults}
+use Rattle.llb_findings.specs.Findings.{ops_in, plan_for, IsFaultIn, unknown_digests, unsupported, invalid, bad_indexes, linked_faults}
 use Rattle.llb_findings.specs.FindingSteps.{AreReadMarks, AreReached, HasTerminal, start_by, start_for}
 use Rattle.llb_findings.specs.Selections.{Adds}
-use Rattle.llb_findings.proofs.FindingsAgree.{ops_len}
+use Rattle.llb_findings.proofs.OpsAndRules.{ops_len}
 use Rattle.llb_findings.proofs.SelectionParts.{one_not, one_here, adds_both, adds_if}
 use Rattle.llb_loader.proofs.OpAndInputReads.{op_read}
 use Rattle.llb_loader.proofs.LinkedRowRefusals.{graph_len}
@@ -107,12 +107,12 @@ module _ (rows : List Row) (t : ℕ) (has' : HasTerminal rows t) where
 
   pub cycle_found : (s : ℕ) (links : List (Vec ℕ)) (answer : Option (Vec ℕ)) (before after : List LoadFault) → start_for rows ≡ Some s
       → lists links ≡ links_in (plan_for rows) → answer ≡ None → IfNone answer (HasCycle (lists links) s) → after ≡ before ++ Cycle ∷ []
-      → Adds (Stands (plan_for rows)) (Cycle ∷ []) before after
+      → Adds (IsFaultIn (plan_for rows)) (Cycle ∷ []) before after
   cycle_found s links answer before after is links_are none h e =
       let st = started s is in (
         Cycle ∷ [],
         e,
-        one_here (Stands (plan_for rows)) Cycle (
+        one_here (IsFaultIn (plan_for rows)) Cycle (
           st.0,
           subst (λ (a : ℕ). HasCycle (links_in (plan_for rows)) a) (sym st.1)
               (subst (λ (g : List (List ℕ)). HasCycle g s) links_are (subst (λ (o : Option (Vec ℕ)). IfNone o (HasCycle (lists links) s)) none h)),
@@ -121,7 +121,7 @@ module _ (rows : List Row) (t : ℕ) (has' : HasTerminal rows t) where
 
   pub cycle_not : (s : ℕ) (links : List (Vec ℕ)) (answer : Option (Vec ℕ)) (order : Vec ℕ) (before : List LoadFault) → start_for rows ≡ Some s
       → lists links ≡ links_in (plan_for rows) → answer ≡ Some order → IfSome answer (λ o. IsNumbering (lists links) s o.items)
-      → Adds (Stands (plan_for rows)) (Cycle ∷ []) before before
+      → Adds (IsFaultIn (plan_for rows)) (Cycle ∷ []) before before
   cycle_not s links answer order before is links_are some h =
       let st = started s is in
       let n : IsNumbering (links_in (plan_for rows)) (plan_for rows).start order.items = subst (λ (a : ℕ). IsNumbering (links_in (plan_for rows)) a
@@ -130,20 +130,20 @@ module _ (rows : List Row) (t : ℕ) (has' : HasTerminal rows t) where
       (subst (λ (o : Option (Vec ℕ)). IfSome o (λ v. IsNumbering (lists links) s v.items)) some h)) in (
         [],
         sym (append-nil before),
-        one_not (Stands (plan_for rows)) Cycle (λ c. c.1 (rank_in order.items)
+        one_not (IsFaultIn (plan_for rows)) Cycle (λ c. c.1 (rank_in order.items)
             (numbering_down (links_in (plan_for rows)) (plan_for rows).start order.items n)),
       )
 
   pub cycle_unasked : (start : Option ℕ) (before : List LoadFault) → start ≡ start_for rows → start ≡ None
-      → Adds (Stands (plan_for rows)) (Cycle ∷ []) before before
-  cycle_unasked start before same none = ([], sym (append-nil before), one_not (Stands (plan_for rows)) Cycle (λ c. unstarted (sym same ∙ none) c.0))
+      → Adds (IsFaultIn (plan_for rows)) (Cycle ∷ []) before before
+  cycle_unasked start before same none = ([], sym (append-nil before), one_not (IsFaultIn (plan_for rows)) Cycle (λ c. unstarted (sym same ∙ none) c.0))
 
   no_inputs : (xs : List Input) → IsTrue (eqb (length xs) 0) → xs ≡ []
   no_inputs [] h = refl
   no_inputs (x ∷ xs) h = absurd (let z : true ≡ false = sym h ∙ ne_eqb (length (x ∷ xs)) 0 (omega arith) in cc)
 
   result_is : (marks : List Bool) (b : Bool) → AreReadMarks rows marks → get_or marks (terminal_in rows) false ≡ b
-      → IsTrue (b && eqb (length (op_at (ops_in rows) (terminal_in rows)).inputs) 0) ↔ Stands (plan_for rows) NoResult
+      → IsTrue (b && eqb (length (op_at (ops_in rows) (terminal_in rows)).inputs) 0) ↔ IsFaultIn (plan_for rows) NoResult
   result_is marks true are at = (
     λ h. (
       has'.apart,
@@ -163,9 +163,9 @@ module _ (rows : List Row) (t : ℕ) (has' : HasTerminal rows t) where
   pub result_row : (marks : List Bool) (op : Op) (before after : List LoadFault) → AreReadMarks rows marks
       → op_at (ops_in rows) (terminal_in rows) ≡ op
       → after ≡ before ++ cond (get_or marks t false && eqb (length op.inputs) 0) (NoResult ∷ []) []
-      → Adds (Stands (plan_for rows)) (NoResult ∷ []) before after
+      → Adds (IsFaultIn (plan_for rows)) (NoResult ∷ []) before after
   result_row marks op before after are at e =
-      adds_if (Stands (plan_for rows)) NoResult (get_or marks t false && eqb (length (op_at (ops_in rows) (terminal_in rows)).inputs) 0) before after
+      adds_if (IsFaultIn (plan_for rows)) NoResult (get_or marks t false && eqb (length (op_at (ops_in rows) (terminal_in rows)).inputs) 0) before after
       (result_is marks (get_or marks t false) are (ap (λ (k : ℕ). get_or marks k false) (sym has'.same)))
       (e ∙ ap (λ (o : Op). before ++ cond (get_or marks t false && eqb (length o.inputs) 0) (NoResult ∷ []) []) (sym at))
 
@@ -186,12 +186,12 @@ pub start_here : (rows : List Row) (t : ℕ) (op : Op) (start : Option ℕ) → 
 start_here rows t op start is at read =
     is ∙ ap (λ (k : ℕ). start_by rows k op) at ∙ ap (λ (o : Op). start_by rows (terminal_in rows) o) (sym read)
 
-pub linked_parts : (rows : List Row) (a b d e f g h : List LoadFault) → Adds (Stands (plan_for rows)) (NoResult ∷ []) a b
-    → Adds (Stands (plan_for rows)) (unknown_digests (plan_for rows)) b d → Adds (Stands (plan_for rows)) (Cycle ∷ []) d e
-    → Adds (Stands (plan_for rows)) (unsupported (plan_for rows)) e f → Adds (Stands (plan_for rows)) (invalid (plan_for rows)) f g
-    → Adds (Stands (plan_for rows)) (bad_indexes (plan_for rows)) g h → Adds (Stands (plan_for rows)) (linked_faults (plan_for rows)) a h
+pub linked_parts : (rows : List Row) (a b d e f g h : List LoadFault) → Adds (IsFaultIn (plan_for rows)) (NoResult ∷ []) a b
+    → Adds (IsFaultIn (plan_for rows)) (unknown_digests (plan_for rows)) b d → Adds (IsFaultIn (plan_for rows)) (Cycle ∷ []) d e
+    → Adds (IsFaultIn (plan_for rows)) (unsupported (plan_for rows)) e f → Adds (IsFaultIn (plan_for rows)) (invalid (plan_for rows)) f g
+    → Adds (IsFaultIn (plan_for rows)) (bad_indexes (plan_for rows)) g h → Adds (IsFaultIn (plan_for rows)) (linked_faults (plan_for rows)) a h
 unfolding linked_faults
 linked_parts rows a b d e f g h u v w x y z =
     let p = plan_for rows in
-    adds_both (Stands p) (NoResult ∷ []) _ a b h u (adds_both (Stands p) (unknown_digests p) _ b d h v (adds_both (Stands p) (Cycle ∷ []) _ d e h w
-    (adds_both (Stands p) (unsupported p) _ e f h x (adds_both (Stands p) (invalid p) (bad_indexes p) f g h y z))))
+    adds_both (IsFaultIn p) (NoResult ∷ []) _ a b h u (adds_both (IsFaultIn p) (unknown_digests p) _ b d h v (adds_both (IsFaultIn p) (Cycle ∷ []) _ d e h w
+    (adds_both (IsFaultIn p) (unsupported p) _ e f h x (adds_both (IsFaultIn p) (invalid p) (bad_indexes p) f g h y z))))

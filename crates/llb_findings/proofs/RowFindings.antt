@@ -17,7 +17,8 @@ use Rattle.llb_loader.specs.declared.fault.LoadFault.TheVariants.{Entry, Collisi
 use Rattle.llb_loader.specs.Features.{has, features}
 use Rattle.llb_loader.specs.Linking.{op_at, input_at, HasResult}
 use Rattle.llb_loader.specs.RowLookup.{IsTerminal, terminal_in, row_named}
-use Rattle.llb_findings.specs.Findings.{op_or_none, fault_or_none, ops_in, plan_for, reading_at, entry_at, entry_faults, IsAsked, IsBroken, IsCounted, Stands}
+use Rattle.llb_findings.specs.Findings.{op_or_none, fault_or_none, ops_in, plan_for, reading_at, entry_at, entry_faults, IsAsked, IsBroken}
+use Rattle.llb_findings.specs.Findings.{IsCounted, IsFaultIn}
 use Rattle.llb_findings.specs.Findings.{bad_indexes, collisions, unknown_digests, unsupported, invalid}
 use Rattle.llb_findings.specs.FindingSteps.{AreReadMarks, AreReached, HasTerminal, AddsRules, unread, feature_faults, features_at, rules_at, unknown_at}
 use Rattle.llb_findings.specs.FindingSteps.{asked_by, unknown_by}
@@ -30,7 +31,7 @@ use Rattle.std.proofs.lemmas.Int.{ints}
 use Rattle.std.proofs.lemmas.List.{get_or_append_left, get_or_push, get_or_default, same_lists}
 use Rattle.llb_findings.specs.Selections.{AreThose, Adds, joined_below}
 use Rattle.llb_loader.proofs.OpAndInputReads.{op_read}
-use Rattle.llb_findings.proofs.FindingsAgree.{ops_len, op_here, reading_is}
+use Rattle.llb_findings.proofs.OpsAndRules.{ops_len, op_here, reading_is}
 use Rattle.llb_findings.proofs.SelectionParts.{none_map, those_map, those_map_filter, those_joined_by, one_here, one_not}
 
 -- the op that the code reads is the op of the row
@@ -41,38 +42,38 @@ row_op rows ops k op same l e = ap (λ (os : List Op). op_at os k) (sym same)
 feature_case : (rows : List Row) (seen : List Bool) (k : ℕ) (op : Op) (b : Bool) (before after : List LoadFault) → AreReached rows seen
     → op_at (ops_in rows) k ≡ op → get_or seen k false ≡ b
     → after ≡ before ++ cond b (feature_faults k op.kind) []
-    → Adds (Stands (plan_for rows)) (features_at k) before after
+    → Adds (IsFaultIn (plan_for rows)) (features_at k) before after
 unfolding feature_faults
 feature_case rows seen k op true before after are read mark e =
     let r = (are.exact k).0 mark in (
       map (λ f. Unsupported k f) (filter (has op.kind) features),
       e,
-      those_map_filter (Stands (plan_for rows)) (λ f. Unsupported k f) (has op.kind)
+      those_map_filter (IsFaultIn (plan_for rows)) (λ f. Unsupported k f) (has op.kind)
           (λ f h. (r.0, r.1, subst (λ (o : Op). has o.kind f ≡ true) (sym read) h))
           (λ f s. subst (λ (o : Op). has o.kind f ≡ true) read s.2) features,
     )
 feature_case rows seen k op false before after are read mark e = (
   [],
   e,
-  none_map (Stands (plan_for rows)) (λ f. Unsupported k f) features
+  none_map (IsFaultIn (plan_for rows)) (λ f. Unsupported k f) features
       (λ f s. let m = (are.exact k).1 (s.0, s.1) in let z : true ≡ false = sym m ∙ mark in cc),
 )
 
 pub feature_row : (rows : List Row) (ops : List Op) (seen : List Bool) (k : ℕ) (op : Op) (before after : List LoadFault) → ops ≡ ops_in rows
     → AreReached rows seen → k < length rows → op ≡ get_or ops k op
     → after ≡ before ++ cond (get_or seen k false) (feature_faults k op.kind) []
-    → Adds (Stands (plan_for rows)) (features_at k) before after
+    → Adds (IsFaultIn (plan_for rows)) (features_at k) before after
 feature_row rows ops seen k op before after same are l e new =
     feature_case rows seen k op (get_or seen k false) before after are (row_op rows ops k op same l e) refl new
 
 pub all_features : (rows : List Row) (n : ℕ) (before after : List LoadFault) → n ≡ length rows
-    → Adds (Stands (plan_for rows)) (joined_below n features_at) before after → Adds (Stands (plan_for rows)) (unsupported (plan_for rows)) before after
+    → Adds (IsFaultIn (plan_for rows)) (joined_below n features_at) before after → Adds (IsFaultIn (plan_for rows)) (unsupported (plan_for rows)) before after
 unfolding unsupported
-all_features rows n before after same h = subst (λ (m : ℕ). Adds (Stands (plan_for rows)) (joined_below m features_at) before after) same h
+all_features rows n before after same h = subst (λ (m : ℕ). Adds (IsFaultIn (plan_for rows)) (joined_below m features_at) before after) same h
 
 rule_case : (rows : List Row) (read seen : List Bool) (k : ℕ) (op : Op) (b r : Bool) (before after : List LoadFault) → AreReadMarks rows read
     → AreReached rows seen → k < length rows → op_at (ops_in rows) k ≡ op → get_or seen k false ≡ b → get_or read k false ≡ r
-    → AddsRules k op b r before after → Adds (Stands (plan_for rows)) (rules_at rows k) before after
+    → AddsRules k op b r before after → Adds (IsFaultIn (plan_for rows)) (rules_at rows k) before after
 rule_case rows read seen k op true true before after marks are l at mark ok (broken, those, e) =
     let s = (are.exact k).0 mark in
     let p = plan_for rows in
@@ -80,19 +81,19 @@ rule_case rows read seen k op true true before after marks are l at mark ok (bro
     subst (λ (o : Op). AreThose (IsBroken o.inputs o.kind) (rules_on o.kind) broken) (sym at) those in (
       map (λ q. Invalid k q) broken,
       e,
-      those_map (IsBroken (op_at p.ops k).inputs (op_at p.ops k).kind) (Stands p) (λ q. Invalid k q)
+      those_map (IsBroken (op_at p.ops k).inputs (op_at p.ops k).kind) (IsFaultIn p) (λ q. Invalid k q)
           (λ q. (λ h. (s.0, s.1, (marks.exact k l).0 ok, h), λ t. t.3)) (rules_on (op_at p.ops k).kind) broken here,
     )
 rule_case rows read seen k op true false before after marks are l at mark ok e = (
   [],
   e,
-  none_map (Stands (plan_for rows)) (λ q. Invalid k q) (rules_on (op_at (ops_in rows) k).kind)
+  none_map (IsFaultIn (plan_for rows)) (λ q. Invalid k q) (rules_on (op_at (ops_in rows) k).kind)
       (λ q s. let m = (marks.exact k l).1 s.2 in let z : true ≡ false = sym m ∙ ok in cc),
 )
 rule_case rows read seen k op false r before after marks are l at mark ok e = (
   [],
   not_added k op r before after e,
-  none_map (Stands (plan_for rows)) (λ q. Invalid k q) (rules_on (op_at (ops_in rows) k).kind)
+  none_map (IsFaultIn (plan_for rows)) (λ q. Invalid k q) (rules_on (op_at (ops_in rows) k).kind)
       (λ q s. let m = (are.exact k).1 (s.0, s.1) in let z : true ≡ false = sym m ∙ mark in cc),
 )
   where
@@ -102,14 +103,14 @@ rule_case rows read seen k op false r before after marks are l at mark ok e = (
 
 pub rule_row : (rows : List Row) (ops : List Op) (read seen : List Bool) (k : ℕ) (op : Op) (before after : List LoadFault) → ops ≡ ops_in rows
     → AreReadMarks rows read → AreReached rows seen → k < length rows → op ≡ get_or ops k op
-    → AddsRules k op (get_or seen k false) (get_or read k false) before after → Adds (Stands (plan_for rows)) (rules_at rows k) before after
+    → AddsRules k op (get_or seen k false) (get_or read k false) before after → Adds (IsFaultIn (plan_for rows)) (rules_at rows k) before after
 rule_row rows ops read seen k op before after same marks are l e new =
     rule_case rows read seen k op (get_or seen k false) (get_or read k false) before after marks are l (row_op rows ops k op same l e) refl refl new
 
 pub all_rules : (rows : List Row) (n : ℕ) (before after : List LoadFault) → n ≡ length rows
-    → Adds (Stands (plan_for rows)) (joined_below n (rules_at rows)) before after → Adds (Stands (plan_for rows)) (invalid (plan_for rows)) before after
+    → Adds (IsFaultIn (plan_for rows)) (joined_below n (rules_at rows)) before after → Adds (IsFaultIn (plan_for rows)) (invalid (plan_for rows)) before after
 unfolding invalid
-all_rules rows n before after same h = subst (λ (m : ℕ). Adds (Stands (plan_for rows)) (joined_below m (rules_at rows)) before after) same h
+all_rules rows n before after same h = subst (λ (m : ℕ). Adds (IsFaultIn (plan_for rows)) (joined_below m (rules_at rows)) before after) same h
 
 -- ---- inputs that are looked at
 
@@ -124,22 +125,22 @@ pub reading_row : (rows : List Row) (k : ℕ) (row : Row) → k < length rows �
 reading_row rows k row l e = reading_is rows k ∙ ap (λ (r : Row). op_of r.bytes) (row_read rows k row l e)
 
 entry_case : (rows : List Row) (k : ℕ) (r : Result Op OpFault) (before after : List LoadFault) → k < length rows → reading_at rows k ≡ r
-    → after ≡ before ++ unread k r → Adds (Stands (plan_for rows)) (entry_at rows k) before after
+    → after ≡ before ++ unread k r → Adds (IsFaultIn (plan_for rows)) (entry_at rows k) before after
 entry_case rows k (Ok op) before after l reads e = (
   [],
   e,
-  one_not (Stands (plan_for rows)) (Entry k (fault_or_none (reading_at rows k)))
+  one_not (IsFaultIn (plan_for rows)) (Entry k (fault_or_none (reading_at rows k)))
       (λ s. let x : ◌≡◌ {A = Result Op OpFault} (Ok op) (Err (fault_or_none (reading_at rows k))) = sym reads ∙ s.1 in cc),
 )
 entry_case rows k (Err f) before after l reads e =
     let same : fault_or_none (reading_at rows k) ≡ f = ap (λ (r : Result Op OpFault). fault_or_none r) reads in (
       Entry k (fault_or_none (reading_at rows k)) ∷ [],
       e ∙ ap (λ (g : OpFault). before ++ Entry k g ∷ []) (sym same),
-      one_here (Stands (plan_for rows)) (Entry k (fault_or_none (reading_at rows k))) (l, reads ∙ ap (λ (g : OpFault). Err g) (sym same)),
+      one_here (IsFaultIn (plan_for rows)) (Entry k (fault_or_none (reading_at rows k))) (l, reads ∙ ap (λ (g : OpFault). Err g) (sym same)),
     )
 
 pub entry_row : (rows : List Row) (k : ℕ) (row : Row) (before after : List LoadFault) → k < length rows → reading_at rows k ≡ op_of row.bytes
-    → after ≡ before ++ unread k (op_of row.bytes) → Adds (Stands (plan_for rows)) (entry_at rows k) before after
+    → after ≡ before ++ unread k (op_of row.bytes) → Adds (IsFaultIn (plan_for rows)) (entry_at rows k) before after
 entry_row rows k row before after l reads e = entry_case rows k (op_of row.bytes) before after l reads e
 
 pub ops_push : (rows : List Row) (ops : List Op) (op : Op) (n : ℕ) (row : Row) → length ops ≡ n
@@ -158,9 +159,10 @@ marks_push rows marks b n row len old reads new = below_step (λ j. IsMarked (ma
     (subst (λ (r : Result Op OpFault). (b ≡ true) ↔ IsOk r) (sym reads) new))
 
 pub all_entries : (rows : List Row) (n : ℕ) (before after : List LoadFault) → n ≡ length rows
-    → Adds (Stands (plan_for rows)) (joined_below n (entry_at rows)) before after → Adds (Stands (plan_for rows)) (entry_faults (plan_for rows)) before after
+    → Adds (IsFaultIn (plan_for rows)) (joined_below n (entry_at rows)) before after
+    → Adds (IsFaultIn (plan_for rows)) (entry_faults (plan_for rows)) before after
 unfolding entry_faults
-all_entries rows n before after same h = subst (λ (m : ℕ). Adds (Stands (plan_for rows)) (joined_below m (entry_at rows)) before after) same h
+all_entries rows n before after same h = subst (λ (m : ℕ). Adds (IsFaultIn (plan_for rows)) (joined_below m (entry_at rows)) before after) same h
 
 pub all_read : (rows : List Row) (ops : List Op) (n : ℕ) → n ≡ length rows → length ops ≡ n
     → ((j : ℕ) → j < n → op_at ops j ≡ op_or_none (reading_at rows j)) → ops ≡ ops_in rows
@@ -261,31 +263,31 @@ module _ (rows : List Row) (seen : List Bool) (t : ℕ) (are : AreReached rows s
 
   unknown_is : (k i : ℕ) → i < length (op_at (ops_in rows) k).inputs
       → IsTrue (asked_by (get_or seen k false) (eqb k t) i && not (is_some (row_named rows t (input_at (op_at (ops_in rows) k) i).digest)))
-      ↔ Stands (plan_for rows) (UnknownDigest k i)
+      ↔ IsFaultIn (plan_for rows) (UnknownDigest k i)
   unknown_is k i l = subst (λ (o : Option ℕ). IsTrue (asked_by (get_or seen k false) (eqb k t) i && not (is_some o))
-      ↔ Stands (plan_for rows) (UnknownDigest k i)) (sym (row_same (input_at (op_at (ops_in rows) k) i).digest))
+      ↔ IsFaultIn (plan_for rows) (UnknownDigest k i)) (sym (row_same (input_at (op_at (ops_in rows) k) i).digest))
       (and_none (asked_by (get_or seen k false) (eqb k t) i) (row_named rows (terminal_in rows) (input_at (op_at (ops_in rows) k) i).digest)
       (IsAsked (plan_for rows) k i) (asked_is k i l))
 
   pub unknown_row : (ops : List Op) (k : ℕ) (op : Op) (before after : List LoadFault) → ops ≡ ops_in rows → k < length rows → op ≡ get_or ops k op
       → after ≡ before ++ joined_below (length op.inputs) (unknown_by rows t (get_or seen k false) k op)
-      → Adds (Stands (plan_for rows)) (unknown_at rows k) before after
+      → Adds (IsFaultIn (plan_for rows)) (unknown_at rows k) before after
   unknown_row ops k op before after same l e new =
       let at = row_op rows ops k op same l e in (
         joined_below (length (op_at (ops_in rows) k).inputs) (unknown_by rows t (get_or seen k false) k (op_at (ops_in rows) k)),
         subst (λ (o : Op). after ≡ before ++ joined_below (length o.inputs) (unknown_by rows t (get_or seen k false) k o)) (sym at) new,
-        those_joined_by (Stands (plan_for rows)) (length (op_at (ops_in rows) k).inputs) (λ i. UnknownDigest k i)
+        those_joined_by (IsFaultIn (plan_for rows)) (length (op_at (ops_in rows) k).inputs) (λ i. UnknownDigest k i)
             (λ i. asked_by (get_or seen k false) (eqb k t) i && not (is_some (row_named rows t (input_at (op_at (ops_in rows) k) i).digest)))
             (λ i m. unknown_is k i m),
       )
 
   index_is : (counts : List (Option ℕ)) (k i : ℕ) → AreCounts (ops_in rows) counts → i < length (op_at (ops_in rows) k).inputs
       → IsTrue (asked_by (get_or seen k false) (eqb k t) i && is_out_at counts (row_named rows t (input_at (op_at (ops_in rows) k) i).digest)
-      (input_at (op_at (ops_in rows) k) i).index) ↔ Stands (plan_for rows) (BadIndex k i)
+      (input_at (op_at (ops_in rows) k) i).index) ↔ IsFaultIn (plan_for rows) (BadIndex k i)
   index_is counts k i count l =
       let d = (input_at (op_at (ops_in rows) k) i).digest in
       let z = (input_at (op_at (ops_in rows) k) i).index in
-      subst (λ (o : Option ℕ). IsTrue (asked_by (get_or seen k false) (eqb k t) i && is_out_at counts o z) ↔ Stands (plan_for rows) (BadIndex k i))
+      subst (λ (o : Option ℕ). IsTrue (asked_by (get_or seen k false) (eqb k t) i && is_out_at counts o z) ↔ IsFaultIn (plan_for rows) (BadIndex k i))
       (sym (row_same d))
       (and_both (asked_by (get_or seen k false) (eqb k t) i) (is_out_at counts (row_named rows (terminal_in rows) d) z) (IsAsked (plan_for rows) k i)
       (IsOutOf (ops_in rows) (row_named rows (terminal_in rows) d) z) (asked_is k i l)
@@ -295,32 +297,32 @@ module _ (rows : List Row) (seen : List Bool) (t : ℕ) (are : AreReached rows s
   pub index_row : (counts : List (Option ℕ)) (ops : List Op) (k : ℕ) (op : Op) (before after : List LoadFault) → ops ≡ ops_in rows → AreCounts ops counts
       → k < length rows → op ≡ get_or ops k op
       → after ≡ before ++ joined_below (length op.inputs) (index_by rows t counts (get_or seen k false) k op)
-      → Adds (Stands (plan_for rows)) (indexes_at rows k) before after
+      → Adds (IsFaultIn (plan_for rows)) (indexes_at rows k) before after
   index_row counts ops k op before after same count l e new =
       let at = row_op rows ops k op same l e in
       let all = subst (λ (os : List Op). AreCounts os counts) same count in (
         joined_below (length (op_at (ops_in rows) k).inputs) (index_by rows t counts (get_or seen k false) k (op_at (ops_in rows) k)),
         subst (λ (o : Op). after ≡ before ++ joined_below (length o.inputs) (index_by rows t counts (get_or seen k false) k o)) (sym at) new,
-        those_joined_by (Stands (plan_for rows)) (length (op_at (ops_in rows) k).inputs) (λ i. BadIndex k i)
+        those_joined_by (IsFaultIn (plan_for rows)) (length (op_at (ops_in rows) k).inputs) (λ i. BadIndex k i)
             (λ i. asked_by (get_or seen k false) (eqb k t) i && is_out_at counts (row_named rows t (input_at (op_at (ops_in rows) k) i).digest)
             (input_at (op_at (ops_in rows) k) i).index)
             (λ i m. index_is counts k i all m),
       )
 
 pub all_indexes : (rows : List Row) (n : ℕ) (before after : List LoadFault) → n ≡ length rows
-    → Adds (Stands (plan_for rows)) (joined_below n (indexes_at rows)) before after
-    → Adds (Stands (plan_for rows)) (bad_indexes (plan_for rows)) before after
+    → Adds (IsFaultIn (plan_for rows)) (joined_below n (indexes_at rows)) before after
+    → Adds (IsFaultIn (plan_for rows)) (bad_indexes (plan_for rows)) before after
 unfolding bad_indexes
-all_indexes rows n before after same h = subst (λ (m : ℕ). Adds (Stands (plan_for rows)) (joined_below m (indexes_at rows)) before after) same h
+all_indexes rows n before after same h = subst (λ (m : ℕ). Adds (IsFaultIn (plan_for rows)) (joined_below m (indexes_at rows)) before after) same h
 
 pub all_unknown : (rows : List Row) (n : ℕ) (before after : List LoadFault) → n ≡ length rows
-    → Adds (Stands (plan_for rows)) (joined_below n (unknown_at rows)) before after
-    → Adds (Stands (plan_for rows)) (unknown_digests (plan_for rows)) before after
+    → Adds (IsFaultIn (plan_for rows)) (joined_below n (unknown_at rows)) before after
+    → Adds (IsFaultIn (plan_for rows)) (unknown_digests (plan_for rows)) before after
 unfolding unknown_digests
-all_unknown rows n before after same h = subst (λ (m : ℕ). Adds (Stands (plan_for rows)) (joined_below m (unknown_at rows)) before after) same h
+all_unknown rows n before after same h = subst (λ (m : ℕ). Adds (IsFaultIn (plan_for rows)) (joined_below m (unknown_at rows)) before after) same h
 
 pub all_collisions : (rows : List Row) (n : ℕ) (before after : List LoadFault) → n ≡ length rows
-    → Adds (Stands (plan_for rows)) (joined_below n (λ k. Collision k ∷ [])) before after
-    → Adds (Stands (plan_for rows)) (collisions (plan_for rows)) before after
+    → Adds (IsFaultIn (plan_for rows)) (joined_below n (λ k. Collision k ∷ [])) before after
+    → Adds (IsFaultIn (plan_for rows)) (collisions (plan_for rows)) before after
 unfolding collisions
-all_collisions rows n before after same h = subst (λ (m : ℕ). Adds (Stands (plan_for rows)) (joined_below m (λ k. Collision k ∷ [])) before after) same h
+all_collisions rows n before after same h = subst (λ (m : ℕ). Adds (IsFaultIn (plan_for rows)) (joined_below m (λ k. Collision k ∷ [])) before after) same h

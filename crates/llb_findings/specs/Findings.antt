@@ -1,4 +1,4 @@
--- Every fault of rows or of a definition: each fault that stands at its own place, whatever other faults there are, in the order in which the loader looks.
+-- Every fault of rows or of a definition: each fault that is at its own place, whatever other faults there are, in the order in which the loader looks.
 -- A row that can't be read as an op counts as an op without inputs: it leads to no row, and nothing is looked for in it.
 use Rattle.std.specs.Prelude.{◌≡◌, ◌⊎◌, ◌↔◌, ℕ, ◌<◌, true, List, [], ◌∷◌, ◌++◌, map, length, Option, Some, None, Result, Ok, Err, IsOk, IsSome, ⊤}
 use Rattle.std.specs.List.{Contains}
@@ -50,7 +50,7 @@ ops_in rows = map (λ r. op_or_none (op_of r.bytes)) rows
 abbrev pub plan_for : List Row → Plan
 plan_for rows = plan_of rows (ops_in rows)
 
--- ---- where each fault stands
+-- ---- where each fault is
 
 -- Input i of row k is looked at: row k is reached from the row of the result; or it is the terminal, and the input is its first.
 abbrev pub IsAsked : Plan → ℕ → ℕ → Type 0
@@ -83,19 +83,19 @@ IsLookedAt kind _ = ⊤
 abbrev pub IsBroken : List Input → Option Kind → Rule → Type 0
 IsBroken inputs kind r = IsLookedAt kind r × (¬ Meets inputs kind r)
 
--- the fault stands at its own place. A fault of rows on which the result depends stands only if there is a row of the result (`IsStarted`).
-abbrev pub Stands : Plan → LoadFault → Type 0
-Stands p (Entry k f) = (k < length p.rows) × (reading_at p.rows k ≡ Err f)
-Stands p TooFew = AllSame p.rows
-Stands p (Collision k) = Collides p.rows k
-Stands p NoResult = IsApart p.rows × IsOk (reading_at p.rows p.terminal) × ((op_at p.ops p.terminal).inputs ≡ [])
-Stands p (UnknownDigest k i) = IsAsked p k i × (input_row p k i ≡ None)
-Stands p Cycle = IsStarted p × HasCycle (links_in p) p.start
-Stands p (Unsupported k f) = IsStarted p × ReachedRow p k × (has (op_at p.ops k).kind f ≡ true)
-Stands p (Invalid k r) = IsStarted p × ReachedRow p k × IsOk (reading_at p.rows k)
+-- the fault is at its own place. A fault of rows on which the result depends is there only if there is a row of the result (`IsStarted`).
+abbrev pub IsFaultIn : Plan → LoadFault → Type 0
+IsFaultIn p (Entry k f) = (k < length p.rows) × (reading_at p.rows k ≡ Err f)
+IsFaultIn p TooFew = AllSame p.rows
+IsFaultIn p (Collision k) = Collides p.rows k
+IsFaultIn p NoResult = IsApart p.rows × IsOk (reading_at p.rows p.terminal) × ((op_at p.ops p.terminal).inputs ≡ [])
+IsFaultIn p (UnknownDigest k i) = IsAsked p k i × (input_row p k i ≡ None)
+IsFaultIn p Cycle = IsStarted p × HasCycle (links_in p) p.start
+IsFaultIn p (Unsupported k f) = IsStarted p × ReachedRow p k × (has (op_at p.ops k).kind f ≡ true)
+IsFaultIn p (Invalid k r) = IsStarted p × ReachedRow p k × IsOk (reading_at p.rows k)
     × IsBroken (op_at p.ops k).inputs (op_at p.ops k).kind r
-Stands p (BadIndex k i) = IsAsked p k i × NamesNoOutput p k i
-Stands p _ = ⊥
+IsFaultIn p (BadIndex k i) = IsAsked p k i × NamesNoOutput p k i
+IsFaultIn p _ = ⊥
 
 -- ---- all places, in the loader's order
 
@@ -135,17 +135,17 @@ possible p = entry_faults p ++ ((TooFew ∷ []) ++ (collisions p ++ linked_fault
 
 -- ---- the findings
 
--- `found` has the faults that stand in these rows, and no others, in the loader's order
+-- `found` has the faults of these rows, and no others, in the loader's order
 pub record AreFindings (rows : List Row) (found : List LoadFault) : Type 0 where
-  pub those : AreThose (Stands (plan_for rows)) (possible (plan_for rows)) found
-  pub each : (e : LoadFault) → Contains found e ↔ Stands (plan_for rows) e
+  pub those : AreThose (IsFaultIn (plan_for rows)) (possible (plan_for rows)) found
+  pub each : (e : LoadFault) → Contains found e ↔ IsFaultIn (plan_for rows) e
 
 -- nothing is found in these rows where they make a graph, and else what is found begins with the fault with which linking refuses them
 pub record BeginsAsLink (rows : List Row) (found : List LoadFault) : Type 0 where
   pub none : (found ≡ []) ↔ ((g : Numbered) × IsGraphOf rows g)
   pub first : (e : LoadFault) (rest : List LoadFault) → found ≡ e ∷ rest → IsRefusalOf rows e
 
--- `found` has the faults that stand in these bytes: if they are no definition, its fault alone; else those of the rows of its entries
+-- `found` has the faults of these bytes: if they are no definition, its fault alone; else those of the rows of its entries
 abbrev pub AreFindingsIn : List ℕ → List LoadFault → Type 0
 AreFindingsIn bytes found = ((f : OpFault) × (definition_of bytes ≡ Err f) × (found ≡ Definition f ∷ []))
     ⊎ ((entries : List (List ℕ)) × (definition_of bytes ≡ Ok entries) × AreFindings (rows_from entries) found)

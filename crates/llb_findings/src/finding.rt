@@ -1,4 +1,4 @@
-//! Finds every fault of rows or of a definition: each fault that stands at its own place, whatever other faults there are.
+//! Finds every fault of rows or of a definition: each fault that is at its own place, whatever other faults there are.
 
 ghost use Rattle.std.specs.Prelude.{◌≡◌, ◌≤◌, ◌==◌, ◌&&◌, ◌++◌, ◌∷◌, [], false, cond, Some, length, IfOk, OnOk};
 ghost use Rattle.llb_loader.specs.declared.fault.LoadFault.TheVariants as fault;
@@ -10,7 +10,7 @@ ghost use Rattle.llb_loader.specs.Faults.{is_memory, definition_fault};
 ghost use Rattle.llb_loader.specs.RowLookup.{IsIndex, AreFirsts, Collides};
 ghost use Rattle.llb_loader.specs.Linking.{IsApart, links_in};
 ghost use Rattle.llb_loader.specs.LoadResult.{rows_from};
-ghost use Rattle.llb_findings.specs.Findings.{AreFindings, BeginsAsLink, AreFindingsIn, BeginsAsLoad, Stands, plan_for, ops_in, possible, linked_faults};
+ghost use Rattle.llb_findings.specs.Findings.{AreFindings, BeginsAsLink, AreFindingsIn, BeginsAsLoad, IsFaultIn, plan_for, ops_in, possible, linked_faults};
 ghost use Rattle.llb_findings.specs.FindingSteps.{AreReadMarks, AreReached, HasTerminal, start_by, start_for};
 ghost use Rattle.llb_findings.specs.Selections.{AreThose, Adds};
 
@@ -29,7 +29,7 @@ use llb_wire::Memory;
 use std::alloc::{AllocError, Global};
 use std::collections::BTreeMap;
 
-/// Returns every fault of a definition: each fault that stands at its own place, whatever other faults there are, in the order in which `load` looks for
+/// Returns every fault of a definition: each fault that is at its own place, whatever other faults there are, in the order in which `load` looks for
 /// them. If the bytes can't be read as a definition, this is the only fault. An entry that can't be read as an op counts as an op without inputs: it leads to
 /// no entry, and nothing else is looked for in it.
 ///
@@ -101,7 +101,7 @@ pub fn findings_of(alloc: Global, rows: &[Row]) -> Result<Vec<LoadFault>, Memory
 // Returns every fault of the rows. The call looks for all of them, also if there are none.
 fn every_fault(alloc: Global, rows: &[Row]) -> Result<Vec<LoadFault>, Memory>
     requires { length rows.now ≤ 65_536 }
-    ensures { IfOk result (λ found. AreThose (Stands (plan_for rows.now)) (possible (plan_for rows.now)) found.items) }
+    ensures { IfOk result (λ found. AreThose (IsFaultIn (plan_for rows.now)) (possible (plan_for rows.now)) found.items) }
 {
     let mut found = Vec::new(alloc);
     let (ops, read) = add_unread(alloc, rows, &mut found)?;
@@ -142,7 +142,7 @@ fn add_linked(
     requires ops { ops.now ≡ ops_in rows.now }
     requires within { All IsWithinLimits ops.now }
     requires read { AreReadMarks rows.now read.now }
-    ensures { OnOk result (Adds (Stands (plan_for rows.now)) (linked_faults (plan_for rows.now)) found.old.items found.new.items) }
+    ensures { OnOk result (Adds (IsFaultIn (plan_for rows.now)) (linked_faults (plan_for rows.now)) found.old.items found.new.items) }
 {
     let terminal = terminal_of(rows, index);
     add_no_result(read[terminal], &ops[terminal], found)?;
@@ -216,7 +216,7 @@ fn add_cycle(
     requires links { lists links.now ≡ links_in (plan_for rows.now) }
     requires start { start ≡ start_for rows.now }
     requires seen { AreReached rows.now seen.now }
-    ensures { OnOk result (Adds (Stands (plan_for rows.now)) (fault.Cycle ∷ []) found.old.items found.new.items) }
+    ensures { OnOk result (Adds (IsFaultIn (plan_for rows.now)) (fault.Cycle ∷ []) found.old.items found.new.items) }
 {
     let Some(start) = start else {
         return Ok(());
@@ -239,7 +239,7 @@ fn add_cycle_from(
     requires links { lists links.now ≡ links_in (plan_for rows.now) }
     requires start { start_for rows.now ≡ Some start }
     requires seen { AreReached rows.now seen.now }
-    ensures { OnOk result (Adds (Stands (plan_for rows.now)) (fault.Cycle ∷ []) found.old.items found.new.items) }
+    ensures { OnOk result (Adds (IsFaultIn (plan_for rows.now)) (fault.Cycle ∷ []) found.old.items found.new.items) }
 {
     let Some(order) = number(alloc, links, start, seen)? else {
         found.push(LoadFault::Cycle)?;

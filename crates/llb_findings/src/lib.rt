@@ -1,7 +1,7 @@
 //! Finds every fault of a definition, where the loader stops at the first. The crate is built on `llb_loader`.
 //!
 //! Types: the crate has none of its own; a fault is a `LoadFault` (81 to 90) of `llb_loader`.
-//! Promise: `findings` (`found`, `begins`) returns each fault that stands at its own place, whatever other faults there are, in the order in which `load` looks
+//! Promise: `findings` (`found`, `begins`) returns each fault that is at its own place, whatever other faults there are, in the order in which `load` looks
 //! for them. The list is empty if `load` returns a graph; else its first fault is the one with which `load` fails. `findings_of` does the same for rows.
 //!
 //! A caller:

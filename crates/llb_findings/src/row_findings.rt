@@ -11,7 +11,8 @@ ghost use Rattle.llb_loader.specs.RowLookup.{IsIndex, row_named, Collides};
 ghost use Rattle.llb_loader.specs.Features.{has, features};
 ghost use Rattle.llb_loader.specs.Rules.{IsBelow};
 ghost use Rattle.llb_loader.specs.Linking.{op_at};
-ghost use Rattle.llb_findings.specs.Findings.{ops_in, plan_for, op_or_none, Stands, IsCounted, entry_faults, collisions, unknown_digests, unsupported, invalid};
+ghost use Rattle.llb_findings.specs.Findings.{ops_in, plan_for, op_or_none, IsFaultIn, IsCounted, entry_faults, collisions};
+ghost use Rattle.llb_findings.specs.Findings.{unknown_digests, unsupported, invalid};
 ghost use Rattle.llb_findings.specs.Findings.{bad_indexes, at_inputs};
 ghost use Rattle.llb_findings.specs.FindingSteps.{AreReadMarks, AreReached, HasTerminal, AddsRules, Differ, feature_faults, unread, AreCounts, IsCount};
 ghost use Rattle.llb_findings.specs.FindingSteps.{asked_by, unknown_by, index_by, is_out, is_out_at};
@@ -38,7 +39,7 @@ pub(crate) fn add_unread(
     ensures ops { IfOk result (λ r. r.0.items ≡ ops_in rows.now) }
     ensures within { IfOk result (λ r. All IsWithinLimits r.0.items) }
     ensures read { IfOk result (λ r. AreReadMarks rows.now r.1.items) }
-    ensures adds { OnOk result (Adds (Stands (plan_for rows.now)) (entry_faults (plan_for rows.now)) found.old.items found.new.items) }
+    ensures adds { OnOk result (Adds (IsFaultIn (plan_for rows.now)) (entry_faults (plan_for rows.now)) found.old.items found.new.items) }
 {
     let mut ops = Vec::with_capacity(alloc, rows.len())?;
     let mut read = Vec::with_capacity(alloc, rows.len())?;
@@ -95,7 +96,7 @@ fn no_op(alloc: Global) -> Op
 // Adds 84 `Collision` for each row that has an earlier row's digest text and other bytes.
 pub(crate) fn add_collisions(rows: &[Row], found: &mut Vec<LoadFault>) -> Result<(), Memory>
     requires { length rows.now ≤ 65_536 }
-    ensures { OnOk result (Adds (Stands (plan_for rows.now)) (collisions (plan_for rows.now)) found.old.items found.new.items) }
+    ensures { OnOk result (Adds (IsFaultIn (plan_for rows.now)) (collisions (plan_for rows.now)) found.old.items found.new.items) }
 {
     for k in 0..rows.len() {
         add_if(collides(rows, k), LoadFault::Collision(k as u32), found)?;
@@ -103,15 +104,15 @@ pub(crate) fn add_collisions(rows: &[Row], found: &mut Vec<LoadFault>) -> Result
     Ok(())
 }
 
-// Adds the fault if it stands.
+// Adds the fault if it is there.
 pub(crate) fn add_if(
-    stands: bool,
+    is_there: bool,
     fault: LoadFault,
     found: &mut Vec<LoadFault>,
 ) -> Result<(), Memory>
-    ensures { OnOk result (found.new.items ≡ found.old.items ++ cond stands (fault ∷ []) []) }
+    ensures { OnOk result (found.new.items ≡ found.old.items ++ cond is_there (fault ∷ []) []) }
 {
-    if !stands {
+    if !is_there {
         return Ok(());
     }
     found.push(fault)?;
@@ -156,7 +157,7 @@ pub(crate) fn add_unknown(
     requires ops { ops.now ≡ ops_in rows.now }
     requires within { All IsWithinLimits ops.now }
     requires seen { AreReached rows.now seen.now }
-    ensures { OnOk result (Adds (Stands (plan_for rows.now)) (unknown_digests (plan_for rows.now)) found.old.items found.new.items) }
+    ensures { OnOk result (Adds (IsFaultIn (plan_for rows.now)) (unknown_digests (plan_for rows.now)) found.old.items found.new.items) }
 {
     for k in 0..rows.len() {
         add_unknown_of(rows, index, terminal, seen[k], k, &ops[k], found)?;
@@ -227,7 +228,7 @@ pub(crate) fn add_features(
     requires few { length rows.now ≤ 65_536 }
     requires ops { ops.now ≡ ops_in rows.now }
     requires seen { AreReached rows.now seen.now }
-    ensures { OnOk result (Adds (Stands (plan_for rows.now)) (unsupported (plan_for rows.now)) found.old.items found.new.items) }
+    ensures { OnOk result (Adds (IsFaultIn (plan_for rows.now)) (unsupported (plan_for rows.now)) found.old.items found.new.items) }
 {
     for k in 0..rows.len() {
         add_features_of(alloc, seen[k], k as u32, &ops[k], found)?;
@@ -270,7 +271,7 @@ pub(crate) fn add_rules(
     requires ops { ops.now ≡ ops_in rows.now }
     requires read { AreReadMarks rows.now read.now }
     requires seen { AreReached rows.now seen.now }
-    ensures { OnOk result (Adds (Stands (plan_for rows.now)) (invalid (plan_for rows.now)) found.old.items found.new.items) }
+    ensures { OnOk result (Adds (IsFaultIn (plan_for rows.now)) (invalid (plan_for rows.now)) found.old.items found.new.items) }
 {
     for k in 0..rows.len() {
         add_rules_of(alloc, seen[k], read[k], k as u32, &ops[k], found)?;
@@ -328,7 +329,7 @@ pub(crate) fn add_indexes(
     requires within { All IsWithinLimits ops.now }
     requires counts { AreCounts ops.now counts.now }
     requires seen { AreReached rows.now seen.now }
-    ensures { OnOk result (Adds (Stands (plan_for rows.now)) (bad_indexes (plan_for rows.now)) found.old.items found.new.items) }
+    ensures { OnOk result (Adds (IsFaultIn (plan_for rows.now)) (bad_indexes (plan_for rows.now)) found.old.items found.new.items) }
 {
     for k in 0..rows.len() {
         add_indexes_of(rows, index, terminal, counts, seen[k], k, &ops[k], found)?;

@@ -1,7 +1,7 @@
 use Rattle.std.proofs.Common.{List, length, ap, arith}
 use Rattle.llb_ops.specs.declared.op.Op.{Op}
 use Rattle.llb_findings.specs.FindingSteps.{HasTerminal}
-use Rattle.llb_findings.proofs.FindingsAgree.{ops_len}
+use Rattle.llb_findings.proofs.OpsAndRules.{ops_len}
 use Rattle.llb_findings.proofs.LinkedFindings.{result_row, terminal_op, links_here, start_here, linked_parts}
 use Rattle.llb_findings.proofs.finding.add_linked.Goals as goal
 

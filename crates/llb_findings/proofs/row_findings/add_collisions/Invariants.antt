@@ -1,8 +1,8 @@
 use Rattle.std.proofs.Common.{[], ◌∷◌}
 use Rattle.llb_loader.specs.declared.fault.LoadFault.TheVariants.{Collision}
-use Rattle.llb_findings.specs.Findings.{plan_for, Stands}
+use Rattle.llb_findings.specs.Findings.{plan_for, IsFaultIn}
 use Rattle.llb_findings.specs.Selections.{Adds, joined_below}
 use Rattle.llb_findings.proofs.row_findings.add_collisions.Given as goal
 
 abbrev pub invariant-loop-k : goal.invariant-loop-k
-invariant-loop-k l = Adds (Stands (plan_for l.rows)) (joined_below l.k (λ k. Collision k ∷ [])) l.fn.found.items l.found.items
+invariant-loop-k l = Adds (IsFaultIn (plan_for l.rows)) (joined_below l.k (λ k. Collision k ∷ [])) l.fn.found.items l.found.items

@@ -1,18 +1,18 @@
 use Rattle.std.proofs.Common.{◌<◌, List, length, sym, subst, ap, arith}
 use Rattle.llb_ops.specs.OpsWithinLimits.{IsWithinLimits}
 use Rattle.llb_ops.specs.declared.op.Op.{Op}
-use Rattle.llb_findings.proofs.FindingsAgree.{ops_len}
-use Rattle.llb_findings.specs.Findings.{plan_for, Stands}
+use Rattle.llb_findings.proofs.OpsAndRules.{ops_len}
+use Rattle.llb_findings.specs.Findings.{plan_for, IsFaultIn}
 use Rattle.llb_findings.specs.FindingSteps.{unknown_at}
 use Rattle.llb_findings.proofs.SelectionParts.{adds_joined_none, adds_joined}
 use Rattle.llb_findings.proofs.RowFindings.{unknown_row, all_unknown}
 use Rattle.llb_findings.proofs.row_findings.add_unknown.Goals as goal
 
 pub loop-k-init : goal.loop-k-init
-loop-k-init c = adds_joined_none (Stands (plan_for c.args.rows.now)) (unknown_at c.args.rows.now) _
+loop-k-init c = adds_joined_none (IsFaultIn (plan_for c.args.rows.now)) (unknown_at c.args.rows.now) _
 
 pub loop-k-preserved : goal.loop-k-preserved
-loop-k-preserved c = adds_joined (Stands (plan_for c.args.rows.now)) c.loop-k.k (unknown_at c.args.rows.now) _ _ _ c.loop-k.invariant
+loop-k-preserved c = adds_joined (IsFaultIn (plan_for c.args.rows.now)) c.loop-k.k (unknown_at c.args.rows.now) _ _ _ c.loop-k.invariant
     (unknown_row c.args.rows.now c.args.seen.now c.args.terminal c.requires.seen c.requires.terminal c.args.ops.now c.loop-k.k c.index-ops-k.result _ _
     c.requires.ops c.loop-k-test.true c.index-ops-k.is c.in_ok-add_unknown_of.ensures)
 

@@ -7,14 +7,14 @@ use Rattle.llb_ops.specs.declared.op.Op.{Op}
 use Rattle.llb_ops.specs.OpsWithinLimits.{IsWithinLimits}
 use Rattle.llb_loader.specs.Linking.{op_at}
 use Rattle.llb_loader.specs.WaitingRows.{IsMarked}
-use Rattle.llb_findings.specs.Findings.{plan_for, Stands, op_or_none, reading_at, entry_at}
+use Rattle.llb_findings.specs.Findings.{plan_for, IsFaultIn, op_or_none, reading_at, entry_at}
 use Rattle.llb_findings.proofs.SelectionParts.{adds_joined_none, adds_joined}
 use Rattle.llb_findings.proofs.RowFindings.{reading_row, entry_row, ops_push, marks_push, all_entries, all_read, all_marks}
 use Rattle.llb_findings.proofs.row_findings.add_unread.Goals as goal
 
 pub loop-k-init : goal.loop-k-init
 loop-k-init c = record {
-  adds = adds_joined_none (Stands (plan_for c.args.rows.now)) (entry_at c.args.rows.now) _;
+  adds = adds_joined_none (IsFaultIn (plan_for c.args.rows.now)) (entry_at c.args.rows.now) _;
   len = search rules;
   each = λ j l. absurd (omega (arith, l));
   within = search rules;
@@ -29,7 +29,7 @@ loop-k-preserved c =
     let pushed = c.in_ok-push.ensures.items in
     let marked = c.in_ok-push-2.ensures.items in
     record {
-      adds = adds_joined (Stands (plan_for c.args.rows.now)) c.loop-k.k (entry_at c.args.rows.now) _ _ _ i.adds
+      adds = adds_joined (IsFaultIn (plan_for c.args.rows.now)) c.loop-k.k (entry_at c.args.rows.now) _ _ _ i.adds
           (entry_row c.args.rows.now c.loop-k.k c.index-rows-k.result _ _ c.loop-k-test.true reads c.in_ok-op.ensures.adds);
       len = (let n = ap (λ (xs : List Op). length xs) pushed in let m = length_push c.loop-k.ops.items c.in_ok-op.op in let l = i.len in omega (
         arith,

@@ -5,7 +5,7 @@ use Rattle.llb_ops.specs.Messages.{op_of}
 use Rattle.llb_ops.specs.OpsWithinLimits.{IsWithinLimits}
 use Rattle.llb_findings.specs.Findings.{op_or_none}
 use Rattle.llb_findings.specs.FindingSteps.{unread}
-use Rattle.llb_findings.proofs.FindingsAgree.{err_not_ok}
+use Rattle.llb_findings.proofs.OpsAndRules.{err_not_ok}
 use Rattle.llb_findings.proofs.row_findings.read_row.Goals as goal
 
 pub returns : goal.returns
