@@ -117,20 +117,30 @@ def not_llbm(program: str) -> str:
     return "this is not the program llbm" if is_other else f"the program does not start: {answer.ending()}"
 
 
+def program_given(word: str | None) -> str | None:
+    """Returns the program that a person names: by an option, or else by the variable LLBM."""
+    return word if word is not None else os.environ.get("LLBM") or None
+
+
 def program_place(word: str | None) -> str:
-    """Returns the given program, else the first of this folder's places of one at which there is a program."""
-    if word is not None:
-        return word
+    """Returns the program that is named, else the one of this folder, else the one on PATH.
+
+    If there is none, it is the first place of this folder at which there could be one.
+    """
+    given = program_given(word)
+    if given is not None:
+        return given
     places = [paths.INSTALLED_PROGRAM] if paths.INSTALLED.is_file() else [paths.PROVED, paths.UNPROVED]
-    return str(next((place for place in places if shutil.which(place)), places[0]))
+    found = next((str(place) for place in places if shutil.which(place)), shutil.which("llbm"))
+    return found or str(places[0])
 
 
 def program_named(word: str | None) -> str:
-    """Returns the given program, else that of the installation or repository around this folder.
+    """Returns the program that is named, else that of the installation or repository around this folder, or of PATH.
 
-    A proved one comes before one that is not; that the program is not proved is said on standard error.
+    A proved one comes before one that is not; that one is not proved which nobody named is said on standard error.
     """
     place = program_place(word)
-    if word is None and is_unproved(place):
+    if program_given(word) is None and is_unproved(place):
         say(f"the program is not proved: {os.path.relpath(place)}")
     return place

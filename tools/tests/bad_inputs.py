@@ -17,7 +17,10 @@ FIRST = ROOT / "examples" / "first-run.definition"
 TREE = ROOT / "examples" / "tour.tree"
 PAGE = ROOT / "README.md"
 SHOWN = b"0 merge steps 0 outputs 1 inputs -\nresult 0.0\n"
+CASES = ROOT / "examples" / "cases"
 BAD, OUT, LLBM = "{bad}", "{out}", "{llbm}"
+# Tools that leave it to the program to read the texts of trees.
+BY_PROGRAM = ("explain-run", "as-buildkit", "debug")
 
 # What an input is: a file; an archive or nothing else; a tree in any form; a definition whose faults are findings; the
 # program llbm.
@@ -34,7 +37,12 @@ TOOLS_WITH_INPUTS = {
         (FILE, ["--llbm", LLBM, BAD, OUT]), (ANY_TREE, ["--llbm", LLBM, TOUR, OUT, f"source={BAD}"]),
         (PROGRAM, ["--llbm", BAD, FIRST, OUT]),
     ],
+    "check": [("directory", ["--llbm", LLBM, BAD]), (PROGRAM, ["--llbm", BAD, CASES])],
     "daemon-tests": [(PROGRAM, ["--llbm", BAD])],
+    "debug": [
+        (FILE, ["--llbm", LLBM, BAD]), (ANY_TREE, ["--llbm", LLBM, TOUR, f"source={BAD}"]),
+        (PROGRAM, ["--llbm", BAD, FIRST]),
+    ],
     "diff-of-trees": [(ANY_TREE, [BAD, TREE]), (ANY_TREE, [TREE, BAD])],
     "dist": [(PROGRAM, ["--llbm", BAD, "-o", OUT])],
     "dump": [(FILE, [BAD])],
@@ -156,7 +164,7 @@ class Table(Folder):
             if kind != "directory":
                 done = run(tool, *self.words(words, place), text=SHOWN, before=before)
                 self.check(done, 2, [tool])
-                if kind != PROGRAM and (tool not in ("explain-run", "as-buildkit") or kind == FILE):
+                if kind != PROGRAM and (tool not in BY_PROGRAM or kind == FILE):
                     self.assertIn(b"permission denied: " + place, done.stderr, tool)
 
     def test_bytes_that_are_nothing(self):
@@ -195,7 +203,7 @@ class Table(Folder):
             for tool, kind, words in self.inputs():
                 done = run(tool, *self.words(words, place), text=SHOWN)
                 self.check(done, 2, [tool])
-                is_by_program = kind == ANY_TREE and tool in ("explain-run", "as-buildkit")
+                is_by_program = kind == ANY_TREE and tool in BY_PROGRAM
                 if kind in (FILE, TEXT, ANY_TREE, FINDINGS) and not is_by_program:
                     self.assertTrue(done.stderr.startswith(b"is a device: " + place), (tool, done.stderr))
 

@@ -53,6 +53,7 @@ from typing import TYPE_CHECKING
 from llbm_tools.building import children
 from llbm_tools.building.kept_changes import Changes, Memory
 from llbm_tools.building.requests import LARGEST, NOTHING, Ended, Request, source_of
+from llbm_tools.command_line import Parser
 from llbm_tools.common import discard_output, say
 from llbm_tools.os_errors import os_error_text
 from llbm_tools.streams import FAILED, REFUSED, Failed, Refused
@@ -141,9 +142,8 @@ def bytes_of(word: str) -> int:
 
 def parser() -> argparse.ArgumentParser:
     """Returns the parser of the command line."""
-    parser = argparse.ArgumentParser(
+    parser = Parser(
         description="Runs a definition on trees of local sources, and writes its result as a directory or an archive.",
-        allow_abbrev=False,
     )
     add = parser.add_argument
     add("--llbm", metavar="PROGRAM", help="the program llbm")

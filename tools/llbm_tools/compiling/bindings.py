@@ -17,7 +17,6 @@ Exit status: 0 nothing failed; 1 something did; 2 the command line is refused, o
 failed; 130 interrupted.
 """
 
-import argparse
 import os
 import pathlib
 import re
@@ -28,6 +27,7 @@ import tempfile
 from collections.abc import Callable
 from typing import NamedTuple
 
+from llbm_tools.command_line import Parser
 from llbm_tools.compiling.library import ARCHIVE
 from llbm_tools.counts import Counts
 from llbm_tools.paths import ROOT
@@ -167,8 +167,8 @@ def try_all(archive: pathlib.Path, names: list[str]) -> int:
 
 def main() -> int:
     """Runs the tool, and returns its exit status."""
-    parser = argparse.ArgumentParser(
-        prog="tools/bindings", description="Tries the bindings of the static library.", allow_abbrev=False
+    parser = Parser(
+        prog="tools/bindings", description="Tries the bindings of the static library."
     )
     parser.add_argument("archive", nargs="?", metavar="ARCHIVE", type=pathlib.Path, default=ARCHIVE)
     names = [trial.name for trial in TRIALS]

@@ -13,13 +13,13 @@ Exit status: 0 the archive is written; 1 the crate is not proved, or not built; 
 is missing, or a library of a crate is; 3 a read or a write failed; 130 interrupted.
 """
 
-import argparse
 import os
 import pathlib
 import subprocess
 import sys
 import tempfile
 
+from llbm_tools.command_line import Parser
 from llbm_tools.paths import ROOT
 from llbm_tools.streams import Refused, exit_status
 
@@ -98,8 +98,8 @@ def make(top: pathlib.Path, to: pathlib.Path, jobs: int) -> int:
 
 def main() -> int:
     """Runs the tool, and returns its exit status."""
-    parser = argparse.ArgumentParser(
-        prog="tools/library", description="Proves and builds the static library.", allow_abbrev=False
+    parser = Parser(
+        prog="tools/library", description="Proves and builds the static library."
     )
     parser.add_argument("-o", metavar="FILE", type=pathlib.Path, default=ARCHIVE, help="where the archive is written")
     parser.add_argument("--repository", metavar="DIRECTORY", type=pathlib.Path, default=ROOT, help="where `rt ci` ran")

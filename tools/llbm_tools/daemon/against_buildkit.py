@@ -38,6 +38,7 @@ from collections.abc import Iterator
 from typing import NamedTuple
 
 from llbm_tools import common
+from llbm_tools.command_line import Parser
 from llbm_tools.counts import Counts
 from llbm_tools.daemon import debian_packages, random_definitions, random_dockerfiles, runs, started_daemon
 from llbm_tools.daemon import daemon as daemons
@@ -271,7 +272,7 @@ def against_started(options: argparse.Namespace) -> int:
 
 def parse_options() -> argparse.Namespace:
     """Parses the command line."""
-    parser = argparse.ArgumentParser(description="Compares BuildKit's daemon with llbmd.", allow_abbrev=False)
+    parser = Parser(description="Compares BuildKit's daemon with llbmd.")
     add = parser.add_argument
     which = parser.add_mutually_exclusive_group(required=True)
     which.add_argument("--address", metavar="ADDRESS", help="the daemon's address, such as unix:///run/buildkitd.sock")

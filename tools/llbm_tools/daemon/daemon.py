@@ -19,6 +19,7 @@ import os
 import pathlib
 
 from llbm_tools import common, paths
+from llbm_tools.command_line import Parser
 from llbm_tools.daemon import debian_packages, go_building
 from llbm_tools.daemon.go_building import BUILDKIT, MODULE, OUT, Go
 from llbm_tools.streams import Refused, exit_status
@@ -79,8 +80,8 @@ def make(options: argparse.Namespace) -> int:
 
 def main() -> int:
     """Runs the tool, and returns its exit status."""
-    parser = argparse.ArgumentParser(
-        prog="tools/daemon", description="Builds the daemon llbmd, which speaks BuildKit's API.", allow_abbrev=False
+    parser = Parser(
+        prog="tools/daemon", description="Builds the daemon llbmd, which speaks BuildKit's API."
     )
     parser.add_argument("-o", metavar="FILE", type=pathlib.Path, default=PROGRAM, help="where the daemon is written")
     parser.add_argument(

@@ -30,6 +30,7 @@ import tempfile
 from collections.abc import Iterable
 
 from llbm_tools import common
+from llbm_tools.command_line import Parser
 from llbm_tools.counts import Counts
 from llbm_tools.daemon import daemon, debian_packages, go_building, suite_lists
 from llbm_tools.daemon.go_building import BUILDKIT, OUT, Go
@@ -221,8 +222,8 @@ def make(options: argparse.Namespace) -> int:
 
 def parse(words: list[str] | None = None) -> argparse.Namespace:
     """Parses a command line; that of the process if none is given."""
-    parser = argparse.ArgumentParser(
-        prog="tools/daemon-suite", description="Runs BuildKit's own tests against llbmd.", allow_abbrev=False
+    parser = Parser(
+        prog="tools/daemon-suite", description="Runs BuildKit's own tests against llbmd."
     )
     parser.add_argument("--llbm", metavar="PROGRAM", help="the program llbm")
     parser.add_argument("--daemon", metavar="PROGRAM", type=pathlib.Path, default=daemon.PROGRAM, help="the daemon")

@@ -24,6 +24,7 @@ import re
 import subprocess
 from collections.abc import Callable
 
+from llbm_tools.command_line import Parser
 from llbm_tools.counts import Counts, total
 from llbm_tools.daemon import daemon, daemon_suite, debian_packages, go_building, suite_lists
 from llbm_tools.daemon.go_building import DAEMON, MODULE, OUT, Go
@@ -148,8 +149,8 @@ def make(options: argparse.Namespace) -> int:
 
 def main() -> int:
     """Runs the tool, and returns its exit status."""
-    parser = argparse.ArgumentParser(
-        prog="tools/daemon-tests", description="Builds the daemon, and runs its tests.", allow_abbrev=False
+    parser = Parser(
+        prog="tools/daemon-tests", description="Builds the daemon, and runs its tests."
     )
     parser.add_argument("--llbm", metavar="PROGRAM", help="the program llbm")
     parser.add_argument(

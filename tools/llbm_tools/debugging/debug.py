@@ -3,9 +3,9 @@
 In: a definition, or the text of its entries, and NAME=PATH for each local source: a directory, a tar (both with owner
 0:0) or a tree text. Commands come from standard input: `help` prints all of them. At a terminal there is a prompt, with
 history and completion by the Tab key; else lines are read without one. Ctrl-C pauses a run that goes on, between two
-events. The program is --llbm PROGRAM, else the one on PATH, else crates/llbm/out/llbm of the repository, or else its
-out/llbm-unproved, which is named on standard error as not proved. --workers N has N workers, 1 by default, and
---paths N shows at most N paths of one tree, 20 by default.
+events. The program is --llbm PROGRAM, else $LLBM, else that of the installation or the repository, else the one on
+PATH; one that is not proved, and that nobody named, is named on standard error. --workers N has N workers, 1 by
+default, and --paths N shows at most N paths of one tree, 20 by default.
 
 Out: on standard output a line for each event that a command does, and what a command shows. What is refused is a line
 there too, and changes nothing.
@@ -19,6 +19,7 @@ import signal
 import sys
 
 from llbm_tools import common
+from llbm_tools.command_line import Parser
 from llbm_tools.debugging import launching
 from llbm_tools.debugging.terminal import Terminal
 from llbm_tools.inputs import data_at, is_standard_input
@@ -38,7 +39,7 @@ def number_of(word: str) -> int:
 
 def parse_options() -> argparse.Namespace:
     """Parses the command line."""
-    parser = argparse.ArgumentParser(description="Steps through a run at a prompt.", allow_abbrev=False)
+    parser = Parser(description="Steps through a run at a prompt.")
     parser.add_argument("definition", metavar="DEFINITION", help="the file of the definition, or of its text")
     parser.add_argument("source", nargs="*", type=source_of, metavar="NAME=PATH", help="a local source")
     parser.add_argument("--llbm", metavar="PROGRAM", default="", help="the program llbm")

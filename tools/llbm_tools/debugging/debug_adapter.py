@@ -5,8 +5,8 @@ In: requests on standard input, each a JSON object after a header with its Conte
 accepts), or both; `sources`, an object with a directory, a tar (both with owner 0:0) or a tree text for each local
 source by its name; `files`, an object with the paths of files that the definition was made from, by their names there;
 `workers`, 2 by default; `stopOnEntry`, to stop before the first event; `stopAtEnd`, to stop after the last one, true by
-default; and `llbm`, the program, else the one on PATH, else crates/llbm/out/llbm of the repository, or else its
-out/llbm-unproved, which is named on standard error as not proved.
+default; and `llbm`, the program, else $LLBM, else that of the installation or the repository, else the one on PATH; one
+that is not proved, and that nobody named, is named on standard error.
 
 Out: responses and events on standard output. Threads are the workers of the run; the source is the text of the entries,
 where a vertex is at the lines of its entry, and beside it the files that the definition was made from. A breakpoint on
@@ -26,15 +26,14 @@ import signal
 import sys
 
 from llbm_tools import common, os_errors
+from llbm_tools.command_line import Parser
 from llbm_tools.debugging.adapter import RUNNING, Adapter
 from llbm_tools.debugging.wire import Malformed, Reader, Writer
 
 
 def parse_options() -> argparse.Namespace:
     """Parses the command line."""
-    parser = argparse.ArgumentParser(
-        description="A debug adapter over llbm step, on standard input and output.", allow_abbrev=False
-    )
+    parser = Parser(description="A debug adapter over llbm step, on standard input and output.")
     return parser.parse_args()
 
 

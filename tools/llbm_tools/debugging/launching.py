@@ -80,9 +80,9 @@ def cause_of(words: list[str], otherwise: str, entries: faults.Entries | None = 
 
 
 def program_of(arguments: Object, argument_name: str) -> str:
-    """Returns the program: the one that is named, else the one on PATH, else that of this folder."""
+    """Returns the program: the one that is named, else that of this folder, else the one on PATH."""
     named = argument(arguments, "llbm", str, "")
-    word = named or shutil.which("llbm") or program_named(None)
+    word = program_named(named or None)
     cause = why_not(word)
     if cause:
         raise Refused(f"{cause}: {word}" + ("" if named else f"; {argument_name} names one"))

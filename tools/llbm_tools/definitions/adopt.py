@@ -33,6 +33,7 @@ import sys
 from collections.abc import Iterator
 
 from llbm_tools import common, inputs
+from llbm_tools.command_line import Parser
 from llbm_tools.definitions import adopting, adoption_rules
 from llbm_tools.llb import findings, no_definition
 from llbm_tools.llb.wire import Unreadable
@@ -165,9 +166,7 @@ def adopt(options: argparse.Namespace) -> None:
 
 def parse_options() -> argparse.Namespace:
     """Parses the command line."""
-    parser = argparse.ArgumentParser(
-        description="Changes a foreign definition into one that llbm accepts.", allow_abbrev=False
-    )
+    parser = Parser(description="Changes a foreign definition into one that llbm accepts.")
     add = parser.add_argument
     add("definition", nargs="?", metavar="DEFINITION", help="the definition (default: standard input)")
     add("source", nargs="*", type=source_of, metavar="NAME=PATH", help="a local source, for --like-buildkit")

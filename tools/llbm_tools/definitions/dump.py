@@ -21,6 +21,7 @@ import io
 import json
 from collections.abc import Iterable, Iterator
 
+from llbm_tools.command_line import Parser
 from llbm_tools.common import printable, say
 from llbm_tools.definitions import faults, inspection
 from llbm_tools.definitions.inspection import Edge, Entry, Inspected
@@ -185,8 +186,8 @@ def dump(options: argparse.Namespace) -> int:
 
 def parser() -> argparse.ArgumentParser:
     """Returns the parser of the command line."""
-    parser = argparse.ArgumentParser(
-        description="Prints the entries of any definition, with what llbm refuses in each.", allow_abbrev=False
+    parser = Parser(
+        description="Prints the entries of any definition, with what llbm refuses in each."
     )
     parser.add_argument("definition", nargs="?", metavar="DEFINITION", help="the definition (default: standard input)")
     parser.add_argument("--json", action="store_true", help="print an object for each entry, on a line of its own")

@@ -22,6 +22,7 @@ import sys
 from collections.abc import Iterable
 
 from llbm_tools import common
+from llbm_tools.command_line import Parser
 from llbm_tools.definitions import faults
 from llbm_tools.inputs import check_inputs, shown, standard_input
 from llbm_tools.streams import REFUSED, exit_status
@@ -86,9 +87,8 @@ def explain(options: argparse.Namespace) -> int:
 
 def parser() -> argparse.ArgumentParser:
     """Returns the parser of the command line."""
-    parser = argparse.ArgumentParser(
+    parser = Parser(
         description="Explains fault and failure lines of llbm, and notes, given as words or on standard input.",
-        allow_abbrev=False,
     )
     parser.add_argument("word", nargs="*", metavar="WORD", help="the words of one line")
     parser.add_argument("--definition", metavar="FILE", help="the definition that the lines come from")

@@ -25,6 +25,7 @@ import json
 import sys
 
 from llbm_tools import common
+from llbm_tools.command_line import Parser
 from llbm_tools.definitions import dot, inspected_graph, inspection
 from llbm_tools.inputs import check_inputs, data_at, input_lines
 from llbm_tools.llb import definition, names, no_definition
@@ -110,9 +111,8 @@ def digraph(show: Show, labels: list[list[str]], colors: list[str]) -> str:
 
 def parser() -> argparse.ArgumentParser:
     """Returns the parser of the command line."""
-    parser = argparse.ArgumentParser(
+    parser = Parser(
         description="Converts the lines of llbm show on standard input, or any definition, to a Graphviz digraph.",
-        allow_abbrev=False,
     )
     parser.add_argument("file", nargs="?", metavar="DEFINITION", help="a definition, accepted or not, to draw alone")
     parser.add_argument("--definition", metavar="FILE", help="the definition of the graph, for the labels")

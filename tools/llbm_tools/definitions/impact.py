@@ -50,6 +50,7 @@ import json
 from typing import NamedTuple
 
 from llbm_tools import common, inputs
+from llbm_tools.command_line import Parser
 from llbm_tools.definitions import both_runs, impacts
 from llbm_tools.definitions.impacts import Comparison, Impact, Names, Result
 from llbm_tools.streams import Refused, exit_status, program_at, write_output
@@ -173,9 +174,8 @@ def source_of(word: str) -> Source:
 
 def parse_options() -> argparse.Namespace:
     """Parses the command line."""
-    parser = argparse.ArgumentParser(
+    parser = Parser(
         description="Prints for each vertex of NEW whether its outcome can differ from the one in OLD.",
-        allow_abbrev=False,
     )
     parser.add_argument("old", metavar="OLD", help="the older definition")
     parser.add_argument("new", metavar="NEW", help="the newer definition")

@@ -23,6 +23,7 @@ import argparse
 import io
 import json
 
+from llbm_tools.command_line import Parser
 from llbm_tools.definitions import inspection
 from llbm_tools.definitions.graph_of_show import check
 from llbm_tools.definitions.inspection import Entry
@@ -148,8 +149,8 @@ def convert(options: argparse.Namespace) -> None:
 
 def parser() -> argparse.ArgumentParser:
     """Returns the parser of the command line."""
-    parser = argparse.ArgumentParser(
-        description="Converts the lines of llbm show on standard input, or any definition, to JSON.", allow_abbrev=False
+    parser = Parser(
+        description="Converts the lines of llbm show on standard input, or any definition, to JSON."
     )
     parser.add_argument("file", nargs="?", metavar="DEFINITION", help="a definition, accepted or not, to convert alone")
     parser.add_argument("--definition", metavar="FILE", help="the definition of the graph: ops, names and metadata")

@@ -24,6 +24,7 @@ import argparse
 import sys
 
 from llbm_tools import common, inputs
+from llbm_tools.command_line import Parser
 from llbm_tools.llb import findings, names, no_definition
 from llbm_tools.llb.findings import Finding
 from llbm_tools.llb.wire import Unreadable
@@ -64,8 +65,8 @@ def lines_of(data: bytes, is_like: bool) -> tuple[list[str], list[str]]:
 
 def parse_options() -> argparse.Namespace:
     """Parses the command line."""
-    parser = argparse.ArgumentParser(
-        description="Prints everything that keeps llbm from accepting a definition, one line each.", allow_abbrev=False
+    parser = Parser(
+        description="Prints everything that keeps llbm from accepting a definition, one line each."
     )
     add = parser.add_argument
     add("definition", nargs="?", metavar="DEFINITION", help="the definition (default: standard input)")

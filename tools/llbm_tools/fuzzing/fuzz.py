@@ -37,6 +37,7 @@ import tempfile
 import time
 from collections.abc import Callable, Iterator
 
+from llbm_tools.command_line import Parser
 from llbm_tools.common import check_open, printable, say
 from llbm_tools.counts import Counts
 from llbm_tools.fuzzing import cases as fuzz_cases
@@ -158,8 +159,8 @@ def number_from(least: int, most: int) -> Callable[[str], int]:
 
 def parse_options() -> argparse.Namespace:
     """Parses the command line."""
-    parser = argparse.ArgumentParser(
-        description="Runs the program llbm on random inputs, and prints which rule an input breaks.", allow_abbrev=False
+    parser = Parser(
+        description="Runs the program llbm on random inputs, and prints which rule an input breaks."
     )
     add, seed = parser.add_argument, random.randrange(1 << 32)
     add("seconds", nargs="?", metavar="SECONDS", type=number_from(1, 1_000_000), help="the duration (no limit)")

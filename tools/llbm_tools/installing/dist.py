@@ -20,6 +20,7 @@ import sys
 import tarfile
 
 from llbm_tools import common, os_errors, streams
+from llbm_tools.command_line import Parser
 from llbm_tools.installing import installation
 from llbm_tools.installing.installation import Item, Program
 
@@ -70,7 +71,7 @@ def dist(options: argparse.Namespace) -> None:
 
 def parse_options() -> argparse.Namespace:
     """Parses the command line."""
-    parser = argparse.ArgumentParser(description="Packs an installation as an archive.", allow_abbrev=False)
+    parser = Parser(description="Packs an installation as an archive.")
     parser.add_argument("--llbm", metavar="PROGRAM", help="the program llbm")
     parser.add_argument(
         "-o", dest="folder", metavar="FOLDER", type=pathlib.Path, default=pathlib.Path("."),

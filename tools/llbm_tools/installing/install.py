@@ -23,6 +23,7 @@ import shutil
 import sys
 
 from llbm_tools import common, os_errors, streams
+from llbm_tools.command_line import Parser
 from llbm_tools.installing import installation
 from llbm_tools.installing.installation import Item, NotInstalled
 
@@ -101,9 +102,7 @@ def uninstall(options: argparse.Namespace) -> None:
 
 def parse_options() -> argparse.Namespace:
     """Parses the command line."""
-    parser = argparse.ArgumentParser(
-        description="Installs the program and its tools below a folder.", allow_abbrev=False
-    )
+    parser = Parser(description="Installs the program and its tools below a folder.")
     parser.add_argument("--llbm", metavar="PROGRAM", help="the program llbm")
     parser.add_argument("--dry-run", action="store_true", help="print the paths, and write nothing")
     parser.add_argument("--uninstall", action="store_true", help="remove what is installed")

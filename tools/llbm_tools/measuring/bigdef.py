@@ -40,6 +40,7 @@ Exit status: 0 the definition is written; 2 the command line is refused; 3 a wri
 import argparse
 import sys
 
+from llbm_tools.command_line import Parser
 from llbm_tools.common import check_open
 from llbm_tools.llb import messages
 from llbm_tools.llb.messages import edge, encoded, made
@@ -322,8 +323,8 @@ def count_of(word: str) -> int:
 
 def parse_options() -> argparse.Namespace:
     """Parses the command line."""
-    parser = argparse.ArgumentParser(
-        description=__doc__, formatter_class=argparse.RawDescriptionHelpFormatter, allow_abbrev=False
+    parser = Parser(
+        description=__doc__, formatter_class=argparse.RawDescriptionHelpFormatter
     )
     parser.add_argument("kind", metavar="KIND", choices=KINDS, help="one of the kinds above")
     parser.add_argument("count", metavar="COUNT", type=count_of, help=f"1 to {MOST_COUNT:,}")

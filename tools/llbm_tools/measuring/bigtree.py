@@ -15,6 +15,7 @@ import os
 import sys
 from collections.abc import Callable, Iterator
 
+from llbm_tools.command_line import Parser
 from llbm_tools.common import check_open, is_name
 from llbm_tools.streams import exit_status
 
@@ -67,7 +68,7 @@ def part_of_name(word: str) -> str:
 
 def parse_options() -> argparse.Namespace:
     """Parses the command line."""
-    parser = argparse.ArgumentParser(description="Writes the text of a large tree.", allow_abbrev=False)
+    parser = Parser(description="Writes the text of a large tree.")
     add = parser.add_argument
     add("files", metavar="FILES", type=number_to(MOST_FILES), help="the number of files")
     add("directories", metavar="DIRECTORIES", type=number_to(MOST_FILES), help="the number of directories")

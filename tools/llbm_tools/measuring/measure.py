@@ -31,6 +31,7 @@ import tempfile
 import time
 from typing import NamedTuple
 
+from llbm_tools.command_line import Parser
 from llbm_tools.common import check_open, say
 from llbm_tools.measuring import go_show, repeated, scale
 from llbm_tools.paths import TOOLS
@@ -279,9 +280,7 @@ def number(word: str) -> int:
 
 def parse_options() -> argparse.Namespace:
     """Parses the command line."""
-    parser = argparse.ArgumentParser(
-        description="Measures the program llbm: pairs of runs, and their ratios.", allow_abbrev=False
-    )
+    parser = Parser(description="Measures the program llbm: pairs of runs, and their ratios.")
     parser.add_argument("--llbm", metavar="PROGRAM", help="the program llbm")
     parser.add_argument("--runs", metavar="N", type=number, default=RUNS, help="the number of runs of each pair")
     parser.add_argument("--part", metavar="N", type=number, default=1, help="make all counts N times smaller")

@@ -45,6 +45,7 @@ from collections.abc import Iterator
 from typing import NamedTuple
 
 from llbm_tools import common
+from llbm_tools.command_line import Parser
 from llbm_tools.daemon import buildkitd, daemon, debian_packages, go_building, runs, started_daemon
 from llbm_tools.daemon.go_building import OUT
 from llbm_tools.llb.messages import definition_of, edge, encoded, made
@@ -334,8 +335,8 @@ def measure(options: argparse.Namespace) -> int:
 
 def main() -> int:
     """Runs the tool, and returns its exit status."""
-    parser = argparse.ArgumentParser(
-        prog="tools/measure-daemons", description="Measures llbmd beside BuildKit's daemon.", allow_abbrev=False
+    parser = Parser(
+        prog="tools/measure-daemons", description="Measures llbmd beside BuildKit's daemon."
     )
     parser.add_argument("--llbm", metavar="PROGRAM", help="the program llbm")
     parser.add_argument("--daemon", metavar="PROGRAM", type=pathlib.Path, default=daemon.PROGRAM, help="the daemon")

@@ -22,6 +22,7 @@ import sys
 import threading
 
 from llbm_tools import common, paths
+from llbm_tools.command_line import Parser
 from llbm_tools.page import assets, builds, notes, server
 from llbm_tools.streams import Failed, Refused, exit_status
 
@@ -76,8 +77,8 @@ def port_of(word: str) -> int:
 
 def parse_options() -> argparse.Namespace:
     """Parses the command line."""
-    parser = argparse.ArgumentParser(
-        description="Serves the page on this machine, with builds that it opens by a link.", allow_abbrev=False
+    parser = Parser(
+        description="Serves the page on this machine, with builds that it opens by a link."
     )
     parser.add_argument("build", metavar="BUILD", nargs="*", help="a folder with a build, or one that llbmd keeps")
     parser.add_argument("--serve", action="store_true", help="serve the page; without it the builds are listed")

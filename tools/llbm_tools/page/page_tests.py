@@ -22,6 +22,7 @@ import tempfile
 from collections.abc import Callable, Iterator
 
 from llbm_tools import common, streams
+from llbm_tools.command_line import Parser
 from llbm_tools.counts import Counts
 from llbm_tools.page import assets, browser, module_cases, pictures
 from llbm_tools.page import cases as page_cases
@@ -145,7 +146,7 @@ def tests(options: argparse.Namespace) -> int:
 
 def parse_options() -> argparse.Namespace:
     """Parses the command line."""
-    parser = argparse.ArgumentParser(description="Tests the page and its module.", allow_abbrev=False)
+    parser = Parser(description="Tests the page and its module.")
     parser.add_argument("--llbm", metavar="PROGRAM", help="the program llbm")
     parser.add_argument("--page", metavar="FOLDER", type=pathlib.Path, default=PLACE, help="default: out/page")
     parser.add_argument("--cases", metavar="FOLDER", type=pathlib.Path, help="a folder of stored cases")

@@ -23,6 +23,7 @@ import sys
 import tempfile
 
 from llbm_tools import common, paths
+from llbm_tools.command_line import Parser
 from llbm_tools.compiling import unproved_program
 from llbm_tools.page import assets, module_code, unproved_module, wasm_module
 from llbm_tools.streams import Refused, exit_status
@@ -64,9 +65,7 @@ def make(options: argparse.Namespace) -> None:
 
 def parse_options() -> argparse.Namespace:
     """Parses the command line."""
-    parser = argparse.ArgumentParser(
-        description="Makes the page that runs the machine in a browser.", allow_abbrev=False
-    )
+    parser = Parser(description="Makes the page that runs the machine in a browser.")
     parser.add_argument(
         "-o", dest="folder", metavar="FOLDER", type=pathlib.Path, default=PLACE, help="default: out/page"
     )

@@ -20,6 +20,7 @@ import re
 import sys
 import textwrap
 
+from llbm_tools.command_line import Parser
 from llbm_tools.common import check_open
 from llbm_tools.paths import ROOT
 from llbm_tools.repository.specs import Definition, Library, contract
@@ -197,9 +198,7 @@ def show_first(library: Library) -> None:
 
 def parse_options() -> argparse.Namespace:
     """Parses the command line."""
-    parser = argparse.ArgumentParser(
-        description="Prints what has to be read to believe a statement.", allow_abbrev=False
-    )
+    parser = Parser(description="Prints what has to be read to believe a statement.")
     what = parser.add_mutually_exclusive_group(required=True)
     what.add_argument(
         "statement", metavar="STATEMENT", nargs="?", choices=[*STATEMENTS], help=f"one of {', '.join(STATEMENTS)}"

@@ -25,6 +25,7 @@ import re
 import sys
 from collections.abc import Iterator
 
+from llbm_tools.command_line import Parser
 from llbm_tools.common import check_open
 from llbm_tools.paths import ROOT
 from llbm_tools.streams import exit_status
@@ -161,8 +162,8 @@ def findings(repository: pathlib.Path) -> Iterator[tuple[pathlib.Path, str]]:
 
 def parse_options() -> argparse.Namespace:
     """Parses the command line."""
-    parser = argparse.ArgumentParser(
-        description="Checks what crates say of themselves, and which proofs cite others.", allow_abbrev=False
+    parser = Parser(
+        description="Checks what crates say of themselves, and which proofs cite others."
     )
     parser.add_argument(
         "--repository", metavar="DIRECTORY", type=pathlib.Path, default=ROOT, help="default: that of this folder"

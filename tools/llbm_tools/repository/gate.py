@@ -43,6 +43,7 @@ import sys
 from collections.abc import Iterator
 
 from llbm_tools import paths
+from llbm_tools.command_line import Parser
 from llbm_tools.counts import Counts, total
 from llbm_tools.installing import installation
 from llbm_tools.page import browser, module_cases, wasm
@@ -206,7 +207,7 @@ def keep_receipt() -> None:
 
 def parse_options() -> argparse.Namespace:
     """Parses the command line."""
-    parser = argparse.ArgumentParser(description="Runs all tests of the repository.", allow_abbrev=False)
+    parser = Parser(description="Runs all tests of the repository.")
     parser.add_argument("--after", action="store_true", help="leave out `rt ci`, in a checkout where it has run")
     parser.add_argument("--quick", action="store_true", help="the tests that are soon done, on a program without proof")
     parser.add_argument("--more", action="store_true", help="with --quick: all tests that need no proof")

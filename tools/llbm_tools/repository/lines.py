@@ -16,6 +16,7 @@ import subprocess
 import sys
 from collections.abc import Iterator
 
+from llbm_tools.command_line import Parser
 from llbm_tools.common import check_open
 from llbm_tools.paths import ROOT
 from llbm_tools.streams import Refused, exit_status
@@ -62,8 +63,8 @@ def check_files(repository: pathlib.Path) -> int:
 
 def parse_options() -> argparse.Namespace:
     """Parses the command line."""
-    parser = argparse.ArgumentParser(
-        description="Finds the lines of the repository that have more than 160 columns.", allow_abbrev=False
+    parser = Parser(
+        description="Finds the lines of the repository that have more than 160 columns."
     )
     parser.add_argument(
         "--repository", metavar="DIRECTORY", type=pathlib.Path, default=ROOT, help="default: that of this folder"

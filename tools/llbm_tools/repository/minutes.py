@@ -36,6 +36,7 @@ import time
 from collections.abc import Iterator
 from typing import NamedTuple
 
+from llbm_tools.command_line import Parser
 from llbm_tools.os_errors import in_words
 from llbm_tools.streams import Refused, exit_status
 
@@ -231,8 +232,8 @@ def pause_of(word: str) -> float:
 
 def main() -> int:
     """Runs the tool, and returns its exit status."""
-    parser = argparse.ArgumentParser(
-        description="Runs a command, and prints the processor minutes of each crate below it.", allow_abbrev=False
+    parser = Parser(
+        description="Runs a command, and prints the processor minutes of each crate below it."
     )
     parser.add_argument("--pause", metavar="SECONDS", type=pause_of, default=PAUSE, help="between two looks")
     parser.add_argument("command", nargs=argparse.REMAINDER, metavar="COMMAND", help="default: rt ci")

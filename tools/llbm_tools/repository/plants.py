@@ -31,6 +31,7 @@ import tempfile
 from collections.abc import Iterator
 from typing import NamedTuple
 
+from llbm_tools.command_line import Parser
 from llbm_tools.compiling.library import kit, libraries_of
 from llbm_tools.paths import ROOT, TOOLS
 from llbm_tools.streams import Refused, exit_status
@@ -178,8 +179,8 @@ def work(options: argparse.Namespace) -> int:
 
 def main() -> int:
     """Runs the tool, and returns its exit status."""
-    parser = argparse.ArgumentParser(
-        prog="tools/plants", description="Tries wrong bodies that a machine writes.", allow_abbrev=False
+    parser = Parser(
+        prog="tools/plants", description="Tries wrong bodies that a machine writes."
     )
     parser.add_argument("crates", nargs="*", metavar="CRATE", help="a crate; all but those of tests if none is named")
     parser.add_argument("--repository", metavar="DIRECTORY", type=pathlib.Path, default=ROOT, help="where `rt ci` ran")

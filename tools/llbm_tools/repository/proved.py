@@ -20,6 +20,7 @@ import sys
 import textwrap
 from collections.abc import Iterator
 
+from llbm_tools.command_line import Parser
 from llbm_tools.common import check_open
 from llbm_tools.paths import ROOT
 from llbm_tools.streams import exit_status
@@ -161,9 +162,7 @@ def crates() -> list[pathlib.Path]:
 
 def parse_options() -> argparse.Namespace:
     """Parses the command line."""
-    parser = argparse.ArgumentParser(
-        description="Prints the public calls of crates, with their clauses.", allow_abbrev=False
-    )
+    parser = Parser(description="Prints the public calls of crates, with their clauses.")
     parser.add_argument("crates", metavar="CRATE", nargs="*", help="default: all")
     options = parser.parse_args()
     known = {crate.name for crate in crates()}

@@ -23,6 +23,7 @@ import sys
 import tempfile
 from typing import NamedTuple
 
+from llbm_tools.command_line import Parser
 from llbm_tools.common import check_open, discard_output, printable, say
 from llbm_tools.counts import Counts
 from llbm_tools.os_errors import os_error_text
@@ -134,8 +135,8 @@ def run_all(tests: str, library: str, folder: str) -> int:
 
 def parse_options() -> argparse.Namespace:
     """Parses the command line."""
-    parser = argparse.ArgumentParser(
-        description="Refuses each growth of memory of each call in turn, and threads of runs.", allow_abbrev=False
+    parser = Parser(
+        description="Refuses each growth of memory of each call in turn, and threads of runs."
     )
     parser.add_argument("tests", metavar="TESTS", nargs="?", default=str(TESTS), help="the program of the tests")
     return parser.parse_args()

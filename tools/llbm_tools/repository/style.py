@@ -8,11 +8,11 @@ installed is skipped; its line says so.
 Exit status: 0 nothing is wrong; 1 something is; 2 the command line is refused; 3 a read or a write failed.
 """
 
-import argparse
 import shutil
 import subprocess
 import sys
 
+from llbm_tools.command_line import Parser
 from llbm_tools.common import check_open
 from llbm_tools.counts import Counts
 from llbm_tools.paths import ROOT
@@ -51,8 +51,7 @@ def check() -> int:
 
 def main() -> int:
     """Runs the tool, and returns its exit status."""
-    argparse.ArgumentParser(
+    Parser(
         description="Checks the types and the layout of the tools, with the checkers that are installed.",
-        allow_abbrev=False,
     ).parse_args()
     return exit_status(check)

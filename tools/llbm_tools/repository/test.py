@@ -33,6 +33,7 @@ from types import TracebackType
 from typing import NamedTuple, TextIO, cast
 
 from llbm_tools import common, paths, streams
+from llbm_tools.command_line import Parser
 from llbm_tools.counts import Counts, total
 from tests import base
 
@@ -89,6 +90,7 @@ MODULES = [
     "page.paging",
     "page.page_parts",
     "starting",
+    "helping",
     "definitions.dumping",
     "images.layouts",
     "installing.commands",
@@ -229,7 +231,7 @@ def positive(word: str) -> int:
 
 def parse_options() -> argparse.Namespace:
     """Parses the command line."""
-    parser = argparse.ArgumentParser(description="Tests the tools of this folder.", allow_abbrev=False)
+    parser = Parser(description="Tests the tools of this folder.")
     parser.add_argument("--llbm", metavar="PROGRAM", help="the program llbm")
     jobs = len(os.sched_getaffinity(0))
     parser.add_argument("--jobs", metavar="N", type=positive, default=jobs, help="the number of processes")

@@ -44,6 +44,7 @@ import tempfile
 from collections.abc import Iterator
 from typing import NamedTuple
 
+from llbm_tools.command_line import Parser
 from llbm_tools.common import NOT_PROVED, PROVER, check_open, printable
 from llbm_tools.counts import Counts, total
 from llbm_tools.inputs import data_at
@@ -191,9 +192,8 @@ def transcripts(options: argparse.Namespace) -> int:
 
 def parse_options() -> argparse.Namespace:
     """Parses the command line."""
-    parser = argparse.ArgumentParser(
+    parser = Parser(
         description="Runs the commands of pages and of tests/, and compares their output with what is shown.",
-        allow_abbrev=False,
     )
     parser.add_argument("--llbm", metavar="PROGRAM", help="the program llbm")
     parser.add_argument("--unproved", action="store_true", help="the version has to say that it is not proved")

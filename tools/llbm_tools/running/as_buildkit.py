@@ -1,8 +1,8 @@
 """Runs a definition, and says where BuildKit ends otherwise: by its rules for file ops, merges and local sources.
 
 In: a definition (`-` for standard input), and NAME=PATH for each local source: a directory, a tar (both with owner 0:0)
-or a tree text. The program is --llbm PROGRAM, else the one on PATH, else crates/llbm/out/llbm of the repository, or
-else its out/llbm-unproved, which is named on standard error as not proved.
+or a tree text. The program is --llbm PROGRAM, else $LLBM, else that of the installation or the repository, else the one
+on PATH; one that is not proved, and that nobody named, is named on standard error.
 
 Out: on standard output a line for each action, merge or source that ends otherwise, with the path, what BuildKit has
 there, what is there here, and the rule, as docs/BUILDKIT.md lists them; at most --paths N for each, 20 by default. A
@@ -23,6 +23,7 @@ import tempfile
 from collections.abc import Iterator
 
 from llbm_tools import common, inputs
+from llbm_tools.command_line import Parser
 from llbm_tools.debugging import launching
 from llbm_tools.llb import definition, names
 from llbm_tools.running import explain_run
@@ -138,7 +139,7 @@ def compare(options: argparse.Namespace) -> int:
 
 def parse_options() -> argparse.Namespace:
     """Parses the command line."""
-    parser = argparse.ArgumentParser(description="Says where BuildKit would end otherwise.", allow_abbrev=False)
+    parser = Parser(description="Says where BuildKit would end otherwise.")
     add = parser.add_argument
     add("definition", metavar="DEFINITION", help="the file of the definition, or -")
     add("source", nargs="*", type=source_of, metavar="NAME=PATH", help="a local source")

@@ -27,6 +27,7 @@ import os
 import pathlib
 from xml.etree import ElementTree
 
+from llbm_tools.command_line import Parser
 from llbm_tools.common import printable
 from llbm_tools.running import stored_cases
 from llbm_tools.running.stored_cases import FAILED, PASSED, UPDATED, Ended, Runner
@@ -116,7 +117,7 @@ def positive(word: str) -> int:
 
 def parse_options() -> argparse.Namespace:
     """Parses the command line."""
-    parser = argparse.ArgumentParser(description="Runs cases that are stored in folders.", allow_abbrev=False)
+    parser = Parser(description="Runs cases that are stored in folders.")
     parser.add_argument("folder", metavar="FOLDER", help="the folder of the cases")
     parser.add_argument("--only", metavar="TEXT", default="", help="run the cases whose paths have this text")
     parser.add_argument("--update", action="store_true", help="store what the program writes")

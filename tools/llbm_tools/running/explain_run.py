@@ -1,8 +1,8 @@
 """Runs a definition, and says in words what each step did and which paths it changed.
 
 In: a definition (`-` for standard input), and NAME=PATH for each local source: a directory, a tar (both with owner 0:0)
-or a tree text. The program is --llbm PROGRAM, else the one on PATH, else crates/llbm/out/llbm of the repository, or
-else its out/llbm-unproved, which is named on standard error as not proved.
+or a tree text. The program is --llbm PROGRAM, else $LLBM, else that of the installation or the repository, else the one
+on PATH; one that is not proved, and that nobody named, is named on standard error.
 
 Out: on standard output the run by one worker, vertex by vertex: a line with its number, its kind and its name or what
 it does; below it a line for each micro-step, with the paths that it added, removed or changed, or why it failed, and a
@@ -23,6 +23,7 @@ import tempfile
 from collections.abc import Iterator
 
 from llbm_tools import common, inputs
+from llbm_tools.command_line import Parser
 from llbm_tools.debugging import launching
 from llbm_tools.debugging.described import changed_lines, otherwise_lines
 from llbm_tools.debugging.happened import Happened, Watch
@@ -120,7 +121,7 @@ def number_of(word: str) -> int:
 
 def parse_options() -> argparse.Namespace:
     """Parses the command line."""
-    parser = argparse.ArgumentParser(description="Says what each step of a run did.", allow_abbrev=False)
+    parser = Parser(description="Says what each step of a run did.")
     parser.add_argument("definition", metavar="DEFINITION", help="the file of the definition, or -")
     parser.add_argument("source", nargs="*", type=source_of, metavar="NAME=PATH", help="a local source")
     parser.add_argument("--llbm", metavar="PROGRAM", default="", help="the program llbm")

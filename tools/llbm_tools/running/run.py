@@ -28,6 +28,7 @@ import tempfile
 from collections.abc import Iterator
 from typing import BinaryIO, cast
 
+from llbm_tools.command_line import Parser
 from llbm_tools.common import MOST_BYTES, check_open, say
 from llbm_tools.definitions import faults
 from llbm_tools.running import run_records
@@ -164,7 +165,7 @@ def parser() -> argparse.ArgumentParser:
     """Returns the parser that prints the help of the tool; the words of the program are not parsed by it."""
     width = max(len(command.name) for command in COMMANDS)
     lines = [f"  {command.name:<{width}}  {command.about}" for command in COMMANDS]
-    parser = argparse.ArgumentParser(
+    parser = Parser(
         description="Runs llbm with the same words, and explains its faults and failures.",
         usage="%(prog)s [--llbm PROGRAM] [--record FOLDER] [WORD ...]",
         formatter_class=argparse.RawDescriptionHelpFormatter,

@@ -103,7 +103,8 @@ class Runner:
             return content_of(folder, INPUT)
         assembled = self.done(["asm"], content_of(folder, TEXT), folder)
         if assembled.status:
-            raise NoAnswer(f"{TEXT}: {assembled.messages.decode('utf-8', 'backslashreplace').strip()}")
+            why = assembled.messages.decode("utf-8", "backslashreplace").strip()
+            raise NoAnswer(f"{why} (the text in {TEXT})")
         return assembled.output
 
     def answer(self, folder: pathlib.Path) -> Answer:

@@ -23,13 +23,13 @@ Exit status: 0 the array is written; 2 a line or the command line is refused, an
 line is named on standard error with `line N` at its end, counted from 1; 3 a read or a write failed.
 """
 
-import argparse
 import io
 import json
 import re
 from collections.abc import Iterable
 from typing import NamedTuple
 
+from llbm_tools.command_line import Parser
 from llbm_tools.inputs import input_lines
 from llbm_tools.sessions.shows import KINDS, NUMBER
 from llbm_tools.streams import Refused, exit_status, write_output
@@ -159,8 +159,8 @@ def convert() -> None:
 
 def main() -> int:
     """Runs the tool, and returns its exit status."""
-    parser = argparse.ArgumentParser(
-        description="Converts the output of a session of llbm step on standard input to JSON.", allow_abbrev=False
+    parser = Parser(
+        description="Converts the output of a session of llbm step on standard input to JSON."
     )
     parser.parse_args()
     return exit_status(convert)

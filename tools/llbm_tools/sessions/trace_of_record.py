@@ -12,12 +12,12 @@ Exit status: 0 the trace is written; 2 a line, the definition or the command lin
 standard error says why; 3 a read or a write failed.
 """
 
-import argparse
 import io
 import json
 import re
 from typing import NamedTuple
 
+from llbm_tools.command_line import Parser
 from llbm_tools.common import printable, shortened
 from llbm_tools.inputs import data_at, input_lines
 from llbm_tools.llb import definition, names, no_definition
@@ -134,8 +134,8 @@ def convert(file: str | None) -> None:
 
 def main() -> int:
     """Runs the tool, and returns its exit status."""
-    parser = argparse.ArgumentParser(
-        description="Converts the record of a session of llbm step to Chrome's trace events.", allow_abbrev=False
+    parser = Parser(
+        description="Converts the record of a session of llbm step to Chrome's trace events."
     )
     parser.add_argument("--definition", metavar="FILE", help="the definition, for names")
     options = parser.parse_args()

@@ -28,6 +28,7 @@ from collections.abc import Iterator
 from typing import BinaryIO
 
 from llbm_tools import inputs
+from llbm_tools.command_line import Parser
 from llbm_tools.streams import exit_status, write_output
 from llbm_tools.trees.source_texts import Reading, text_at
 from llbm_tools.trees.trees import Entry, checked_at, owner_word, path_of
@@ -121,7 +122,7 @@ def compare(options: argparse.Namespace) -> int:
 
 def parse_options() -> argparse.Namespace:
     """Parses the command line."""
-    parser = argparse.ArgumentParser(description="Prints the differences between two trees.", allow_abbrev=False)
+    parser = Parser(description="Prints the differences between two trees.")
     parser.add_argument("first", metavar="FIRST", help="a text of a tree, a directory or an archive")
     parser.add_argument("second", metavar="SECOND", help="the same; at most one of them is -, standard input")
     parser.add_argument(

@@ -20,6 +20,7 @@ import contextlib
 import os
 from collections.abc import Iterable, Iterator
 
+from llbm_tools.command_line import Parser
 from llbm_tools.inputs import input_lines
 from llbm_tools.streams import Failed, Refused, exit_status, of_place, temporary_file
 from llbm_tools.trees import times
@@ -117,9 +118,7 @@ def write_checked(directory: bytes, time: int | None) -> None:
 
 def parse_options() -> argparse.Namespace:
     """Parses the command line."""
-    parser = argparse.ArgumentParser(
-        description="Writes the tree text on standard input as a new directory.", allow_abbrev=False
-    )
+    parser = Parser(description="Writes the tree text on standard input as a new directory.")
     parser.add_argument("directory", metavar="DIRECTORY", type=os.fsencode, help="the new directory")
     parser.add_argument("--mtime", metavar="SECONDS", type=times.seconds_of, help="the time of every entry, since 1970")
     return parser.parse_args()

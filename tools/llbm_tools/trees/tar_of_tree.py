@@ -20,6 +20,7 @@ import io
 import tarfile
 from typing import BinaryIO
 
+from llbm_tools.command_line import Parser
 from llbm_tools.images import archive_writing, packing
 from llbm_tools.inputs import input_lines
 from llbm_tools.streams import exit_status, temporary_file, write_new_file, write_output
@@ -73,9 +74,7 @@ def write_checked(options: argparse.Namespace) -> None:
 
 def parse_options() -> argparse.Namespace:
     """Parses the command line."""
-    parser = argparse.ArgumentParser(
-        description="Writes the tree text on standard input as a tar archive.", allow_abbrev=False
-    )
+    parser = Parser(description="Writes the tree text on standard input as a tar archive.")
     parser.add_argument("archive", metavar="ARCHIVE", nargs="?", help="the new file (default: standard output)")
     parser.add_argument("--mtime", metavar="SECONDS", type=times.seconds_of, help="the time of every entry, since 1970")
     parser.add_argument("--pack", metavar="FORM", choices=packing.NAMES, help=f"one of {', '.join(packing.NAMES)}")

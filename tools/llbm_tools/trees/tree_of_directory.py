@@ -22,6 +22,7 @@ import os
 import sys
 from typing import BinaryIO
 
+from llbm_tools.command_line import Parser
 from llbm_tools.streams import Failed, Refused, exit_status, temporary_file, write_output
 from llbm_tools.trees.directory_texts import DirectoryText, Values
 from llbm_tools.trees.trees import owner_word, warn_of_length
@@ -29,9 +30,7 @@ from llbm_tools.trees.trees import owner_word, warn_of_length
 
 def parse_options() -> argparse.Namespace:
     """Parses the command line."""
-    parser = argparse.ArgumentParser(
-        description="Writes the tree text of a directory to standard output.", allow_abbrev=False
-    )
+    parser = Parser(description="Writes the tree text of a directory to standard output.")
     parser.add_argument("directory", metavar="DIRECTORY", help="the directory")
     parser.add_argument("--owner", metavar="UID:GID", type=owner_word, help="the owner of every entry")
     parser.add_argument("--strict", action="store_true", help="refuse a directory if something is left out")

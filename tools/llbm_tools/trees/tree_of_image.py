@@ -20,6 +20,7 @@ interrupted.
 
 import argparse
 
+from llbm_tools.command_line import Parser
 from llbm_tools.images import unpacking
 from llbm_tools.inputs import is_standard_input, standard_input
 from llbm_tools.streams import exit_status
@@ -37,9 +38,7 @@ def read_image(options: argparse.Namespace) -> None:
 
 def parse_options() -> argparse.Namespace:
     """Parses the command line."""
-    parser = argparse.ArgumentParser(
-        description="Writes the tree text of an image to standard output.", allow_abbrev=False
-    )
+    parser = Parser(description="Writes the tree text of an image to standard output.")
     parser.add_argument("image", metavar="IMAGE", nargs="?", help="an archive or a directory (default: standard input)")
     parser.add_argument("--name", metavar="NAME", help="the name of the image, where there are several")
     parser.add_argument("--platform", metavar="OS/ARCH", help="the platform of the image, where there are several")

@@ -22,6 +22,7 @@ interrupted.
 import argparse
 from typing import BinaryIO
 
+from llbm_tools.command_line import Parser
 from llbm_tools.images import archives, packing
 from llbm_tools.images.archive_entries import entries_of
 from llbm_tools.inputs import is_standard_input, opened_file, standard_input
@@ -48,9 +49,7 @@ def read_archive(options: argparse.Namespace) -> None:
 
 def parse_options() -> argparse.Namespace:
     """Parses the command line."""
-    parser = argparse.ArgumentParser(
-        description="Writes the tree text of a tar archive to standard output.", allow_abbrev=False
-    )
+    parser = Parser(description="Writes the tree text of a tar archive to standard output.")
     parser.add_argument("archive", metavar="ARCHIVE", nargs="?", help="the archive (default: standard input)")
     parser.add_argument("--owner", metavar="UID:GID", type=owner_word, help="the owner of every entry")
     parser.add_argument("--strict", action="store_true", help="refuse an archive if something is left out")

@@ -129,7 +129,7 @@ class Refusals(Check):
         done = self.check()
         self.assertEqual((done.returncode, done.stderr), (1, b""))
         lines = done.stdout.decode().splitlines()
-        self.assertTrue(lines[1].startswith("    definition.text: fault "), lines)
+        self.assertRegex(lines[1], r"^    fault .* \(the text in definition\.text\)$")
         self.assertEqual(lines[2:], ["failed missing-file", "    status is not a number", "0 passed, 2 failed"])
 
     def test_a_source_that_can_not_be_read_fails_with_its_cause(self):

@@ -1,0 +1,54 @@
+"""The parser of a tool's command line: help and version go to standard output, and a failed write is a failure."""
+
+import argparse
+import sys
+from collections.abc import Sequence
+from typing import Any
+
+from llbm_tools.common import PROVER, discard_output, say
+from llbm_tools.streams import FAILED
+
+# The release of which the tools are, which is that of the program.
+RELEASE = "1.0"
+
+
+def print_all(text: str, what: str) -> None:
+    """Writes a text to standard output; if that fails, the tool ends with the status of a failure."""
+    if sys.stdout is None:
+        say(f"{what} could not be written: standard output is closed")
+        raise SystemExit(FAILED)
+    try:
+        sys.stdout.write(text)
+        sys.stdout.flush()
+    except BrokenPipeError:
+        discard_output()
+        raise SystemExit(FAILED) from None
+    except OSError as fault:
+        say(f"{what} could not be written: {fault.strerror}")
+        discard_output()
+        raise SystemExit(FAILED) from fault
+
+
+class Version(argparse.Action):
+    """The option that prints the version."""
+
+    def __init__(self, option_strings: Sequence[str], dest: str, **rest: Any) -> None:
+        super().__init__(option_strings, argparse.SUPPRESS, nargs=0, help="print the version")
+
+    def __call__(self, parser: argparse.ArgumentParser, *_: object) -> None:
+        """Prints the version, and ends the tool."""
+        name = parser.prog.rpartition("/")[2]
+        print_all(f"{name}, of llbm {RELEASE}, for {PROVER}\n", "the version")
+        parser.exit()
+
+
+class Parser(argparse.ArgumentParser):
+    """A parser that takes no abbreviated options, and knows --help and --version."""
+
+    def __init__(self, **settings: Any) -> None:
+        super().__init__(**{"allow_abbrev": False, **settings})
+        self.add_argument("--version", action=Version)
+
+    def print_help(self, file: object = None) -> None:
+        """Prints the help."""
+        print_all(self.format_help(), "the help")
