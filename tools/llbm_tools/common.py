@@ -117,6 +117,11 @@ def not_llbm(program: str) -> str:
     return "this is not the program llbm" if is_other else f"the program does not start: {answer.ending()}"
 
 
+def tool_named(name: str) -> str:
+    """Returns the command by which a person here starts a tool."""
+    return f"llbm-{name}" if paths.INSTALLED.is_file() else f"tools/{name}"
+
+
 def program_given(word: str | None) -> str | None:
     """Returns the program that a person names: by an option, or else by the variable LLBM."""
     return word if word is not None else os.environ.get("LLBM") or None

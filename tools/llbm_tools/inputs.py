@@ -119,7 +119,10 @@ def data_at(place: str | None, most: int = MOST_BYTES) -> bytes:
 
 
 def stored_data(place: str | None, folder: str, name: str) -> str:
-    """Returns the path of a copy of the bytes at a place, as `data_at` reads them, in a folder."""
+    """Returns a path with the bytes at a place: the place, or in a folder a copy of what can be read only once."""
+    if place is not None and not is_pipe(place):
+        data_at(place)
+        return place
     stored = os.path.join(folder, name)
     with open(stored, "xb") as file:
         file.write(data_at(place))

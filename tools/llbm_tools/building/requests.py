@@ -12,7 +12,8 @@ from llbm_tools import inputs
 from llbm_tools.building.kept_builds import check_place, state_at
 from llbm_tools.common import check_open, program_place
 from llbm_tools.images import packing
-from llbm_tools.streams import Refused
+from llbm_tools.llb.given_definitions import definition_at
+from llbm_tools.streams import Refused, program_at
 from llbm_tools.trees import times
 
 OUTPUTS = ("-", "/dev/stdout")
@@ -79,7 +80,7 @@ class Request:
             times.time_of_archive(self.options.mtime)
         if not os.path.isdir(self.above):
             raise Refused(f"there is no such directory: {self.above}")
-        self.data = inputs.data_at(self.options.definition)
+        self.data = definition_at(self.options.definition, lambda: program_at(self.options.llbm))
         self.config = self.image_config()
 
     def image_config(self) -> bytes:

@@ -22,7 +22,7 @@ from llbm_tools import common
 from llbm_tools.command_line import Parser
 from llbm_tools.debugging import launching
 from llbm_tools.debugging.terminal import Terminal
-from llbm_tools.inputs import data_at, is_standard_input
+from llbm_tools.inputs import is_standard_input
 from llbm_tools.sessions.session import SessionFailed
 from llbm_tools.streams import FAILED, Refused, exit_status
 from llbm_tools.trees.source_files import source_of
@@ -48,14 +48,6 @@ def parse_options() -> argparse.Namespace:
     return parser.parse_args()
 
 
-def is_text(data: bytes) -> bool:
-    """Returns whether a file has the text of entries: its first line that is not blank opens a block or is a comment.
-
-    No definition begins so: neither of these letters is the tag of a record that a message can have.
-    """
-    return data.lstrip(b" \t\r\n").startswith((b"op {", b"raw ", b"#"))
-
-
 def begin(terminal: Terminal) -> None:
     """Says where the run is, and reads commands to the end."""
 
@@ -76,8 +68,7 @@ def debug(options: argparse.Namespace) -> int:
     if is_standard_input(options.definition):
         raise Refused("the definition has to be in a file: the commands come from standard input")
     program = launching.program_of({"llbm": options.llbm}, "--llbm PROGRAM")
-    form = "text" if is_text(data_at(options.definition)) else "definition"
-    given = {form: options.definition, "sources": dict(options.source), "workers": options.workers}
+    given = {"definition": options.definition, "sources": dict(options.source), "workers": options.workers}
     # The program and all that is started for `try` must not end by Ctrl-C, which pauses the run.
     signal.signal(signal.SIGINT, signal.SIG_IGN)
     launched = launching.launch({**given, "llbm": program}, common.say, "--llbm PROGRAM")

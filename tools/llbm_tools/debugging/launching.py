@@ -8,25 +8,27 @@ import difflib
 import functools
 import os
 import pathlib
+import re
 import shutil
 import subprocess
 import tempfile
 from collections.abc import Callable
 from typing import BinaryIO, NamedTuple
 
-from llbm_tools.common import program_named
+from llbm_tools.common import program_named, shortened, tool_named
 from llbm_tools.debugging import places
 from llbm_tools.debugging.arguments import Object, argument, of_kind
 from llbm_tools.debugging.origins import Origins, origins_of
 from llbm_tools.debugging.readable import readable
 from llbm_tools.definitions import faults
-from llbm_tools.inputs import data_at, is_standard_input
-from llbm_tools.llb import definition, names, source_names
+from llbm_tools.inputs import data_at, is_standard_input, opened_file
+from llbm_tools.llb import definition, given_definitions, names, no_definition, source_names
 from llbm_tools.llb.wire import Unreadable
 from llbm_tools.os_errors import os_error_text
 from llbm_tools.sessions.session import Refusal, Session, SessionFailed
 from llbm_tools.streams import Refused, why_not
 from llbm_tools.trees.source_files import source_words
+from llbm_tools.trees.trees import checked_at
 
 ARGUMENTS = ("definition", "text", "sources", "files", "workers", "stopOnEntry", "stopAtEnd", "noDebug", "llbm")
 EDITOR_ARGUMENTS = (
@@ -35,6 +37,10 @@ EDITOR_ARGUMENTS = (
 )
 
 UNNAMED = "fault 121 "
+# The faults of trees' texts, and those of rows, which adopting can mend.
+OF_A_TEXT = re.compile(r"fault 3[0-9] ")
+ADOPTED = re.compile(r"fault (?:86|88|89) ")
+MOST_OF_A_CAUSE = 300
 MOST_WORKERS = 64
 USUAL_WORKERS = 2
 
@@ -76,7 +82,8 @@ def cause_of(words: list[str], otherwise: str, entries: faults.Entries | None = 
     if not words:
         return otherwise
     meaning = explained(words[0], entries)
-    return f"{words[0]}: {' '.join(meaning)}" if meaning else words[0]
+    adopt = f" {tool_named('adopt')} rewrites what can be." if ADOPTED.match(words[0]) else ""
+    return f"{words[0]}: {shortened(' '.join(meaning), MOST_OF_A_CAUSE)}{adopt}" if meaning else words[0]
 
 
 def program_of(arguments: Object, argument_name: str) -> str:
@@ -103,7 +110,7 @@ def entries_of(data: bytes, name: str) -> list[bytes]:
     try:
         return definition.entries_of(data)
     except Unreadable as fault:
-        raise Refused(f"{fault}: {name}") from fault
+        raise no_definition.refusal(fault, data, name) from fault
 
 
 def data_in(file: str) -> bytes:
@@ -121,6 +128,8 @@ def definition_of(program: str, arguments: Object) -> tuple[bytes, bytes | None]
     if not file:
         return assembled, text
     data = data_in(file)
+    if text is None and no_definition.is_text(data):
+        return given_definitions.assembled(program, data, file), data
     if text is not None and entries_of(assembled, text_file) != entries_of(data, file):
         raise Refused(f"not the text of {file}: {text_file}")
     return data, text
@@ -176,6 +185,17 @@ def start_session(command: list[str], workers: int, vertices: int, entries: faul
     return session
 
 
+def check_texts(cause: str, words: list[str]) -> None:
+    """Refuses the first text of a source that is none, with its file and line, if that is why a run did not begin."""
+    for name, _, place in (word.partition("=") for word in words if OF_A_TEXT.match(cause)):
+        try:
+            with opened_file(place) as file:
+                for _ in checked_at(place, file):
+                    pass
+        except Refused as fault:
+            raise Refused(f"{fault} (the local source {name})") from fault
+
+
 def missing_sources(cause: str, data: bytes, given: list[str]) -> list[str]:
     """Returns a line with all local sources that have no tree, if a run did not begin for want of one."""
     return source_names.missing_notes(data, given) if cause.startswith(UNNAMED) else []
@@ -185,7 +205,7 @@ def start(arguments: Object, folder: str, say: Say, program_argument: str) -> La
     """Starts what a launch request asks for, with temporary files in a folder."""
     program, workers, given = program_of(arguments, program_argument), workers_of(arguments), files_of(arguments)
     data, text = definition_of(program, arguments)
-    entries = entries_of(data, "the definition")
+    entries = entries_of(data, argument(arguments, "definition", str, "") or "the definition")
     named_entries = faults.Entries(data)
     shown = output_of(program, "show", data, named_entries).decode("ascii", "backslashreplace")
     named = names.names_of(data)
@@ -200,6 +220,7 @@ def start(arguments: Object, folder: str, say: Say, program_argument: str) -> La
     try:
         session = start_session(command, workers, len(graph.vertices), named_entries)
     except Refused as fault:
+        check_texts(str(fault), words)
         raise Refused("; ".join([str(fault), *missing_sources(str(fault), data, given_names)])) from fault
     path, place = argument(arguments, "definition", str, ""), argument(arguments, "text", str, "")
     origins = origins_of(data, given, os.path.dirname(os.path.abspath(path or place)))

@@ -27,7 +27,7 @@ import sys
 from llbm_tools import common
 from llbm_tools.command_line import Parser
 from llbm_tools.definitions import dot, inspected_graph, inspection
-from llbm_tools.inputs import check_inputs, data_at, input_lines
+from llbm_tools.inputs import check_inputs, check_there, data_at, input_lines
 from llbm_tools.llb import definition, names, no_definition
 from llbm_tools.llb.ops import Op
 from llbm_tools.llb.wire import Unreadable
@@ -128,6 +128,7 @@ def drawn(options: argparse.Namespace) -> str:
         return inspected_graph.digraph(inspection.inspected(data_at(options.file), options.file))
     if options.definition is not None:
         check_inputs(None, options.definition)
+        check_there(options.definition)
     show = show_of(b"".join(input_lines()).decode("ascii", "backslashreplace"))
     return digraph(show, labels_of(show, options.definition), colors_of(show, options.impact))
 

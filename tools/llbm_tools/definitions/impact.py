@@ -1,14 +1,14 @@
 """Prints for each vertex of a definition whether its outcome can differ from the one in an older definition.
 
-In: the files OLD and NEW, two definitions that the program accepts (`-` for one of them is standard input), and which
-local sources have another tree for NEW than for OLD: the names after --changed; and of the names in --before NAME=PLACE
-(the trees for OLD) and --after NAME=PLACE (those for NEW) the ones whose trees have two digests, or that have a tree on
-one side only. PLACE is a directory, an archive (a path that is not a directory and ends in .tar, .tar.gz, .tgz,
-.tar.bz2, .tar.xz or .tar.zst), an image or the text of a tree. Directories and archives get the owner 0:0, as `build`
-reads them, and what cannot be in a tree is named on standard error. A digest is the program's, the SHA-256 of the text.
-All other sources are taken to have the same trees for both. With --run both definitions are run by the program
-(--llbm PROGRAM, else that of the installation or repository), and each local source needs a tree for each definition
-that has it.
+In: the files OLD and NEW, two definitions that the program accepts or texts of entries (`-` for one of them is standard
+input), and which local sources have another tree for NEW than for OLD: the names after --changed; and of the names in
+--before NAME=PLACE (the trees for OLD) and --after NAME=PLACE (those for NEW) the ones whose trees have two digests, or
+that have a tree on one side only. PLACE is a directory, an archive (a path that is not a directory and ends in .tar,
+.tar.gz, .tgz, .tar.bz2, .tar.xz or .tar.zst), an image or the text of a tree. Directories and archives get the owner
+0:0, as `build` reads them, and what cannot be in a tree is named on standard error. A digest is the program's, the
+SHA-256 of the text. All other sources are taken to have the same trees for both. With --run both definitions are run by
+the program (--llbm PROGRAM, else that of the installation or repository), and each local source needs a tree for each
+definition that has it.
 
 Out: on standard output a line for the result, and then one for each vertex of NEW, by number:
 
@@ -45,6 +45,7 @@ read or a write failed; 130 interrupted.
 
 import argparse
 import collections
+import functools
 import io
 import json
 from typing import NamedTuple
@@ -53,6 +54,7 @@ from llbm_tools import common, inputs
 from llbm_tools.command_line import Parser
 from llbm_tools.definitions import both_runs, impacts
 from llbm_tools.definitions.impacts import Comparison, Impact, Names, Result
+from llbm_tools.llb.given_definitions import definition_at
 from llbm_tools.streams import Refused, exit_status, program_at, write_output
 from llbm_tools.trees.digests import tree_digest
 
@@ -152,12 +154,13 @@ def compare(options: argparse.Namespace) -> None:
     """Prints what is known of each vertex of NEW."""
     before, after = dict(options.before), dict(options.after)
     inputs.check_inputs(options.old, options.new, *before.values(), *after.values())
-    data = inputs.data_at(options.old), inputs.data_at(options.new)
+    program = functools.partial(program_at, options.llbm)
+    data = definition_at(options.old, program), definition_at(options.new, program)
     comparison = Comparison(*data, (options.old, options.new))
     found, changed = impacts_of(options, comparison)
     gone, result = comparison.gone(found), comparison.result(found)
     if options.run:
-        found, word = both_runs.compared(program_at(options.llbm), comparison, data, (before, after), found)
+        found, word = both_runs.compared(program(), comparison, data, (before, after), found)
         result = result._replace(word=word)
     laws = laws_of(options.run)
     text = json_of(found, gone, changed, result, laws) if options.json else lines_of(found, gone, result, laws)

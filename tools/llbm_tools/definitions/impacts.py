@@ -9,6 +9,7 @@ checked here.
 from collections.abc import Iterable, Iterator
 from typing import NamedTuple
 
+from llbm_tools import common
 from llbm_tools.definitions import matching
 from llbm_tools.definitions.matching import Part, Trees
 from llbm_tools.llb import definition, findings, names, op_reading, op_rules
@@ -90,7 +91,8 @@ def vertices_of(data: bytes, place: str) -> tuple[list[Vertex], tuple[int, int]]
     """Returns the vertices and the result of a definition that the program accepts."""
     found = findings.findings_of(data)
     if found:
-        raise Refused(f"the program does not accept it: {place}: fault {found[0].words()}; tools/lint prints why")
+        lint = common.tool_named("lint")
+        raise Refused(f"the program does not accept it: {place}: fault {found[0].words()}; {lint} prints why")
     entries = definition.entries_of(data)
     graph = definition.graph_of(entries)
     vertices = [vertex_of(entries[row], inputs) for row, inputs in zip(graph.rows, graph.inputs, strict=True)]

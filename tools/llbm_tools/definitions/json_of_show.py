@@ -27,7 +27,7 @@ from llbm_tools.command_line import Parser
 from llbm_tools.definitions import inspection
 from llbm_tools.definitions.graph_of_show import check
 from llbm_tools.definitions.inspection import Entry
-from llbm_tools.inputs import check_inputs, data_at, input_lines
+from llbm_tools.inputs import check_inputs, check_there, data_at, input_lines
 from llbm_tools.llb import definition, names, no_definition, op_rules
 from llbm_tools.llb.names import Name
 from llbm_tools.llb.ops import Field, Message, Op, fields_of
@@ -138,6 +138,7 @@ def converted(options: argparse.Namespace) -> str:
         return json_of_any(options.file)
     if options.definition is not None:
         check_inputs(None, options.definition)
+        check_there(options.definition)
     show = show_of(b"".join(input_lines()).decode("ascii", "backslashreplace"))
     return json_of(show, options.definition)
 

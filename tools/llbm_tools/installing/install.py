@@ -117,6 +117,9 @@ def main() -> int:
         common.check_open(sys.stdout, "standard output")
         (uninstall if options.uninstall else install)(options)
         sys.stdout.flush()
+    except BrokenPipeError:
+        common.discard_output()
+        return streams.FAILED
     except NotInstalled as fault:
         common.say(str(fault))
         return 2

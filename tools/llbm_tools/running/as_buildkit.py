@@ -121,11 +121,10 @@ def compare(options: argparse.Namespace) -> int:
     common.check_open(sys.stdout, "standard output")
     with tempfile.TemporaryDirectory(prefix="llbm-as-buildkit-") as folder:
         file = inputs.stored_data(options.definition, folder, "definition")
-        data = inputs.data_at(file)
         given = {"definition": file, "sources": dict(options.source), "workers": 1, "llbm": options.llbm}
         launched = launching.launch(given, common.say, "--llbm PROGRAM")
     try:
-        compared = Compared(data, launched, launching.program_of(given, "--llbm PROGRAM"), options)
+        compared = Compared(launched.entries.data, launched, launching.program_of(given, "--llbm PROGRAM"), options)
         end = compared.run()
         if options.tree:
             return print_tree(end)

@@ -111,3 +111,41 @@ class Runs(Folder):
         done = run("impact", "--run", "--llbm", "/none", places[0], *places)
         self.assertEqual((done.returncode, done.stdout), (2, b""))
         self.assertIn(b"there is no such program: /none", done.stderr)
+
+
+class Texts(Folder):
+    """Texts of entries in the place of definitions, and what is said of other texts."""
+
+    def setUp(self):
+        if base.llbm is None:
+            raise unittest.SkipTest("the program llbm is needed (--llbm PROGRAM)")
+        super().setUp()
+        self.text, self.tree = base.ROOT / "examples" / "tour.text", base.ROOT / "examples" / "tour.tree"
+
+    def test_a_text_is_taken_where_a_definition_is(self):
+        option = ["--llbm", base.llbm]
+        for words in [
+            ("explain-run", *option, self.text, f"source={self.tree}"),
+            ("impact", *option, self.text, base.ROOT / "examples" / "tour.definition"),
+            ("build", *option, self.text, self.place(b"out"), f"source={self.tree}"),
+            ("debug", *option, self.text, f"source={self.tree}"),
+        ]:
+            self.assertEqual(run(*words).returncode, 0, words)
+
+    def test_a_text_that_is_no_definition_is_named(self):
+        place = self.file(b"other", b"FROM scratch\n")
+        for words in [("explain-run", place), ("impact", place, self.text), ("build", place, self.place(b"out"))]:
+            done = run(words[0], "--llbm", base.llbm, *words[1:])
+            self.assertEqual((done.returncode, done.stdout), (2, b""), words)
+            self.assertIn(b"not the bytes of a definition but a text: " + place, done.stderr, words)
+
+    def test_a_text_of_a_tree_that_is_none_is_named_with_its_line(self):
+        self.file(b"bad", b"d 0755 0 0 /\nx\n")
+        done = run("explain-run", "--llbm", base.llbm, self.text, f"source={self.place(b'bad').decode()}")
+        self.assertEqual((done.returncode, done.stdout), (2, b""))
+        self.assertIn(self.place(b"bad") + b", line 2 (the local source source)\n", done.stderr)
+
+    def test_a_foreign_definition_has_the_tool_that_adopts_it(self):
+        done = run("explain-run", "--llbm", base.llbm, base.ROOT / "examples" / "foreign.llb")
+        self.assertEqual((done.returncode, done.stdout), (2, b""))
+        self.assertTrue(done.stderr.endswith(b" tools/adopt rewrites what can be.\n"), done.stderr)

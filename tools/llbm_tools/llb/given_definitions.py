@@ -1,0 +1,23 @@
+"""A definition as a person gives it: its bytes, or the text of its entries, which the program assembles."""
+
+import subprocess
+from collections.abc import Callable
+
+from llbm_tools.inputs import data_at, shown
+from llbm_tools.llb import no_definition
+from llbm_tools.streams import Refused
+
+
+def assembled(program: str, text: bytes, place: str | None) -> bytes:
+    """Returns the definition of a text of entries; a text that is none is refused, as no definition."""
+    done = subprocess.run([program, "asm"], input=text, capture_output=True)
+    if done.returncode:
+        why = done.stderr.decode("utf-8", "backslashreplace").strip()
+        raise Refused(f"{no_definition.text_line(place)} ({why})")
+    return done.stdout
+
+
+def definition_at(place: str | None, program: Callable[[], str]) -> bytes:
+    """Returns the bytes of the definition at a place; `program` returns the program, which only a text needs."""
+    data = data_at(place)
+    return assembled(program(), data, shown(place)) if no_definition.is_text(data) else data
