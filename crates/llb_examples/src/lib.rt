@@ -5,7 +5,6 @@
 #[cfg(test)]
 mod alike;
 #[cfg(test)]
-mod asm;
 #[cfg(test)]
 mod cache;
 #[cfg(test)]
