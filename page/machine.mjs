@@ -135,6 +135,11 @@ export class Handle {
     return this.call('show', [definition]);
   }
 
+  /** Writes a line for each fault of a definition, and returns the status: 2 where there is any. */
+  findings(definition) {
+    return this.call('findings', [definition]);
+  }
+
   /** Assembles a text to a definition, and returns the status. */
   asm(text) {
     return this.call('asm', [text]);

@@ -79,6 +79,15 @@ func (m *Machine) Show(definition []byte) (string, error) {
 	return string(output), err
 }
 
+// Findings returns the line of each fault of a definition, in the order in which the program looks for them.
+func (m *Machine) Findings(definition []byte) ([]string, error) {
+	status, output, err := m.do(func(it *C.llb) C.uint8_t { return C.llb_findings(it, first(definition), size(definition)) })
+	if status == 2 {
+		return strings.Split(strings.TrimSuffix(string(output), "\n"), "\n"), nil
+	}
+	return nil, err
+}
+
 // Assemble returns the definition of a text.
 func (m *Machine) Assemble(text string) ([]byte, error) {
 	t := []byte(text)

@@ -60,6 +60,16 @@ func TestMarshaled(t *testing.T) {
 	}
 }
 
+func TestFindings(t *testing.T) {
+	m := machine(t)
+	if found, err := m.Findings(example(t, "tour.definition")); err != nil || len(found) != 0 {
+		t.Errorf("the tour has faults: %q, %v", found, err)
+	}
+	if found, err := m.Findings([]byte{7}); err != nil || len(found) != 1 || found[0] != "fault 81 3" {
+		t.Errorf("a byte has the faults %q, %v", found, err)
+	}
+}
+
 func TestResult(t *testing.T) {
 	m := machine(t)
 	if err := m.AddLocal("source", string(example(t, "tour.tree"))); err != nil {

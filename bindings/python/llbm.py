@@ -59,6 +59,13 @@ class Machine:
         self._checked(self._call("llb_show", definition))
         return self._output().decode()
 
+    def findings(self, definition: bytes) -> list[str]:
+        """Returns the line of each fault of a definition, in the order in which the program looks for them."""
+        status = self._call("llb_findings", definition)
+        if status != REFUSED:
+            self._checked(status)
+        return self._output().decode().split("\n")[:-1]
+
     def assemble(self, text: str) -> bytes:
         """Returns the definition of a text."""
         self._checked(self._call("llb_asm", text.encode()))

@@ -52,6 +52,10 @@ class Definitions(unittest.TestCase):
             self.machine.line("status")
         self.assertEqual((4, 0), (none.exception.status, none.exception.number))
 
+    def test_findings(self) -> None:
+        self.assertEqual([], self.machine.findings((EXAMPLES / "tour.definition").read_bytes()))
+        self.assertEqual(["fault 81 3"], self.machine.findings(b"\7"))
+
     def test_a_number_of_workers_that_is_too_large_or_negative(self) -> None:
         definition = (EXAMPLES / "tour.definition").read_bytes()
         self.machine.add_local("source", TREE)

@@ -18,6 +18,7 @@ extern "C" {
     fn llb_line(it: *mut Handle, line: *const u8, n: usize) -> u8;
     fn llb_run(it: *mut Handle, definition: *const u8, n: usize) -> u8;
     fn llb_show(it: *mut Handle, definition: *const u8, n: usize) -> u8;
+    fn llb_findings(it: *mut Handle, definition: *const u8, n: usize) -> u8;
     fn llb_asm(it: *mut Handle, text: *const u8, n: usize) -> u8;
     fn llb_dis(it: *mut Handle, definition: *const u8, n: usize) -> u8;
     fn llb_output(it: *mut Handle, out: *mut u8, room: usize) -> usize;
@@ -77,6 +78,14 @@ impl Machine {
     pub fn show(&mut self, definition: &[u8]) -> Result<String, Fault> {
         let status = unsafe { llb_show(&mut self.0, definition.as_ptr(), definition.len()) };
         self.text(status)
+    }
+
+    /// Returns the line of each fault of a definition, in the order in which the program looks for them.
+    pub fn findings(&mut self, definition: &[u8]) -> Result<Vec<String>, Fault> {
+        match unsafe { llb_findings(&mut self.0, definition.as_ptr(), definition.len()) } {
+            2 => Ok(String::from_utf8_lossy(&self.copied(llb_output)).split_terminator('\n').map(String::from).collect()),
+            status => self.checked(status).map(|()| Vec::new()),
+        }
     }
 
     /// Returns the definition of a text.

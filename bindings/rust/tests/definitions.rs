@@ -48,6 +48,14 @@ fn a_clients_definition() -> Result<(), Fault> {
 }
 
 #[test]
+fn findings() -> Result<(), Fault> {
+    let mut machine = Machine::new();
+    assert_eq!(machine.findings(&example("tour.definition"))?, Vec::<String>::new());
+    assert_eq!(machine.findings(&[7])?, ["fault 81 3"]);
+    Ok(())
+}
+
+#[test]
 fn faults() {
     let mut machine = Machine::new();
     let refused = machine.run(b"\x01").unwrap_err();

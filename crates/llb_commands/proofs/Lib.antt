@@ -12,3 +12,4 @@ mod StepCommandLine
 pub mod SteppingOutput
 mod ReachedStates
 pub mod FailureLines
+pub mod FoundFaults

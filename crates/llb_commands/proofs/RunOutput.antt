@@ -52,7 +52,7 @@ some_map P Q None f h = tt
 some_map P Q (Some x) f h = f x h
 
 -- bytes past the limit are no definition
-unread_long : (bytes : List ℕ) → 67108864 < length bytes → definition_of bytes ≡ Err OverLimit
+pub unread_long : (bytes : List ℕ) → 67108864 < length bytes → definition_of bytes ≡ Err OverLimit
 unfolding definition_of
 unread_long bytes long = let yes : ltb definition_limit (length bytes) ≡ true = lt-ltb _ _ long in rw yes refl
 
@@ -128,7 +128,7 @@ answers workers ls left b graph (g, loads, fin) output r shows =
 abbrev read_err : ReadFault → Result (Vec ℕ Global) ReadFault
 read_err e = Err e
 
-too_long : (left left' : Option (List ℕ)) (r : Result (Vec ℕ Global) ReadFault) (e : ReadFault) → r ≡ Err e → e ≡ TooLong
+pub too_long : (left left' : Option (List ℕ)) (r : Result (Vec ℕ Global) ReadFault) (e : ReadFault) → r ≡ Err e → e ≡ TooLong
     → ReadsAll 67108864 134217728 left left' r → IfSome left (λ xs. 67108864 < length xs)
 too_long left left' r e is same reads =
     let h : ReadsAll 67108864 134217728 left left' (Err TooLong) = subst (ReadsAll 67108864 134217728 left left') (is ∙ ap read_err same) reads in h
@@ -172,7 +172,7 @@ finishes_whole workers ls left g b fault (Ok x) loads ends (same, none) = (g, lo
 finishes_whole workers ls left g b fault (Err e) loads ends is = λ refusal. absurd (is refusal)
 
 -- a fault is a refusal, with the status 2, or its status is 3
-refusal_or_three : (e : ProgramFault) → (IsRefusal e × (status_of e ≡ 2)) ⊎ (status_of e ≡ 3)
+pub refusal_or_three : (e : ProgramFault) → (IsRefusal e × (status_of e ≡ 2)) ⊎ (status_of e ≡ 3)
 refusal_or_three (Refused f) = inl (tt, refl)
 refusal_or_three (fault.MissingLocal name) = inl (tt, refl)
 refusal_or_three fault.Workers = inl (tt, refl)

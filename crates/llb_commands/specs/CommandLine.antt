@@ -17,6 +17,8 @@ use Rattle.clap.specs.declared.error.kind.ErrorKind.TheVariants.{OutOfMemory}
 use Rattle.llb_commands.specs.declared.words.Command.{Command}
 use Rattle.llb_commands.specs.declared.words.Command.TheVariants.{Run, Show, Step, Assemble, Disassemble}
 use Rattle.llb_commands.specs.declared.words.Line.{Line}
+use Rattle.llb_commands.specs.declared.words.Shows.{Shows}
+use Rattle.llb_commands.specs.declared.words.Shows.TheVariants.{Graph, Findings}
 use Rattle.llb_commands.specs.declared.words.Local.{Local}
 use Rattle.llb_commands.specs.declared.words.WordsFault.{WordsFault}
 use Rattle.llb_commands.specs.declared.words.WordsFault.TheVariants.{Words, Memory}
@@ -49,9 +51,17 @@ workers_rule = record (new_rule (codes "workers")) {
 abbrev pub looks_rule : Rule
 looks_rule = record (new_rule (codes "looks")) { long = Some (codes "looks"); action = Some SetTrue }
 
+-- the rule by which `clap` reads the option `--findings`, which takes no value
+abbrev pub findings_rule : Rule
+findings_rule = record (new_rule (codes "findings")) { long = Some (codes "findings"); action = Some SetTrue }
+
 -- `clap`'s description of the command `run`
 abbrev pub run_app : App
 run_app = with_rule (with_rule (new_app (codes "run")) workers_rule) local_rule
+
+-- `clap`'s description of the command `show`
+abbrev pub show_app : App
+show_app = with_rule (new_app (codes "show")) findings_rule
 
 -- `clap`'s description of the command `step`: the word for the file comes before the words for local sources
 abbrev pub step_app : App
@@ -63,10 +73,10 @@ with_plain app name = with_subcommand app (new_app name).top
 
 -- `clap`'s description of the program with the commands `run`, `show` and `step`
 abbrev pub graph_app : App
-graph_app = with_subcommand (with_plain (with_subcommand base_app run_app.top) (codes "show")) step_app.top
+graph_app = with_subcommand (with_subcommand (with_subcommand base_app run_app.top) show_app.top) step_app.top
 
--- `clap`'s description of the program: `run` takes workers and local sources, `step` takes these, a file and whether it answers looks, and the other commands
--- take no words
+-- `clap`'s description of the program: `run` takes workers and local sources, `step` takes these, a file and whether it answers looks, `show` takes whether it
+-- prints faults, and the other commands take no words
 abbrev pub llbm_app : App
 llbm_app = with_plain (with_plain graph_app (codes "asm")) (codes "dis")
 
@@ -141,16 +151,28 @@ abbrev pub IsLooks : Command → List Row → Looks → Type 0
 IsLooks Step rows looks = looks ≡ looks_by (first_of (codes "looks") rows)
 IsLooks _ rows looks = looks ≡ Refused
 
+-- what `show` prints, given the text that `clap` has for the flag of faults: `true` if the words have it, and else `false`
+abbrev pub shows_by : Option Text → Shows
+shows_by None = Graph
+shows_by (Some text) = if is_text text (codes "true") then Findings else Graph
+
+-- faults are printed if the words of `show` have the option `--findings`; for any other command what `show` prints is the text of the graph
+abbrev pub IsShows : Command → List Row → Shows → Type 0
+IsShows Show rows shows = shows ≡ shows_by (first_of (codes "findings") rows)
+IsShows _ rows shows = shows ≡ Graph
+
 -- the file is the file that the words of `step` name; for any other command there is no file
 abbrev pub IsFile : Command → List Row → Option (Bor Text) → Type 0
 IsFile Step rows file = option_map (λ w. w.now) file ≡ first_of (codes "file") rows
 IsFile _ rows file = file ≡ None
 
--- the line has the command of this name, and the number of workers, the looks, the file and the local sources that are in these matches of `clap`
+-- the line has the command of this name, and the number of workers, the looks, what `show` prints, the file and the local sources that are in these matches of
+-- `clap`
 pub record SaysCommand (name : Text) (rows : List Row) (line : Line) : Type 0 where
   pub command : name_of line.command ≡ name
   pub workers : IsWorkers line.command rows line.workers
   pub looks : IsLooks line.command rows line.looks
+  pub shows : IsShows line.command rows line.shows
   pub file : IsFile line.command rows line.file
   pub locals : AreSplit (local_words rows) line.locals
 

@@ -8,6 +8,7 @@ use Rattle.llb_commands.specs.ProgramOutput.{Runs, Draws}
 use Rattle.llb_commands.specs.Assembly.{Assembles, Disassembles}
 use Rattle.llb_commands.specs.CommandLine.{llbm_app, named_local_words, IsByWords, Says, TellsWords}
 use Rattle.llb_commands.specs.CallStreams.{Io, IsKept}
+use Rattle.llb_commands.specs.FindingLines.{Lists}
 use Rattle.llb_commands.specs.HelpPages.{HasPage, TellsWithPage}
 use Rattle.llb_commands.specs.Sources.{Gathers, TellsSource}
 use Rattle.llb_commands.specs.Stepping.{Steps}
@@ -15,6 +16,8 @@ use Rattle.llb_commands.specs.declared.sources.SourceFault.{SourceFault}
 use Rattle.llb_commands.specs.declared.words.Command.{Command}
 use Rattle.llb_commands.specs.declared.words.Command.TheVariants.{Run, Show, Step, Assemble, Disassemble}
 use Rattle.llb_commands.specs.declared.words.Line.{Line}
+use Rattle.llb_commands.specs.declared.words.Shows.{Shows}
+use Rattle.llb_commands.specs.declared.words.Shows.TheVariants.{Graph, Findings}
 use Rattle.llb_commands.specs.declared.words.WordsFault.{WordsFault}
 use Rattle.llb_commands.specs.declared.words.WordsFault.TheVariants.{Words}
 
@@ -28,10 +31,15 @@ abbrev pub StepsAt : Shelf → Option (Bor (List ℕ)) → Looks → ℕ → Lis
 StepsAt files None looks workers locals io status = IsKept io.output × TellsWords io.errors.before io.errors.after (Words None) status
 StepsAt files (Some file) looks workers locals io status = Steps looks workers locals (files file.now) io status
 
--- how a command ends, with the workers, the looks and the file that the words name
+-- how `show` ends, by what it prints
+abbrev pub ShowsAs : Shows → Io → ℕ → Type 0
+ShowsAs Graph = Draws
+ShowsAs Findings = Lists
+
+-- how a command ends, with the workers, the looks, what `show` prints and the file that the words name
 abbrev pub PerformsAs : Shelf → Command → Line → List Local → Io → ℕ → Type 0
 PerformsAs files Run line locals io = Runs line.workers locals io
-PerformsAs files Show line locals io = Draws io
+PerformsAs files Show line locals io = ShowsAs line.shows io
 PerformsAs files Step line locals io = StepsAt files line.file line.looks line.workers locals io
 PerformsAs files Assemble line locals io = Assembles io
 PerformsAs files Disassemble line locals io = Disassembles io

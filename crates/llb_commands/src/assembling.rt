@@ -58,8 +58,8 @@ fn definition_from<R: Read>(alloc: Global, input: &mut R) -> Result<Bytes, Progr
     }
 }
 
-// Writes bytes to a writer.
-fn bytes_over<W: Write>(bytes: &[u8], out: &mut W) -> Result<(), OutputFault>
+/// Writes bytes to a writer.
+pub(crate) fn bytes_over<W: Write>(bytes: &[u8], out: &mut W) -> Result<(), OutputFault>
     ensures { PrintsOut (W.contents out.old) (W.contents out.new) bytes.now result }
 {
     let mut sink = Over::new(out);

@@ -1,5 +1,6 @@
 //! The command line, which `clap` reads. `run` takes the number of workers, and local sources as NAME=FILE; `step` takes these, the file of a definition, and
-//! whether looks are answered; `show`, `asm` and `dis` take no words. No words at all mean `run`. The texts of the pages of help are in `pages`.
+//! whether looks are answered; `show` takes whether faults are printed; `asm` and `dis` take no words. No words at all mean `run`. The texts of the pages of
+//! help are in `pages`.
 
 ghost use Rattle.std.specs.Prelude.{◌≡◌, false, map, option_map, IfOk, IfErr};
 ghost use Rattle.clap.specs.Words.{app_of, kind_of, fault_of, found_of, new_app, rows_of, rule_of, subcommand_of};
@@ -9,7 +10,9 @@ ghost use Rattle.llb_commands.specs.CommandLine.{
   base_app,
   graph_app,
   run_app,
+  show_app,
   step_app,
+  findings_rule,
   local_rule,
   file_rule,
   workers_rule,
@@ -21,6 +24,8 @@ ghost use Rattle.llb_commands.specs.CommandLine.{
   IsLooks,
   IsName,
   looks_by,
+  IsShows,
+  shows_by,
   IsWorkers,
   name_of,
   Says,
@@ -32,7 +37,7 @@ ghost use Rattle.llb_commands.specs.CommandLine.{
 ghost use Rattle.llb_commands.specs.HelpPages.{IsByWordsWithPage};
 
 use crate::pages::{VERSION, named, named_first, page_for};
-use crate::words::{Command, Line, Local, Refusal, WordsFault};
+use crate::words::{Command, Line, Local, Refusal, Shows, WordsFault};
 use clap::error::ErrorKind;
 use clap::{Arg, ArgAction, ArgMatches, Error, value_parser};
 use llb_session::Looks;
@@ -87,6 +92,17 @@ fn looks_arg<'a>(alloc: Global) -> Arg<'a>
         .action(ArgAction::SetTrue)
 }
 
+// Returns `clap`'s description of the option by which `show` prints faults.
+fn findings_arg<'a>(alloc: Global) -> Arg<'a>
+    ensures rule { rule_of result ≡ findings_rule }
+    ensures plain { result.global ≡ false }
+{
+    Arg::new(alloc, "findings")
+        .long("findings")
+        .help("Print all faults of the definition instead")
+        .action(ArgAction::SetTrue)
+}
+
 // Returns `clap`'s description of the command `run`.
 fn run_command<'a>(alloc: Global) -> Result<clap::Command<'a>, AllocError>
     ensures app { IfOk result (λ c. app_of c ≡ run_app) }
@@ -96,6 +112,16 @@ fn run_command<'a>(alloc: Global) -> Result<clap::Command<'a>, AllocError>
         .about("Runs the definition on standard input, and prints the tree of its result")
         .arg(workers_arg(alloc, "The number of workers, 1 to 64; without it, 1"))?
         .arg(local_arg(alloc))
+}
+
+// Returns `clap`'s description of the command `show`.
+fn show_command<'a>(alloc: Global) -> Result<clap::Command<'a>, AllocError>
+    ensures app { IfOk result (λ c. app_of c ≡ show_app) }
+    ensures plain { IfOk result (λ c. (fields_of c).has_globals ≡ false) }
+{
+    clap::Command::new(alloc, "show")
+        .about("Prints the graph of the definition on standard input")
+        .arg(findings_arg(alloc))
 }
 
 // Returns `clap`'s description of the command `step`.
@@ -137,14 +163,9 @@ fn base_command<'a>(alloc: Global) -> Result<clap::Command<'a>, AllocError>
 fn graph_commands<'a>(alloc: Global) -> Result<clap::Command<'a>, AllocError>
     ensures { IfOk result (λ c. app_of c ≡ graph_app) }
 {
-    let show = plain_command(
-        alloc,
-        "show",
-        "Prints the graph of the definition on standard input",
-    );
     base_command(alloc)?
         .subcommand(run_command(alloc)?)?
-        .subcommand(show)?
+        .subcommand(show_command(alloc)?)?
         .subcommand(step_command(alloc)?)
 }
 
@@ -230,6 +251,26 @@ fn looks_in(command: Command, matches: &ArgMatches<'_>) -> Looks
     }
 }
 
+// Returns what `show` prints, given the text that `clap` has for the flag of faults.
+fn shows_by(findings: Option<&str>) -> Shows
+    ensures { result ≡ shows_by (option_map (λ t. t.now) findings.entry) }
+{
+    match findings {
+        Some("true") => Shows::Findings,
+        _ => Shows::Graph,
+    }
+}
+
+// Returns what the words of `show` ask to be printed, by what `clap` found in them; the text of the graph for any other command.
+fn shows_in(command: Command, matches: &ArgMatches<'_>) -> Shows
+    ensures { IsShows command (rows_of (found_of matches.now)) result }
+{
+    match command {
+        Command::Show => shows_by(matches.get_str("findings")),
+        _ => Shows::Graph,
+    }
+}
+
 // Returns the file that `clap` found for the command `step`; `None` for any other command.
 fn file_in<'a>(command: Command, matches: &ArgMatches<'a>) -> Option<&'a str>
     ensures { IsFile command (rows_of (found_of matches.now)) result }
@@ -240,7 +281,8 @@ fn file_in<'a>(command: Command, matches: &ArgMatches<'a>) -> Option<&'a str>
     }
 }
 
-// Returns the `Line` with this command, and with the number of workers, the looks, the file and the local sources that `clap` found in the words (`matches`).
+// Returns the `Line` with this command, and with the number of workers, the looks, what `show` prints, the file and the local sources that `clap` found in the
+// words (`matches`).
 fn line_of<'a>(
     alloc: Global,
     command: Command,
@@ -254,6 +296,7 @@ fn line_of<'a>(
         command,
         workers: workers_in(command, matches),
         looks: looks_in(command, matches),
+        shows: shows_in(command, matches),
         file: file_in(command, matches),
         locals,
     })
@@ -267,6 +310,7 @@ fn bare_run<'a>(alloc: Global) -> Line<'a>
         command: Command::Run,
         workers: 1,
         looks: Looks::Refused,
+        shows: Shows::Graph,
         file: None,
         locals: Many::new(Vec::new(alloc)),
     }

@@ -46,10 +46,11 @@ Options:
 
 const SHOW_PAGE: &str = "Prints the graph of the definition on standard input
 
-Usage: llbm show
+Usage: llbm show [OPTIONS]
 
 Options:
-  -h, --help  Print help
+      --findings  Print all faults of the definition instead
+  -h, --help      Print help
 ";
 
 const STEP_PAGE: &str = "Steps through the run of a definition, by commands on standard input

@@ -8,12 +8,13 @@ use crate::assembling::asm_over;
 use crate::command_line::line_or_page;
 use crate::disassembling::dis_over;
 use crate::fault::ProgramFault;
+use crate::finding_lines::findings_over;
 use crate::opening::open_over;
 use crate::run::run_many_over;
 use crate::show::show_over;
 use crate::sources::{Sources, locals_of, source_refusal};
 use crate::stepping::session_over;
-use crate::words::{Command, Line, WordsFault, tell_refusal, words_refusal};
+use crate::words::{Command, Line, Shows, WordsFault, tell_refusal, words_refusal};
 use llb_board::Board;
 use llb_loader::Locals;
 use std::alloc::Global;
@@ -67,7 +68,10 @@ fn perform<T: Threads + Wait + Sync, S: Sources, R: Read, W: Write, E: Write>(
     let Streams { input, out, err } = streams;
     match line.command {
         Command::Run => run_many_over(rt, alloc, input, out, err, locals, line.workers),
-        Command::Show => show_over(alloc, input, out, err),
+        Command::Show => match line.shows {
+            Shows::Graph => show_over(alloc, input, out, err),
+            Shows::Findings => findings_over(alloc, input, out, err),
+        },
         Command::Step => {
             let Some(file) = line.file else {
                 return words_refusal(&WordsFault::Words(None), err);

@@ -25,6 +25,15 @@ pub enum Command {
     Disassemble,
 }
 
+/// What `show` prints of a definition.
+#[derive(Clone, Copy, Debug, PartialEq, Eq)]
+pub enum Shows {
+    /// The text of its graph.
+    Graph,
+    /// A line for each of its faults.
+    Findings,
+}
+
 /// A local source: the name of the source, and the file with the text of its tree.
 #[derive(Clone, Copy, Debug)]
 pub struct Local<'a> {
@@ -40,6 +49,8 @@ pub struct Line<'a> {
     pub workers: u32,
     /// Whether a session answers looks; refused for every other command.
     pub looks: Looks,
+    /// What `show` prints; the text of the graph for every other command.
+    pub shows: Shows,
     /// The file of the definition, if the command takes one.
     pub file: Option<&'a str>,
     /// The local sources, in the order of the words.

@@ -15,6 +15,7 @@ use Rattle.llb_commands.specs.declared.sources.SourceFault.{SourceFault}
 use Rattle.llb_commands.specs.declared.words.WordsFault.TheVariants.{Words}
 use Rattle.llb_commands.specs.CallStreams.{Io, Stream}
 use Rattle.llb_commands.specs.ProgramOutput.{Runs, Draws, IsNotRun}
+use Rattle.llb_commands.specs.FindingLines.{Lists}
 use Rattle.llb_commands.specs.Assembly.{Assembles, Disassembles}
 use Rattle.llb_commands.specs.CommandLine.{TellsWords}
 use Rattle.llb_commands.specs.Faults.{Tells, TellsWhy}
@@ -51,6 +52,10 @@ Ran definition old new status = EndsBy (Runs 1 old.locals) definition old new st
 -- the text of a definition's graph is written, as `llbm show` does
 abbrev pub Shown : List ℕ → Held → Held → ℕ → Type 0
 Shown = EndsBy Draws
+
+-- a line is written for each fault of a definition, as `llbm show --findings` does
+abbrev pub Listed : List ℕ → Held → Held → ℕ → Type 0
+Listed = EndsBy Lists
 
 -- a text is assembled, as `llbm asm` does
 abbrev pub Assembled : List ℕ → Held → Held → ℕ → Type 0

@@ -16,7 +16,7 @@
 ghost use Rattle.std.specs.Prelude.{◌≡◌, length, None};
 ghost use Rattle.llb_embed.specs.BufferCopies.{copied};
 ghost use Rattle.llb_embed.specs.Handle.{held_in, messages_in, output_in, Calls, IsSound};
-ghost use Rattle.llb_embed.specs.HandleCalls.{Added, Opened, Replied, Ran, Shown, Assembled, Disassembled};
+ghost use Rattle.llb_embed.specs.HandleCalls.{Added, Opened, Replied, Ran, Shown, Listed, Assembled, Disassembled};
 
 mod handle;
 mod held;
@@ -26,7 +26,7 @@ mod working;
 pub use handle::Llb;
 use handle::{put, start, take};
 use std::alloc::Global;
-use working::{assemble, copy_out, disassemble, local, open, reply, run, show};
+use working::{assemble, copy_out, disassemble, list, local, open, reply, run, show};
 
 /// The status if memory for the value that a handle holds was refused.
 const NO_MEMORY: u8 = 3;
@@ -111,6 +111,22 @@ pub extern "C" fn llb_show(alloc: Global, it: &mut Llb, definition: &[u8]) -> u8
         return NO_MEMORY;
     };
     let status = show(alloc, held.as_mut(), definition);
+    put(it, held);
+    status
+}
+
+/// Writes a line to the output for each fault of a definition, whatever other faults there are. Returns the status of `llbm show --findings`: 0 if there is
+/// none; 2 if there is any, and then the messages are empty; 3 if memory is refused (91, 184).
+#[unsafe(no_mangle)]
+pub extern "C" fn llb_findings(alloc: Global, it: &mut Llb, definition: &[u8]) -> u8
+    requires { IsSound it.old }
+    ensures sound { IsSound it.new }
+    ensures listed { Calls (Listed definition.now) (held_in it.old) (held_in it.new) result }
+{
+    let Some(mut held) = start(it, alloc) else {
+        return NO_MEMORY;
+    };
+    let status = list(alloc, held.as_mut(), definition);
     put(it, held);
     status
 }

@@ -2,12 +2,12 @@
 
 ghost use Rattle.std.specs.Prelude.{◌≡◌, ◌<◌, ◌+◌, ◌^◌, length, []};
 ghost use Rattle.llb_embed.specs.BufferCopies.{copied};
-ghost use Rattle.llb_embed.specs.HandleCalls.{Added, Opened, Replied, Refused, Ran, Shown, Assembled, Disassembled};
+ghost use Rattle.llb_embed.specs.HandleCalls.{Added, Opened, Replied, Refused, Ran, Shown, Listed, Assembled, Disassembled};
 
 use crate::held::Held;
 use llb_commands::{
-    ProgramFault, SourceFault, WordsFault, add_local, asm_over, dis_over, open_over, refusal,
-    run_over, show_over, source_refusal, words_refusal,
+    ProgramFault, SourceFault, WordsFault, add_local, asm_over, dis_over, findings_over, open_over,
+    refusal, run_over, show_over, source_refusal, words_refusal,
 };
 use llb_session::{Looks, Session, respond};
 use llb_stepper::{Stepper, StepperFault};
@@ -150,6 +150,15 @@ pub(crate) fn show(alloc: Global, held: &mut Held, definition: &[u8]) -> u8
     clear(held);
     let mut input = definition;
     show_over(alloc, &mut input, &mut held.output, &mut held.messages)
+}
+
+/// Writes a line for each fault of a definition to the output, and returns the status of `llbm show --findings`.
+pub(crate) fn list(alloc: Global, held: &mut Held, definition: &[u8]) -> u8
+    ensures { Listed definition.now held.old held.new result }
+{
+    clear(held);
+    let mut input = definition;
+    findings_over(alloc, &mut input, &mut held.output, &mut held.messages)
 }
 
 /// Assembles a text, and writes the definition to the output; returns the status of `llbm asm`.

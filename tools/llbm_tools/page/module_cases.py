@@ -23,6 +23,7 @@ RUNNER = pathlib.Path(__file__).with_name("module_answers.mjs")
 MACHINE = assets.STATIC / "machine.mjs"
 WITH_LOCALS = ("run", "step")
 COMMANDS = ("run", "show", "asm", "dis", "step")
+FORMS = {"findings": ("show", "--findings")}
 USUAL_WORKERS = {"run": 1, "step": 2}
 MOST_SECONDS = 120
 AT_A_TIME = 100
@@ -124,7 +125,7 @@ def example_cases(program: str) -> Iterator[Case]:
         if found.definition.suffix == ".text":
             definition = program_answer(program, Case("", "asm", text, [], 1, b"")).out
             yield Case(f"{example.name}: asm", "asm", text, [], 1, b"")
-        for command in ("show", "dis", "run"):
+        for command in ("show", "findings", "dis", "run"):
             yield Case(f"{example.name}: {command}", command, definition, given, 1, b"")
         yield Case(f"{example.name}: run without trees", "run", definition, [], 1, b"")
         sessions = {"go": b"go\nback\nback\nstatus\nnext\nfoo\ngo\nquit\nnext\n", "looks": looks, "tour": tour}
@@ -136,7 +137,7 @@ def example_cases(program: str) -> Iterator[Case]:
 def program_answer(program: str, case: Case) -> Answer:
     """Returns the program's answer to a case."""
     with tempfile.TemporaryDirectory(prefix="llbm-case-") as folder:
-        words = [case.command]
+        words = list(FORMS.get(case.command, (case.command,)))
         stdin = case.definition
         if case.command == "step":
             pathlib.Path(folder, "definition").write_bytes(case.definition)

@@ -13,7 +13,7 @@ from collections.abc import Callable, Iterator
 
 from llbm_tools.streams import Failed
 
-EXPORTS = ("local", "open", "line", "run", "show", "asm", "dis", "output", "messages", "close")
+EXPORTS = ("local", "open", "line", "run", "show", "findings", "asm", "dis", "output", "messages", "close")
 PREFIX = "llb_"
 HEAP = pathlib.Path(__file__).with_name("module_heap.c")
 

@@ -45,6 +45,7 @@ def workers(usual: int) -> Option:
 
 
 LOOKS = Option("looks", "", "", "Answer looks at workers and caches")
+FINDINGS = Option("findings", "", "", "Print all faults of the definition instead")
 HELP = Option("help", "h", "", "Print help")
 VERSION = Option("version", "V", "", "Print version")
 LOCAL = Argument("[NAME=FILE]...", "The tree of the local source NAME, as its text in FILE")
@@ -55,7 +56,7 @@ COMMANDS = (
     Command(
         "run", "Runs the definition on standard input, and prints the tree of its result", (workers(1), HELP), (LOCAL,)
     ),
-    Command("show", "Prints the graph of the definition on standard input", (HELP,)),
+    Command("show", "Prints the graph of the definition on standard input", (FINDINGS, HELP)),
     Command(
         "step", "Steps through the run of a definition, by commands on standard input", (workers(2), LOOKS, HELP),
         (FILE, LOCAL),

@@ -8,6 +8,7 @@ from typing import NamedTuple
 
 COMMANDS = ("run", "show", "step", "asm", "dis")
 SOLVING = ("run", "step")
+FLAGS = {"step": "--looks", "show": "--findings"}
 MOST_OF_A_NUMBER = 1 << 32
 HELP = ("-h", "--help")
 PAGES = (*HELP, "-V", "--version")
@@ -54,22 +55,22 @@ class Reader:
         self.file: str | None = None
         self.sources: list[Source] = []
         self.has_workers = False
-        self.has_looks = False
+        self.has_flag = False
 
-    def looks(self, has_value: bool) -> str:
-        """Reads the option `--looks`, and returns why it is refused; empty if it is not."""
+    def flag(self, name: str, has_value: bool) -> str:
+        """Reads the flag of a command, and returns why it is refused; empty if it is not."""
         if has_value:
-            return "--looks takes no value"
-        if self.has_looks:
-            return "--looks is given twice"
-        self.has_looks = True
+            return f"{name} takes no value"
+        if self.has_flag:
+            return f"{name} is given twice"
+        self.has_flag = True
         return ""
 
     def option(self, word: str) -> str:
         """Reads an option, and returns why it is refused; empty if it is not."""
         name, equals, value = word.partition("=")
-        if name == "--looks" and self.command == "step":
-            return self.looks(bool(equals))
+        if name == FLAGS.get(self.command):
+            return self.flag(name, bool(equals))
         if name != "--workers" or self.command not in SOLVING:
             return f"{word!r} is no option of {self.command}"
         if self.has_workers:
