@@ -362,14 +362,17 @@ func TestActionsEndAsInBuildKit(t *testing.T) {
 	}
 }
 
+// 200 builds, of which many run at once; not all of them, since BuildKit's code gives the connection of a session 20 seconds to open.
 func TestManyBuildsAtOnce(t *testing.T) {
 	d := started(t, nil)
 	dir := directory(t, map[string]string{"a": "1"})
 	var group sync.WaitGroup
+	room := make(chan bool, 40)
 	for i := 0; i < 200; i++ {
 		group.Add(1)
+		room <- true
 		go func() {
-			defer group.Done()
+			defer func() { <-room; group.Done() }()
 			text := fmt.Sprint(i)
 			state := llb.Local("context").File(llb.Mkfile("/b", 0o600, []byte(text)))
 			var archive buffer
