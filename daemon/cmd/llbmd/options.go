@@ -11,8 +11,10 @@ import (
 	"time"
 
 	"llbm/daemon/internal/frontends"
+	"llbm/daemon/internal/images"
 	"llbm/daemon/internal/peers"
 	"llbm/daemon/internal/server"
+	"llbm/daemon/internal/standins"
 )
 
 const usage = `llbmd -addr PATH [OPTION..]
@@ -58,14 +60,18 @@ func parse(words []string, help io.Writer) (*options, error) {
 
 // flags are the options with what is said of each.
 func (o *options) flags() *flag.FlagSet {
-	o.Frontends = &frontends.Frontends{}
+	o.Frontends, o.Images = &frontends.Frontends{}, &images.Catalog{}
 	f := flag.NewFlagSet("llbmd", flag.ContinueOnError)
 	f.StringVar(&o.address, "addr", "", "the `PATH` of the socket, or unix://PATH")
 	f.StringVar(&o.Program, "llbm", "llbm", "the `PROGRAM` llbm")
-	f.StringVar(&o.Rules, "rules", "", "the `PROGRAM` llbm-rules, which has BuildKit's rules, instead of the one beside llbmd")
+	f.StringVar(&o.Rules, "comparison", "", "the `PROGRAM` llbm-rules, which has BuildKit's rules, instead of the one beside llbmd")
+	f.Func("rules", "a `FILE` of rules, as of tools/adopt, which give executions scripts of llbm to run; may be repeated", o.readRules)
+	f.Func("run", "`skip` or refuse: executions that are no scripts, and that no rule names, do nothing, with a warning, or are refused", o.setRun)
 	f.IntVar(&o.Workers, "workers", 1, "the number of workers of each build, 1 to 64")
 	f.IntVar(&o.AtOnce, "builds", runtime.NumCPU(), "how many builds run at once; others wait")
 	f.Var(o.Frontends, "frontend", "`NAME=PROGRAM`: a frontend that speaks the gateway on its standard input and output; may be repeated")
+	f.Var(o.Images, "image", "`NAME=PLACE`: an image, from a directory, an OCI layout or an archive of one; may be repeated")
+	f.Var(images.Folders{Catalog: o.Images}, "images", "a `FOLDER` of images, whose files and directories have the images' names; may be repeated")
 	f.StringVar(&o.Store, "store", os.TempDir(), "the `FOLDER` for contents of sources; they have no names there, so nothing is left")
 	f.Int64Var(&o.StoreBytes, "store-bytes", 0, "how many `BYTES` the contents may have; 0 is half of what is free there at the start, 64 MiB to 10 GiB")
 	f.DurationVar(&o.Idle, "idle", time.Minute, "how long a client may send nothing while it sends a source, or take nothing of a result")
@@ -81,6 +87,26 @@ func (o *options) flags() *flag.FlagSet {
 	f.StringVar(&o.notes, "notes", "", "a `FILE` with fields without an effect, for warnings, instead of the table that is built in")
 	f.BoolVar(&o.version, "version", false, "print the version, and end")
 	return f
+}
+
+// readRules adds the rules of a file.
+func (o *options) readRules(path string) error {
+	data, err := os.ReadFile(path)
+	if err != nil {
+		return err
+	}
+	rules, err := standins.Read(data)
+	o.StandIns.Rules = append(o.StandIns.Rules, rules...)
+	return err
+}
+
+// setRun says what executions do that are refused otherwise.
+func (o *options) setRun(text string) error {
+	if text != "skip" && text != "refuse" {
+		return errors.New("it is skip or refuse")
+	}
+	o.StandIns.Skips = text == "skip"
+	return nil
 }
 
 // check refuses options that make no sense.

@@ -15,6 +15,7 @@ import (
 	"google.golang.org/grpc/status"
 	"llbm/daemon/internal/results"
 	"llbm/daemon/internal/sources"
+	"llbm/daemon/internal/standins"
 )
 
 const (
@@ -42,6 +43,7 @@ type Build struct {
 	Sources      sources.Once
 	Written      atomic.Int64 // how many bytes llbm wrote
 	Strict       bool         // whether it fails where BuildKit would make something else; it is set before what is given
+	Layers       bool         // whether an image has the layers of BuildKit; it is set before what is given
 
 	all  *Builds
 	held int64 // in bytes; the lock of all builds guards it, and isOver
@@ -52,6 +54,7 @@ type Build struct {
 	inputs    map[string]*pb.Definition
 	policies  []*spb.Policy
 	mu        sync.Mutex
+	standIns  standins.Set
 	results   map[string]*results.Lazy
 	frontends int
 	steps     int
@@ -105,6 +108,20 @@ func (b *Build) Hold(n int) error { return b.all.hold(b, int64(n)) }
 
 // Free ends the hold of bytes.
 func (b *Build) Free(n int) { b.all.free(b, int64(n)) }
+
+// AddStandIns adds stand-ins for executions after those that the build has.
+func (b *Build) AddStandIns(more standins.Set) {
+	b.mu.Lock()
+	defer b.mu.Unlock()
+	b.standIns = standins.Set{Rules: slices.Concat(b.standIns.Rules, more.Rules), Skips: b.standIns.Skips || more.Skips}
+}
+
+// StandIns returns the stand-ins that the build's client and its frontends have asked for.
+func (b *Build) StandIns() standins.Set {
+	b.mu.Lock()
+	defer b.mu.Unlock()
+	return b.standIns
+}
 
 // AddSteps counts vertices that the build has to work on.
 func (b *Build) AddSteps(n int) {

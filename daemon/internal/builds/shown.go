@@ -2,8 +2,11 @@ package builds
 
 import (
 	"sync"
+	"time"
 
+	controlapi "github.com/moby/buildkit/api/services/control"
 	digest "github.com/opencontainers/go-digest"
+	"llbm/daemon/internal/messages"
 )
 
 // Shown are the vertices of a build that have been shown as done, and the notes that have been shown; what two results need
@@ -37,4 +40,23 @@ func (s *Shown) Note(key string) bool {
 	before := s.noted[key]
 	s.noted[key] = true
 	return !before
+}
+
+// What is shown of caches that a build was asked to use.
+const (
+	Caches    = "cache imports and exports"
+	NoImports = "no cache is imported: llbmd keeps nothing but sources"
+)
+
+// Warn shows a warning of the build itself, once, as that of a vertex with a name.
+func (b *Build) Warn(name, short string) {
+	if !b.Shown.Note(name + ": " + short) {
+		return
+	}
+	now := time.Now()
+	d := digest.FromString(name)
+	b.Events.Add(&controlapi.StatusResponse{
+		Vertexes: []*controlapi.Vertex{{Digest: d, Name: name, Started: &now, Completed: &now}},
+		Warnings: []*controlapi.VertexWarning{{Vertex: d, Level: 1, Short: []byte(messages.Text(short))}},
+	})
 }

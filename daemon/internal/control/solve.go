@@ -5,7 +5,6 @@ import (
 	"crypto/rand"
 	"errors"
 	"strconv"
-	"strings"
 	"time"
 	"unicode/utf8"
 
@@ -90,44 +89,47 @@ func refused(req *controlapi.SolveRequest) error {
 	if len(req.Entitlements) > 0 {
 		return status.Errorf(codes.PermissionDenied, "entitlement %s is not allowed", req.Entitlements[0])
 	}
-	if req.Cache.ExportRefDeprecated != "" || len(req.Cache.Exports) > 0 {
-		return status.Error(codes.Unimplemented, "llbmd has no cache exports")
-	}
-	if len(req.Cache.ImportRefsDeprecated) > 0 || len(req.Cache.Imports) > 0 {
-		return status.Error(codes.Unimplemented, "llbmd has no cache imports")
-	}
-	for key, value := range req.FrontendAttrs {
-		key = strings.ToLower(key)
-		asked := strings.HasPrefix(key, "attest:") || strings.HasPrefix(key, "build-arg:buildkit_attest_")
-		if asked && !strings.Contains(value, "inline-only=true") && !strings.Contains(value, "disabled=true") {
-			return status.Errorf(codes.Unimplemented, "llbmd has no attestations: %s=%s", key, value)
-		}
-	}
 	if err := solver.CheckPolicy(req.SourcePolicy); err != nil {
 		return err
 	}
 	return fields.Refuse("SolveRequest", req.XXX_unrecognized)
 }
 
-// keyStrict is the option by which a client asks for a build that fails where BuildKit would make something else.
-const keyStrict = "llbm:strict"
+// warnOfCaches warns of caches that the build was asked to use, and has no use for.
+func warnOfCaches(b *builds.Build, cache controlapi.CacheOptions) {
+	if cache.ExportRefDeprecated != "" || len(cache.Exports) > 0 {
+		b.Warn(builds.Caches, "no cache is exported: llbmd keeps nothing but sources")
+	}
+	if len(cache.ImportRefsDeprecated) > 0 || len(cache.Imports) > 0 {
+		b.Warn(builds.Caches, builds.NoImports)
+	}
+}
 
-func isStrict(options map[string]string) (bool, error) {
-	value, ok := options[keyStrict]
+// The options by which a client asks for a build that fails where BuildKit would make something else, and for an image with BuildKit's
+// layers.
+const (
+	keyStrict = "llbm:strict"
+	keyLayers = "llbm:layers"
+)
+
+// isSet is whether an option is true.
+func isSet(options map[string]string, key string) (bool, error) {
+	value, ok := options[key]
 	if !ok {
 		return false, nil
 	}
-	strict, err := strconv.ParseBool(value)
+	found, err := strconv.ParseBool(value)
 	if err != nil {
-		return false, status.Errorf(codes.InvalidArgument, "%s=%s: it is true or false", keyStrict, value)
+		return false, status.Errorf(codes.InvalidArgument, "%s=%s: it is true or false", key, value)
 	}
-	return strict, nil
+	return found, nil
 }
 
 func (c *Control) solve(ctx context.Context, b *builds.Build, req *controlapi.SolveRequest) (_ *controlapi.SolveResponse, err error) {
 	if err := refused(req); err != nil {
 		return nil, err
 	}
+	warnOfCaches(b, req.Cache)
 	var exporters []*exports.Exporter
 	for i, asked := range req.Exporters {
 		e, err := exports.New(i, asked, c.Store)
@@ -136,11 +138,24 @@ func (c *Control) solve(ctx context.Context, b *builds.Build, req *controlapi.So
 		}
 		exporters = append(exporters, e)
 	}
+	asked, err := c.provenance(req)
+	if err != nil {
+		return nil, err
+	}
+	for _, e := range exporters {
+		e.Provenance = asked
+	}
 	var policies []*spb.Policy
 	if req.SourcePolicy != nil {
 		policies = append(policies, req.SourcePolicy)
 	}
-	if b.Strict, err = isStrict(req.FrontendAttrs); err != nil {
+	if b.Strict, err = isSet(req.FrontendAttrs, keyStrict); err != nil {
+		return nil, err
+	}
+	if b.Layers, err = isSet(req.FrontendAttrs, keyLayers); err != nil {
+		return nil, err
+	}
+	if err := c.Solver.Ask(ctx, b, req.FrontendAttrs); err != nil {
 		return nil, err
 	}
 	b.Give(req.FrontendInputs, policies)

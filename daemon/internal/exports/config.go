@@ -17,8 +17,10 @@ import (
 const createdBy = "llbm"
 
 // configOf returns an image's configuration by the rule of docs/FORMATS.md ("Images"): what the frontend gave, for a platform,
-// with the digest of its layer. With isBound the image was created at the time, if it would be later.
-func configOf(given []byte, platform ocispecs.Platform, layer digest.Digest, when time.Time, isBound bool) (map[string]any, error) {
+// with the digests of its layers, which steps of some names made. With isBound the image was created at the time, if it would be later.
+func configOf(
+	given []byte, platform ocispecs.Platform, layers []digest.Digest, names []string, when time.Time, isBound bool,
+) (map[string]any, error) {
 	config, err := configIn(given)
 	if err != nil {
 		return nil, err
@@ -34,7 +36,10 @@ func configOf(given []byte, platform ocispecs.Platform, layer digest.Digest, whe
 	}
 	created := createdOf(config, steps, when, isBound)
 	config["created"], config["history"] = created, withLayer(steps, created)
-	config["rootfs"] = map[string]any{"type": "layers", "diff_ids": []any{layer.String()}}
+	if names != nil {
+		config["history"] = withLayers(steps, names, created)
+	}
+	config["rootfs"] = map[string]any{"type": "layers", "diff_ids": layers}
 	return config, nil
 }
 
@@ -118,6 +123,24 @@ func createdOf(config map[string]any, steps []map[string]any, when time.Time, is
 		return when.UTC().Format(time.RFC3339)
 	}
 	return text
+}
+
+// withLayers returns a history of the layers that steps of some names made, as BuildKit has it: steps that have made more layers than
+// there are made none, and missing steps are added.
+func withLayers(steps []map[string]any, names []string, created string) []any {
+	history, made := []any{}, 0
+	for _, step := range steps {
+		if empty, _ := step["empty_layer"].(bool); !empty && made == len(names) {
+			step["empty_layer"] = true
+		} else if !empty {
+			made++
+		}
+		history = append(history, step)
+	}
+	for _, name := range names[made:] {
+		history = append(history, map[string]any{"created": created, "created_by": name, "comment": "buildkit.exporter.image.v0"})
+	}
+	return history
 }
 
 // withLayer returns a history of one layer: the last step that made a layer made it, and the others none.

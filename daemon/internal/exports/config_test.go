@@ -5,6 +5,7 @@ import (
 	"testing"
 	"time"
 
+	digest "github.com/opencontainers/go-digest"
 	ocispecs "github.com/opencontainers/image-spec/specs-go/v1"
 )
 
@@ -32,7 +33,7 @@ func TestConfigurationsHaveTheirLayer(t *testing.T) {
 				`{"created_by":"ENV","empty_layer":true},{"created":"2011-01-01T00:00:00Z"}],` + one,
 		},
 	} {
-		config, err := configOf([]byte(c.given), amd64, "sha256:1", then, c.isBound)
+		config, err := configOf([]byte(c.given), amd64, []digest.Digest{"sha256:1"}, nil, then, c.isBound)
 		if err != nil {
 			t.Errorf("%s: %v", name, err)
 			continue
@@ -43,8 +44,28 @@ func TestConfigurationsHaveTheirLayer(t *testing.T) {
 		}
 	}
 	for _, given := range []string{"null", "[]", "{", `{"history":{}}`, `{"history":[1]}`} {
-		if _, err := configOf([]byte(given), amd64, "", then, false); err == nil {
+		if _, err := configOf([]byte(given), amd64, nil, nil, then, false); err == nil {
 			t.Errorf("%s was taken", given)
+		}
+	}
+}
+
+func TestAHistoryHasAStepForEachLayer(t *testing.T) {
+	made := []string{"one", "two"}
+	for given, want := range map[string]string{
+		`[]`: `[{"comment":"buildkit.exporter.image.v0","created":"then","created_by":"one"},` +
+			`{"comment":"buildkit.exporter.image.v0","created":"then","created_by":"two"}]`,
+		`[{"created_by":"a"},{"created_by":"b","empty_layer":true}]`: `[{"created_by":"a"},{"created_by":"b","empty_layer":true},` +
+			`{"comment":"buildkit.exporter.image.v0","created":"then","created_by":"two"}]`,
+		`[{"created_by":"a"},{"created_by":"b"},{"created_by":"c"}]`: `[{"created_by":"a"},{"created_by":"b"},{"created_by":"c","empty_layer":true}]`,
+	} {
+		var steps []map[string]any
+		if err := json.Unmarshal([]byte(given), &steps); err != nil {
+			t.Fatal(err)
+		}
+		got, err := json.Marshal(withLayers(steps, made, "then"))
+		if err != nil || string(got) != want {
+			t.Errorf("%s: %s", given, got)
 		}
 	}
 }

@@ -21,6 +21,7 @@ import (
 	"google.golang.org/grpc/codes"
 	"google.golang.org/grpc/status"
 	"llbm/daemon/internal/contents"
+	"llbm/daemon/internal/provenance"
 	"llbm/daemon/internal/results"
 )
 
@@ -40,6 +41,8 @@ type Exporter struct {
 	given  *time.Time // the time, if the client gave it
 	split  bool
 	store  *contents.Store
+	// Provenance is what is asked for of how results were made, or nil.
+	Provenance *provenance.Asked
 }
 
 const (
@@ -50,19 +53,25 @@ const (
 // New reads the options of an exporter, and refuses what it can't do. Layers are in the store until they are sent.
 func New(number int, asked *controlapi.Exporter, store *contents.Store) (*Exporter, error) {
 	e := &Exporter{Number: number, Kind: asked.Type, when: time.Unix(0, 0), split: true, store: store}
-	e.image = imageOptions{types: ociTypes, packed: true}
+	e.image = imageOptions{kind: e.Kind, types: ociTypes, packing: packing{form: "gzip"}}
 	switch e.Kind {
 	case "local", "tar", "oci":
+	case "docker":
+		e.image.types = dockerTypes
 	default:
-		return nil, status.Errorf(codes.Unimplemented, "exporter %q: llbmd has local, tar and oci", asked.Type)
+		return nil, status.Errorf(codes.Unimplemented, "exporter %q: llbmd has local, tar, oci and docker\n%s", asked.Type, insteadOfImages)
 	}
 	for _, k := range slices.Sorted(maps.Keys(asked.Attrs)) {
 		if err := e.set(k, asked.Attrs[k]); err != nil {
 			return nil, err
 		}
 	}
-	return e, nil
+	return e, e.image.check()
 }
+
+// insteadOfImages is what can be done where an image was to be stored or pushed.
+const insteadOfImages = "--output type=oci,dest=FILE writes the image, and `skopeo copy oci-archive:FILE docker://NAME` pushes it; " +
+	"`docker load` reads one of type=docker,dest=FILE"
 
 // set reads an option. One that would change the export and has no effect here is refused.
 func (e *Exporter) set(key, value string) (err error) {
@@ -71,7 +80,7 @@ func (e *Exporter) set(key, value string) (err error) {
 		err = e.setEpoch(value)
 	case key == keySplit:
 		e.split, err = strconv.ParseBool(value)
-	case e.Kind == "oci":
+	case e.isImage():
 		return e.image.set(key, value)
 	default:
 		return status.Errorf(codes.Unimplemented, "exporter %s: the option %s=%s", e.Kind, key, value)
@@ -92,9 +101,14 @@ func (e *Exporter) setEpoch(text string) error {
 	return err
 }
 
+func (e *Exporter) isImage() bool { return e.Kind == "oci" || e.Kind == "docker" }
+
 // Name is what progress displays show.
 func (e *Exporter) Name() string {
-	return map[string]string{"local": "exporting to client directory", "tar": "exporting to client tarball", "oci": "exporting to oci image format"}[e.Kind]
+	if e.isImage() {
+		return "exporting to " + e.Kind + " image format"
+	}
+	return map[string]string{"local": "exporting to client directory", "tar": "exporting to client tarball"}[e.Kind]
 }
 
 // named is a result with its platform.
@@ -184,11 +198,15 @@ func (e *Exporter) folder(id string) fstypes.Stat {
 // joined are the files of all results: each below a folder with its platform's name, if there is one for each platform.
 func (e *Exporter) joined(list []named, byID bool, watch Watch) (fsutil.FS, error) {
 	if !byID {
-		return files{list[0].result, e.when, watch.Moved}, nil
+		return e.files(list[0], "", watch)
 	}
 	var dirs []fsutil.Dir
 	for _, one := range list {
-		dirs = append(dirs, fsutil.Dir{FS: files{one.result, e.when, watch.Moved}, Stat: e.folder(one.ID)})
+		all, err := e.files(one, "", watch)
+		if err != nil {
+			return nil, err
+		}
+		dirs = append(dirs, fsutil.Dir{FS: all, Stat: e.folder(one.ID)})
 	}
 	return fsutil.SubDirFS(dirs)
 }
@@ -196,9 +214,15 @@ func (e *Exporter) joined(list []named, byID bool, watch Watch) (fsutil.FS, erro
 func (e *Exporter) local(ctx context.Context, caller session.Caller, list []named, byID bool, watch Watch) error {
 	seen := map[string]string{}
 	for _, one := range list {
-		var out fsutil.FS = files{one.result, e.when, watch.Moved}
+		suffix := ""
+		if byID && !e.split {
+			suffix = "." + strings.ReplaceAll(one.ID, "/", "_")
+		}
+		out, err := e.files(one, suffix, watch)
+		if err != nil {
+			return err
+		}
 		if byID && e.split {
-			var err error
 			if out, err = fsutil.SubDirFS([]fsutil.Dir{{FS: out, Stat: e.folder(one.ID)}}); err != nil {
 				return err
 			}

@@ -3,20 +3,24 @@ package exports
 import (
 	"archive/tar"
 	"bytes"
-	"compress/gzip"
 	"context"
 	"encoding/base64"
 	"encoding/json"
+	"fmt"
 	"io"
 	"maps"
 	"path"
+	"slices"
 	"strings"
 	"time"
 
+	"github.com/containerd/containerd/content"
 	"github.com/containerd/containerd/images"
-	"github.com/containerd/containerd/reference"
+	containerd "github.com/containerd/containerd/reference"
+	"github.com/distribution/reference"
 	"github.com/moby/buildkit/exporter/containerimage/exptypes"
 	"github.com/moby/buildkit/session"
+	sessioncontent "github.com/moby/buildkit/session/content"
 	digest "github.com/opencontainers/go-digest"
 	"github.com/opencontainers/image-spec/specs-go"
 	ocispecs "github.com/opencontainers/image-spec/specs-go/v1"
@@ -40,18 +44,30 @@ type image struct {
 	pack  *contents.Pack
 	names []string
 	blobs []blob // in the order of the archive
+	saved []save // what `docker load` reads of the images
+
+	annotations []annotation
 }
 
 // oci sends an archive in the OCI layout: each result is an image of one layer, and nothing depends on the time of the export.
 func (e *Exporter) oci(
 	ctx context.Context, caller session.Caller, list []named, byID bool, metadata map[string][]byte, watch Watch,
 ) (map[string]string, error) {
+	if e.Kind == "docker" && (byID || e.Provenance != nil) {
+		return nil, status.Error(codes.InvalidArgument, "docker exporter does not currently support exporting manifest lists")
+	}
 	names, err := e.image.names(metadata)
 	if err != nil {
 		return nil, err
 	}
 	i := &image{e: e, watch: watch, names: names}
 	defer i.close()
+	if i.annotations, err = annotationsIn(metadata, e.image.annotations); err != nil {
+		return nil, err
+	}
+	if err := checkAnnotations(i.annotations, list, byID); err != nil {
+		return nil, err
+	}
 	top, config, err := i.add(ctx, list, byID, metadata)
 	if err != nil {
 		return nil, err
@@ -70,7 +86,28 @@ func (e *Exporter) oci(
 	if len(names) > 0 {
 		response["image.name"] = strings.Join(names, ",")
 	}
+	if e.image.isFolder {
+		return response, i.store(ctx, caller)
+	}
 	return response, e.send(ctx, caller, response, watch, func(to io.Writer) error { return i.write(to, top) })
+}
+
+// store writes the blobs into the client's folder, what others name before them. The client adds the image to the folder's index.
+func (i *image) store(ctx context.Context, caller session.Caller) error {
+	to := sessioncontent.NewCallerStore(caller, "export")
+	written := map[digest.Digest]bool{}
+	for _, b := range slices.Backward(i.blobs) {
+		if written[b.digest] {
+			continue
+		}
+		written[b.digest] = true
+		desc := ocispecs.Descriptor{Digest: b.digest, Size: b.size}
+		from := io.TeeReader(b.open(), moving{io.Discard, i.watch.Moved})
+		if err := content.WriteBlob(ctx, to, "llbmd-"+b.digest.String(), from, desc); err != nil {
+			return fmt.Errorf("%s: %w", i.e.Name(), err)
+		}
+	}
+	return nil
 }
 
 func (i *image) close() {
@@ -88,42 +125,63 @@ func (i *image) add(ctx context.Context, list []named, byID bool, metadata map[s
 		if err != nil {
 			return manifest, "", err
 		}
-		if byID {
+		if byID || i.e.Provenance != nil {
 			manifest.Platform = &one.Platform.Platform
 		}
 		manifests, config = append(manifests, manifest), digest
 	}
 	top := manifests[0]
-	if byID {
+	if i.e.Provenance != nil {
+		attestations, err := i.attest(list, manifests)
+		if err != nil {
+			return top, "", err
+		}
+		manifests = append(manifests, attestations...)
+	}
+	if len(manifests) > 1 || byID {
 		index := ocispecs.Index{Versioned: specs.Versioned{SchemaVersion: 2}, MediaType: i.e.image.types.index, Manifests: manifests}
+		index.Annotations = annotated(i.annotations, exptypes.AnnotationIndex, nil)
 		all, b, err := described(index.MediaType, index)
 		if err != nil {
 			return all, "", err
 		}
 		top, config = all, ""
+		top.Annotations = annotated(i.annotations, exptypes.AnnotationIndexDescriptor, nil)
 		i.blobs = append([]blob{b}, i.blobs...)
 	}
-	top.Annotations = map[string]string{ocispecs.AnnotationCreated: i.e.when.UTC().Format(time.RFC3339)}
+	top.Annotations = with(top.Annotations, ocispecs.AnnotationCreated, i.e.when.UTC().Format(time.RFC3339))
 	return top, config, nil
 }
 
-// manifest adds the manifest, the configuration and the layer of a result. The first one's descriptor has the platform that the
+// with returns annotations with one more, unless they have it.
+func with(all map[string]string, key, value string) map[string]string {
+	out := map[string]string{key: value}
+	maps.Copy(out, all)
+	return out
+}
+
+// manifest adds the manifest, the configuration and the layers of a result. The first one's descriptor has the platform that the
 // configuration names.
 func (i *image) manifest(ctx context.Context, one named, given []byte) (ocispecs.Descriptor, digest.Digest, error) {
+	none := ocispecs.Descriptor{}
 	if count, err := layers(one, given); err != nil {
-		return ocispecs.Descriptor{}, "", err
-	} else if count > 1 {
+		return none, "", err
+	} else if count > 1 && one.result.Layers == nil {
 		i.watch.Warn(oneLayer(count))
 	}
-	m := ocispecs.Manifest{Versioned: specs.Versioned{SchemaVersion: 2}, MediaType: i.e.image.types.manifest}
-	layer, packed, diff, err := i.layer(ctx, one)
+	m := ocispecs.Manifest{Versioned: specs.Versioned{SchemaVersion: 2}, MediaType: i.e.image.types.manifest, Layers: []ocispecs.Descriptor{}}
+	m.Annotations = annotated(i.annotations, exptypes.AnnotationManifest, &one.Platform.Platform)
+	parts, names, err := i.parts(ctx, one)
 	if err != nil {
-		return layer, "", err
+		return none, "", err
 	}
-	m.Layers = []ocispecs.Descriptor{layer}
-	data, err := configOf(given, one.Platform.Platform, diff, i.e.when, i.e.given != nil)
+	contents := []digest.Digest{}
+	for _, p := range parts {
+		m.Layers, contents = append(m.Layers, p.descriptor), append(contents, p.content)
+	}
+	data, err := configOf(given, one.Platform.Platform, contents, names, i.e.when, i.e.given != nil)
 	if err != nil {
-		return layer, "", err
+		return none, "", err
 	}
 	config, configBlob, err := described(i.e.image.types.config, data)
 	if err != nil {
@@ -131,8 +189,13 @@ func (i *image) manifest(ctx context.Context, one named, given []byte) (ocispecs
 	}
 	m.Config = config
 	manifest, manifestBlob, err := described(m.MediaType, m)
-	i.blobs = append(i.blobs, manifestBlob, configBlob, packed)
+	i.blobs = append(i.blobs, manifestBlob, configBlob)
+	for _, p := range parts {
+		i.blobs = append(i.blobs, p.blob)
+	}
+	i.saved = append(i.saved, i.savedOf(configBlob, m.Layers))
 	manifest.Platform = platformIn(data)
+	manifest.Annotations = annotated(i.annotations, exptypes.AnnotationManifestDescriptor, &one.Platform.Platform)
 	return manifest, config.Digest, err
 }
 
@@ -142,57 +205,6 @@ func platformIn(config map[string]any) *ocispecs.Platform {
 		return value
 	}
 	return &ocispecs.Platform{Architecture: text("architecture"), OS: text("os"), Variant: text("variant")}
-}
-
-// layer writes a result as a layer into the store, and returns the digest of what is packed too.
-func (i *image) layer(ctx context.Context, one named) (ocispecs.Descriptor, blob, digest.Digest, error) {
-	if i.pack == nil {
-		var err error
-		if i.pack, err = i.e.store.NewPack(); err != nil {
-			return ocispecs.Descriptor{}, blob{}, "", err
-		}
-	}
-	before := i.pack.All().Size
-	packed, plain := digest.Canonical.Digester(), digest.Canonical.Digester()
-	media := i.e.image.types.layer
-	out := io.MultiWriter(i.pack, packed.Hash())
-	closer := func() error { return nil }
-	if i.e.image.packed {
-		zip := gzip.NewWriter(out)
-		media, out, closer = i.e.image.types.packedLayer, zip, zip.Close
-	}
-	err := writeLayer(ctx, files{one.result, i.e.when, i.watch.Moved}, io.MultiWriter(moving{out, i.watch.Moved}, plain.Hash()))
-	if closed := closer(); err == nil {
-		err = closed
-	}
-	if err != nil {
-		return ocispecs.Descriptor{}, blob{}, "", err
-	}
-	all := i.pack.All()
-	b := blob{digest: packed.Digest(), size: all.Size - before}
-	b.open = func() io.Reader { return io.NewSectionReader(all, before, b.size) }
-	return ocispecs.Descriptor{MediaType: media, Digest: b.digest, Size: b.size}, b, plain.Digest(), nil
-}
-
-// whiteout begins the name of an entry of a layer that removes what it names.
-const whiteout = ".wh."
-
-// writeLayer writes a result as the plain archive of its tree.
-func writeLayer(ctx context.Context, all files, to io.Writer) error {
-	archive := tar.NewWriter(to)
-	for n := range all.result.Tree {
-		e := &all.result.Tree[n]
-		if err := ctx.Err(); err != nil {
-			return err
-		}
-		if strings.HasPrefix(path.Base(e.Path), whiteout) {
-			return status.Errorf(codes.InvalidArgument, "a layer of an image can't have a name that begins with %s: /%s", whiteout, e.Path)
-		}
-		if err := all.add(archive, e); err != nil {
-			return err
-		}
-	}
-	return archive.Close()
 }
 
 // header returns the header of a file, in the one form that docs/FORMATS.md has ("Images").
@@ -253,16 +265,46 @@ func (i *image) index(top ocispecs.Descriptor) ocispecs.Index {
 	return index
 }
 
+// A save is what `docker save` writes of an image, and `docker load` reads.
+type save struct {
+	Config   string
+	RepoTags []string
+	Layers   []string
+}
+
+func (i *image) savedOf(config blob, layers []ocispecs.Descriptor) save {
+	one := save{Config: pathOf(config.digest), Layers: []string{}}
+	for _, layer := range layers {
+		one.Layers = append(one.Layers, pathOf(layer.Digest))
+	}
+	for _, name := range i.names {
+		if named, err := reference.ParseNormalizedNamed(name); err == nil {
+			one.RepoTags = append(one.RepoTags, reference.FamiliarString(named))
+		}
+	}
+	return one
+}
+
+// pathOf returns where a blob is in a layout.
+func pathOf(d digest.Digest) string { return path.Join("blobs", d.Algorithm().String(), d.Encoded()) }
+
 // write writes the archive: the index, the layout's version, and each blob once.
 func (i *image) write(to io.Writer, top ocispecs.Descriptor) error {
 	archive := tar.NewWriter(to)
 	add := func(name string, size int64, from io.Reader) error {
 		return addFile(archive, header(name, 0o644, size, i.e.when), from)
 	}
-	for _, file := range []struct {
+	files := []struct {
 		name  string
 		value any
-	}{{"index.json", i.index(top)}, {ocispecs.ImageLayoutFile, ocispecs.ImageLayout{Version: ocispecs.ImageLayoutVersion}}} {
+	}{{"index.json", i.index(top)}, {ocispecs.ImageLayoutFile, ocispecs.ImageLayout{Version: ocispecs.ImageLayoutVersion}}}
+	if i.e.Kind == "docker" {
+		files = append(files, struct {
+			name  string
+			value any
+		}{"manifest.json", i.saved})
+	}
+	for _, file := range files {
 		data, err := json.Marshal(file.value)
 		if err != nil {
 			return err
@@ -277,7 +319,7 @@ func (i *image) write(to io.Writer, top ocispecs.Descriptor) error {
 			continue
 		}
 		written[b.digest] = true
-		if err := add(path.Join("blobs/sha256", b.digest.Encoded()), b.size, b.open()); err != nil {
+		if err := add(pathOf(b.digest), b.size, b.open()); err != nil {
 			return err
 		}
 	}
@@ -286,7 +328,7 @@ func (i *image) write(to io.Writer, top ocispecs.Descriptor) error {
 
 // tagOf returns the tag or the digest in an image's name.
 func tagOf(name string) string {
-	if spec, err := reference.Parse(name); err == nil {
+	if spec, err := containerd.Parse(name); err == nil {
 		return spec.Object
 	}
 	return name

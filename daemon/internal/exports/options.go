@@ -2,76 +2,114 @@ package exports
 
 import (
 	"fmt"
+	"slices"
 	"strconv"
 	"strings"
 
 	"github.com/containerd/containerd/images"
 	"github.com/distribution/reference"
+	"github.com/moby/buildkit/exporter/containerimage/exptypes"
 	ocispecs "github.com/opencontainers/image-spec/specs-go/v1"
 	"google.golang.org/grpc/codes"
 	"google.golang.org/grpc/status"
 )
 
 // mediaTypes are those of the parts of an image.
-type mediaTypes struct{ layer, packedLayer, config, manifest, index string }
+type mediaTypes struct{ layer, packedLayer, zstdLayer, config, manifest, index string }
 
 var (
 	ociTypes = mediaTypes{
-		ocispecs.MediaTypeImageLayer, ocispecs.MediaTypeImageLayerGzip, ocispecs.MediaTypeImageConfig, ocispecs.MediaTypeImageManifest,
-		ocispecs.MediaTypeImageIndex,
+		ocispecs.MediaTypeImageLayer, ocispecs.MediaTypeImageLayerGzip, ocispecs.MediaTypeImageLayerZstd, ocispecs.MediaTypeImageConfig,
+		ocispecs.MediaTypeImageManifest, ocispecs.MediaTypeImageIndex,
 	}
 	dockerTypes = mediaTypes{
-		images.MediaTypeDockerSchema2Layer, images.MediaTypeDockerSchema2LayerGzip, images.MediaTypeDockerSchema2Config,
-		images.MediaTypeDockerSchema2Manifest, images.MediaTypeDockerSchema2ManifestList,
+		images.MediaTypeDockerSchema2Layer, images.MediaTypeDockerSchema2LayerGzip, ocispecs.MediaTypeImageLayerZstd,
+		images.MediaTypeDockerSchema2Config, images.MediaTypeDockerSchema2Manifest, images.MediaTypeDockerSchema2ManifestList,
 	}
 )
 
-// imageOptions are those of the exporter oci.
-type imageOptions struct {
-	name   string // several names with commas between, or `*` for what the frontend calls the image
-	types  mediaTypes
-	packed bool
+// layerOf returns the type of a layer that is packed in some form.
+func (m mediaTypes) layerOf(form string) string {
+	return map[string]string{"uncompressed": m.layer, "zstd": m.zstdLayer, "gzip": m.packedLayer}[form]
 }
 
+// imageOptions are those of the exporters oci and docker.
+type imageOptions struct {
+	kind        string
+	name        string // several names with commas between, or `*` for what the frontend calls the image
+	types       mediaTypes
+	packing     packing
+	isFolder    bool // whether the layout is written into a folder, and not as an archive
+	annotations []annotation
+}
+
+// forms are those in which layers are packed.
+var forms = []string{"gzip", "zstd", "uncompressed"}
+
 // set reads an option. What can't be done is refused by name.
-func (o *imageOptions) set(key, value string) error {
+func (o *imageOptions) set(key, value string) (err error) {
 	switch key {
 	case "name":
 		o.name = value
-		_, err := o.names(nil)
+		_, err = o.names(nil)
 		return err
 	case "oci-mediatypes":
-		isOCI, err := boolean(key, value, true)
+		isOCI, err := o.boolean(key, value, true)
 		if o.types = dockerTypes; isOCI {
 			o.types = ociTypes
 		}
 		return err
 	case "tar":
-		isTar, err := boolean(key, value, true)
-		if err == nil && !isTar {
-			err = status.Errorf(codes.Unimplemented, "exporter oci: the option %s=%s", key, value)
-		}
+		isTar, err := o.boolean(key, value, true)
+		o.isFolder = !isTar
 		return err
 	case "compression":
-		o.packed = value != "uncompressed"
-		if o.packed && value != "" && value != "gzip" {
-			return status.Errorf(codes.Unimplemented, "exporter oci: the option %s=%s", key, value)
+		if value == "" {
+			value = "gzip"
+		}
+		if o.packing.form = value; !slices.Contains(forms, value) {
+			return o.unknown(key, value)
 		}
 		return nil
-	case "force-compression": // what is packed is always packed anew
-		_, err := boolean(key, value, false)
+	case "compression-level":
+		o.packing.level, err = levelOf(o.kind, value)
+		return err
+	case "force-compression", "rewrite-timestamp": // all is packed anew, and all has the one time, whatever is asked for
+		_, err = o.boolean(key, value, false)
 		return err
 	}
-	return status.Errorf(codes.Unimplemented, "exporter oci: the option %s=%s", key, value)
+	if parsed, ok, err := exptypes.ParseAnnotationKey(key); ok {
+		if err != nil {
+			return status.Errorf(codes.InvalidArgument, "exporter %s: %s: %v", o.kind, key, err)
+		}
+		o.annotations = append(o.annotations, annotation{parsed, value})
+		return nil
+	}
+	return o.unknown(key, value)
 }
 
-func boolean(key, value string, otherwise bool) (bool, error) {
+func (o *imageOptions) unknown(key, value string) error {
+	return status.Errorf(codes.Unimplemented, "exporter %s: the option %s=%s", o.kind, key, value)
+}
+
+// check refuses options that do not go together. What only OCI's types have lets the image be of these.
+func (o *imageOptions) check() error {
+	if o.isFolder && o.kind == "docker" {
+		return status.Error(codes.InvalidArgument, "exporter docker: the option tar=false is of oci alone")
+	}
+	if o.packing.form == "zstd" || len(o.annotations) > 0 {
+		o.types = ociTypes
+	}
+	return o.packing.check(o.kind)
+}
+
+func (o *imageOptions) boolean(key, value string, otherwise bool) (bool, error) {
 	if value == "" {
 		return otherwise, nil
 	}
 	found, err := strconv.ParseBool(value)
 	if err != nil {
-		err = status.Errorf(codes.InvalidArgument, "exporter oci: non-bool value specified for %s: %v", key, err)
+		err = status.Errorf(codes.InvalidArgument, "exporter %s: non-bool value specified for %s: %v", o.kind, key, err)
 	}
 	return found, err
 }
@@ -89,7 +127,7 @@ func (o *imageOptions) names(metadata map[string][]byte) ([]string, error) {
 	for _, name := range strings.Split(text, ",") {
 		parsed, err := reference.ParseNormalizedNamed(name)
 		if err != nil {
-			return nil, status.Errorf(codes.InvalidArgument, "exporter oci: failed to parse %s: %v", name, err)
+			return nil, status.Errorf(codes.InvalidArgument, "exporter %s: failed to parse %s: %v", o.kind, name, err)
 		}
 		out = append(out, reference.TagNameOnly(parsed).String())
 	}

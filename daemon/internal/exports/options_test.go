@@ -23,6 +23,10 @@ func asked(t *testing.T, attrs map[string]string) *Exporter {
 	return e
 }
 
+func exporterOf(kind string, attrs map[string]string) *controlapi.Exporter {
+	return &controlapi.Exporter{Type: kind, Attrs: attrs}
+}
+
 func TestNamesAreThoseOfBuildKit(t *testing.T) {
 	const digest = "@sha256:0123456789012345678901234567890123456789012345678901234567890123"
 	for name, want := range map[string][2]string{
@@ -62,9 +66,12 @@ func TestOptionsOfImagesThatCantBeDoneAreRefused(t *testing.T) {
 		"name=UPPER":           "InvalidArgument exporter oci: failed to parse UPPER: invalid reference format: repository name (library/UPPER) must be lowercase",
 		"name=a,":              "InvalidArgument exporter oci: failed to parse : invalid reference format",
 		"oci-mediatypes=maybe": `InvalidArgument exporter oci: non-bool value specified for oci-mediatypes: strconv.ParseBool: parsing "maybe": invalid syntax`,
-		"tar=0":                "Unimplemented exporter oci: the option tar=0",
-		"compression=zstd":     "Unimplemented exporter oci: the option compression=zstd",
-		"rewrite-timestamp=1":  "Unimplemented exporter oci: the option rewrite-timestamp=1",
+		"tar=maybe":            `InvalidArgument exporter oci: non-bool value specified for tar: strconv.ParseBool: parsing "maybe": invalid syntax`,
+		"compression=estargz":  "Unimplemented exporter oci: the option compression=estargz",
+		"compression-level=x":  "InvalidArgument exporter oci: non-integer value x specified for compression-level",
+		"compression-level=10": "InvalidArgument exporter oci: compression-level=10: of gzip it is -2 to 9",
+		"annotation-layer.a":   "InvalidArgument exporter oci: annotation-layer.a: unrecognized annotation type layer",
+		"rewrite-timestamp=2":  `InvalidArgument exporter oci: non-bool value specified for rewrite-timestamp: strconv.ParseBool: parsing "2": invalid syntax`,
 		"force-compression=x":  `InvalidArgument exporter oci: non-bool value specified for force-compression: strconv.ParseBool: parsing "x": invalid syntax`,
 	} {
 		key, value, _ := strings.Cut(attrs, "=")
@@ -76,7 +83,19 @@ func TestOptionsOfImagesThatCantBeDoneAreRefused(t *testing.T) {
 	if _, err := New(0, &controlapi.Exporter{Type: "tar", Attrs: map[string]string{"name": "a"}}, nil); status.Code(err) != codes.Unimplemented {
 		t.Error(err)
 	}
-	asked(t, map[string]string{"tar": "1", "compression": "gzip", "force-compression": "true", "oci-mediatypes": ""})
+	_, err := New(0, &controlapi.Exporter{Type: "docker", Attrs: map[string]string{"tar": "false"}}, nil)
+	if status.Convert(err).Message() != "exporter docker: the option tar=false is of oci alone" {
+		t.Error(err)
+	}
+	asked(t, map[string]string{"tar": "1", "compression": "gzip", "force-compression": "true", "oci-mediatypes": "", "rewrite-timestamp": "true"})
+}
+
+func TestAnImageThatCanNotBeStoredOrPushedSaysTheWay(t *testing.T) {
+	_, err := New(0, &controlapi.Exporter{Type: "image", Attrs: map[string]string{"push": "true"}}, nil)
+	first, next, _ := strings.Cut(status.Convert(err).Message(), "\n")
+	if first != `exporter "image": llbmd has local, tar, oci and docker` || !strings.Contains(next, "`skopeo copy oci-archive:FILE docker://NAME` pushes it") {
+		t.Error(err)
+	}
 }
 
 func TestMediaTypesAreDockersIfTheyAreAskedFor(t *testing.T) {

@@ -279,7 +279,8 @@ func TestValuesAreWrittenAsByTheTools(t *testing.T) {
 func TestANameThatRemovesIsRefused(t *testing.T) {
 	e := &Exporter{}
 	result := &results.Result{Tree: tree.Tree{{Dir: true, Mode: 0o755}, {Path: "d", Dir: true}, {Path: "d/.wh.f"}}}
-	err := writeLayer(context.Background(), files{result, e.when, func() {}}, new(bytes.Buffer))
+	whole, _ := layersOf(result)
+	err := writeLayer(context.Background(), files{result, e.when, func() {}}, whole[0].Changes, new(bytes.Buffer))
 	if err == nil || !strings.Contains(err.Error(), "can't have a name that begins with .wh.: /d/.wh.f") {
 		t.Error(err)
 	}

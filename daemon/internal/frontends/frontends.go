@@ -222,7 +222,7 @@ func environment(b *builds.Build, frontend gateway.Frontend, workers []*apitypes
 		option := fmt.Sprintf("BUILDKIT_FRONTEND_OPT_%d=%s=%s", i, k, frontend.Options[k])
 		if len(option) > mostOfOption {
 			return nil, status.Errorf(codes.InvalidArgument,
-				"frontend %s: the option %.100s has %d bytes, and an option has at most %d with its name: a file of a source has room for more",
+				"frontend %s: the option %.100s has %d bytes, and an option has at most %d with its name",
 				frontend.Name, k, len(frontend.Options[k]), mostOfOption)
 		}
 		env = append(env, option)

@@ -19,13 +19,15 @@ var (
 		pb.CapFileBase, pb.CapFileRmWildcard, pb.CapFileRmNoFollowSymlink, pb.CapConstraints, pb.CapPlatform,
 		pb.CapMetaIgnoreCache, pb.CapMetaDescription, pb.CapMetaExportCache, pb.CapMergeOp,
 		pb.CapSourceDateEpoch, pb.CapMultipleExporters, pb.CapSourcePolicy,
-		// A policy may convert these to local sources; llbm refuses those that are left, by their number.
+		// A stand-in leaves these out of its execution; llbm refuses those that are left, by their number.
+		pb.CapExecMountSecret, pb.CapExecMountSSH, pb.CapExecSecretEnv,
+		// A policy may convert these to local sources, or the daemon has them; llbm refuses those that are left, by their number.
 		pb.CapSourceImage, pb.CapSourceImageResolveMode, pb.CapSourceImageLayerLimit, pb.CapSourceGit, pb.CapSourceGitKeepDir,
 		pb.CapSourceGitFullURL, pb.CapSourceGitHTTPAuth, pb.CapSourceGitKnownSSHHosts, pb.CapSourceGitMountSSHSock, pb.CapSourceGitSubdir,
 		pb.CapSourceHTTP, pb.CapSourceHTTPChecksum, pb.CapSourceHTTPPerm, pb.CapSourceHTTPUIDGID, pb.CapSourceOCILayout,
 	}
 	noLLBCaps = []apicaps.CapID{
-		pb.CapBuildOpLLBFileName, pb.CapExecMetaSecurityDeviceWhitelistV1, pb.CapExecMountSecret, pb.CapExecMountSSH, pb.CapExecSecretEnv,
+		pb.CapBuildOpLLBFileName, pb.CapExecMetaSecurityDeviceWhitelistV1,
 		pb.CapFileCopyIncludeExcludePatterns, pb.CapDiffOp, pb.CapAnnotations, pb.CapAttestations,
 		pb.CapRemoteCacheGHA, pb.CapRemoteCacheS3, pb.CapRemoteCacheAzBlob,
 	}
@@ -33,12 +35,11 @@ var (
 		gatewaypb.CapSolveBase, gatewaypb.CapReadFile, gatewaypb.CapReturnResult, gatewaypb.CapReturnMap, gatewaypb.CapReadDir,
 		gatewaypb.CapStatFile, gatewaypb.CapProtoRefArray, gatewaypb.CapReferenceOutput, gatewaypb.CapFrontendInputs,
 		gatewaypb.CapGatewaySolveMetadata, gatewaypb.CapFrontendCaps, gatewaypb.CapGatewayEvaluateSolve, gatewaypb.CapGatewayEvaluate,
-		gatewaypb.CapGatewayWarnings,
+		gatewaypb.CapGatewayWarnings, gatewaypb.CapResolveImage, gatewaypb.CapResolveImageResolveMode, gatewaypb.CapSourceMetaResolver, gatewaypb.CapImportCaches,
 	}
 	noGatewayCaps = []apicaps.CapID{
-		gatewaypb.CapSolveInlineReturn, gatewaypb.CapResolveImage, gatewaypb.CapResolveImageResolveMode, gatewaypb.CapImportCaches,
-		gatewaypb.CapGatewayExec, gatewaypb.CapGatewayExecExtraHosts, gatewaypb.CapGatewayExecSecretEnv, gatewaypb.CapGatewayExecSignals,
-		gatewaypb.CapAttestations, gatewaypb.CapSourceMetaResolver,
+		gatewaypb.CapSolveInlineReturn, gatewaypb.CapGatewayExec, gatewaypb.CapGatewayExecExtraHosts,
+		gatewaypb.CapGatewayExecSecretEnv, gatewaypb.CapGatewayExecSignals, gatewaypb.CapAttestations,
 	}
 )
 

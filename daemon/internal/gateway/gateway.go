@@ -4,23 +4,26 @@ package gateway
 import (
 	"context"
 	"fmt"
+	"strings"
 	"sync/atomic"
 	"time"
 
 	controlapi "github.com/moby/buildkit/api/services/control"
 	apitypes "github.com/moby/buildkit/api/types"
 	"github.com/moby/buildkit/client/buildid"
+	"github.com/moby/buildkit/client/llb/sourceresolver"
 	gatewaypb "github.com/moby/buildkit/frontend/gateway/pb"
 	"github.com/moby/buildkit/solver/pb"
 	spb "github.com/moby/buildkit/sourcepolicy/pb"
+	"github.com/moby/buildkit/util/imageutil"
 	"google.golang.org/grpc/codes"
 	"google.golang.org/grpc/status"
 	"llbm/daemon/internal/builds"
 	"llbm/daemon/internal/fields"
+	"llbm/daemon/internal/images"
 	"llbm/daemon/internal/peers"
 	"llbm/daemon/internal/results"
 	"llbm/daemon/internal/solver"
-	"llbm/daemon/internal/sources"
 )
 
 // A Frontend is asked to solve a build.
@@ -95,6 +98,9 @@ func (g *Gateway) Solve(ctx context.Context, req *gatewaypb.SolveRequest) (*gate
 	if err := refused(req); err != nil {
 		return nil, err
 	}
+	if len(req.CacheImports) > 0 {
+		b.Warn(builds.Caches, builds.NoImports)
+	}
 	if err := b.Hold(req.Size()); err != nil {
 		return nil, err
 	}
@@ -102,6 +108,9 @@ func (g *Gateway) Solve(ctx context.Context, req *gatewaypb.SolveRequest) (*gate
 	switch {
 	case req.Frontend != "":
 		defer b.Free(req.Size())
+		if err := g.Solver.Ask(ctx, b, req.FrontendOpt); err != nil {
+			return nil, err
+		}
 		r, err = g.Frontends.Run(ctx, b, Frontend{
 			Name: req.Frontend, Options: req.FrontendOpt, Inputs: req.FrontendInputs, IsCalled: g.only != nil,
 		})
@@ -122,9 +131,6 @@ func (g *Gateway) Solve(ctx context.Context, req *gatewaypb.SolveRequest) (*gate
 }
 
 func refused(req *gatewaypb.SolveRequest) error {
-	if len(req.CacheImports) > 0 {
-		return status.Error(codes.Unimplemented, "llbmd has no cache imports")
-	}
 	if req.Final {
 		return status.Error(codes.Unimplemented, "llbmd has no results that are returned with Solve: call Return")
 	}
@@ -224,14 +230,57 @@ func (g *Gateway) Return(ctx context.Context, req *gatewaypb.ReturnRequest) (*ga
 	}
 }
 
-// ResolveImageConfig is refused as a source of an image is.
-func (g *Gateway) ResolveImageConfig(_ context.Context, req *gatewaypb.ResolveImageConfigRequest) (*gatewaypb.ResolveImageConfigResponse, error) {
-	return nil, status.Errorf(codes.Unimplemented, "llbm: fault 88 Source: %s is an image: %s", req.Ref, sources.Instead("docker-image://"+req.Ref))
+// ResolveImageConfig returns the configuration of an image.
+func (g *Gateway) ResolveImageConfig(ctx context.Context, req *gatewaypb.ResolveImageConfigRequest) (*gatewaypb.ResolveImageConfigResponse, error) {
+	source := &pb.SourceOp{Identifier: "docker-image://" + req.Ref}
+	if sourceresolver.ResolverType(req.ResolverType) == sourceresolver.ResolverTypeOCILayout {
+		source.Identifier = "oci-layout://" + req.Ref
+		source.Attrs = map[string]string{pb.AttrOCILayoutSessionID: req.SessionID, pb.AttrOCILayoutStoreID: req.StoreID}
+	}
+	image, err := g.image(ctx, source, req.Platform, req.SourcePolicies)
+	if err != nil {
+		return nil, err
+	}
+	if image == nil {
+		return nil, status.Error(codes.InvalidArgument, imageutil.ResolveToNonImageError{Ref: req.Ref, Updated: source.Identifier}.Error())
+	}
+	_, ref, _ := strings.Cut(source.Identifier, "://")
+	return &gatewaypb.ResolveImageConfigResponse{Ref: ref, Digest: image.Digest, Config: image.Config}, nil
 }
 
-// ResolveSourceMeta is refused as the source is.
-func (g *Gateway) ResolveSourceMeta(_ context.Context, req *gatewaypb.ResolveSourceMetaRequest) (*gatewaypb.ResolveSourceMetaResponse, error) {
-	return nil, status.Errorf(codes.Unimplemented, "llbm: fault 88 Source: nothing is known of %s before it is read", req.Source.GetIdentifier())
+// ResolveSourceMeta returns what is known of a source before it is read: the configuration of an image.
+func (g *Gateway) ResolveSourceMeta(ctx context.Context, req *gatewaypb.ResolveSourceMetaRequest) (*gatewaypb.ResolveSourceMetaResponse, error) {
+	if req.Source == nil {
+		return nil, status.Error(codes.InvalidArgument, "source is required")
+	}
+	source := *req.Source
+	image, err := g.image(ctx, &source, req.Platform, req.SourcePolicies)
+	if err != nil {
+		return nil, err
+	}
+	out := &gatewaypb.ResolveSourceMetaResponse{Source: &source}
+	if image != nil {
+		out.Image = &gatewaypb.ResolveSourceImageResponse{Digest: image.Digest, Config: image.Config}
+	}
+	return out, nil
+}
+
+// image returns the image of a source, of which nothing but the configuration is read.
+func (g *Gateway) image(ctx context.Context, source *pb.SourceOp, platform *pb.Platform, policies []*spb.Policy) (*images.Image, error) {
+	b, err := g.build(ctx)
+	if err != nil {
+		return nil, err
+	}
+	for _, policy := range policies {
+		if err := solver.CheckPolicy(policy); err != nil {
+			return nil, err
+		}
+	}
+	image, err := g.Solver.Image(ctx, b, source, platform, policies)
+	if image != nil {
+		image.Close()
+	}
+	return image, err
 }
 
 var errContainers = status.Error(codes.Unimplemented, "llbmd has no containers for frontends")

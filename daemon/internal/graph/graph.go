@@ -238,6 +238,14 @@ func (g *Graph) Check(shown string) error {
 	return nil
 }
 
+// NameOf returns the client's name for an entry: its description, or the command of a Dockerfile.
+func NameOf(metadata pb.OpMetadata) string {
+	if name := metadata.Description["llb.customname"]; name != "" {
+		return name
+	}
+	return metadata.Description["com.docker.dockerfile.v1.command"]
+}
+
 // Describe names an op for a person: by the client's name for it, or by what it does.
 func Describe(metadata pb.OpMetadata, op *pb.Op) string {
 	if name := metadata.Description["llb.customname"]; name != "" {
@@ -293,9 +301,9 @@ func located(def *pb.Definition, d digest.Digest, err error) error {
 	return err
 }
 
-// WrapRow adds to a refusal of llbm which names a row, as `llbm: fault 88 k ..`, what the client knows of this row, and what advice
-// there is about its op.
-func WrapRow(sent *pb.Definition, err error, advice func(*pb.Op) string) error {
+// WrapRow adds to a refusal of llbm which names a row, as `llbm: fault 88 k ..`, what the client knows of this row, and what a function
+// says of its op.
+func WrapRow(sent *pb.Definition, err error, more func(*pb.Op) string) error {
 	var refusal *machine.Refusal
 	if !errors.As(err, &refusal) || refusal.Number < 82 || refusal.Number == 83 || refusal.Number > 90 {
 		return err
@@ -309,11 +317,7 @@ func WrapRow(sent *pb.Definition, err error, advice func(*pb.Op) string) error {
 	op := &pb.Op{}
 	if op.Unmarshal(sent.Def[k]) == nil {
 		name := printable.Cut(printable.Of(Describe(sent.Metadata[d], op)), mostOfName)
-		text := fmt.Sprintf("%s (%s)", st.Message(), name)
-		if more := advice(op); more != "" {
-			text += ": " + more
-		}
-		err = status.Error(st.Code(), messages.Text(text))
+		err = status.Error(st.Code(), messages.Text(fmt.Sprintf("%s (%s)%s", st.Message(), name, more(op))))
 	}
 	return located(sent, d, errdefs.WrapVertex(err, d))
 }

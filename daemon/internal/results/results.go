@@ -19,6 +19,13 @@ type Result struct {
 	Tree     tree.Tree
 	Contents *contents.Table
 	Def      *pb.Definition
+	Layers   []Layer // of an image, if they were asked for
+}
+
+// A Layer is what an op changed: the op's name, and the changes.
+type Layer struct {
+	Name    string
+	Changes []tree.Change
 }
 
 // Ops returns how many ops of the definition can change files: those that are no sources and no merges.

@@ -126,7 +126,6 @@ func TestRefusalsHaveACodeAndLlbmsNumber(t *testing.T) {
 	none := client.SolveOpt{}
 	again := llb.Scratch().Run(llb.Args([]string{"/bin/sh", "-c", "mkdir a && mkdir a"}), llb.Dir("/")).Root()
 	image := client.SolveOpt{Exports: []client.ExportEntry{{Type: "image"}}}
-	cache := client.SolveOpt{CacheExports: []client.CacheOptionsEntry{{Type: "inline"}}}
 	for name, c := range map[string]struct {
 		state llb.State
 		opt   client.SolveOpt
@@ -141,12 +140,21 @@ func TestRefusalsHaveACodeAndLlbmsNumber(t *testing.T) {
 		"a failing copy":      {llb.Scratch().File(llb.Copy(file, "/b", "/c")), none, codes.Unknown, `0 fault 21 NotFound: "/b": not found: lstat /b: no such`},
 		"a failing command":   {again, none, codes.Unknown, "llbm: failed 0 command 1 status 1: mkdir a"},
 		"an exporter":         {file, image, codes.Unimplemented, `exporter "image"`},
-		"a cache export":      {file, cache, codes.Unimplemented, "cache exports"},
 	} {
 		_, err := d.Solve(context.Background(), marshal(t, c.state), c.opt, nil)
 		if status.Code(unwrapped(err)) != c.code || !strings.Contains(fmt.Sprint(err), c.text) {
 			t.Errorf("%s: %v: %v", name, status.Code(unwrapped(err)), err)
 		}
+	}
+}
+
+func TestCachesAreTakenWithAWarning(t *testing.T) {
+	d := started(t, nil)
+	registry := []client.CacheOptionsEntry{{Type: "registry", Attrs: map[string]string{"ref": "a"}}}
+	got, err := d.warnings(t, llb.Scratch().File(llb.Mkfile("/a", 0o644, nil)), client.SolveOpt{CacheExports: registry, CacheImports: registry})
+	want := "no cache is exported: llbmd keeps nothing but sources\nno cache is imported: llbmd keeps nothing but sources"
+	if got != want || err != nil {
+		t.Errorf("%q %v", got, err)
 	}
 }
 

@@ -16,6 +16,7 @@ import (
 	"github.com/moby/buildkit/frontend/gateway/grpcclient"
 	"github.com/moby/buildkit/util/appcontext"
 	"llbm/daemon/internal/frontends"
+	"llbm/daemon/internal/sources"
 )
 
 // beFrontend is a frontend that does what its option `do` says.
@@ -53,6 +54,12 @@ func ask(ctx context.Context, c gwclient.Client) (*gwclient.Result, error) {
 		interfaces, _ := net.Interfaces()
 		state, _ := os.ReadFile("/proc/self/status")
 		text = fmt.Sprintf("%d %d %v", os.Getuid(), len(interfaces), strings.Contains(string(state), "NoNewPrivs:\t1"))
+	case "run":
+		def, err := building().Marshal(ctx)
+		if err != nil {
+			return nil, err
+		}
+		return c.Solve(ctx, gwclient.SolveRequest{Definition: def.ToPB()})
 	case "image":
 		_, _, _, err := c.ResolveImageConfig(ctx, "alpine", sourceresolver.Opt{})
 		return nil, fmt.Errorf("alpine: %w", err)
@@ -79,10 +86,13 @@ func said(t *testing.T, d *daemon, ctx context.Context, do string) (string, erro
 	return strings.TrimSpace(listed(t, archive.Bytes())), nil
 }
 
-func withFrontend(t *testing.T) *daemon {
+func withFrontend(t *testing.T, change func(*Options)) *daemon {
 	t.Helper()
 	program := self(t, frontendName)
 	return started(t, func(o *Options) {
+		if change != nil {
+			change(o)
+		}
 		o.Frontends = &frontends.Frontends{}
 		o.Limits.Memory = 512 << 20
 		if err := o.Frontends.Set("test.v0=" + program); err != nil {
@@ -92,7 +102,7 @@ func withFrontend(t *testing.T) *daemon {
 }
 
 func TestAFrontendIsAChild(t *testing.T) {
-	d := withFrontend(t)
+	d := withFrontend(t, nil)
 	if got, err := said(t, d, context.Background(), "hello"); err != nil || got != `0600 0:0 said "hello"` {
 		t.Error(got, err)
 	}
@@ -111,17 +121,16 @@ func TestAFrontendIsAChild(t *testing.T) {
 }
 
 func TestARefusalThatCameThroughAFrontendHasItsCodeOnce(t *testing.T) {
-	d := withFrontend(t)
+	d := withFrontend(t, nil)
 	_, err := said(t, d, context.Background(), "image")
-	want := "failed to solve: Unimplemented: alpine: llbm: fault 88 Source: alpine is an image: llbm has no registries; " +
-		"with the option --build-context alpine=DIRECTORY of docker buildx a directory takes its place"
+	want := "failed to solve: Unimplemented: alpine: llbm: fault 88 Source (docker-image://alpine)\n" + sources.Instead("docker-image://alpine")
 	if err == nil || err.Error() != want {
 		t.Errorf("%v, not %s", err, want)
 	}
 }
 
 func TestAFrontendHasNoRights(t *testing.T) {
-	d := withFrontend(t)
+	d := withFrontend(t, nil)
 	got, err := said(t, d, context.Background(), "rights")
 	if err != nil {
 		t.Fatal(err)
@@ -140,7 +149,7 @@ func TestAFrontendHasNoRights(t *testing.T) {
 }
 
 func TestAFrontendEndsWithItsBuild(t *testing.T) {
-	d := withFrontend(t)
+	d := withFrontend(t, nil)
 	ctx, cancel := context.WithCancel(context.Background())
 	done := make(chan error, 1)
 	go func() {

@@ -20,12 +20,14 @@ import (
 	"google.golang.org/grpc/health"
 	"google.golang.org/grpc/health/grpc_health_v1"
 	"google.golang.org/grpc/status"
+	"llbm/daemon/internal/advice"
 	"llbm/daemon/internal/builds"
 	"llbm/daemon/internal/contents"
 	"llbm/daemon/internal/control"
 	"llbm/daemon/internal/frontends"
 	"llbm/daemon/internal/gateway"
 	"llbm/daemon/internal/history"
+	"llbm/daemon/internal/images"
 	"llbm/daemon/internal/kept"
 	"llbm/daemon/internal/machine"
 	"llbm/daemon/internal/messages"
@@ -34,6 +36,7 @@ import (
 	"llbm/daemon/internal/sessions"
 	"llbm/daemon/internal/solver"
 	"llbm/daemon/internal/sources"
+	"llbm/daemon/internal/standins"
 )
 
 // MostWorkers is how many workers a build can have.
@@ -54,12 +57,14 @@ const (
 type Options struct {
 	Program    string
 	Rules      string // the program llbm-rules; nothing for the one beside this program
-	Workers    int    // of each build
-	AtOnce     int    // processes of the program
+	StandIns   standins.Set
+	Workers    int // of each build
+	AtOnce     int // processes of the program
 	Store      string
 	StoreBytes int64
 	Idle       time.Duration
 	LeaveOut   bool
+	Images     *images.Catalog
 	Limits     machine.Limits
 	Frontends  *frontends.Frontends
 	Kept       *kept.Folder
@@ -103,6 +108,7 @@ func New(ctx context.Context, o Options) (*Daemon, error) {
 	if solver.Rules, err = findRules(o.Rules, o.Limits); err != nil {
 		return nil, err
 	}
+	solver.Images, solver.StandIns = o.Images, o.StandIns
 	solver.Notes, solver.Platform, solver.Literal, solver.Strict = o.Notes, workers[0].Platforms[0], o.Literal, o.Strict
 	bridge := &gateway.Gateway{Builds: all, Solver: solver, Frontends: o.Frontends, Workers: workers}
 	o.Frontends.Gateway, o.Frontends.Limits, o.Frontends.AtOnce = bridge, o.Limits, mostFrontends
@@ -151,14 +157,14 @@ func serverOptions(c credentials.TransportCredentials) []grpc.ServerOption {
 	return options
 }
 
-// speak makes the error of a call plain: it may have come through frontends and through the daemon before.
+// speak makes the error of a call plain, and adds the next step: it may have come through frontends and through the daemon before.
 func speak(ctx context.Context, req any, _ *grpc.UnaryServerInfo, handler grpc.UnaryHandler) (any, error) {
 	resp, err := handler(ctx, req)
-	return resp, messages.Plain(err)
+	return resp, advice.Add(messages.Plain(err))
 }
 
 func speakOfStream(srv any, stream grpc.ServerStream, _ *grpc.StreamServerInfo, handler grpc.StreamHandler) error {
-	return messages.Plain(handler(srv, stream))
+	return advice.Add(messages.Plain(handler(srv, stream)))
 }
 
 // guard turns a panic of one call into that call's error.

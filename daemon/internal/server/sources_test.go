@@ -19,6 +19,7 @@ import (
 	fstypes "github.com/tonistiigi/fsutil/types"
 	"google.golang.org/grpc/codes"
 	"google.golang.org/grpc/status"
+	"llbm/daemon/internal/sources"
 )
 
 // A folder is a client's directory, whose files are what a test says of them: their contents are the Data of each.
@@ -196,10 +197,9 @@ func TestASourceThatIsNotLocalIsRefusedBeforeATransfer(t *testing.T) {
 		state llb.State
 		want  string
 	}{
-		"a file": {llb.HTTP("https://a/b"), "(https://a/b): llbm has no network; fetch it before the build, and give it as a local source"},
+		"a file": {llb.HTTP("https://a/b"), "(https://a/b)\nllbm has no network; fetch it before the build, and give it as a local source"},
 		"an image": {
-			llb.Image("docker.io/library/a"), "(docker-image://docker.io/library/a:latest): llbm has no registries; " +
-				"with the option --build-context a=DIRECTORY of docker buildx a directory takes its place",
+			llb.Image("docker.io/library/a"), "(docker-image://docker.io/library/a:latest)\n" + sources.Instead("docker-image://a"),
 		},
 	} {
 		from := folder{walks: &atomic.Int64{}}

@@ -8,7 +8,9 @@ import (
 	"google.golang.org/grpc/codes"
 	"google.golang.org/grpc/status"
 	"llbm/daemon/internal/graph"
+	"llbm/daemon/internal/printable"
 	"llbm/daemon/internal/sources"
+	"llbm/daemon/internal/standins"
 )
 
 // mostUnseen bounds the bytes of a definition that is worked on before llbm has shown it. The daemon's own reading of one has
@@ -37,7 +39,7 @@ func (c *checks) load(def, sent *pb.Definition) (*graph.Graph, error) {
 	if len(entries) > mostUnseen {
 		shown, err := c.solver.show(c.ctx, entries)
 		if err != nil {
-			return nil, graph.WrapRow(sent, err, instead)
+			return nil, graph.WrapRow(sent, err, c.solver.said)
 		}
 		g, err := graph.Read(def, sent)
 		return g, compared(g, err, shown)
@@ -46,17 +48,22 @@ func (c *checks) load(def, sent *pb.Definition) (*graph.Graph, error) {
 	c.group.Go(func() error {
 		shown, refused := c.solver.show(c.ctx, entries)
 		if refused != nil {
-			return graph.WrapRow(sent, refused, instead)
+			return graph.WrapRow(sent, refused, c.solver.said)
 		}
 		return compared(g, err, shown)
 	})
 	return g, err
 }
 
-// instead returns what can be done about a source that llbm has not.
-func instead(op *pb.Op) string {
+// said returns what is wrong with an op that llbm refuses, where its line does not say it, and on a second line what can be done.
+func (s *Solver) said(op *pb.Op) string {
 	if source := op.GetSource(); source != nil && !sources.IsLocal(source) {
-		return sources.Instead(source.Identifier)
+		return "\n" + sources.Instead(source.Identifier)
+	}
+	if args := op.GetExec().GetMeta().GetArgs(); op.GetExec() != nil {
+		if fault := standins.FaultOf(args); fault != nil {
+			return ": " + printable.Of(fault.Words(args)) + "\n" + standins.Advice
+		}
 	}
 	return ""
 }

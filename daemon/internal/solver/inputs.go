@@ -34,7 +34,8 @@ type input struct {
 	session  string
 	key      sources.Key
 	vertices []int
-	base     bool // whether something builds on it
+	base     bool   // whether something builds on it
+	pulled   pulled // the image in the place of a local source, if it is one
 	manifest *sources.Manifest
 }
 
@@ -54,8 +55,16 @@ func sessionOf(b *builds.Build, source *pb.SourceOp) string {
 	return b.Session
 }
 
+// what returns what the source is, for a person.
+func (one *input) what() string {
+	if one.pulled.image != nil {
+		return "image " + one.pulled.image.Name
+	}
+	return "local source " + one.request.Name
+}
+
 // gather fetches the local sources of a graph, all at once. Each is fetched once in a build.
-func (s *Solver) gather(ctx context.Context, b *builds.Build, g *graph.Graph, p *progress) (*inputs, error) {
+func (s *Solver) gather(ctx context.Context, b *builds.Build, g *graph.Graph, p *progress, found pulledRows) (*inputs, error) {
 	in := &inputs{byKey: map[sources.Key]*input{}, names: map[string]bool{}, build: b}
 	bases := bases(g)
 	for v := range g.Vertices {
@@ -71,6 +80,9 @@ func (s *Solver) gather(ctx context.Context, b *builds.Build, g *graph.Graph, p 
 			return nil, p.failed(v, err)
 		}
 		one := in.of(request, sessionOf(b, source))
+		if one.pulled = found[g.Vertices[v].Row]; one.pulled.err != nil {
+			return nil, p.failed(v, one.pulled.err)
+		}
 		one.vertices = append(one.vertices, v)
 		one.base = one.base || bases[v]
 	}
@@ -112,14 +124,17 @@ func (in *inputs) of(request sources.Request, session string) *input {
 
 // fetch returns a source of a build with a hold of it.
 func (s *Solver) fetch(ctx context.Context, b *builds.Build, one *input, p *progress) (*sources.Manifest, error) {
-	v := one.vertices[0]
-	manifest, isNew, err := b.Sources.Get(one.key, func() (*sources.Manifest, error) { return s.transfer(ctx, b, one, p) })
+	v, key := one.vertices[0], one.key
+	if image := one.pulled.image; image != nil {
+		key = sources.KeyOfImage(image.Key())
+	}
+	manifest, isNew, err := b.Sources.Get(key, func() (*sources.Manifest, error) { return s.transfer(ctx, b, one, p) })
 	if err != nil {
 		return nil, p.failed(v, err)
 	}
 	if isNew {
 		b.OnEnd(manifest.Drop)
-	} else if one.base {
+	} else if one.base && one.pulled.image == nil {
 		s.forget(ctx, b, one)
 	}
 	return manifest, nil
@@ -134,6 +149,30 @@ func (s *Solver) forget(ctx context.Context, b *builds.Build, one *input) {
 
 // transfer fetches a source, and shows what is to be known of it.
 func (s *Solver) transfer(ctx context.Context, b *builds.Build, one *input, p *progress) (*sources.Manifest, error) {
+	get := s.receive
+	if one.pulled.image != nil {
+		get = s.unpack
+	}
+	manifest, err := get(ctx, b, one, p)
+	if err != nil {
+		return nil, err
+	}
+	v := one.vertices[0]
+	if manifest.Left > 0 {
+		p.warn(v, fmt.Sprintf("%s: %d entries are left out, as llbm has only directories and files", one.what(), manifest.Left), manifest.LeftOut)
+	}
+	if manifest.Attributed > 0 {
+		text := fmt.Sprintf("%s: extended attributes are lost, which BuildKit keeps: of /%s", one.what(), manifest.FirstAttributed)
+		if more := manifest.Attributed - 1; more > 0 {
+			text += fmt.Sprintf(" and %d more", more)
+		}
+		p.warn(v, text, nil)
+	}
+	return manifest, nil
+}
+
+// receive fetches a source from its session.
+func (s *Solver) receive(ctx context.Context, b *builds.Build, one *input, p *progress) (*sources.Manifest, error) {
 	caller, err := s.Sessions.Get(ctx, b.User, one.session)
 	if err != nil {
 		return nil, err
@@ -147,16 +186,6 @@ func (s *Solver) transfer(ctx context.Context, b *builds.Build, one *input, p *p
 	bar.done(manifest.Sent)
 	if manifest.Unread > 0 {
 		p.log(v, 1, fmt.Sprintf("local source %s: %d of its files were not read: their sizes and times are as in an earlier build", name, manifest.Unread))
-	}
-	if manifest.Left > 0 {
-		p.warn(v, fmt.Sprintf("local source %s: %d entries are left out, as llbm has only directories and files", name, manifest.Left), manifest.LeftOut)
-	}
-	if manifest.Attributed > 0 {
-		text := fmt.Sprintf("local source %s: extended attributes are lost, which BuildKit keeps: of /%s", name, manifest.FirstAttributed)
-		if more := manifest.Attributed - 1; more > 0 {
-			text += fmt.Sprintf(" and %d more", more)
-		}
-		p.warn(v, text, nil)
 	}
 	return manifest, nil
 }
@@ -256,7 +285,7 @@ func (in *inputs) given(g *graph.Graph, texts []machine.Source) []machine.Source
 func writeValue(one *input, to io.Writer, noMark bool) error {
 	if one.manifest.Bytes > mostOfText/2 {
 		return status.Errorf(
-			codes.ResourceExhausted, "llbm: fault 185 TooLong: local source %s has to be given by value, and has %d bytes", one.request.Name, one.manifest.Bytes)
+			codes.ResourceExhausted, "llbm: fault 185 TooLong: %s has to be given by value, and has %d bytes", one.what(), one.manifest.Bytes)
 	}
 	return one.manifest.WriteByValue(to, noMark)
 }
@@ -271,7 +300,7 @@ func (in *inputs) write(text func(*input, io.Writer) error) ([]machine.Source, e
 		out = append(out, machine.Source{Name: one.given, Text: file})
 		if err := text(one, &limited{to: file, left: mostOfText, hold: in.hold}); err != nil {
 			if errors.Is(err, errTooLong) {
-				err = status.Errorf(codes.ResourceExhausted, "llbm: fault 185 TooLong: the text of local source %s", one.request.Name)
+				err = status.Errorf(codes.ResourceExhausted, "llbm: fault 185 TooLong: the text of %s", one.what())
 			}
 			return out, err
 		}

@@ -41,10 +41,15 @@ func convert(ctx context.Context, def *pb.Definition, policies []*spb.Policy) (*
 		if source == nil {
 			return false, nil
 		}
-		changed, err := engine.Evaluate(ctx, source)
-		if errors.Is(err, sourcepolicy.ErrSourceDenied) {
-			return false, status.Error(codes.PermissionDenied, err.Error())
-		}
-		return changed, err
+		return evaluate(ctx, engine, source)
 	})
+}
+
+// evaluate applies policies to a source, and returns whether it became another one.
+func evaluate(ctx context.Context, engine *sourcepolicy.Engine, source *pb.SourceOp) (bool, error) {
+	changed, err := engine.Evaluate(ctx, source)
+	if errors.Is(err, sourcepolicy.ErrSourceDenied) {
+		return false, status.Error(codes.PermissionDenied, err.Error())
+	}
+	return changed, err
 }

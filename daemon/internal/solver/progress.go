@@ -7,6 +7,7 @@ import (
 	"time"
 
 	controlapi "github.com/moby/buildkit/api/services/control"
+	"github.com/moby/buildkit/solver/pb"
 	digest "github.com/opencontainers/go-digest"
 	"llbm/daemon/internal/builds"
 	"llbm/daemon/internal/graph"
@@ -23,6 +24,7 @@ const often = 100 * time.Millisecond
 type progress struct {
 	b       *builds.Build
 	g       *graph.Graph
+	sent    *pb.Definition // as the client sent it
 	shown   *builds.Shown
 	mu      sync.Mutex
 	begun   []*time.Time

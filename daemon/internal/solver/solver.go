@@ -16,6 +16,7 @@ import (
 	"llbm/daemon/internal/builds"
 	"llbm/daemon/internal/contents"
 	"llbm/daemon/internal/graph"
+	"llbm/daemon/internal/images"
 	"llbm/daemon/internal/kept"
 	"llbm/daemon/internal/machine"
 	"llbm/daemon/internal/messages"
@@ -23,6 +24,7 @@ import (
 	"llbm/daemon/internal/results"
 	"llbm/daemon/internal/sessions"
 	"llbm/daemon/internal/sources"
+	"llbm/daemon/internal/standins"
 	"llbm/daemon/internal/tree"
 )
 
@@ -32,12 +34,14 @@ type Solver struct {
 	Workers  int
 	Sessions *sessions.Sessions
 	Keeper   *sources.Keeper
-	Kept     *kept.Folder   // or nil
-	Notes    *notes.Table   // or nil
-	Platform pb.Platform    // the worker's
-	Literal  bool           // whether definitions run by llbm's rules where they differ from BuildKit's
-	Strict   bool           // whether a build fails of which BuildKit would make something else
-	Rules    *machine.Ahead // llbm-rules that compares, or nil
+	Kept     *kept.Folder    // or nil
+	Notes    *notes.Table    // or nil
+	Platform pb.Platform     // the worker's
+	Literal  bool            // whether definitions run by llbm's rules where they differ from BuildKit's
+	Strict   bool            // whether a build fails of which BuildKit would make something else
+	Rules    *machine.Ahead  // llbm-rules that compares, or nil
+	Images   *images.Catalog // or nil
+	StandIns standins.Set    // those of all builds
 
 	slots       chan struct{}
 	comparisons chan struct{}
@@ -84,8 +88,16 @@ func (s *Solver) Solve(ctx context.Context, b *builds.Build, sent *pb.Definition
 	if err != nil {
 		return nil, err
 	}
+	from := &replaced{}
+	if def, from.standIns, err = s.standIn(ctx, b, def, sent); err != nil {
+		return nil, err
+	}
+	if def, from.images, err = s.pull(ctx, b, def); err != nil {
+		return nil, err
+	}
+	defer from.images.close()
 	c := s.checks(ctx)
-	result, err := s.work(c, b, def, sent)
+	result, err := s.work(c, b, def, sent, from)
 	if refused := c.wait(); refused != nil {
 		err = refused
 	}
@@ -99,8 +111,14 @@ func (s *Solver) Solve(ctx context.Context, b *builds.Build, sent *pb.Definition
 	return result, nil
 }
 
+// replaced is what has been put in the place of ops that llbm has not, by rows.
+type replaced struct {
+	standIns map[int]standIn
+	images   pulledRows
+}
+
 // work gathers the sources of a definition, rewrites it if it is to be run as BuildKit would, and runs it.
-func (s *Solver) work(c *checks, b *builds.Build, def, sent *pb.Definition) (*results.Result, error) {
+func (s *Solver) work(c *checks, b *builds.Build, def, sent *pb.Definition, from *replaced) (*results.Result, error) {
 	g, err := c.load(def, sent)
 	if err != nil {
 		return nil, err
@@ -108,12 +126,13 @@ func (s *Solver) work(c *checks, b *builds.Build, def, sent *pb.Definition) (*re
 	b.AddSteps(len(g.Vertices))
 	p := newProgress(b, g)
 	s.note(sent, g, p)
+	p.show(from.standIns)
 	if !s.Literal {
 		if err := refuse(g); err != nil {
 			return nil, err
 		}
 	}
-	in, err := s.gather(c.ctx, b, g, p)
+	in, err := s.gather(c.ctx, b, g, p, from.images)
 	if err != nil {
 		return nil, err
 	}
@@ -149,14 +168,15 @@ func (s *Solver) run(
 	if err != nil {
 		return nil, err
 	}
-	t, record, err := s.session(checks.ctx, b, g, def, in.given(g, texts), p, c)
+	p.sent = sent
+	result, record, err := s.session(checks.ctx, b, g, def, in.given(g, texts), p, c)
 	if s.Kept != nil {
 		s.keep(b, def, record, in, err)
 	}
 	if err != nil {
 		return nil, err
 	}
-	return &results.Result{Tree: t}, nil
+	return result, nil
 }
 
 // entriesOf returns a file with what llbm reads of a definition.
@@ -180,7 +200,7 @@ func entriesOf(def *pb.Definition) (*os.File, error) {
 // is kept.
 func (s *Solver) session(
 	ctx context.Context, b *builds.Build, g *graph.Graph, def *pb.Definition, texts []machine.Source, p *progress, c *comparing,
-) (tree.Tree, []byte, error) {
+) (*results.Result, []byte, error) {
 	run, end, err := s.openSession(ctx, b, def, texts)
 	if err != nil {
 		return nil, nil, err
@@ -205,12 +225,22 @@ func (s *Solver) session(
 			return nil, record.Bytes(), err
 		}
 	}
-	t, err := run.Tree(g.Result, g.Output)
+	result, err := s.result(run, g, p)
 	if err == nil {
 		c.end(run, g)
 		err = c.refusal
 	}
-	return t, record.Bytes(), err
+	return result, record.Bytes(), err
+}
+
+// result returns the result of a run that has ended, with the layers of BuildKit if they are asked for.
+func (s *Solver) result(run *machine.Run, g *graph.Graph, p *progress) (*results.Result, error) {
+	t, err := run.Tree(g.Result, g.Output)
+	if err != nil || !p.b.Layers {
+		return &results.Result{Tree: t}, err
+	}
+	layers, err := s.layers(run, p.sent, p, t)
+	return &results.Result{Tree: t, Layers: layers}, err
 }
 
 // openSession begins a session once one more process of the program may run. The caller has to end it by the function that it returns.

@@ -113,6 +113,34 @@ func (k *Keeper) Fetch(ctx context.Context, user uint32, caller session.Caller, 
 	return manifest, nil
 }
 
+// ofImages are the filters of what is kept of images, which no local source has.
+const ofImages = "image"
+
+// Image returns the tree of an image for a platform, with a hold of it. The tree of a manifest is kept by the manifest's digest. One
+// without a digest is read each time.
+func (k *Keeper) Image(user uint32, name, manifest string, read func() (*Manifest, error)) (*Manifest, error) {
+	id := key{user: user, name: "image", shared: manifest, filters: ofImages}
+	if manifest != "" {
+		if found := k.take(id); found != nil {
+			return found, nil
+		}
+	}
+	found, err := read()
+	if err == nil && manifest != "" {
+		k.keep(id, messages.Text(fmt.Sprintf("image %.*s", mostOfDescription, name)), found)
+	}
+	return found, err
+}
+
+// Idle is how long a client may send nothing.
+func (k *Keeper) Idle() time.Duration { return k.idle }
+
+// Store is where contents are.
+func (k *Keeper) Store() *contents.Store { return k.store }
+
+// LeavesOut is whether links and special files are left out of sources.
+func (k *Keeper) LeavesOut() bool { return k.leaveOut }
+
 func (k *Keeper) receive(ctx context.Context, caller session.Caller, r Request, options Options) (*Manifest, error) {
 	ctx, cancel := context.WithCancelCause(metadata.NewOutgoingContext(ctx, r.headers()))
 	defer cancel(nil)

@@ -13,6 +13,9 @@ func (r Request) Key(session string) Key {
 	return Key{Session: session, Name: r.Name, Filters: r.filters, ByMetadata: r.ByMetadata}
 }
 
+// KeyOfImage returns the key of the tree of an image, which no session sends.
+func KeyOfImage(key string) Key { return Key{Name: key, Filters: ofImages} }
+
 // A Once fetches each source of a build once.
 type Once struct {
 	mu  sync.Mutex

@@ -48,6 +48,7 @@ type Stream interface {
 // Options say how a source is received.
 type Options struct {
 	Name     string
+	What     string        // what the source is in refusals, if it is no local source
 	Before   *Manifest     // what was sent before, or nil
 	LeaveOut bool          // links, devices and sockets are left out instead of refused
 	Progress func(n int64) // is called with the number of bytes that have come so far
@@ -74,11 +75,16 @@ func Receive(stream Stream, store *contents.Store, options Options) (*Manifest, 
 		r.manifest.Drop()
 		return nil, err
 	}
+	r.finish()
+	return r.manifest, nil
+}
+
+// finish counts what the manifest has, once all has come.
+func (r *receiver) finish() {
 	for i := range r.manifest.Entries {
 		r.manifest.Bytes += r.manifest.Entries[i].Content.Size
 	}
 	r.manifest.memory = r.memory()
-	return r.manifest, nil
 }
 
 // A file is one whose content comes.
@@ -101,10 +107,19 @@ type receiver struct {
 	paths    int // the bytes of all paths so far
 	held     int // the bytes in memory that Hold has counted
 	ended    bool
+	given    *contents.Ref // the content of the next entry, if it need not be asked for
+}
+
+// what returns what the source is, for a person.
+func (r *receiver) what() string {
+	if r.What != "" {
+		return r.What
+	}
+	return "local source " + r.Name
 }
 
 func (r *receiver) refuse(code codes.Code, format string, words ...any) error {
-	return status.Error(code, messages.Text(fmt.Sprintf("local source %s: %s", r.Name, fmt.Sprintf(format, words...))))
+	return status.Error(code, messages.Text(fmt.Sprintf("%s: %s", r.what(), fmt.Sprintf(format, words...))))
 }
 
 // run receives packets up to the client's last one, after all contents have come.
@@ -120,7 +135,7 @@ func (r *receiver) run() error {
 			if errors.Is(err, io.EOF) {
 				err = io.ErrUnexpectedEOF
 			}
-			return fmt.Errorf("local source %s: %w", r.Name, err)
+			return fmt.Errorf("%s: %w", r.what(), err)
 		}
 		var err error
 		switch p.Type {
@@ -179,11 +194,9 @@ func (r *receiver) stat(st *fstypes.Stat) error {
 
 // count counts an entry, whether it is taken or left out.
 func (r *receiver) count(st *fstypes.Stat) error {
-	if int(r.number) > mostEntries {
-		return r.refuse(codes.ResourceExhausted, "more than %d entries", mostEntries)
-	}
-	if r.paths += len(st.Path) + len(st.Linkname); r.paths > mostOfPaths {
-		return r.refuse(codes.ResourceExhausted, "its paths have more than %d bytes", mostOfPaths)
+	r.paths += len(st.Path) + len(st.Linkname)
+	if err := CheckCounts(int(r.number), r.paths); err != nil {
+		return r.refuse(status.Code(err), "%s", status.Convert(err).Message())
 	}
 	more := r.memory() - r.held
 	if r.Hold == nil || more <= 0 {
@@ -235,6 +248,10 @@ func (r *receiver) content(id uint32, size int64) error {
 		return r.refuse(codes.InvalidArgument, "%s: a size below 0", e.Path)
 	}
 	if size == 0 {
+		return nil
+	}
+	if r.given != nil {
+		e.Content = *r.given
 		return nil
 	}
 	if old := r.same(e, size); old != nil {

@@ -35,7 +35,10 @@ func Instead(identifier string) string {
 	kind, name, _ := strings.Cut(identifier, "://")
 	switch kind {
 	case "docker-image", "oci-layout":
-		return fmt.Sprintf("llbm has no registries; with the option --build-context %s=DIRECTORY of docker buildx a directory takes its place", familiar(name))
+		name = familiar(name)
+		return fmt.Sprintf(
+			"llbm asks no registry; the image can be docker buildx's --build-context %s=DIRECTORY or %s=oci-layout://DIRECTORY, "+
+				"llbmd's -image %s=DIRECTORY or -images FOLDER, or what a source policy converts it to", name, name, name)
 	case "http", "https", "git":
 		return "llbm has no network; fetch it before the build, and give it as a local source"
 	}

@@ -7,12 +7,13 @@ two sources get the same name. A local source whose name no word NAME=FILE can h
 of SSH agents, --without-unpack the unpacking of copies, --without-owners users and groups that are given by name. With
 --run-nothing the words of executions that llbm refuses become `true`, and with --run-nothing=all those of all
 executions. --rules FILE replaces the words of the executions that a rule names; each line of the file is a rule,
-`digest DIGEST => NEW ..`, `name NAME => NEW ..` or `words OLD .. => NEW ..`, quoted as for a shell, and a rule without
-new words keeps the old ones. Rules take precedence over --run-nothing. --like-buildkit rewrites file ops and merges so
-that BuildKit and llbm agree on them, as far as that does not depend on trees (docs/BUILDKIT.md); for trees of local
-sources, NAME=PATH with a directory, a tar (both with owner 0:0) or a tree text, also what depends on these. The program
-llbm-rules does so (tools/daemon builds it); where it is not there, a line says that nothing is rewritten for BuildKit.
---all means all of these options except --run-nothing=all, --rules and --like-buildkit.
+`digest DIGEST => NEW ..`, `name NAME => NEW ..`, `words OLD .. => NEW ..` or `pattern PATTERN => NEW ..`, quoted as for
+a shell; `*` in PATTERN is any characters of the words and `?` is one, and a rule without new words keeps the old ones.
+Rules take precedence over --run-nothing. --like-buildkit rewrites file ops and merges so that BuildKit and llbm agree
+on them, as far as that does not depend on trees (docs/BUILDKIT.md); for trees of local sources, NAME=PATH with a
+directory, a tar (both with owner 0:0) or a tree text, also what depends on these. The program llbm-rules does so
+(tools/daemon builds it); where it is not there, a line says that nothing is rewritten for BuildKit. --all means all of
+these options except --run-nothing=all, --rules and --like-buildkit.
 
 Out: the definition, on standard output, or in FILE with -o FILE. Digests change, and with them the inputs that name
 them and the keys of the metadata and of the locations in `Source`; all other bytes and the order of the entries stay
@@ -178,7 +179,7 @@ def parse_options() -> argparse.Namespace:
     add("--without-owners", action="store_true", help="drop users and groups that are given by name")
     add("--run-nothing", action="store_true", help="executions that are refused run `true` if no rule names them")
     add("--run-nothing=all", action="store_true", dest="run_all", help="all executions do that no rule names")
-    add("--rules", metavar="FILE", help="rules that replace words: digest, name or words, `=>`, and new words")
+    add("--rules", metavar="FILE", help="rules that replace words: digest, name, words or pattern, `=>`, and new words")
     add("--like-buildkit", action="store_true", help="rewrite what BuildKit takes otherwise")
     add("--all", action="store_true", help="all of the above except --run-nothing=all, --rules and --like-buildkit")
     add("--leave", action="store_true", help="leave what cannot be adopted as it is")

@@ -5,13 +5,16 @@ A file of rules is UTF-8, with one rule on a line; empty lines and lines that be
     digest DIGEST => NEW ..
     name NAME => NEW ..
     words OLD .. => NEW ..
+    pattern PATTERN => NEW ..
 
 Words are separated by spaces and quoted as in a POSIX shell; `=>` is the first word of this form on the line. A rule
 applies to the execution whose entry has this digest in the given definition, to each execution with this name in its
-metadata, or to each with exactly these words. The first rule that applies is used. Its new words have to be a script of
-llbm; if there are none, the execution keeps its words.
+metadata, to each with exactly these words, or to each whose words, with a space between each two, are like the pattern,
+in which `*` is any characters and `?` is one. The first rule that applies is used. Its new words have to be a script of
+llbm; if there are none, the execution keeps its words. The daemon reads the same rules (daemon/internal/standins).
 """
 
+import re
 import shlex
 from collections.abc import Sequence
 from typing import NamedTuple
@@ -20,7 +23,8 @@ from llbm_tools.llb import script_faults
 from llbm_tools.streams import Refused
 
 ARROW = "=>"
-KINDS = ("digest", "name", "words")
+KINDS = ("digest", "name", "words", "pattern")
+WILD = {"*": ".*", "?": "."}
 
 
 class Rule(NamedTuple):
@@ -33,7 +37,15 @@ class Rule(NamedTuple):
 
     def fits(self, digest: str, name: str, args: Sequence[str]) -> bool:
         """Returns whether the rule applies to an execution."""
+        if self.kind == "pattern":
+            return is_like(self.wanted[0], " ".join(args))
         return self.wanted == {"digest": (digest,), "name": (name,), "words": tuple(args)}[self.kind]
+
+
+def is_like(pattern: str, text: str) -> bool:
+    """Returns whether a text is like a pattern."""
+    wanted = "".join(WILD.get(character, re.escape(character)) for character in pattern)
+    return re.fullmatch(wanted, text, re.S) is not None
 
 
 def rule_of(number: int, line: str) -> Rule:
@@ -44,7 +56,7 @@ def rule_of(number: int, line: str) -> Rule:
         raise Refused(f"{str(fault).lower()}: line {number}") from fault
     kind, *rest = words
     if kind not in KINDS:
-        raise Refused(f"a rule begins with digest, name or words: line {number}")
+        raise Refused(f"a rule begins with digest, name, words or pattern: line {number}")
     if ARROW not in rest:
         raise Refused(f"there is no {ARROW}: line {number}")
     place = rest.index(ARROW)

@@ -184,14 +184,14 @@ class Buildctl(WithDaemon):
         self.assertEqual(run("tree-of-image", image).stdout, self.wanted("merge"))
         self.assertIn(b"failed to parse UPPER: invalid reference format", refused.stderr)
 
-    def test_what_no_frontend_can_be_given_is_refused_in_one_line(self):
+    def test_what_no_frontend_can_be_given_is_refused_with_the_next_step(self):
         words = ["build", "--progress", "plain", "--frontend", "dockerfile.v0", "--opt"]
         with self.daemon("-frontend", f"dockerfile.v0={FRONTEND}"):
             done = self.client(*words, f"build-arg:LONG={'x' * 131050}")
         self.assertEqual((done.returncode, done.stdout), (1, b""))
         cause = (
             b"error: failed to solve: InvalidArgument: frontend dockerfile.v0: "
-            b"the option build-arg:LONG has 131050 bytes, and an option has at most 131071 with its name: "
+            b"the option build-arg:LONG has 131050 bytes, and an option has at most 131071 with its name\n"
             b"a file of a source has room for more\n"
         )
         self.assertEqual(done.stderr, cause)

@@ -1,5 +1,6 @@
 """Tests of `adopt`."""
 
+import json
 import os
 import pathlib
 import random
@@ -18,6 +19,7 @@ from tests.definitions import linting
 from tests.definitions.linting import EXAMPLES, ROOT_MOUNT, action, exec_of, mount
 
 IMAGE = "docker-image://docker.io/library/alpine:3.19"
+SHARED = paths.ROOT / "daemon" / "internal" / "standins" / "testdata" / "rules.json"
 PLATFORM = part(10, part(1, "amd64") + part(2, "linux"))
 NAMED = part(3, part(1, part(1, part(1, "root"))) + part(2, number(2, 7) + part(99, "x")))
 
@@ -101,7 +103,7 @@ class Rules(unittest.TestCase):
     def test_lines_that_are_not_rules_are_refused(self):
         one = "exactly one word goes between name and =>"
         for line, cause in [
-            ("word a => true", "a rule begins with digest, name or words"), ("name a true", "there is no =>"),
+            ("word a => true", "a rule begins with digest, name, words or pattern"), ("name a true", "there is no =>"),
             ("name => true", one), ("name a b => true", one), ("name 'a => true", "no closing quotation"),
             ("name a=>true", "there is no =>"), ("name a => apk", "the new words are not a script, fault 71 apk"),
             ("words a => /bin/sh -c 'rm'", "the new words are not a script, fault 72 0"),
@@ -318,6 +320,16 @@ class Adopt(Folder):
             self.assertIn(line, "; ".join(lines))
         lines = run("adopt", "--all", text=given).stderr.decode()
         self.assertNotIn("would", lines)
+
+    def test_rules_are_those_of_the_daemon(self):
+        shared = json.loads(SHARED.read_text("utf-8"))
+        for text, want in shared["refused"].items():
+            with self.assertRaises(Refused) as caught:
+                adoption_rules.rules_in(text.encode())
+            self.assertEqual(str(caught.exception), want)
+        for text, args, made in shared["fits"]:
+            rule = adoption_rules.rule_for(adoption_rules.rules_in(text.encode()), "", "", args)
+            self.assertEqual(None if rule is None else list(rule.words), made, text)
 
     def test_rules_replace_the_words_of_executions(self):
         new, changes = self.words(self.local, "write", "/a", "b c"), ["runs write /a 'b c' in place of apk add git"]
