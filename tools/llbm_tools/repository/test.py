@@ -99,6 +99,7 @@ MODULES = [
     "daemon.daemon_suites",
     "measuring.measuring_daemons",
     "daemon.daemon_clients",
+    "daemon.daemon_dockerfiles",
     "daemon.daemon_warnings",
     "daemon.daemon_hostile",
     "rules.rule_examples",
