@@ -1,12 +1,16 @@
 //! Tests of boards on tokens. Each row has the entries of a definition, local trees with tokens, the local trees for which they stand, the list of contents,
-//! and whether the first stand for the others. If they do, the run on the tokens is done to its end, and its result is in the row too.
+//! and whether the first stand for the others. If they do, the run on the tokens is done to its end, and its result is in the row too. Other rows have other
+//! contents, and whether the run on the tokens serves them.
 
 use super::checks::say_tree;
 use super::printed::row_holds;
 use super::walks::finish;
 use super::written::{graph_from, locals_of};
 use llb_board::Board;
-use llb_laws::on_tokens::{have_tokens, open_on_tokens, stands_for_contents};
+use llb_cache::Caches;
+use llb_laws::on_tokens::{
+    have_tokens, open_on_tokens, serves_other_contents, stands_for_contents,
+};
 use llb_wire::Bytes;
 use std::alloc::Global;
 use std::process::Abort;
@@ -53,6 +57,8 @@ const AROUND: &str = "== q\nd 0755 0 0 /\nf 0644 0 0 68ff0000000021 /f\n";
 const HI: &str = "== q\nd 0755 0 0 /\nf 0644 0 0 6869 /f\n";
 
 const HI_THERE: &str = "== q\nd 0755 0 0 /\nf 0644 0 0 686921 /f\n";
+
+const BYE: &str = "== q\nd 0755 0 0 /\nf 0644 0 0 627965 /f\n";
 
 const OTHER_MODE: &str = "== q\nd 0755 0 0 /\nf 0600 0 0 6869 /f\n";
 
@@ -195,5 +201,94 @@ fn holds(rt: &impl Abort, alloc: Global, row: &Row) -> bool {
 fn a_board_is_opened_on_tokens_that_stand_for_contents(rt: HostRuntime) {
     for k in 0..ROWS.len() {
         row_holds(&rt, k, holds(&rt, rt.alloc(), &ROWS[k]));
+    }
+}
+
+struct Change {
+    definition: &'static str,
+    tokens: &'static str,
+    // The local trees and contents for which the tokens stood.
+    locals: &'static str,
+    contents: &'static [&'static str],
+    // Other ones, and whether the run on the tokens serves them.
+    changed: &'static str,
+    others: &'static [&'static str],
+    serves: bool,
+}
+
+const CHANGES: &[Change] = &[
+    Change {
+        definition: COPIES,
+        tokens: FIRST,
+        locals: HI,
+        contents: &["hi"],
+        changed: BYE,
+        others: &["bye"],
+        serves: true,
+    },
+    // The list has not what the file has.
+    Change {
+        definition: COPIES,
+        tokens: FIRST,
+        locals: HI,
+        contents: &["hi"],
+        changed: BYE,
+        others: &["hi"],
+        serves: false,
+    },
+    // The mode has changed too.
+    Change {
+        definition: COPIES,
+        tokens: FIRST,
+        locals: HI,
+        contents: &["hi"],
+        changed: OTHER_MODE,
+        others: &["hi"],
+        serves: false,
+    },
+    // A content that was given by value has changed.
+    Change {
+        definition: DIGESTS,
+        tokens: HI,
+        locals: HI,
+        contents: &[],
+        changed: BYE,
+        others: &["bye"],
+        serves: false,
+    },
+    // The tokens stood for nothing: there is no run to keep.
+    Change {
+        definition: DIGESTS,
+        tokens: FIRST,
+        locals: HI,
+        contents: &["hi"],
+        changed: BYE,
+        others: &["bye"],
+        serves: false,
+    },
+];
+
+// Returns whether a row is as it says.
+fn serves_as_said(rt: &impl Abort, alloc: Global, row: &Change) -> bool {
+    let graph = graph_from(rt, alloc, row.definition);
+    let tokens = locals_of(rt, alloc, row.tokens);
+    let board = Board::open(alloc, graph, tokens, Caches::new(alloc), 1);
+    let board = board.ok().expect(rt, "a board");
+    let serves = serves_other_contents(
+        alloc,
+        &board,
+        &locals_of(rt, alloc, row.tokens),
+        contents_of(rt, alloc, row.contents).as_slice(),
+        &locals_of(rt, alloc, row.locals),
+        contents_of(rt, alloc, row.others).as_slice(),
+        &locals_of(rt, alloc, row.changed),
+    );
+    serves.expect(rt, "memory") == row.serves
+}
+
+#[test]
+fn a_run_on_tokens_serves_other_contents(rt: HostRuntime) {
+    for k in 0..CHANGES.len() {
+        row_holds(&rt, k, serves_as_said(&rt, rt.alloc(), &CHANGES[k]));
     }
 }

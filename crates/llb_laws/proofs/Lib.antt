@@ -21,6 +21,7 @@ mod WritesAndDigests
 mod Plans
 mod TokenReading
 mod TokenTrees
+mod OtherContents
 mod Entries
 mod Vertices
 mod EntryInclusion

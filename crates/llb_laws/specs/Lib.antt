@@ -7,7 +7,8 @@
 -- Of contents, read AlikeTrees first: trees, views and outcomes that differ only in the contents of files, which a given relation relates. ContentLaws says how
 -- the contents of local sources reappear in the outcomes of a graph, and AlikeBoards says the same of the vertices that two boards have settled. EqualContents
 -- says that two boards on the same local trees meet these premises. AlikeStates has the relation on states and replies, and TokenRuns says how contents
--- reappear in whole runs, caches included. TokenLists says what the tests of the laws' premises return; TokenPlans has the tests of single vertices.
+-- reappear in whole runs, caches included, and OtherContents that one run on tokens serves each table of contents. TokenLists says what the tests of the laws'
+-- premises return; TokenPlans has the tests of single vertices.
 pub mod Digests
 pub mod BoardOutcomes
 pub mod Jobs
@@ -29,3 +30,4 @@ pub mod AlikeStates
 pub mod TokenRuns
 pub mod TokenPlans
 pub mod TokenLists
+pub mod OtherContents

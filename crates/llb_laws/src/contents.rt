@@ -5,6 +5,7 @@ ghost use Rattle.llb_laws.specs.ContentLaws.{ActsAlike, LaysAlike, RunsAlike, Ex
 ghost use Rattle.llb_laws.specs.ContentLaws.{HandsContentsOn, HandsExpansionsOn, HandsRelationsOn, HandsTokensOn, HandsUndigestedOn};
 ghost use Rattle.llb_laws.specs.AlikeBoards.{SettleAlike, SettleExchanged};
 ghost use Rattle.llb_laws.specs.TokenRuns.{BoardStandsForContents, HandsRunContentsOn, HandsRunRelationsOn, HandsRunTokensOn, NeedsNoCaches};
+ghost use Rattle.llb_laws.specs.OtherContents.{HaveTokensByEachTable, RunsServeEachTable, ServesEachTable};
 
 use llb_applet::{Command, Setting, View};
 use llb_board::Board;
@@ -107,6 +108,26 @@ pub fn records_are_handed_on(graph: &Graph)
 pub fn boards_stand_for_contents(board: &Board)
     ensures contents { BoardStandsForContents board.now }
     ensures fresh { NeedsNoCaches board.now.build.graph }
+{
+    board.is_graph();
+    board.replays();
+}
+
+/// Proves a law for runs that are kept: one run on tokens serves each table of contents. Given are local trees and caches with tokens for contents by one
+/// table; the premises are those of `tokens` of `records_are_handed_on`. For any other table, and the local trees and caches that these are if each token is
+/// replaced by its content in the other table, the premises hold too (`tokens`), so the run on the tokens is the run on the new contents (`runs`). Nothing is
+/// asked of the other contents themselves.
+pub fn runs_serve_each_table(graph: &Graph)
+    ensures tokens { HaveTokensByEachTable graph.now }
+    ensures runs { RunsServeEachTable graph.now }
+{
+    graph.is_graph();
+}
+
+/// Proves the same law for a board, after any events: it stands, by each table, for a board on the contents of that table. So its result with each token
+/// replaced by its content in the table is the result there, and nothing has to run again.
+pub fn board_serves_each_table(board: &Board)
+    ensures { ServesEachTable board.now }
 {
     board.is_graph();
     board.replays();

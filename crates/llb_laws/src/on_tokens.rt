@@ -5,9 +5,10 @@ ghost use Rattle.llb_board.specs.Opening.{open_memory, open_of};
 ghost use Rattle.llb_model.specs.CacheBridge.{store_of};
 ghost use Rattle.llb_laws.specs.TokenRuns.{with_locals};
 ghost use Rattle.llb_laws.specs.TokenLists.{BoardStandsFor, HaveTokensOf, MayStand, OpensOnTokens, SourceStands, SourcesStand, StandsFor};
+ghost use Rattle.llb_laws.specs.OtherContents.{AreSpelled};
 
 use crate::comparing::trees_stand;
-use crate::contents::{boards_stand_for_contents, records_are_handed_on};
+use crate::contents::{board_serves_each_table, boards_stand_for_contents, records_are_handed_on};
 use crate::marks::writes_no_mark;
 use crate::names::locals_have_names;
 use crate::plan::by_value;
@@ -130,4 +131,48 @@ pub fn stands_for_contents(
 {
     boards_stand_for_contents(board);
     may_stand(alloc, board.graph(), contents, tokens, locals)
+}
+
+/// Returns whether local trees are what those with tokens are if each token n is replaced by content n of a list, in all sources alike. If the trees with
+/// tokens stood for some contents (`have_tokens`), this is all that the law of kept runs asks of other contents (`contents::board_serves_each_table`). Looks at
+/// each tree once. Fails with 5 `Memory` alone.
+pub fn are_spelled(
+    graph: &Graph,
+    contents: &[Bytes],
+    tokens: &Locals,
+    locals: &Locals,
+) -> Result<bool, Memory>
+    ensures { IfOk result (λ is. IsTrue is ↔ AreSpelled contents.now graph.now tokens.now locals.now) }
+{
+    for vertex in graph.vertices() {
+        if !source_stands(contents, false, tokens, locals, vertex)? {
+            return Ok(false);
+        }
+    }
+    Ok(true)
+}
+
+/// Returns whether a board serves other contents: whether local trees with tokens stood for some trees by a list of contents (`have_tokens`), in a graph that
+/// writes no byte 255, and `changed` is what they are by another list (`are_spelled`). `true` says, of a board that was opened on these trees, without caches,
+/// that it stands for a board on `changed`, whatever has happened on it: the result that was made of the tokens is, with each token replaced by its content of
+/// the other list, what a run on `changed` makes by the same events. Fails with 5 `Memory` alone.
+pub fn serves_other_contents(
+    alloc: Global,
+    board: &Board,
+    tokens: &Locals,
+    contents: &[Bytes],
+    locals: &Locals,
+    others: &[Bytes],
+    changed: &Locals,
+) -> Result<bool, Memory>
+    ensures yes { IfOk result (λ is. IsTrue is → BoardStandsFor others.now tokens.now changed.now board.now) }
+    ensures no { IfOk result (λ is. is ≡ false
+        → ¬ (MayStand contents.now board.now.build.graph tokens.now locals.now × AreSpelled others.now board.now.build.graph tokens.now changed.now)) }
+{
+    board_serves_each_table(board);
+    let graph = board.graph();
+    if !may_stand(alloc, graph, contents, tokens, locals)? {
+        return Ok(false);
+    }
+    are_spelled(graph, others, tokens, changed)
 }

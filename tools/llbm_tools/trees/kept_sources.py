@@ -308,6 +308,17 @@ def digest_at(directory: int, name: bytes, found: os.stat_result) -> bytes:
     return digest.digest()
 
 
+def keeps_tokens(kept: Kept, place: int, found: os.stat_result) -> bool:
+    """Returns whether a file that may have another content can have it under the token that was kept.
+
+    It has a token if its content is given by reference and is not empty. If each file in another state passes, and all
+    names and modes are as they were, then the text of the source would be the same, and the source is what that text is
+    with other contents for its tokens: `AreSpelled`, which the law `board_serves_each_table` of crates/llb_laws asks.
+    """
+    mode, size = kept.state(place)[:2]
+    return found.st_mode == mode and bool(found.st_size) and bool(size) and kept.numbers[place] >= 0
+
+
 def changes_in(kept: Kept, root: int, number: int, hidden: Hidden) -> Iterator[Changed]:
     """Yields the files of a directory that have changed; if more has changed, it raises Structure."""
     try:
@@ -319,10 +330,9 @@ def changes_in(kept: Kept, root: int, number: int, hidden: Hidden) -> Iterator[C
         if names != kept.names_of(number):
             raise Structure
         for place, name, one in zip(itertools.count(kept.starts[number]), names.split(BETWEEN), found):
-            before = kept.state(place)
-            if state_of(one) == before:
+            if state_of(one) == kept.state(place):
                 continue
-            if one.st_mode != before[0] or not one.st_size or not before[1] or kept.numbers[place] < 0:
+            if not keeps_tokens(kept, place, one):
                 raise Structure
             yield Changed(place, one, digest_at(directory, name, one))
     except OSError as fault:
@@ -347,7 +357,7 @@ def young_changes(kept: Kept, root: int, young: Iterable[int]) -> Iterator[Chang
         finally:
             os.close(directory)
         if digest != kept.digest(place):
-            if kept.numbers[place] < 0:
+            if not keeps_tokens(kept, place, found):
                 raise Structure
             yield Changed(place, found, digest)
 

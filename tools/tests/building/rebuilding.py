@@ -353,6 +353,25 @@ class Parts(base.Folder):
         head = json.loads((open(place, "rb").read().split(b"\n"))[1])
         self.assertEqual(head["tokens"], True)
 
+    def test_a_file_keeps_its_token_if_only_its_content_changes(self):
+        self.make(b"full", b"x")
+        self.make(b"empty", b"")
+        self.make(b"value", b"x")
+        os.chmod(self.place(b"in", b"full"), 0o644)
+        full, empty, value = (os.stat(self.place(b"in", name)) for name in (b"full", b"empty", b"value"))
+        directory = kept_sources.Directory(b"", os.stat(self.place(b"in")))
+        for name, found, number in [(b"empty", empty, None), (b"full", full, 0), (b"value", value, None)]:
+            directory.add(name, found)
+            directory.note(kept_sources.NO_DIGEST, number)
+        kept = kept_sources.Kept(directory.mode, 0, kept_sources.parts_of([directory]))
+        self.make(b"full", b"other")
+        self.assertTrue(kept_sources.keeps_tokens(kept, 1, os.stat(self.place(b"in", b"full"))))
+        self.assertFalse(kept_sources.keeps_tokens(kept, 1, empty))
+        self.assertFalse(kept_sources.keeps_tokens(kept, 0, full))
+        self.assertFalse(kept_sources.keeps_tokens(kept, 2, full))
+        os.chmod(self.place(b"in", b"full"), 0o600)
+        self.assertFalse(kept_sources.keeps_tokens(kept, 1, os.stat(self.place(b"in", b"full"))))
+
     def test_a_directory_is_compared_by_several_processes(self):
         for number in range(40):
             self.make(b"%d/x" % number, b"x")
