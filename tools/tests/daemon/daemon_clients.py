@@ -324,3 +324,27 @@ class Buildx(WithDaemon):
             done = self.built("FROM alpine\n")
         self.assertEqual(done.returncode, 1)
         self.assertIn(b"fault 88", done.stderr)
+
+    def test_an_image_of_an_oci_layout_has_its_configuration_and_a_rule_its_stand_in(self):
+        rules, layout, archive = self.at / "rules", self.at / "layout", self.at / "out.tar"
+        rules.mkdir()
+        (rules / "mine.rules").write_text("pattern '*go build*' => cp /base /app\n", "utf-8")
+        with self.daemon("-frontend", f"dockerfile.v0={FRONTEND}"):
+            (self.context / "Dockerfile").write_text("FROM scratch\nCOPY a /base\nENV A=b\nUSER 7\n", "utf-8")
+            self.call("create", "--name", "ours", "--driver", "remote", self.address)
+            line = ["build", "--builder", "ours", "--progress", "plain", "--provenance", "false"]
+            output = f"type=oci,tar=false,dest={layout}"
+            first = self.call(*line, "--output", output, str(self.context))
+            self.assertEqual(first.returncode, 0, first.stderr)
+            (self.context / "Dockerfile").write_text("FROM base\nRUN go build -o /app\n", "utf-8")
+            words = ["--build-context", f"base=oci-layout://{layout}", "--build-context", f"llbm-rules={rules}"]
+            second = self.call(*line, *words, "--output", f"type=docker,dest={archive},name=made:1", str(self.context))
+            self.call("rm", "ours")
+        self.assertEqual(second.returncode, 0, second.stderr)
+        self.assertRegex(second.stderr, rb"a stand-in runs, by line 1 of the rules: cp /base /app")
+        text = run("tree-of-image", archive).stdout
+        self.assertEqual(text, b"d 0755 0 0 /\nf 0644 0 0 610a /app\nf 0644 0 0 610a /base\n")
+        with tarfile.open(archive) as files:
+            (saved,) = json.load(files.extractfile("manifest.json"))
+            config = json.load(files.extractfile(saved["Config"]))["config"]
+        self.assertEqual((saved["RepoTags"], config["User"], config["Env"][-1]), (["made:1"], "7", "A=b"))
