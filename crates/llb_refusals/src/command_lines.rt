@@ -45,6 +45,7 @@ impl Trial for OnWords {
             "hello" => printed_read(alloc),
             "no words" => printed_words(alloc, &NO_WORDS),
             "show" => printed_words(alloc, &["show"]),
+            "show --findings" => printed_words(alloc, &["show", "--findings"]),
             "show x" => printed_words(alloc, &["show", "x"]),
             _ => printed_words(alloc, &["run", "--workers", "3", "p=a"]),
         };
@@ -63,6 +64,7 @@ const WORDS: &[Row] = &[
     ("read_bounded", "hello", "memory", "granted"),
     ("command_of", "no words", "184", "granted"),
     ("command_of", "show", "184", "granted"),
+    ("command_of", "show --findings", "184", "granted"),
     ("command_of", "show x", "184", "183"),
     ("command_of", "run --workers 3 p=a", "184", "granted"),
 ];

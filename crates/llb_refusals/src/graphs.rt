@@ -260,6 +260,18 @@ const ROWS: &[Row] = &[
     ),
     ("findings", "raw 3a00; RESULT 0", "5", "88 0 DiffOp"),
     ("findings", RUN, "5", ""),
+    (
+        "findings_of",
+        " = A D_ON_C = B FIELD_ZERO = T NAMES_A",
+        "5 and 82 1 3, 86 0 0",
+        "82 1 3, 86 0 0",
+    ),
+    (
+        "findings_of",
+        " = A LOCKS_TWICE_ON_B = B SCRIPT_ON_A = T NAMES_A",
+        "5",
+        "87, 89 0 CacheTwice",
+    ),
     ("Graph::copy", CHANGED, "", "3 2"),
     (
         "Locals::add p",

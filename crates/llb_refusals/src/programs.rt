@@ -3,7 +3,9 @@
 use super::growths::{MOST, Row, Trial, are_refused, is_lack, print_count, refuse, was_refused};
 use super::printed::{is_same, printed_bytes, printed_text, say};
 use super::written::{definition_of, entries_text, locals_of};
-use llb_commands::{asm_over, dis_over, look_over, run_many_over, run_over, show_over, step_over};
+use llb_commands::{
+    asm_over, dis_over, findings_over, look_over, run_many_over, run_over, show_over, step_over,
+};
 use llb_loader::Locals;
 use llb_samples::tree_text;
 use std::alloc::Global;
@@ -52,13 +54,16 @@ impl Ran {
         None
     }
 
-    // Returns the result of a command as text. If the status is not 0, the text has the status and the standard error. If the status is 0, the text is the
-    // first refusal on standard output or, without a refusal, all of standard output.
+    // Returns the result of a command as text. If the command wrote to standard error, the text has the status and what it wrote there. If it did not, and the
+    // status is 2, the text is standard output. If the status is 0, the text is the first refusal on standard output or, without a refusal, all of it.
     fn printed(&self, rt: &impl Abort, alloc: Global, is_text: bool) -> String {
         let (status, err) = (
             self.status,
             str::from_utf8(self.err.as_slice()).unwrap_or(""),
         );
+        if status == 2 && err.is_empty() {
+            return printed_text(rt, alloc, str::from_utf8(self.out.as_slice()).unwrap_or(""));
+        }
         if status != 0 {
             return format!(in alloc; "{status} {}", err.trim()).expect(rt, "memory");
         }
@@ -116,12 +121,13 @@ fn look(alloc: Global, mut file: &[u8], commands: &str, handed: &mut Vec<Locals>
     }
 }
 
-// Calls a command that takes no local trees: `asm_over`, `dis_over` or `show_over`.
+// Calls a command that takes no local trees.
 fn other(alloc: Global, call: &str, mut input: &[u8], ran: &mut Ran) {
     let Ran { status, out, err } = ran;
     *status = match call {
         "asm_over" => asm_over(alloc, &mut input, out, err),
         "dis_over" => dis_over(alloc, &mut input, out, err),
+        "findings_over" => findings_over(alloc, &mut input, out, err),
         _ => show_over(alloc, &mut input, out, err),
     };
 }
@@ -350,6 +356,12 @@ const ROWS: &[Row] = &[
         "MAKES_A; D_ON_0; RESULT 1",
         "3 fault 184 and 3 fault 91",
         SHOWN,
+    ),
+    (
+        "findings_over",
+        "raw 3a00; RESULT 0",
+        "3 fault 184 and 3 fault 91",
+        "fault 88 0 DiffOp\n",
     ),
     (
         "asm_over",
