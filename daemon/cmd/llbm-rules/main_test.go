@@ -9,6 +9,7 @@ import (
 	"strings"
 	"testing"
 
+	"github.com/moby/buildkit/solver/pb"
 	"llbm/daemon/internal/examples"
 )
 
@@ -98,4 +99,70 @@ func TestADefinitionIsRewrittenByItsTrees(t *testing.T) {
 	if !strings.Contains(lines[1], linked) || !strings.HasPrefix(lines[2], `{"definition":"`) {
 		t.Error(lines)
 	}
+}
+
+// localSource is a definition of one local source with attributes, for each of these.
+func localSource(t *testing.T, all ...map[string]string) []byte {
+	t.Helper()
+	def := &pb.Definition{}
+	for _, attrs := range all {
+		op := &pb.Op{Op: &pb.Op_Source{Source: &pb.SourceOp{Identifier: "local://ctx", Attrs: attrs}}}
+		entry, err := op.Marshal()
+		if err != nil {
+			t.Fatal(err)
+		}
+		def.Def = append(def.Def, entry)
+	}
+	data, err := def.Marshal()
+	if err != nil {
+		t.Fatal(err)
+	}
+	return data
+}
+
+func TestThePathsThatFiltersSelectArePrinted(t *testing.T) {
+	folder := t.TempDir()
+	for _, path := range []string{".git/HEAD", "a/b.go", "a/c\n.txt", "main.go"} {
+		at := filepath.Join(folder, path)
+		if err := os.MkdirAll(filepath.Dir(at), 0o755); err != nil {
+			t.Fatal(err)
+		}
+		if err := os.WriteFile(at, nil, 0o644); err != nil {
+			t.Fatal(err)
+		}
+	}
+	if err := os.Symlink("a/b.go", filepath.Join(folder, "link")); err != nil {
+		t.Fatal(err)
+	}
+	for _, one := range []struct {
+		attrs map[string]string
+		want  string
+	}{
+		{nil, "."},
+		{map[string]string{pb.AttrExcludePatterns: "[]"}, "."},
+		{map[string]string{pb.AttrExcludePatterns: `[".git","*.go","link"]`}, "a a/b.go a/c\n.txt"},
+		{map[string]string{pb.AttrIncludePatterns: `["**/*.go"]`}, "a a/b.go main.go"},
+		{map[string]string{pb.AttrFollowPaths: `["link"]`}, "a a/b.go link"},
+		{map[string]string{pb.AttrIncludePatterns: `["none"]`}, ""},
+	} {
+		printed := strings.Join(did(t, 0, localSource(t, one.attrs), "select", "ctx", folder), "\n")
+		if got := strings.ReplaceAll(strings.TrimSuffix(printed, "\x00"), "\x00", " "); got != one.want {
+			t.Errorf("%v: %q, not %q", one.attrs, got, one.want)
+		}
+	}
+	if got := did(t, 0, localSource(t, map[string]string{pb.AttrIncludePatterns: `["a"]`}), "select", "other", folder); got[0] != ".\x00" {
+		t.Errorf("a source that is not there: %q", got)
+	}
+}
+
+func TestFiltersThatCanNotBeAppliedAreRefused(t *testing.T) {
+	folder := t.TempDir()
+	one, other := map[string]string{pb.AttrIncludePatterns: `["a"]`}, map[string]string{pb.AttrIncludePatterns: `["b"]`}
+	did(t, 0, localSource(t, one, one), "select", "ctx", folder)
+	noList := map[string]string{pb.AttrFollowPaths: "a"}
+	for _, data := range [][]byte{localSource(t, one, other), localSource(t, one, nil), localSource(t, noList), []byte("no definition")} {
+		did(t, statusOfRefusal, data, "select", "ctx", folder)
+	}
+	did(t, statusOfRefusal, localSource(t, one), "select", "ctx", filepath.Join(folder, "none"))
+	did(t, statusOfRefusal, localSource(t, one), "select", "ctx")
 }

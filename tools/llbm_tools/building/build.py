@@ -8,7 +8,9 @@ It is read once, and so is DEFINITION, and what is neither a file nor a director
 OS/ARCHITECTURE picks one of several images. With --strict a source is refused if something of it is left out. The
 program is --llbm PROGRAM, or else crates/llbm/out/llbm of the repository, or else its out/llbm-unproved, which is named
 on standard error as not proved; --workers N sets its number of workers. All entries of sources get the owner 0:0,
-except those of texts.
+except those of texts. Of a directory only what the filters of its source select is given, as BuildKit's clients do: the
+program llbm-rules applies them (tools/daemon builds it), and where it is not there such a source is refused. With
+--no-filters all of it is given. Where llbm-rules is there, standard error has the notes of `lint`.
 
 The program gets a token in the place of each content, and the contents are copied into the result afterwards, so that a
 source can have any size; a file that changed meanwhile is refused. With --by-value the program gets the contents. So it
@@ -152,6 +154,7 @@ def parser() -> argparse.ArgumentParser:
     add("--strict", action="store_true", help="refuse a source if something of it is left out")
     add("--platform", metavar="OS/ARCH", help="the platform of sources that are images with several")
     add("--mtime", metavar="SECONDS", type=times.seconds_of, help="the time of the result's entries")
+    add("--no-filters", action="store_true", help="give all of each directory, whatever its source's filters leave out")
     add("--by-value", action="store_true", help="give the program the contents of all sources")
     add("--replace", action="store_true", help="put the result in the place of an old one")
     add("--config", metavar="FILE", help="the configuration of an image, in JSON")

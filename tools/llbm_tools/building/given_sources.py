@@ -9,6 +9,7 @@ from llbm_tools.building.by_value import Plan
 from llbm_tools.building.kept_builds import state_at
 from llbm_tools.building.requests import Named
 from llbm_tools.common import MOST_BYTES, say
+from llbm_tools.rules.filters import Paths
 from llbm_tools.streams import Refused
 from llbm_tools.trees.directory_texts import HasMark, Text, TooLong, Values
 from llbm_tools.trees.kept_sources import Recorder
@@ -37,12 +38,14 @@ class Given:
         hidden: list[os.stat_result],
         reading: Reading,
         records: list[Recorder | None],
+        selected: list[Paths | None],
     ) -> None:
         self.sources = sources
         self.text = text
         self.hidden = hidden
         self.reading = reading
         self.records = records
+        self.selected = selected
         self.states = [state_at(source.place) for source in sources]
         self.table = Table()
         self.kept = contextlib.ExitStack()
@@ -79,7 +82,9 @@ class Given:
             text = Values(output, unmarked=unmarked) if cause else Text(output)
             reader = Source(text, self.table, self.kept, self.reading)
             try:
-                is_whole = reader.read(source.place, self.hidden, self.records[number], source.shown)
+                is_whole = reader.read(
+                    source.place, self.hidden, self.records[number], source.shown, self.selected[number]
+                )
             except TooLong as fault:
                 line = f"{source.name} is too long to be given by value, over {MOST_BYTES:,} bytes: {cause}"
                 raise Refused(line) from fault

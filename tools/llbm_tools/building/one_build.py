@@ -20,6 +20,7 @@ from llbm_tools.common import say
 from llbm_tools.images import packing
 from llbm_tools.inputs import shown
 from llbm_tools.llb import source_names
+from llbm_tools.rules import notes
 from llbm_tools.streams import FAILED, REFUSED, program_at, write_output
 from llbm_tools.trees import times
 from llbm_tools.trees.kept_sources import bytes_of
@@ -90,6 +91,8 @@ class Build:
         names = [source.name for source in self.sources]
         for note in source_names.word_notes(self.request.data, names) if names else []:
             say(note)
+        for note in notes.lines_of(self.request.data, self.request.filtered()):
+            say(note)
         plan = by_value.plan_of(self.request.data)
         cause = ASKED if self.options.by_value else plan.all if plan else UNREADABLE
         if not cause and plan:
@@ -108,7 +111,7 @@ class Build:
             self.given.close()
         reading = Reading(strict=self.options.strict, platform=self.options.platform)
         records = recorders_of(self.memory.last, self.sources) if self.memory else [None] * len(self.sources)
-        self.given = Given(self.sources, self.text, self.hidden(), reading, records)
+        self.given = Given(self.sources, self.text, self.hidden(), reading, records, self.request.selected)
         return self.given
 
     def table(self) -> Table | None:

@@ -13,8 +13,9 @@ from llbm_tools.building.kept_builds import check_place, state_at
 from llbm_tools.common import check_open, program_place
 from llbm_tools.images import packing
 from llbm_tools.llb.given_definitions import definition_at
+from llbm_tools.rules import filters
 from llbm_tools.streams import Refused, program_at
-from llbm_tools.trees import times
+from llbm_tools.trees import source_texts, times
 
 OUTPUTS = ("-", "/dev/stdout")
 LARGEST = 16 << 30
@@ -45,6 +46,11 @@ def source_of(word: str) -> Named:
     return Named(name, place, inputs.shown(place))
 
 
+def digest_of(paths: filters.Paths) -> str:
+    """Returns the digest of some paths."""
+    return hashlib.sha256(b"\0".join(sorted(paths))).hexdigest()
+
+
 class Request:
     """A build: its options, its definition, its sources, and its result."""
 
@@ -57,6 +63,7 @@ class Request:
         self.ending = packing.PLAIN if self.is_output else packing.ending_of_result(options.result)
         self.data = b""
         self.config = b""
+        self.selected: list[filters.Paths | None] = []
 
     def places(self) -> list[str]:
         """Returns the places of all inputs."""
@@ -82,6 +89,23 @@ class Request:
             raise Refused(f"there is no such directory: {self.above}")
         self.data = definition_at(self.options.definition, lambda: program_at(self.options.llbm))
         self.config = self.image_config()
+        self.selected = self.select()
+
+    def select(self) -> list[filters.Paths | None]:
+        """Returns the paths that the filters of each source select of a directory; None if all of it is given."""
+        if self.options.no_filters or not filters.filtered_names(self.data):
+            return [None] * len(self.sources)
+        return [self.selected_of(source) for source in self.sources]
+
+    def selected_of(self, source: Named) -> filters.Paths | None:
+        """Returns the paths that the filters of a source select."""
+        if inputs.is_pipe(source.place) or source_texts.kind_of(source.place) != source_texts.DIRECTORY:
+            return None
+        return filters.selected(self.data, source.name, source.place)
+
+    def filtered(self) -> set[str]:
+        """Returns the names of the sources whose filters are applied."""
+        return {source.name for source, paths in zip(self.sources, self.selected) if paths is not None}
 
     def image_config(self) -> bytes:
         """Returns the configuration for an image as JSON; one that is given for another result is refused."""
@@ -145,6 +169,7 @@ class Request:
             "definition": hashlib.sha256(self.data).hexdigest(),
             "program": [program, state_at(program) if program else None],
             "result": os.path.abspath(self.result),
+            "selected": [None if paths is None else digest_of(paths) for paths in self.selected],
             "sources": sources,
             "time": times.time_of_archive(self.options.mtime) if self.ending else None,
             "time is given": times.is_given(self.options.mtime) if self.ending else None,

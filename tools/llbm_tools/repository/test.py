@@ -61,6 +61,7 @@ MODULES = [
     "building.contents",
     "building.value_rules",
     "building.rebuilding",
+    "building.filtering",
     "bad_inputs",
     "repository.repository",
     "repository.pages",

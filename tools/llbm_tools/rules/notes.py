@@ -2,14 +2,18 @@
 
 from typing import NamedTuple
 
-from llbm_tools.llb import findings
+from llbm_tools.llb import definition, findings, names, op_rules
 from llbm_tools.llb.findings import Finding
+from llbm_tools.llb.wire import Unreadable
 from llbm_tools.rules import program
+from llbm_tools.streams import Refused
 
 # The kinds: a field without an effect, what BuildKit's daemon dies of, and a rule that can matter.
 FIELD, BREAKS, RULE = "field", "breaks", "rule"
 # The note of an attribute that is not known; its part is the key.
 ATTRIBUTE = "Attribute"
+# The notes of the filters of local sources, which tools apply to a directory.
+FILTERS = ("IncludePatterns", "ExcludePatterns", "FollowPaths")
 
 
 class RowNote(NamedTuple):
@@ -29,6 +33,29 @@ class RowNote(NamedTuple):
         kind, _, number = self.part.partition(" ")
         is_key = self.name == ATTRIBUTE
         return int(number) if kind == "action" and number.isdecimal() and not is_key else None
+
+
+def local_name(entry: bytes) -> str | None:
+    """Returns the name of the local source that an entry is, or None if it is another op."""
+    source = definition.op_of(0, entry).source
+    local = source is not None and source.identifier.startswith(op_rules.LOCAL)
+    return source.identifier.removeprefix(op_rules.LOCAL) if source and local else None
+
+
+def lines_of(data: bytes, filtered: set[str]) -> list[str]:
+    """Returns a line for each field of a definition that has no effect in a run: none for the filters of the local
+    sources of some names, which are applied, and none at all where the program is not there, or where it can't read the
+    definition, since llbm says then what is wrong.
+    """
+    try:
+        found = notes_of(data, [], False)
+        shown = [name.shown() for name in names.names_of(data)] if found else []
+        entries = definition.entries_of(data) if found else []
+        applied = {row for row, entry in enumerate(entries) if local_name(entry) in filtered}
+    except (program.Missing, Refused, Unreadable):
+        return []
+    left = [one for one in found if one.name not in FILTERS or one.row not in applied]
+    return [": ".join(filter(None, [f"note {one.words()}", shown[one.row]])) for one in left]
 
 
 def notes_of(data: bytes, found: list[Finding], is_like: bool) -> list[RowNote]:

@@ -3,13 +3,17 @@
 In: the words of the program's command line, with what it reads from standard input. `--llbm PROGRAM` before them names
 another program than that of the repository or the installation around this folder. `--record FOLDER` before them, for
 `run`, keeps the run in a new folder: the definition, the trees, and the record of a run on one thread, which
-`tools/page` opens.
+`tools/page` opens. A source may also be a directory, all of whose entries get the owner 0:0. Of it only what the
+filters of the local source select is given, as BuildKit's clients do, by the program llbm-rules (tools/daemon builds
+it); where it is not there, such a source is refused. `--no-filters` before the words gives all of it.
 
 Out: what the program writes, unchanged; on standard error, below a line `fault ..` or `failed ..` of the program, lines
 that begin with two spaces: first what is wrong in this run, in words: why a vertex failed (the run is repeated for
 that), the word that is refused and why, the file that could not be opened, the faulty line of a file or of a text, all
 local sources that have no tree; then what `explain` says of it, with the entry that it names. Names that no local
 source has or that are given twice are named there, or else after all lines of the program, which passes them over.
+Then follows, for a `run` that is not refused, a line `note ..` for each field that has no effect, as of `lint`, where
+llbm-rules is there.
 --help prints the help of this tool on standard output. Words that ask the program for a page of help or for its version
 print that page there too, without the fault; that of `step` also lists the commands of a session.
 
@@ -31,14 +35,15 @@ from typing import BinaryIO, cast
 from llbm_tools.command_line import Parser
 from llbm_tools.common import MOST_BYTES, check_open, say
 from llbm_tools.definitions import faults
-from llbm_tools.running import run_records
+from llbm_tools.rules import notes
+from llbm_tools.running import given_trees, run_records
 from llbm_tools.running.causes import MISSING, Run, causes_of, data_of, of_words
 from llbm_tools.running.command_words import COMMANDS, USUALLY
 from llbm_tools.running.failure_reasons import Reasons
 from llbm_tools.running.program_words import HELP, read_words
 from llbm_tools.streams import PIECE, Refused, exit_status, program_at
 
-OPTION, RECORD = "--llbm", "--record"
+OPTION, RECORD, NO_FILTERS = "--llbm", "--record", "--no-filters"
 # The statuses of a run that was not refused: the result was printed, or a vertex failed.
 WAS_RUN = (0, 1)
 UNNAMED = b"fault %d " % MISSING
@@ -48,7 +53,10 @@ SESSION_LINE = 173
 def options_and_words(words: list[str]) -> tuple[dict[str, str], list[str]]:
     """Splits the command line into the tool's options, which come first, and the program's words."""
     options: dict[str, str] = {}
-    while words and (name := words[0].partition("=")[0]) in (OPTION, RECORD) and name not in options:
+    while words and (name := words[0].partition("=")[0]) in (OPTION, RECORD, NO_FILTERS) and name not in options:
+        if words[0] == NO_FILTERS:
+            options[name], words = "", words[1:]
+            continue
         value = words[0].partition("=")[2] if "=" in words[0] else words[1] if len(words) > 1 else None
         if value is None:
             break
@@ -65,7 +73,7 @@ def run_words(words: list[str]) -> int:
         run_records.check_new(folder)
         if words[:1] != ["run"]:
             raise Refused(f"{RECORD} is for `run` alone")
-    return run_program(program, words, folder)
+    return run_program(program, words, folder, has_filters=NO_FILTERS not in options)
 
 
 def stored_input(file: BinaryIO) -> BinaryIO | None:
@@ -140,7 +148,17 @@ def close_input() -> None:
         os.close(0)
 
 
-def run_program(program: str, words: list[str], folder: pathlib.Path | None) -> int:
+def text_in(file: BinaryIO | None) -> bytes | None:
+    """Returns what follows in standard input, which is then read again, or None if it can't be."""
+    if file is None:
+        return None
+    start = file.tell()
+    text = file.read(MOST_BYTES + 1)
+    file.seek(start)
+    return text
+
+
+def run_program(program: str, words: list[str], folder: pathlib.Path | None, *, has_filters: bool) -> int:
     """Runs the program, prints what it printed with explanations, keeps the run in a folder, and returns the status."""
     read = read_words(words)
     if read.asks:
@@ -148,16 +166,23 @@ def run_program(program: str, words: list[str], folder: pathlib.Path | None) -> 
     with tempfile.TemporaryFile() as file:
         reads = not read.refused and read.command != "step"
         given = stored_input(cast(BinaryIO, file)) if reads else None
-        start = given.tell() if given else 0
-        closing = close_input if sys.stdin is None else None
-        done = subprocess.run([program, *words], stdin=given, stderr=subprocess.PIPE, preexec_fn=closing)
-        text = b""
-        if given and (done.stderr or read.sources or folder):
-            given.seek(start)
-            text = given.read(MOST_BYTES + 1)
-    print_notes(program, Run(read, text if given else None), done.stderr)
-    if folder and done.returncode in WAS_RUN:
-        run_records.keep(program, words, read, text, folder)
+        run = Run(read, text_in(given))
+        with given_trees.given(words, read, data_of(run), has_filters=has_filters) as trees:
+            return run_with(program, trees, Run(trees.read, run.given), given, folder)
+
+
+def run_with(
+    program: str, trees: given_trees.Given, run: Run, given: BinaryIO | None, folder: pathlib.Path | None
+) -> int:
+    """Runs the program with trees that it can read, prints what it printed, keeps the run, and returns the status."""
+    closing = close_input if sys.stdin is None else None
+    done = subprocess.run([program, *trees.words], stdin=given, stderr=subprocess.PIPE, preexec_fn=closing)
+    print_notes(program, run, done.stderr)
+    if run.words.command == "run" and run.given is not None and done.returncode in WAS_RUN:
+        for note in notes.lines_of(run.given, trees.filtered):
+            say(note)
+        if folder:
+            run_records.keep(program, trees.words, run.words, run.given, folder)
     return done.returncode if done.returncode >= 0 else 128 - done.returncode
 
 
@@ -167,12 +192,14 @@ def parser() -> argparse.ArgumentParser:
     lines = [f"  {command.name:<{width}}  {command.about}" for command in COMMANDS]
     parser = Parser(
         description="Runs llbm with the same words, and explains its faults and failures.",
-        usage="%(prog)s [--llbm PROGRAM] [--record FOLDER] [WORD ...]",
+        usage="%(prog)s [--llbm PROGRAM] [--record FOLDER] [--no-filters] [WORD ...]",
         formatter_class=argparse.RawDescriptionHelpFormatter,
         epilog="\n".join(["commands (--help after one prints its page):", *lines, "", USUALLY]),
     )
     parser.add_argument(OPTION, metavar="PROGRAM", help="the program llbm; before the program's words")
     parser.add_argument(RECORD, metavar="FOLDER", help="keep the run in a new folder; before the program's words")
+    about = "give all of each directory, whatever its source's filters leave out; before the program's words"
+    parser.add_argument(NO_FILTERS, action="store_true", help=about)
     names = [command.name for command in COMMANDS]
     parser.add_argument(
         "word", metavar="WORD", nargs=argparse.REMAINDER, choices=names, help="the words of llbm's command line"

@@ -85,7 +85,9 @@ class Place(NamedTuple):
 
 
 class DirectoryText:
-    """The text of a directory: with contents if it is one of values, else with the tokens of a table."""
+    """The text of a directory: with contents if it is one of values, else with the tokens of a table. Where some paths
+    are selected, all others are not looked at.
+    """
 
     def __init__(
         self,
@@ -96,6 +98,7 @@ class DirectoryText:
         itself: os.stat_result | None = None,
         record: Recorder | None = None,
         left_out: LeftOut | None = None,
+        selected: frozenset[bytes] | None = None,
     ) -> None:
         self.text = text
         self.values = text if isinstance(text, Values) else None
@@ -105,6 +108,7 @@ class DirectoryText:
         self.itself = itself
         self.record = record
         self.left_out = left_out or LeftOut()
+        self.selected = selected
         self.root = 0
         self.is_whole = True
         self.user = os.geteuid()
@@ -156,6 +160,8 @@ class DirectoryText:
                 return
             if above.kept:
                 above.kept.add(name, found)
+            if self.selected is not None and path[1:] not in self.selected:
+                return
             exclusion = self.exclusion_of(name, above.depth + 1, found)
             if exclusion:
                 self.left_out.add(path[1:].split(b"/"), exclusion)

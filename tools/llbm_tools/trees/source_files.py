@@ -12,6 +12,7 @@ from llbm_tools.trees.references import Table
 from llbm_tools.trees.source_texts import TEXT, Reading, Source, kind_of
 
 Say = Callable[[str], None]
+Selected = frozenset[bytes] | None
 
 
 def source_of(word: str) -> tuple[str, str]:
@@ -22,8 +23,10 @@ def source_of(word: str) -> tuple[str, str]:
     return name, path
 
 
-def source_file(name: str, path: str, place: str, say: Say) -> str:
-    """Returns the file with the tree text of a local source, which is written to `place` if it is no text."""
+def source_file(name: str, path: str, place: str, say: Say, selected: Selected = None) -> str:
+    """Returns the file with the tree text of a local source, which is written to `place` if it is no text; of a
+    directory the paths that are selected, if some are.
+    """
     def say_of(line: str) -> None:
         said.append(line)
         say(f"{line} (the local source {name})")
@@ -34,7 +37,9 @@ def source_file(name: str, path: str, place: str, say: Say) -> str:
             with opened_file(path):
                 return path
         with open(place, "wb") as text, contextlib.ExitStack() as kept:
-            is_whole = Source(Values(text, None), Table(), kept, Reading(say=say_of, quiet=True)).read(path, [])
+            is_whole = Source(Values(text, None), Table(), kept, Reading(say=say_of, quiet=True)).read(
+                path, [], selected=selected
+            )
     except (Refused, Failed) as fault:
         raise Refused(f"{fault} (the local source {name})") from fault
     if not is_whole:

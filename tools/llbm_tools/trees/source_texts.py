@@ -109,9 +109,14 @@ class Source:
             raise Refused("refused: something was left out")
         warn_of_length(self.text.count, self.reading.say)
 
-    def read_directory(self, place: str, hidden: list[os.stat_result], record: Recorder | None) -> bool:
-        """Writes the text of a directory, and returns whether all of it could be read; hidden entries are skipped."""
-        walked = DirectoryText(self.text, self.table, self.reading.owner, hidden, None, record, self.left_out)
+    def read_directory(
+        self, place: str, hidden: list[os.stat_result], record: Recorder | None, selected: frozenset[bytes] | None
+    ) -> bool:
+        """Writes the text of a directory, and returns whether all of it could be read; hidden entries are skipped, and
+        those that are not selected.
+        """
+        owner = self.reading.owner
+        walked = DirectoryText(self.text, self.table, owner, hidden, None, record, self.left_out, selected)
         walked.walk(place)
         self.finish()
         return walked.is_whole
@@ -160,16 +165,23 @@ class Source:
         warn_of_length(self.text.count, self.reading.say)
 
     def read(
-        self, place: str, hidden: list[os.stat_result], record: Recorder | None = None, shown: str | None = None
+        self,
+        place: str,
+        hidden: list[os.stat_result],
+        record: Recorder | None = None,
+        shown: str | None = None,
+        selected: frozenset[bytes] | None = None,
     ) -> bool:
-        """Writes the text of what is at a place, and returns whether all of it could be read; `shown` names it."""
+        """Writes the text of what is at a place, and returns whether all of it could be read; `shown` names it. Of a
+        directory only the selected paths are read, if some are.
+        """
         kind = kind_of(place)
         if kind == TEXT:
             self.read_text(place, shown or place)
             return True
         try:
             if kind == DIRECTORY:
-                return self.read_directory(place, hidden, record)
+                return self.read_directory(place, hidden, record, selected)
             (self.read_image if kind == IMAGE else self.read_archive)(place)
         except Refused as fault:
             raise fault if place in str(fault) else Refused(f"{fault}: {shown or place}") from fault

@@ -142,7 +142,7 @@ class Run(Folder):
         for word in ("-h", "--help"):
             done = run("run", word)
             self.assertEqual((done.returncode, done.stderr), (0, b""))
-            usage = b"usage: run [--llbm PROGRAM] [--record FOLDER] [WORD ...]\n"
+            usage = b"usage: run [--llbm PROGRAM] [--record FOLDER] [--no-filters] [WORD ...]\n"
             self.assertTrue(done.stdout.startswith(usage), done.stdout)
             self.assertIn(b"  asm   Writes the definition of the entries", done.stdout)
 
