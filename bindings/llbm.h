@@ -61,6 +61,9 @@ uint8_t llb_findings(llb *it, const uint8_t *definition, size_t length);
 size_t llb_output(llb *it, uint8_t *out, size_t room);
 size_t llb_messages(llb *it, uint8_t *out, size_t room);
 
+/* The version, as the program prints it: a line without its end, which says `not proved` if the library was compiled without proof. */
+const char *llb_version(void);
+
 /* Frees what is held. The handle is then as one of zeroes: it may be used and closed again. */
 void llb_close(llb *it);
 

@@ -1,32 +1,50 @@
-// Package llbm assembles, shows, runs and steps through definitions of LLB, in this process.
-// docs/EMBEDDING.md of the repository describes each call.
+//go:build cgo
+
 package llbm
 
-// #cgo CFLAGS: -I${SRCDIR}/..
-// #cgo LDFLAGS: ${SRCDIR}/../../out/libllbm.a
+// #cgo LDFLAGS: -ldl
+// #include <stdlib.h>
 // #include "llbm.h"
+// const char *llbm_load(const char *path);
 import "C"
 
 import (
 	"fmt"
 	"math"
+	"os"
 	"runtime"
 	"strings"
 	"sync"
+	"unsafe"
 )
 
-// A Fault is why a call failed.
-type Fault struct {
-	// 1: a vertex failed; 2: what was handed in is refused; 3: memory was refused; 4: no session is open.
-	Status int
-	// The number of the fault; 0 where the messages have none.
-	Number int
-	// The lines of the fault, or of the vertices that failed.
-	Messages string
-}
+// Shared is the variable that names the shared object of the library.
+const Shared = "LIBLLBM"
 
-func (f *Fault) Error() string {
-	return fmt.Sprintf("status %d: %s", f.Status, strings.TrimRight(f.Messages, "\n"))
+// load opens the shared object, unless the library is linked into the program.
+var load = sync.OnceValue(func() error {
+	if C.llb_version() != nil {
+		return nil
+	}
+	name := os.Getenv(Shared)
+	if name == "" {
+		name = "libllbm.so"
+	}
+	path := C.CString(name)
+	defer C.free(unsafe.Pointer(path))
+	if why := C.llbm_load(path); why != nil {
+		return fmt.Errorf("%s; %s has to name the shared object that tools/library makes", C.GoString(why), Shared)
+	}
+	return nil
+})
+
+// Version returns the line that the program prints as its version; it says `not proved` if the library was compiled without
+// proof. It fails if there is no library.
+func Version() (string, error) {
+	if err := load(); err != nil {
+		return "", err
+	}
+	return C.GoString(C.llb_version()), nil
 }
 
 // A Machine has local trees and at most one session. Its calls are made by a thread of its own, one after
@@ -36,8 +54,11 @@ type Machine struct {
 	end   sync.Once
 }
 
-// New makes a machine without local trees. It ends with Close.
-func New() *Machine {
+// New makes a machine without local trees. It ends with Close. It fails if there is no library.
+func New() (*Machine, error) {
+	if err := load(); err != nil {
+		return nil, err
+	}
 	m := &Machine{calls: make(chan func(*C.llb))}
 	go func() {
 		runtime.LockOSThread()
@@ -46,7 +67,7 @@ func New() *Machine {
 			call(&it)
 		}
 	}()
-	return m
+	return m, nil
 }
 
 // Close frees the local trees and the session, and ends the machine. A second Close does nothing; no other call
@@ -135,17 +156,11 @@ func (m *Machine) do(call func(*C.llb) C.uint8_t) (status int, output []byte, er
 		if status != 0 {
 			messages := make([]byte, int(C.llb_messages(it, first(nil), 0)))
 			C.llb_messages(it, first(messages), size(messages))
-			err = fault(status, string(messages))
+			err = FaultOf(status, string(messages))
 		}
 	}
 	<-done
 	return
-}
-
-func fault(status int, messages string) *Fault {
-	number := 0
-	_, _ = fmt.Sscanf(messages, "fault %d", &number)
-	return &Fault{status, number, messages}
 }
 
 var none [1]byte

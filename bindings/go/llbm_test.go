@@ -1,3 +1,5 @@
+//go:build cgo
+
 package llbm
 
 import (
@@ -20,7 +22,11 @@ func example(t *testing.T, name string) []byte {
 }
 
 func machine(t *testing.T) *Machine {
-	m := New()
+	t.Helper()
+	m, err := New()
+	if err != nil {
+		t.Fatal(err)
+	}
 	t.Cleanup(m.Close)
 	return m
 }
@@ -129,8 +135,18 @@ func TestWorkers(t *testing.T) {
 	}
 }
 
+func TestVersion(t *testing.T) {
+	version, err := Version()
+	if err != nil || !strings.HasPrefix(version, "llbm 1.") {
+		t.Errorf("the version is %q, %v", version, err)
+	}
+	if !strings.Contains(version, ", proved with ") && !strings.Contains(version, ", not proved, ") {
+		t.Errorf("the version does not say whether it is proved: %q", version)
+	}
+}
+
 func TestSecondClose(t *testing.T) {
-	m := New()
+	m := machine(t)
 	m.Close()
 	m.Close()
 }

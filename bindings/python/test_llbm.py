@@ -4,7 +4,7 @@ import pathlib
 import threading
 import unittest
 
-from llbm import Fault, Machine
+from llbm import Fault, Machine, version
 
 EXAMPLES = pathlib.Path(__file__).resolve().parents[2] / "examples"
 TREE = (EXAMPLES / "tour.tree").read_text()
@@ -66,6 +66,9 @@ class Definitions(unittest.TestCase):
     def test_a_library_that_is_missing(self) -> None:
         with self.assertRaisesRegex(OSError, "none.so.*LIBLLBM"):
             Machine("/none.so")
+
+    def test_the_version_says_whether_there_is_a_proof(self) -> None:
+        self.assertRegex(version(), r"^llbm 1\.\d+, (?:proved with|not proved, compiled with) ")
 
     def test_a_session_of_the_tour(self) -> None:
         self.machine.add_local("source", TREE)

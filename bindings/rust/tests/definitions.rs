@@ -1,6 +1,7 @@
-//! Tests of a frontend's definitions, in this process: `cargo test --offline`.
+//! Tests of a frontend's definitions, in this process: `cargo test --offline`, with the library.
+#![cfg(llbm_library)]
 
-use llbm::{Fault, Machine};
+use llbm::{version, Fault, Machine};
 use std::fs;
 use std::path::PathBuf;
 
@@ -26,6 +27,12 @@ fn a_result() -> Result<(), Fault> {
     let fault = Machine::new().run(&definition).unwrap_err();
     assert_eq!((fault.status, fault.number), (2, Some(121)));
     Ok(())
+}
+
+#[test]
+fn the_version_says_whether_there_is_a_proof() {
+    let version = version();
+    assert!(version.starts_with("llbm 1.") && (version.contains(", proved with ") || version.contains(", not proved, ")), "{version}");
 }
 
 #[test]

@@ -1,41 +1,31 @@
-// A test as the author of a frontend keeps it: llbm runs the graph that the frontend makes, and the result has to be the tree in testdata/.
+// Three tests as the author of a frontend keeps them: llbmtest solves what the frontend makes, and looks at the tree.
 package frontend
 
 import (
-	"bytes"
-	"context"
-	"os"
-	"os/exec"
 	"testing"
 
 	"github.com/moby/buildkit/client/llb"
+	"llbm.example/llbm/llbmtest"
 )
 
 // The frontend under test, which puts the program of a project into an image of its own.
 func image(project llb.State) llb.State {
-	return project.Run(llb.Shlex("cp /src/main /image/bin/main")).AddMount("/image", llb.Scratch().File(llb.Mkdir("/bin", 0o755)))
+	copied := project.Run(llb.Shlex("cp /src/main /image/bin/main"))
+	return copied.AddMount("/image", llb.Scratch().File(llb.Mkdir("/bin", 0o755)))
 }
 
+var project = llbmtest.Files("project", map[string]string{"src/main": "main\n", "README": "read me\n"})
+
 func TestTheImageHoldsTheProgram(t *testing.T) {
-	definition, err := image(llb.Local("project")).Marshal(context.Background())
-	if err != nil {
-		t.Fatal(err)
-	}
-	var given, told bytes.Buffer
-	if err := llb.WriteTo(definition, &given); err != nil {
-		t.Fatal(err)
-	}
-	run := exec.Command("llbm", "run", "project=testdata/project.tree")
-	run.Stdin, run.Stderr = &given, &told
-	tree, err := run.Output()
-	if err != nil {
-		t.Fatalf("llbm: %v: %s", err, &told)
-	}
-	wanted, err := os.ReadFile("testdata/result.tree")
-	if err != nil {
-		t.Fatal(err)
-	}
-	if !bytes.Equal(tree, wanted) {
-		t.Errorf("the result is\n%snot\n%s", tree, wanted)
-	}
+	r := llbmtest.Solve(t, image(llb.Local("project")), project)
+	r.Missing("/README").File("/bin/main").Equals("main\n").Mode(0o644).Owner(0, 0)
+}
+
+func TestAProgramThatIsLeftOutIsMissing(t *testing.T) {
+	without := llb.Local("project", llb.ExcludePatterns([]string{"src/main"}))
+	llbmtest.Fails(t, image(without), "there is no file /src/main", project)
+}
+
+func TestBuildKitMakesTheSame(t *testing.T) {
+	llbmtest.Solve(t, image(llb.Local("project")), project).SameAsBuildKit()
 }

@@ -1,4 +1,4 @@
 """What the kit compiles outside of the gate: the program without any proof, and the static library with its bindings.
 
-It may import no other package.
+It may import `daemon`.
 """

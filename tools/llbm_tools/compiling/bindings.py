@@ -1,14 +1,16 @@
-"""Tries the bindings of the static library in C, Python, Rust and Go: the tests in bindings/, as a user would run them.
+"""Tries the bindings of the library in C, Python, Rust and Go: the tests in bindings/, as a user would run them.
 
 In: bindings/, examples/ and docs/EMBEDDING.md of the repository around this folder, and out/libllbm.a, as
-`tools/library` builds it, or ARCHIVE. They are copied into a temporary folder, in which everything is compiled and
-run:
+`tools/library` builds it, or ARCHIVE, such as out/libllbm-unproved.a. They are copied into a temporary folder, in which
+everything is compiled and run. Tests of frontends also ask the tools of the repository and, if they are there, the
+program --llbm PROGRAM or that of the repository, and out/llbm-rules.
 
-- `page`: each block of docs/EMBEDDING.md below a line that names a file is in that file.
+- `page`: each block of docs/EMBEDDING.md below a line that names a file is in that file; both headers are the same.
 - `c`: the example prints what it should, and what is tried in misuse.c passes.
 - `sanitizer`: the same, compiled with the address sanitizer and the sanitizer of undefined behavior.
 - `valgrind`: the same, under valgrind, which finds no fault and no leak.
-- `python`, `rust`, `go`: their tests, without a network. A shared object is linked for Python.
+- `python`, `rust`, `go`: their tests, without a network. A shared object is linked for Python and Go. Go is that of
+  Debian's packages, if `tools/daemon` has unpacked them, and then the tests with BuildKit's client are run too.
 
 Out: on standard output a line for each that passed or was skipped, since its compiler is not there, and the output of
 each that failed; the last line is `N passed, M failed, K skipped`.
@@ -30,11 +32,15 @@ from typing import NamedTuple
 from llbm_tools.command_line import Parser
 from llbm_tools.compiling.library import ARCHIVE
 from llbm_tools.counts import Counts
-from llbm_tools.paths import ROOT
+from llbm_tools.daemon import debian_packages, go_building
+from llbm_tools.paths import PROVED, ROOT, RULES, TOOLS, UNPROVED
 from llbm_tools.streams import Refused, exit_status
 
 PATIENCE = 3000
 PAGE = "docs/EMBEDDING.md"
+HEADERS = ("bindings/llbm.h", "bindings/go/llbm.h")
+# Where Go looks for the module, and for the tests of a frontend.
+MODULE, FRONTEND = "llbm.example/llbm", "llbm.example/frontend"
 BLOCK = re.compile(r"^`(bindings/[^`]+)`:\n\n((?: {4}.*\n|\n)+)", re.MULTILINE)
 WARNINGS = ["-std=gnu11", "-Wall", "-Wextra", "-Werror", "-g", "-O1"]
 SANITIZED = ["-fsanitize=address,undefined", "-fno-sanitize-recover=all"]
@@ -71,6 +77,24 @@ def check_page(top: pathlib.Path) -> None:
             raise Wrong(f"a block is not in {name}: {PAGE}: {lines[0]}")
 
 
+def check_texts(top: pathlib.Path) -> None:
+    """Checks the page, and that Go's module, which is fetched by itself, has the header of the library."""
+    check_page(top)
+    one, other = ((top / name).read_text("utf-8") for name in HEADERS)
+    if one != other:
+        raise Wrong(f"these differ: {' and '.join(HEADERS)}")
+
+
+def settings(top: pathlib.Path) -> dict[str, str]:
+    """Links the shared object, and returns the variables that name it, and what tests of a frontend ask."""
+    shared = top / "out" / "libllbm.so"
+    words = ["-Wl,--whole-archive", str(top / "out" / "libllbm.a"), "-Wl,--no-whole-archive"]
+    call(["cc", "-shared", "-o", str(shared), *words], top)
+    program = os.environ.get("LLBM") or next((str(one) for one in (PROVED, UNPROVED) if one.is_file()), "")
+    rules = {"LLBM_RULES": str(RULES)} if RULES.is_file() else {}
+    return {"LIBLLBM": str(shared), "LLBM": program, "LLBM_TOOLS": str(TOOLS), **rules}
+
+
 def try_c(top: pathlib.Path, flags: list[str], before: list[str]) -> None:
     """Compiles and runs the programs in C."""
     folder = top / "bindings" / "c"
@@ -88,22 +112,36 @@ def try_c(top: pathlib.Path, flags: list[str], before: list[str]) -> None:
 
 
 def try_python(top: pathlib.Path) -> None:
-    """Links the shared object, and runs the tests in Python."""
-    shared = str(top / "out" / "libllbm.so")
-    words = ["-Wl,--whole-archive", str(top / "out" / "libllbm.a"), "-Wl,--no-whole-archive"]
-    call(["cc", "-shared", "-o", shared, *words], top)
-    call([sys.executable, "-m", "unittest", "test_llbm"], top / "bindings" / "python", LIBLLBM=shared)
+    """Runs the tests in Python."""
+    words = [sys.executable, "-m", "unittest", "test_llbm", "test_testing"]
+    call(words, top / "bindings" / "python", **settings(top))
 
 
 def try_rust(top: pathlib.Path) -> None:
     """Runs the tests in Rust."""
-    call(["cargo", "test", "--offline", "--quiet"], top / "bindings" / "rust")
+    call(["cargo", "test", "--offline", "--quiet"], top / "bindings" / "rust", **settings(top))
+
+
+def has_packages() -> bool:
+    """Returns whether Debian's packages are unpacked, with Go and with BuildKit's client."""
+    names = debian_packages.names_in(debian_packages.NAMES.read_text("utf-8"))
+    return debian_packages.are_there(debian_packages.FOLDER, names)
 
 
 def try_go(top: pathlib.Path) -> None:
-    """Runs the tests in Go."""
-    words, cache = ["go", "test", "-count=1", "./..."], str(top / "go-cache")
-    call(words, top / "bindings" / "go", GOCACHE=cache, GOPROXY="off", GOTOOLCHAIN="local", CGO_ENABLED="1")
+    """Runs the tests in Go: with Debian's packages all of them, else those that need no other module."""
+    module = top / "bindings" / "go"
+    if not has_packages():
+        words, cache = ["go", "test", "-count=1", "."], str(top / "go-cache")
+        offline = {"GOPROXY": "off", "GOTOOLCHAIN": "local", "CGO_ENABLED": "1"}
+        call(words, module, GOCACHE=cache, **offline, **settings(top))
+        return
+    sources = top / "go-path" / "src"
+    for name, place in ((MODULE, module), (FRONTEND, top / "examples" / "from-buildkit" / "frontend-test")):
+        shutil.copytree(place, sources / name)
+    go = go_building.with_packages(debian_packages.FOLDER, top / "go-path")
+    given = {**go.environment, **settings(top), "CGO_ENABLED": "1"}
+    call([go.command, "test", "-count=1", MODULE, f"{MODULE}/llbmtest", FRONTEND], sources / MODULE, **given)
 
 
 class Trial(NamedTuple):
@@ -115,11 +153,12 @@ class Trial(NamedTuple):
 
     def missing(self) -> list[str]:
         """Returns the commands that are not there."""
-        return [name for name in self.needs if not shutil.which(name)]
+        there = {"go"} if has_packages() else set()
+        return [name for name in self.needs if name not in there and not shutil.which(name)]
 
 
 TRIALS = [
-    Trial("page", [], check_page),
+    Trial("page", [], check_texts),
     Trial("c", ["cc"], lambda top: try_c(top, [], [])),
     Trial("sanitizer", ["cc"], lambda top: try_c(top, SANITIZED, [])),
     Trial("valgrind", ["cc", "valgrind"], lambda top: try_c(top, [], VALGRIND)),
@@ -167,17 +206,18 @@ def try_all(archive: pathlib.Path, names: list[str]) -> int:
 
 def main() -> int:
     """Runs the tool, and returns its exit status."""
-    parser = Parser(
-        prog="tools/bindings", description="Tries the bindings of the static library."
-    )
+    parser = Parser(prog="tools/bindings", description="Tries the bindings of the library.")
     parser.add_argument("archive", nargs="?", metavar="ARCHIVE", type=pathlib.Path, default=ARCHIVE)
     names = [trial.name for trial in TRIALS]
     parser.add_argument("--only", metavar="NAME", action="append", default=[], choices=names, help=", ".join(names))
+    parser.add_argument("--llbm", metavar="PROGRAM", help="the program llbm")
     options = parser.parse_args()
+    if options.llbm:
+        os.environ["LLBM"] = os.path.abspath(options.llbm)
 
     def work() -> int:
         if not options.archive.is_file():
-            raise Refused(f"there is no archive: {options.archive}; tools/library builds it")
+            raise Refused(f"there is no archive: {options.archive}; tools/library makes one, --unproved too")
         return try_all(options.archive, options.only)
 
     return exit_status(work)

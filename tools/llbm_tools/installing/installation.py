@@ -1,5 +1,5 @@
 """What an installation has: the program, the tools, the pages, the examples, completions and a page of the manual; and
-the program llbm-rules, where tools/daemon has built it.
+what has been built: the programs llbm-rules and llbmd, the page, and the library for C with the bindings.
 
 `lib/llbm` is like the repository: it has `tools`, `docs` and `examples`, so that the tools find what they read. The
 tools' commands in `bin` are links into it. `share` has what shells and `man` look for.
@@ -16,6 +16,7 @@ from collections.abc import Iterator
 from typing import NamedTuple
 
 from llbm_tools import common, paths
+from llbm_tools.compiling import library_files
 from llbm_tools.installing import editor_extension, tool_pages, tool_parsers
 from llbm_tools.os_errors import in_words
 from llbm_tools.running import command_words
@@ -34,6 +35,15 @@ EXAMPLES = (
     "*.definition", "*.text", "*.tree", "*.commands", "*.answers", "*.llb", "*.rules", "launch.json", "nvim-dap.lua",
     "dape.el",
 )
+HEADER = paths.ROOT / "bindings" / "llbm.h"
+# What `pkg-config` reads of the library; the folder may be moved.
+PACKAGE_OF_LIBRARY = """prefix=${{pcfiledir}}/../..
+Name: llbm
+Description: {version}
+Version: {number}
+Libs: -L${{prefix}}/lib -lllbm
+Cflags: -I${{prefix}}/include
+"""
 RECEIPT = paths.ROOT / "out" / "gate-passed"
 STATE = f"{LIBRARY}/program"
 LISTED = f"{LIBRARY}/{paths.INSTALLED.name}"
@@ -128,10 +138,35 @@ def tool_names() -> list[str]:
     return [place.name for place in tool_places() if is_tool(place)]
 
 
-def rules_items() -> Iterator[Item]:
-    """Yields the program with BuildKit's rules, which the tools find beside llbm, if it has been built."""
-    if paths.RULES.is_file():
-        yield Item(f"bin/{paths.RULES.name}", paths.RULES.read_bytes(), 0o755)
+def program_items() -> Iterator[Item]:
+    """Yields the program with BuildKit's rules, which the tools find beside llbm, and the daemon, if they are built."""
+    for place in (paths.RULES, paths.DAEMON):
+        if place.is_file():
+            yield Item(f"bin/{place.name}", place.read_bytes(), 0o755)
+
+
+def built_items() -> Iterator[Item]:
+    """Yields the page in a browser, if it is built."""
+    for file in files_below(paths.PAGE):
+        yield file_item(f"{LIBRARY}/page/{file.relative_to(paths.PAGE)}", file)
+
+
+def library_items() -> Iterator[Item]:
+    """Yields the library for C, if one is built, with its header, what `pkg-config` reads, and the bindings."""
+    archive = next((place for place in paths.LIBRARIES if place.is_file()), None)
+    if archive is None:
+        return
+    version = library_files.version_of(paths.ROOT, is_proved=archive == paths.LIBRARIES[0])
+    number = version.split()[1].removesuffix(",")
+    yield Item("lib/libllbm.a", archive.read_bytes())
+    shared = archive.with_suffix(library_files.SHARED)
+    if shared.is_file():
+        yield Item("lib/libllbm.so", shared.read_bytes(), 0o755)
+    yield Item("lib/pkgconfig/llbm.pc", PACKAGE_OF_LIBRARY.format(version=version, number=number).encode())
+    yield file_item(f"include/{HEADER.name}", HEADER)
+    for file in files_below(HEADER.parent):
+        if not {"target", "tests"} & {*file.relative_to(HEADER.parent).parts}:
+            yield file_item(f"{LIBRARY}/bindings/{file.relative_to(HEADER.parent)}", file)
 
 
 def tool_items() -> Iterator[Item]:
@@ -188,8 +223,8 @@ def items_of(program: Program) -> list[Item]:
     """Returns the files of an installation in the order of their paths, with the list of them all."""
     tools, version = list(tool_items()), program.number()
     items = [
-        Item("bin/llbm", program.content, 0o755), Item(STATE, program.state().encode()), *rules_items(), *tools,
-        *page_items(), extension_item(version, tools), *shell_items(version),
+        Item("bin/llbm", program.content, 0o755), Item(STATE, program.state().encode()), *program_items(), *tools,
+        *page_items(), *built_items(), *library_items(), extension_item(version, tools), *shell_items(version),
     ]
     listed = sorted([*(item.path for item in items), LISTED])
     items.append(Item(LISTED, "".join(f"{path}\n" for path in listed).encode()))

@@ -24,8 +24,8 @@ import tempfile
 
 from llbm_tools import common, paths
 from llbm_tools.command_line import Parser
-from llbm_tools.compiling import unproved_program
-from llbm_tools.page import assets, module_code, unproved_module, wasm_module
+from llbm_tools.compiling import library_code, unproved_code, unproved_program
+from llbm_tools.page import assets, wasm_module
 from llbm_tools.streams import Refused, exit_status
 
 LOWERING = "wasm-opt"
@@ -36,18 +36,18 @@ PLACE = paths.ROOT / "out" / "page"
 def made_module(options: argparse.Namespace) -> bytes:
     """Makes the module."""
     lowering = shutil.which(LOWERING)
-    kit = module_code.kit_at(shutil.which("rt"))
+    kit = library_code.kit_at(shutil.which("rt"))
     if not lowering:
         raise Refused(f"a program of Debian's package binaryen is not installed: {LOWERING}")
-    crates = module_code.crates_in(paths.ROOT)
+    crates = library_code.crates_in(paths.ROOT)
     with tempfile.TemporaryDirectory(prefix="llbm-wasm-") as folder:
         place = pathlib.Path(folder)
         maker = wasm_module.Maker(kit, lowering, place)
         if options.unproved:
             unproved_program.check_kit()
-            made = maker.module(unproved_module.unproved_ir(kit, place), unproved_module.renamed)
+            made = maker.module(unproved_code.unproved_ir(kit, place), unproved_code.renamed)
         else:
-            made = maker.module(module_code.proved_ir(crates, kit, options.libraries.absolute(), place))
+            made = maker.module(library_code.proved_ir(crates, kit, options.libraries.absolute(), place))
         return wasm_module.with_proof(made, not options.unproved)
 
 

@@ -11,13 +11,12 @@ import re
 import subprocess
 from collections.abc import Callable, Iterator
 
+from llbm_tools.compiling.library_code import EXPORTS, PREFIX, run, text_of
 from llbm_tools.streams import Failed
 
-EXPORTS = ("local", "open", "line", "run", "show", "findings", "asm", "dis", "output", "messages", "close")
-PREFIX = "llb_"
 HEAP = pathlib.Path(__file__).with_name("module_heap.c")
 
-USUAL, MODULE = "x86_64-unknown-linux-gnu", "wasm64-unknown-unknown"
+MODULE = "wasm64-unknown-unknown"
 LAYOUT = 'target datalayout = "e-m:e-p:64:64-p10:8:8-p20:8:8-i64:64-i128:128-n32:64-S128-ni:1:10:20"'
 CHANGED = (
     (re.compile(r"^target datalayout = .*$", re.MULTILINE), LAYOUT),
@@ -40,14 +39,6 @@ CUSTOM = 0
 
 MAGIC = 8
 TABLE, MEMORY, ELEMENTS = 4, 5, 9
-
-
-def run(words: list[str | os.PathLike[str]], what: str) -> None:
-    """Runs a command; raises Failed with the end of what it printed."""
-    done = subprocess.run(words, stdin=subprocess.DEVNULL, capture_output=True, text=True, errors="replace")
-    if done.returncode:
-        lines = (done.stdout + done.stderr).strip().splitlines() or [f"status {done.returncode}"]
-        raise Failed(f"a command failed: {what}: {' / '.join(lines[-3:])}")
 
 
 def retargeted(text: str) -> str:
@@ -140,10 +131,8 @@ class Maker:
 
     def object_of(self, ir: pathlib.Path, change: Callable[[str], str]) -> pathlib.Path:
         """Compiles an IR, whose text is changed first, for the module's target, and returns the file of the object."""
-        text, changed, made = (self.folder / name for name in ("usual.ll", "module.ll", "module.o"))
-        as_text = ["-S", "-emit-llvm", "-Xclang", "-disable-llvm-passes"]
-        run([self.clang, f"--target={USUAL}", *as_text, "-x", "ir", ir, "-o", text], "the IR as text")
-        changed.write_text(retargeted(change(text.read_text("utf-8"))), "utf-8")
+        changed, made = self.folder / "module.ll", self.folder / "module.o"
+        changed.write_text(retargeted(change(text_of(self.clang, ir, self.folder))), "utf-8")
         run([self.clang, f"--target={MODULE}", *COMPILED, "-c", "-x", "ir", changed, "-o", made], "the module's code")
         return made
 

@@ -16,11 +16,11 @@ TOOLS.md), and `tools/fuzz` on a fixed number of cases or on --fuzz N, with the 
 memory holds. Then each check has one process. Without RT_JOBS a check may have several, which together take up to half
 as much processor time again.
 
-With --quick nothing is proved, and no wrong body is tried. `tools/unproved-program` compiles the program; the parts
-that read the sources, the transcripts, the daemon's tests in Go, the tests of the tools and few cases of `tools/fuzz`
-follow. --more adds what takes longer: `rt try --test` in the crates of tests, as many at a time as there are
-processors, or --jobs N; the transcripts of tests/limits; BuildKit's own tests, `tools/against-buildkit`,
-`tools/page-tests` and the pages with commands.
+With --quick nothing is proved, and no wrong body is tried. `tools/unproved-program` compiles the program, and
+`tools/library --unproved` the library; the parts that read the sources, the transcripts, the daemon's tests in Go, the
+tests of the tools, `tools/bindings` on the library and few cases of `tools/fuzz` follow. --more adds what takes longer:
+`rt try --test` in the crates of tests, as many at a time as there are processors, or --jobs N; the transcripts of
+tests/limits; BuildKit's own tests, `tools/against-buildkit`, `tools/page-tests` and the pages with commands.
 
 Out: on standard output a line for each part, with its counts and its processor time, and below it what the part
 printed, if it failed; the lines of `rt ci` are printed as they come. After all parts follow the processor minutes that
@@ -44,6 +44,7 @@ from collections.abc import Iterator
 
 from llbm_tools import paths
 from llbm_tools.command_line import Parser
+from llbm_tools.compiling import library
 from llbm_tools.counts import Counts, total
 from llbm_tools.installing import installation
 from llbm_tools.page import browser, module_cases, wasm
@@ -66,10 +67,10 @@ JOBS = "RT_JOBS"
 PROOFS = ["rt", "ci"]
 
 # What the quick gate does not do, and what it does only with --more.
-NEVER = ("rt ci", "tools/refuse", "tools/library", "tools/bindings")
+NEVER = ("rt ci", "tools/refuse", "tools/library")
 NOT_DONE = (
     "not done: proofs, wrong bodies and the second compiler's program (rt ci), refused memory (tools/refuse), "
-    "the static library and its bindings (tools/library, tools/bindings)"
+    "the proved library (tools/library)"
 )
 TOO_LONG = ", and the tests of 65,535 vertices and of 64 workers (llb_examples) if they did not end in 60 seconds"
 LATER = (*TESTED, LIMITS, "suite", "tools/against-buildkit", "tools/page-tests", "pages")
@@ -156,6 +157,7 @@ def parts_that_are_quick(cases: int, seed: str) -> Iterator[Part]:
     yield tool("transcripts", "--unproved", "--llbm", program, *(name for name in folders if name != LIMITS), *EXAMPLES)
     yield tool("daemon-tests", "--llbm", program, *only("build", "format", "vet", "go"))
     yield tool("test", "--llbm", program)
+    yield tool("bindings", str(library.UNPROVED), "--llbm", program)
     yield tool("fuzz", "--cases", str(cases), "--llbm", program, "--seed", seed)
 
 
@@ -173,6 +175,7 @@ def run_quick(options: argparse.Namespace) -> Iterator[Counts]:
     """Runs the parts that need no proof, and yields their counts."""
     yield from map(parts.run, parts_without_program())
     yield parts.run(tool("unproved-program"))
+    yield parts.run(tool("library", "--unproved"))
     yield from map(parts.run, parts_that_are_quick(options.fuzz or FEWER, options.seed))
     if options.more:
         yield from parts.run_together(parts_of_crates(), options.jobs)

@@ -115,13 +115,6 @@ class StoredRuns(unittest.TestCase):
             done = subprocess.run([base.llbm, "show"], input=given, capture_output=True, timeout=base.GUARD)
             self.assertEqual((done.returncode, done.stdout, done.stderr), (2, b"", f"fault 88 {row} Source\n".encode()))
 
-    def test_the_trees_of_the_frontend_test_are_valid(self):
-        places = list(STORED.glob("frontend-test/testdata/*.tree"))
-        self.assertEqual(len(places), 2)
-        for place in places:
-            printed = self.llbm("run", f"x={place}", given=base.ending(base.source("local://x")))
-            self.assertEqual(printed, place.read_bytes(), place)
-
 
 class Corpus(Folder):
     """The stored definitions through `lint`, `adopt` and `build`."""

@@ -5,9 +5,11 @@ import io
 import json
 import os
 import pathlib
+import shutil
 import subprocess
 import sys
 import tarfile
+import unittest
 import zipfile
 from unittest import mock
 from xml.etree import ElementTree
@@ -75,7 +77,7 @@ class Install(WithFake):
     def test_each_tool_but_those_of_the_repository_has_a_command(self):
         self.install()
         tools = {place.name for place in TOOLS.iterdir() if place.is_file() and not place.suffix}
-        programs = {"llbm", "rules"}  # llbm-rules is there if tools/daemon has built it
+        programs = {"llbm", "llbmd", "rules"}  # llbmd and llbm-rules are there if tools/daemon has built them
         commands = {name.removeprefix("llbm-") for name in os.listdir(self.prefix / "bin")} - programs
         self.assertEqual(commands, tools - made.OF_THE_REPOSITORY)
         self.assertLessEqual(made.OF_THE_REPOSITORY, {place.name for place in TOOLS.iterdir()})
@@ -84,19 +86,50 @@ class Install(WithFake):
             done = subprocess.run([sys.executable, self.prefix / "bin" / f"llbm-{name}", "--help"], capture_output=True)
             self.assertEqual((done.returncode, done.stderr), (0, b""), name)
 
-    def test_the_program_with_buildkits_rules_is_installed_where_it_is_built(self):
-        for is_built in (True, False):
-            place = self.at / f"rules-{is_built}"
-            if is_built:
-                place.write_bytes(b"rules")
-            with mock.patch.object(paths, "RULES", place):
-                items = {item.path: item for item in made.rules_items()}
-            self.assertEqual(list(items), [f"bin/{place.name}"] if is_built else [])
-            self.assertEqual([item.mode for item in items.values()], [0o755] * is_built)
+    def test_programs_and_the_page_are_installed_where_they_are_built(self):
+        rules, daemon, page = self.at / "rules", self.at / "daemon", self.at / "page"
+        with mock.patch.multiple(paths, RULES=rules, DAEMON=daemon, PAGE=page):
+            self.assertEqual([*made.program_items(), *made.built_items()], [])
+            page.mkdir()
+            for place in (rules, daemon, page / "index.html"):
+                place.write_bytes(b"x")
+            items = [*made.program_items(), *made.built_items()]
+        self.assertEqual([item.path for item in items], ["bin/rules", "bin/daemon", "lib/llbm/page/index.html"])
+        self.assertEqual([item.mode for item in items], [0o755, 0o755, 0o644])
+
+    def test_a_library_is_installed_with_its_header_and_the_bindings(self):
+        proved, unproved = self.at / "libllbm.a", self.at / "libllbm-unproved.a"
+        with mock.patch.object(paths, "LIBRARIES", (proved, unproved)):
+            self.assertEqual(list(made.library_items()), [])
+            for place, words in ((unproved, "not proved, compiled with"), (proved, "proved with")):
+                place.write_bytes(words.encode())
+                place.with_suffix(".so").write_bytes(b"shared")
+                items = {item.path: item for item in made.library_items()}
+                self.assertEqual(items["lib/libllbm.a"].content, words.encode())
+                self.assertEqual(items["lib/libllbm.so"].content, b"shared")
+                lines = items["lib/pkgconfig/llbm.pc"].content.decode().splitlines()
+                self.assertIn(f"Description: llbm 1.0, {words} {common.PROVER}", lines)
+                self.assertIn("Version: 1.0", lines)
+        others = {"include/llbm.h", "lib/llbm/bindings/go/llbmtest/llbmtest.go", "lib/llbm/bindings/rust/Cargo.toml"}
+        self.assertLessEqual(others | {"lib/llbm/bindings/python/llbm/testing.py"}, set(items))
+        self.assertEqual(items["include/llbm.h"].content, (ROOT / "bindings" / "llbm.h").read_bytes())
+
+    @unittest.skipUnless(shutil.which("pkg-config"), "there is no pkg-config")
+    def test_pkg_config_finds_the_library_of_an_installation(self):
+        archive, place = self.at / "libllbm.a", self.prefix / "lib" / "pkgconfig" / "llbm.pc"
+        archive.write_bytes(b"")
+        place.parent.mkdir(parents=True)
+        with mock.patch.object(paths, "LIBRARIES", (archive, archive)):
+            place.write_bytes({item.path: item.content for item in made.library_items()}["lib/pkgconfig/llbm.pc"])
+        words = ["pkg-config", "--cflags", "--libs", "llbm"]
+        found = {**os.environ, "PKG_CONFIG_PATH": str(place.parent)}
+        done = subprocess.run(words, env=found, capture_output=True, text=True, timeout=base.GUARD)
+        folders = [os.path.normpath(word[2:]) for word in done.stdout.split() if word[:2] in ("-I", "-L")]
+        self.assertEqual((folders, done.stderr), ([f"{self.prefix}/include", f"{self.prefix}/lib"], ""))
 
     def test_each_command_has_completions_and_a_page_of_the_manual(self):
         self.install()
-        for name in {*os.listdir(self.prefix / "bin")} - {"llbm-rules"}:
+        for name in {*os.listdir(self.prefix / "bin")} - {"llbm-rules", "llbmd"}:
             for path in (
                 f"bash-completion/completions/{name}", f"zsh/site-functions/_{name}",
                 f"fish/vendor_completions.d/{name}.fish", f"man/man1/{name}.1",

@@ -10,7 +10,8 @@ import subprocess
 import tarfile
 import unittest
 
-from llbm_tools.page import assets, faults, unproved_module, wasm_module
+from llbm_tools.compiling import library_code, unproved_code
+from llbm_tools.page import assets, faults, wasm_module
 from llbm_tools.streams import Failed
 from tests import base
 from tests.base import ROOT, Folder, run
@@ -46,13 +47,13 @@ class Module(Folder):
 
     def test_the_functions_of_an_ir_without_proof_get_their_names_for_c(self):
         start, end = 'define internal i8 @"llb_embed::llb_', '"(ptr %a0) #0 { ret i8 0 }'
-        lines = [f"{start}{name}{end}" for name in wasm_module.EXPORTS]
+        lines = [f"{start}{name}{end}" for name in library_code.EXPORTS]
         lines += ['call i8 @"llb_embed::llb_open"(ptr %a0)', "attributes #0 = { nounwind sanitize_address }"]
-        made = unproved_module.renamed("\n".join(lines)).split("\n")
+        made = unproved_code.renamed("\n".join(lines)).split("\n")
         self.assertEqual(made[0], "define i8 @llb_local(ptr %a0) #0 { ret i8 0 }")
         self.assertEqual(made[-2:], ["call i8 @llb_open(ptr %a0)", "attributes #0 = { nounwind }"])
         with self.assertRaisesRegex(Failed, "0 functions llb_local"):
-            unproved_module.renamed("\n".join(lines[1:]))
+            unproved_code.renamed("\n".join(lines[1:]))
 
     def test_a_module_says_whether_its_code_is_proved(self):
         for is_proved, words in ((True, b"proved"), (False, b"not proved")):

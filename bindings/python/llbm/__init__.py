@@ -1,8 +1,7 @@
-"""The library of llbm for Python, by ctypes over a shared object that links libllbm.a.
+"""The library of llbm for Python, by ctypes over its shared object, which the variable LIBLLBM names.
 
-    cc -shared -o libllbm.so -Wl,--whole-archive libllbm.a -Wl,--no-whole-archive
-
-A machine is used by the thread that made it. docs/EMBEDDING.md of the repository describes each call.
+A machine is used by the thread that made it. `llbm.trees` has the trees that come of runs, and `llbm.testing` what tests
+of a frontend need. docs/EMBEDDING.md of the repository describes each call.
 """
 
 import ctypes
@@ -31,15 +30,26 @@ class _Handle(ctypes.Structure):
     _fields_ = [("is_set", ctypes.c_bool), ("at", ctypes.c_void_p)]
 
 
+def _loaded(library: str) -> ctypes.CDLL:
+    try:
+        return ctypes.CDLL(library)
+    except OSError as fault:
+        raise OSError(f"{fault}; LIBLLBM has to name the shared object of the library (docs/EMBEDDING.md)") from fault
+
+
+def version(library: str = LIBRARY) -> str:
+    """Returns the line that the program prints as its version; it says `not proved` if there is no proof."""
+    call = _loaded(library).llb_version
+    call.restype = ctypes.c_char_p
+    return bytes(call()).decode()
+
+
 class Machine:
     """Local trees, at most one session, and the calls of the library on them."""
 
     def __init__(self, library: str = LIBRARY) -> None:
         """Loads the library, and makes a machine without local trees; OSError if there is no such library."""
-        try:
-            self._library = ctypes.CDLL(library)
-        except OSError as fault:
-            raise OSError(f"{fault}; LIBLLBM has to name the shared object of libllbm.a (docs/EMBEDDING.md)") from fault
+        self._library = _loaded(library)
         for name in ("llb_output", "llb_messages"):
             getattr(self._library, name).restype = ctypes.c_size_t
         self._handle = _Handle()

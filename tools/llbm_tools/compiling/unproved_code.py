@@ -1,7 +1,7 @@
-"""The IR of the library for C, compiled without any proof, from which `tools/wasm --unproved` makes a module.
+"""The IR of the library for C, compiled without any proof, of which `tools/library --unproved` and the page are made.
 
 `rt try` compiles a program without proof. So a copy of the library gets a `main` that calls each of its functions, and
-`rt try` of a copy of the kit's two scripts compiles it with a clang that keeps what it is given (`module_code`). The IR
+`rt try` of a copy of the kit's two scripts compiles it with a clang that keeps what it is given (`library_code`). The IR
 has checks that the proved one has not: at an overflow or the like the module traps. Two things in its text are changed
 here: the functions have their names for C, and what instruments each access of memory is left out.
 """
@@ -12,8 +12,7 @@ import re
 import shutil
 import subprocess
 
-from llbm_tools.compiling import unproved_program
-from llbm_tools.page import module_code, wasm_module
+from llbm_tools.compiling import library_code, unproved_program
 from llbm_tools.streams import Failed
 
 SCRIPTS = ("rt", "rtlib.py")
@@ -42,18 +41,20 @@ fn main(rt: HostRuntime) {
 }
 """
 INSTRUMENTED = " sanitize_address"
+# The start of the program's `main`, which a library must not have.
+MAIN_CALL = re.compile(r"^define (i32 @main\()", re.MULTILINE)
 MOST_LINES = 12
 
 
 def write_program(folder: pathlib.Path) -> pathlib.Path:
     """Makes a program of the library in a copy of the sources, and returns its folder."""
-    crate = folder / "crates" / module_code.CRATE
+    crate = folder / "crates" / library_code.CRATE
     library, handle = crate / "src" / "lib.rt", crate / "src" / "handle.rt"
     (crate / "src" / "main.rt").write_text(library.read_text("utf-8") + MAIN, "utf-8")
     library.unlink()
     handle.write_text(handle.read_text("utf-8") + HANDLE, "utf-8")
     crates = folder / "crates.txt"
-    crates.write_text(crates.read_text("utf-8").replace(f"{module_code.CRATE} staticlib:", f"{module_code.CRATE}:"))
+    crates.write_text(crates.read_text("utf-8").replace(f"{library_code.CRATE} staticlib:", f"{library_code.CRATE}:"))
     return crate
 
 
@@ -67,20 +68,28 @@ def write_kit(kit: pathlib.Path, folder: pathlib.Path) -> pathlib.Path:
     for item in (kit / "bin").iterdir():
         # A script finds its kit by its own place, where no link is followed to.
         shutil.copy(item, made / "bin") if item.name in SCRIPTS else (made / "bin" / item.name).symlink_to(item)
-    (made / "toolchain").symlink_to(module_code.write_toolchain(kit, folder))
+    (made / "toolchain").symlink_to(library_code.write_toolchain(kit, folder))
     return made / "bin" / "rt"
 
 
 def renamed(text: str) -> str:
     """Returns the text of the IR with the names of its functions for C, and without instruments."""
-    for name in wasm_module.EXPORTS:
-        called = re.escape(f'@"{module_code.CRATE}::{wasm_module.PREFIX}{name}"')
+    for name in library_code.EXPORTS:
+        called = re.escape(f'@"{library_code.CRATE}::{library_code.PREFIX}{name}"')
         start = re.compile(rf"^define internal (.*){called}\(", re.MULTILINE)
-        text, count = start.subn(rf"define \1@{wasm_module.PREFIX}{name}(", text)
+        text, count = start.subn(rf"define \1@{library_code.PREFIX}{name}(", text)
         if count != 1:
-            raise Failed(f"the IR has {count} functions {wasm_module.PREFIX}{name}, not one")
-        text = re.sub(called, f"@{wasm_module.PREFIX}{name}", text)
+            raise Failed(f"the IR has {count} functions {library_code.PREFIX}{name}, not one")
+        text = re.sub(called, f"@{library_code.PREFIX}{name}", text)
     return text.replace(INSTRUMENTED, "")
+
+
+def without_main(text: str) -> str:
+    """Returns the text of the IR with a `main` that no other file sees, so that the compiler leaves it out."""
+    text, count = MAIN_CALL.subn(r"define internal \1", text)
+    if count != 1:
+        raise Failed(f"the IR has {count} functions main, not one")
+    return text
 
 
 def unproved_ir(kit: pathlib.Path, folder: pathlib.Path) -> pathlib.Path:
@@ -97,7 +106,7 @@ def unproved_ir(kit: pathlib.Path, folder: pathlib.Path) -> pathlib.Path:
         words, cwd=write_program(folder), env={**os.environ, "TMPDIR": str(held)}, stdin=subprocess.DEVNULL,
         capture_output=True, text=True, errors="replace",
     )  # fmt: skip
-    found = sorted(kept.glob(module_code.KEPT), key=lambda file: file.stat().st_size)
+    found = sorted(kept.glob(library_code.KEPT), key=lambda file: file.stat().st_size)
     if not found:
         lines = (done.stdout + done.stderr).splitlines()[-MOST_LINES:]
         raise Failed("\n".join(["the library is not compiled", *lines]))

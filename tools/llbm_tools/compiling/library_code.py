@@ -1,4 +1,4 @@
-"""The IR of the library for C, kept while the kit's compiler builds it.
+"""The IR of the library for C, kept while the kit's compiler builds it, and the names of its functions.
 
 The compiler proves the library, over the libraries that `rt ci` left; then it writes an IR and hands it to the `clang`
 of a toolchain's folder. Here that is a script, which keeps the IR and calls the kit's clang.
@@ -14,6 +14,9 @@ from typing import NamedTuple
 from llbm_tools.streams import Failed, Refused
 
 CRATE = "llb_embed"
+EXPORTS = ("local", "open", "line", "run", "show", "findings", "asm", "dis", "output", "messages", "close")
+PREFIX = "llb_"
+USUAL = "x86_64-unknown-linux-gnu"
 KEPT = "*.kept"
 MOST_LINES = 12
 
@@ -56,6 +59,22 @@ def crates_in(folder: pathlib.Path) -> Crates:
     if CRATE not in uses or not crates.root(CRATE).is_file():
         raise Refused(f"there is no crate {CRATE}: {folder}")
     return crates
+
+
+def run(words: list[str | os.PathLike[str]], what: str) -> None:
+    """Runs a command; raises Failed with the end of what it printed."""
+    done = subprocess.run(words, stdin=subprocess.DEVNULL, capture_output=True, text=True, errors="replace")
+    if done.returncode:
+        lines = (done.stdout + done.stderr).strip().splitlines() or [f"status {done.returncode}"]
+        raise Failed(f"a command failed: {what}: {' / '.join(lines[-3:])}")
+
+
+def text_of(clang: pathlib.Path, ir: pathlib.Path, folder: pathlib.Path) -> str:
+    """Returns the text of an IR, given its file and a folder for another one."""
+    text = folder / "usual.ll"
+    as_text = ["-S", "-emit-llvm", "-Xclang", "-disable-llvm-passes"]
+    run([clang, f"--target={USUAL}", *as_text, "-x", "ir", ir, "-o", text], "the IR as text")
+    return text.read_text("utf-8")
 
 
 def write_toolchain(kit: pathlib.Path, folder: pathlib.Path) -> pathlib.Path:
