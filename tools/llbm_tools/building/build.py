@@ -26,7 +26,8 @@ follows it. `-` or /dev/stdout as RESULT is an archive that is not packed, on st
 is that of --mtime, or else, in an archive or an image, that of SOURCE_DATE_EPOCH or 0. On standard error there is a
 line for each phase, the messages of the tools and the program, and an explanation after a fault or a failure of the
 program. RESULT appears complete, at the end: a build that fails or is interrupted leaves an old result as it was, and
-nothing new, not even temporary files, which are in TMPDIR and beside RESULT while it runs, and in no source. Nothing is
+nothing new, not even temporary files, which are in TMPDIR and beside RESULT while it runs, and in no source. What a
+build leaves that is killed, the next one removes that has the same TMPDIR, and RESULT in the same directory. Nothing is
 on standard output before the archive is complete.
 
 --keep FILE keeps what was read of each source, and the text of the result. If the definition, the options, the program
@@ -50,9 +51,10 @@ that interrupted the build or ended the program.
 """
 
 import argparse
+import tempfile
 from typing import TYPE_CHECKING
 
-from llbm_tools.building import children
+from llbm_tools.building import children, folders
 from llbm_tools.building.kept_changes import Changes, Memory
 from llbm_tools.building.requests import LARGEST, NOTHING, Ended, Request, source_of
 from llbm_tools.command_line import Parser
@@ -87,6 +89,9 @@ class Work:
     def do(self) -> None:
         """Does what is needed of the build."""
         self.request.check()
+        folders.remove_left(folders.TEXTS, tempfile.gettempdir())
+        if not self.request.is_output:
+            folders.remove_left(folders.RESULT, self.request.above)
         memory = Memory(self.request) if self.request.options.keep is not None else None
         changes = changes_since(memory, self.request) if memory else None
         if memory and changes and not changes.numbers():

@@ -4,7 +4,7 @@ import io
 import os
 import tempfile
 
-from llbm_tools.building import by_value, children, replacing
+from llbm_tools.building import by_value, children, folders, replacing
 from llbm_tools.building.children import held_back
 from llbm_tools.building.comparing import digests_of, kept_of, other_digests, recorders_of, resolved
 from llbm_tools.building.exchange import exchange
@@ -55,9 +55,9 @@ class Build:
     def make_folders(self) -> None:
         """Makes the folder for the texts, and the one that becomes the result."""
         with held_back():
-            self.texts = tempfile.mkdtemp(prefix="llbm-build-")
+            self.texts = folders.made(folders.TEXTS, tempfile.gettempdir())
             above = self.texts if self.request.is_output else self.request.above
-            self.directory = tempfile.mkdtemp(prefix=".llbm-build-", dir=above)
+            self.directory = folders.made(folders.RESULT, above)
 
     def hidden(self) -> list[os.stat_result]:
         """Returns what is no part of a source."""

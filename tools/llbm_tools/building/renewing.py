@@ -10,10 +10,9 @@ renewal: each source is what it was but for contents that have tokens (`AreSpell
 
 import binascii
 import os
-import tempfile
 from collections.abc import Iterable
 
-from llbm_tools.building import children, replacing
+from llbm_tools.building import children, folders, replacing
 from llbm_tools.building.kept_builds import Build, forget, state_at
 from llbm_tools.building.kept_changes import Changes, Memory
 from llbm_tools.building.requests import Named, Request
@@ -116,7 +115,7 @@ def renew(request: Request, memory: Memory, changes: Changes) -> bool:
     A result that gets too large has to be refused, so it is made, and measured, as a whole.
     """
     with children.held_back():
-        folder = tempfile.mkdtemp(prefix=".llbm-build-", dir=request.above)
+        folder = folders.made(folders.RESULT, request.above)
     try:
         renewal = Renewal(changes, request.sources)
         try:

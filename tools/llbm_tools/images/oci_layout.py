@@ -39,6 +39,17 @@ MEMBERS_OF_CONFIG = {
     "ExposedPorts": MAP, "Volumes": MAP, "Labels": MAP,
 }  # fmt: skip
 
+# Members that frontends and clients also write, each in its place; a name with a dot is somebody's own.
+MORE = {"id", "parent", "comment", "container", "container_config", "docker_version", "rootfs"}
+MORE_OF_CONFIG = {
+    "ArgsEscaped", "AttachStderr", "AttachStdin", "AttachStdout", "CpuShares", "Domainname", "Healthcheck", "Hostname",
+    "Image", "MacAddress", "Memory", "MemorySwap", "NetworkDisabled", "OnBuild", "OpenStdin", "Shell", "StdinOnce",
+    "StopTimeout", "Tty",
+}  # fmt: skip
+PLACES = {
+    "": {*MEMBERS, *MORE}, "config": {*MEMBERS_OF_CONFIG, *MORE_OF_CONFIG}, "history": {*MEMBERS_OF_STEP},
+}  # fmt: skip
+
 Object = dict[str, object]
 
 # What else than JSON asks for is escaped.
@@ -52,14 +63,29 @@ def is_kind(kind: str, value: object) -> bool:
     return isinstance(value, {TEXT: str, FLAG: bool, MAP: dict}[kind])
 
 
-def checked(held: object, members: dict[str, str], where: str) -> Object:
-    """Returns an object without its members that are null; a member of another kind is refused."""
+def hint(name: str, place: str) -> str:
+    """Returns how a member that is not known in a place is written, and where it belongs, if another one is meant."""
+    for other, known in sorted(PLACES.items(), key=lambda pair: pair[0] != place):
+        for one in sorted(known):
+            if one.lower() == name.lower():
+                spelled = f" is written {one}" if one != name else ""
+                belongs = f" belongs into {other or 'the outer object'}" if other != place else ""
+                return f"; it{spelled}{' and it' if spelled and belongs else ''}{belongs}"
+    return ""
+
+
+def checked(held: object, members: dict[str, str], file: str, place: str = "") -> Object:
+    """Returns an object without its members that are null; one of another kind, or that is not known, is refused."""
+    where = f"{file}: {place}" if place else file
     if not isinstance(held, dict):
         raise Refused(f"not an object: {where}")
     found = {name: value for name, value in held.items() if value is not None}
     for name, kind in members.items():
         if name in found and not is_kind(kind, found[name]):
             raise Refused(f"{name} is not {kind}: {where}")
+    for name in found:
+        if name not in PLACES[place] and "." not in name:
+            raise Refused(f"a configuration has no member {name!r} here{hint(name, place)}: {where}")
     return found
 
 
@@ -74,10 +100,10 @@ def config_in(data: bytes, where: str) -> bytes:
         raise Refused(f"not JSON: {where}: {fault}") from fault
     config = checked(held, MEMBERS, where)
     if "config" in config:
-        config["config"] = checked(config["config"], MEMBERS_OF_CONFIG, f"{where}: config")
+        config["config"] = checked(config["config"], MEMBERS_OF_CONFIG, where, "config")
     if "history" in config:
         steps = cast(list[object], config["history"])
-        config["history"] = [checked(step, MEMBERS_OF_STEP, f"{where}: history") for step in steps]
+        config["history"] = [checked(step, MEMBERS_OF_STEP, where, "history") for step in steps]
     return config_json(config)
 
 

@@ -4,8 +4,9 @@ In: the repository around this folder, and the program, as for `install`. The na
 `./gate` passed on this program, byte for byte, and left a note of it; else it has `unproved`.
 
 Out: in the folder -o FOLDER, the current one by default: llbm-VERSION-PROOF-x86_64-linux.tar.gz, whose files are below
-a folder of that name, and the same name with .sha256, which has a digest of the archive and of each file in it, as
-`sha256sum` prints them. The archive has the files of `install` in the order of their paths, with owner 0:0 and time 0.
+a folder of that name, and the same name with .sha256, which has a digest of the archive, as `sha256sum` prints it. The
+archive has the files of `install` in the order of their paths, with owner 0:0 and time 0, and among them sha256sums,
+with the digest of each other file: `sha256sum -c sha256sums` in the folder checks what was unpacked.
 Both are replaced if they exist. Their names are printed.
 
 Exit status: 0 they are written; 2 the command line is refused, or there is no program or no such folder; 3 a read or a
@@ -23,6 +24,8 @@ from llbm_tools import common, os_errors, streams
 from llbm_tools.command_line import Parser
 from llbm_tools.installing import installation
 from llbm_tools.installing.installation import Item, Program
+
+DIGESTS = "sha256sums"
 
 
 def name_of(program: Program) -> str:
@@ -50,20 +53,20 @@ def packed(name: str, items: list[Item]) -> bytes:
     return out.getvalue()
 
 
-def digests(name: str, archive: bytes, items: list[Item]) -> str:
-    """Returns the lines of the file of digests."""
-    lines = [f"{installation.digest(archive)}  {name}.tar.gz"]
-    lines += [f"{installation.digest(item.content)}  {name}/{item.path}" for item in items if not item.link]
-    return "".join(f"{line}\n" for line in lines)
+def with_digests(items: list[Item]) -> list[Item]:
+    """Returns items, and among them a file with the digest of each of the others."""
+    lines = [f"{installation.digest(item.content)}  {item.path}\n" for item in items if not item.link]
+    return sorted([*items, Item(DIGESTS, "".join(lines).encode())])
 
 
 def dist(options: argparse.Namespace) -> None:
     """Writes the archive and its digests, and prints their names."""
     program = installation.program_at(common.program_named(options.llbm))
-    name, items = name_of(program), installation.items_of(program)
+    name, items = name_of(program), with_digests(installation.items_of(program))
     archive = packed(name, items)
+    digest = f"{installation.digest(archive)}  {name}.tar.gz\n"
     options.folder.mkdir(parents=True, exist_ok=True)
-    for ending, content in ((".tar.gz", archive), (".tar.gz.sha256", digests(name, archive, items).encode())):
+    for ending, content in ((".tar.gz", archive), (".tar.gz.sha256", digest.encode())):
         place = options.folder / f"{name}{ending}"
         place.write_bytes(content)
         print(place)

@@ -62,6 +62,7 @@ MODULES = [
     "building.value_rules",
     "building.rebuilding",
     "building.filtering",
+    "building.leaving",
     "bad_inputs",
     "repository.repository",
     "repository.pages",

@@ -129,6 +129,22 @@ class Layout(Folder):
                 oci_layout.config_in(given, "FILE")
             self.assertTrue(str(caught.exception).startswith(cause), caught.exception)
 
+    def test_members_that_are_not_known_or_misplaced_are_refused(self):
+        for given, cause in [
+            ({"Frob": 1}, "'Frob' here: FILE"), ({"User": "me"}, "'User' here; it belongs into config: FILE"),
+            ({"config": {"entrypoint": []}}, "'entrypoint' here; it is written Entrypoint: FILE: config"),
+            ({"cmd": []}, "'cmd' here; it is written Cmd and it belongs into config: FILE"),
+            ({"config": {"os": "linux"}}, "'os' here; it belongs into the outer object: FILE: config"),
+            ({"history": [{"a": 1}]}, "'a' here: FILE: history"),
+        ]:
+            with self.assertRaises(Refused) as caught:
+                oci_layout.config_in(json.dumps(given).encode(), "FILE")
+            self.assertEqual(str(caught.exception), f"a configuration has no member {cause}")
+
+    def test_members_of_others_are_taken(self):
+        given = {"config": {"Healthcheck": {"Test": ["NONE"]}, "Tty": True}, "org.example.own": 1, "rootfs": {}}
+        self.assertEqual(json.loads(oci_layout.config_in(json.dumps(given).encode(), "FILE")), given)
+
     def test_a_name_that_removes_is_refused(self):
         with self.assertRaises(Refused) as caught:
             self.image(text=b"d 0755 0 0 /\nd 0755 0 0 /d\nf 0644 0 0 - /d/.wh.f\n")

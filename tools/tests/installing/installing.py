@@ -258,22 +258,28 @@ class Dist(WithFake):
 
     def test_the_digests_are_those_of_the_files(self):
         archive, digests = self.pack("one")
+        unpacked = self.at / "one" / self.name
+        self.check_digests(digests, self.at / "one")
         subprocess.run(["tar", "-xf", archive], cwd=self.at / "one", check=True)
-        command = ["sha256sum", "--check", "--quiet", digests.name]
-        done = subprocess.run(command, cwd=self.at / "one", capture_output=True)
-        self.assertEqual((done.returncode, done.stdout), (0, b""))
-        found = below(self.at / "one" / self.name)
-        links = {path for path in found if (self.at / "one" / self.name / path).is_symlink()}
-        named = {line[66:] for line in digests.read_text().splitlines()}
-        self.assertEqual(named, {f"{self.name}.tar.gz", *(f"{self.name}/{path}" for path in found - links)})
+        self.check_digests(unpacked / "sha256sums", unpacked)
+        found = below(unpacked)
+        links = {path for path in found if (unpacked / path).is_symlink()}
+        named = {line[66:] for line in (unpacked / "sha256sums").read_text().splitlines()}
+        self.assertEqual(named, found - links - {"sha256sums"})
+
+    def check_digests(self, digests, folder):
+        """Checks that a file of digests holds in a folder."""
+        command = ["sha256sum", "--check", "--quiet", digests]
+        done = subprocess.run(command, cwd=folder, capture_output=True, timeout=base.GUARD)
+        self.assertEqual((done.returncode, done.stdout, done.stderr), (0, b"", b""))
 
     def test_the_archive_has_what_is_installed(self):
         archive, _ = self.pack("one")
         run("install", "--llbm", str(self.llbm), str(self.at / "prefix"))
         subprocess.run(["tar", "-xf", archive], cwd=self.at / "one", check=True)
         packed = self.at / "one" / self.name
-        self.assertEqual(below(packed), below(self.at / "prefix"))
-        for path in below(packed):
+        self.assertEqual(below(packed), below(self.at / "prefix") | {"sha256sums"})
+        for path in below(self.at / "prefix"):
             mine, its = packed / path, self.at / "prefix" / path
             self.assertEqual((mine.read_bytes() if mine.is_file() else b"", mine.lstat().st_mode & 0o777),
                              (its.read_bytes() if its.is_file() else b"", its.lstat().st_mode & 0o777), path)
