@@ -16,10 +16,10 @@ TOOLS.md), and `tools/fuzz` on a fixed number of cases or on --fuzz N, with the 
 memory holds. Then each check has one process. Without RT_JOBS a check may have several, which together take up to half
 as much processor time again.
 
-With --quick nothing is proved, and no wrong body is tried. `tools/unproved-program` compiles the program, and
-`tools/library --unproved` the library; the parts that read the sources, the transcripts, the daemon's tests in Go, the
-tests of the tools, `tools/bindings` on the library and few cases of `tools/fuzz` follow. --more adds what takes longer:
-`rt try --test` in the crates of tests, as many at a time as there are processors, or --jobs N; the transcripts of
+With --quick nothing is proved, and no wrong body is tried. `tools/unproved-program` compiles the program; the parts
+that read the sources, the transcripts, the daemon's tests in Go, the tests of the tools and few cases of `tools/fuzz`
+follow. --more adds what takes longer: `tools/library --unproved`, which compiles the library, and `tools/bindings` on
+it; `rt try --test` in the crates of tests, as many at a time as there are processors, or --jobs N; the transcripts of
 tests/limits; BuildKit's own tests, `tools/against-buildkit`, `tools/page-tests` and the pages with commands.
 
 Out: on standard output a line for each part, with its counts and its processor time, and below it what the part
@@ -73,10 +73,11 @@ NOT_DONE = (
     "the proved library (tools/library)"
 )
 TOO_LONG = ", and the tests of 65,535 vertices and of 64 workers (llb_examples) if they did not end in 60 seconds"
-LATER = (*TESTED, LIMITS, "suite", "tools/against-buildkit", "tools/page-tests", "pages")
+LATER = (*TESTED, "library", "bindings", LIMITS, "suite", "tools/against-buildkit", "tools/page-tests", "pages")
 LEFT = (
-    "with --more: the tests of the crates (llb_examples, llb_refusals, llbm), the transcripts of tests/limits, "
-    "BuildKit's tests and its daemon (tools/against-buildkit), the page (tools/page-tests), the pages with commands"
+    "with --more: the tests of the crates (llb_examples, llb_refusals, llbm), the library without proof and its "
+    "bindings, the transcripts of tests/limits, BuildKit's tests and its daemon (tools/against-buildkit), the page "
+    "(tools/page-tests), the pages with commands"
 )
 
 
@@ -157,13 +158,14 @@ def parts_that_are_quick(cases: int, seed: str) -> Iterator[Part]:
     yield tool("transcripts", "--unproved", "--llbm", program, *(name for name in folders if name != LIMITS), *EXAMPLES)
     yield tool("daemon-tests", "--llbm", program, *only("build", "format", "vet", "go"))
     yield tool("test", "--llbm", program)
-    yield tool("bindings", str(library.UNPROVED), "--llbm", program)
     yield tool("fuzz", "--cases", str(cases), "--llbm", program, "--seed", seed)
 
 
 def parts_with_more() -> Iterator[Part]:
     """Yields the parts that --more adds and that run the program without proof."""
     program = str(paths.UNPROVED)
+    yield tool("library", "--unproved")
+    yield tool("bindings", str(library.UNPROVED), "--llbm", program)
     yield tool("transcripts", "--unproved", "--llbm", program, LIMITS)
     yield tool("daemon-tests", "--llbm", program, *only("suite"))
     yield tool("against-buildkit", "--start", "--count", str(BESIDE), "--llbm", program)
@@ -175,7 +177,6 @@ def run_quick(options: argparse.Namespace) -> Iterator[Counts]:
     """Runs the parts that need no proof, and yields their counts."""
     yield from map(parts.run, parts_without_program())
     yield parts.run(tool("unproved-program"))
-    yield parts.run(tool("library", "--unproved"))
     yield from map(parts.run, parts_that_are_quick(options.fuzz or FEWER, options.seed))
     if options.more:
         yield from parts.run_together(parts_of_crates(), options.jobs)

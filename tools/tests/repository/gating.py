@@ -165,7 +165,7 @@ class Gate(base.WithPrograms):
         self.assertEqual(sorted(part.folder.name for part in others), ["llb_examples", "llb_refusals", "llbm"])
         self.assertTrue(all(part.folder.is_dir() for part in others))
         quick = [part.shown().split()[0] for part in gate.parts_that_are_quick(7, "3")]
-        self.assertEqual(quick, [f"tools/{name}" for name in ("transcripts", "daemon-tests", "test", "bindings", "fuzz")])
+        self.assertEqual(quick, [f"tools/{name}" for name in ("transcripts", "daemon-tests", "test", "fuzz")])
         transcripts = next(gate.parts_that_are_quick(7, "3")).command
         self.assertIn("tests/actions", transcripts)
         self.assertNotIn("tests/limits", transcripts)
@@ -190,10 +190,10 @@ class Gate(base.WithPrograms):
         _, quick, lines = self.run_quick()
         self.assertTrue(lines[0].startswith("not done: proofs, "))
         self.assertTrue(lines[1].startswith("with --more: "))
-        self.assertEqual(lines[2], f"{2 * len(quick)} passed, 0 failed, 11 skipped")
+        self.assertEqual(lines[2], f"{2 * len(quick)} passed, 0 failed, 13 skipped")
         _, more, lines = self.run_quick("--more")
         self.assertEqual(quick, [part for part in more if part in quick])
-        self.assertEqual(len(more) - len(quick), 8)
+        self.assertEqual(len(more) - len(quick), 10)
         self.assertEqual(lines[1:], [f"{2 * len(more)} passed, 0 failed, 3 skipped"])
 
     def run_main(self, *words, whole=()):
