@@ -117,7 +117,7 @@ func (s *session) outputs(v int, files []string, inputs []*rules.Node) ([]*rules
 	}
 	near, out := rules.Bases(exec, inputs), []*rules.Node{}
 	for number, file := range reply.Outputs {
-		t, err := s.read(file, near[number], nil)
+		t, err := s.read(file, near[number], nil, nil)
 		if err != nil {
 			return nil, err
 		}

@@ -23,13 +23,15 @@ type Request struct {
 	Sources  map[string]string `json:"sources,omitempty"`  // the files of sources' trees by their names
 	Vertices map[int]string    `json:"vertices,omitempty"` // the same by vertices of the definition as it was sent
 	Links    map[int][]string  `json:"links,omitempty"`    // files of such sources that have other names, which are hard links
-	Received bool              `json:"received,omitempty"` // whether the trees are what BuildKit's client sent
-	Executes bool              `json:"executes,omitempty"` // whether executions can be done on other inputs
-	Folder   string            `json:"folder,omitempty"`   // where trees are written
-	Paths    int               `json:"paths,omitempty"`    // how many paths with the same rules a step has at most
-	Result   bool              `json:"result,omitempty"`   // whether the results are compared too
-	Tree     bool              `json:"tree,omitempty"`     // whether BuildKit's result is written
-	Made     string            `json:"made,omitempty"`     // the file of the result that llbm made, which is checked
+	// Times are those of files of such sources; of those that are not there no other file has the size and the time.
+	Times    map[int]map[string]rules.Time `json:"times,omitempty"`
+	Received bool                          `json:"received,omitempty"` // whether the trees are what BuildKit's client sent
+	Executes bool                          `json:"executes,omitempty"` // whether executions can be done on other inputs
+	Folder   string                        `json:"folder,omitempty"`   // where trees are written
+	Paths    int                           `json:"paths,omitempty"`    // how many paths with the same rules a step has at most
+	Result   bool                          `json:"result,omitempty"`   // whether the results are compared too
+	Tree     bool                          `json:"tree,omitempty"`     // whether BuildKit's result is written
+	Made     string                        `json:"made,omitempty"`     // the file of the result that llbm made, which is checked
 }
 
 // A Message is one of a comparison: only one of its fields is set.
@@ -41,10 +43,12 @@ type Message struct {
 	End     *End      `json:"end,omitempty"`
 }
 
-// A Run is the definition that is to run. It comes before all questions.
+// A Run is the definition that is to run. It comes before all questions. Of its further entries, which are before the last one, it has
+// the rows of which they are parts.
 type Run struct {
 	Definition []byte         `json:"definition"`
 	Rows       rewriting.Rows `json:"rows"`
+	Parts      []int          `json:"parts,omitempty"`
 }
 
 // A Step is an action of a vertex that ends otherwise, or a vertex as a whole (-1). The vertex is one of the definition as it was
@@ -57,7 +61,8 @@ type Step struct {
 	More   bool         `json:"more,omitempty"` // whether there are paths that no line counts
 }
 
-// A Question asks what an execution made, or what it makes of inputs in files. The vertex is one of the definition that runs.
+// A Question asks what an execution made, or what it makes of inputs in files. The vertex is one of the definition that runs, as it is
+// before it is divided.
 type Question struct {
 	Vertex int      `json:"vertex"`
 	Row    int      `json:"row"`

@@ -5,6 +5,7 @@ import (
 	"context"
 	"fmt"
 	"os"
+	"slices"
 	"sort"
 	"strings"
 
@@ -29,6 +30,7 @@ type state struct {
 	users   int  // which have not been done yet
 	waits   int  // for inputs that have not been done yet
 	needed  bool // whether the trees are looked at
+	read    []rules.Reading
 }
 
 // A session compares the entries of two definitions, which have the same rows.
@@ -39,18 +41,20 @@ type session struct {
 	sent    *graph.Graph
 	run     *graph.Graph
 	rows    rewriting.Rows
-	inRun   map[int]int // the vertex that runs, by row
-	inSent  map[int]int // the vertex as it was sent, by row
-	states  []state     // by vertex as it was sent
-	users   [][]int     // the same
-	ready   numbers     // vertices that can be done
-	waiting []int       // executions whose outputs are to be asked for
+	parts   map[int][]graph.Part // of the rows that were divided
+	inRun   map[int]int          // the vertex that runs, by row
+	inSent  map[int]int          // the vertex as it was sent, by row
+	states  []state              // by vertex as it was sent
+	users   [][]int              // the same
+	ready   numbers              // vertices that can be done
+	waiting []int                // executions whose outputs are to be asked for
 	trees   map[string]*rules.Node
 	broken  bool   // whether something breaks BuildKit's daemon
 	runs    bool   // whether there is an execution
 	why     string // why BuildKit fails
 	files   int
 	layered bool // whether there is a merge, which needs layers
+	anyTime bool // whether a copy sets a time that is not one of whole seconds
 }
 
 // Serve compares what a request on a reader names.
@@ -107,12 +111,16 @@ func (s *session) toRun(sent *pb.Definition) (*pb.Definition, error) {
 	if err != nil {
 		return nil, err
 	}
-	s.rows = rows
-	data, err := run.Marshal()
+	divided, further, parts, err := rewriting.Divide(run, rows)
 	if err != nil {
 		return nil, err
 	}
-	return run, s.talk.Write(Message{Run: &Run{data, rows}})
+	s.rows, s.parts = rows, parts
+	data, err := divided.Marshal()
+	if err != nil {
+		return nil, err
+	}
+	return run, s.talk.Write(Message{Run: &Run{data, rows, further}})
 }
 
 // numbers hands out the least of its numbers.
@@ -137,6 +145,7 @@ func (s *session) prepare() {
 	for v := range s.sent.Vertices {
 		it := &s.sent.Vertices[v]
 		s.inSent[it.Row], s.layered = v, s.layered || it.Op.GetMerge() != nil
+		s.anyTime = s.anyTime || rules.SetsTime(it.Op)
 		for _, input := range it.Inputs {
 			s.states[input].needed = s.states[input].needed || s.request.Executes || it.Op.GetExec() == nil
 			s.states[input].users++
@@ -150,6 +159,28 @@ func (s *session) prepare() {
 	if s.request.Result || s.request.Tree {
 		s.states[s.sent.Result].needed = true
 		s.states[s.sent.Result].users++
+	}
+	s.readings()
+}
+
+// readings notes how each output is read, from the result to what it depends on.
+func (s *session) readings() {
+	read := func(v, output int, how rules.Reading) {
+		one := &s.states[v]
+		for len(one.read) <= output {
+			one.read = append(one.read, rules.Unread)
+		}
+		one.read[output] = max(one.read[output], how)
+	}
+	for v := range s.states {
+		s.states[v].read = []rules.Reading{}
+	}
+	read(s.sent.Result, s.sent.Output, rules.Shown)
+	for v := len(s.states) - 1; v >= 0; v-- {
+		it := &s.sent.Vertices[v]
+		for i, how := range rules.InputReadings(it.Op, s.states[v].read) {
+			read(it.Inputs[i], int(it.Op.Inputs[i].Index), how)
+		}
 	}
 }
 
@@ -248,28 +279,14 @@ func (s *session) vertex(v int) error {
 	if err != nil {
 		return err
 	}
-	it := &s.sent.Vertices[v]
-	var made *rules.Compared
-	if it.Op.GetSource() != nil {
-		made, err = s.source(v)
-	} else {
-		there, here := s.inputs(v)
-		if dies {
-			there = nil
-		}
-		var run *pb.Op
-		var from []int
-		if r, ok := s.inRun[it.Row]; ok {
-			run = s.run.Vertices[r].Op
-		}
-		if row := s.rows[it.Row]; row != nil {
-			from = row.Actions
-		}
-		made, err = rules.Compare(s.ctx, it.Op, run, from, there, here)
+	made, err := s.made(v, dies)
+	if err == nil {
+		err = s.doParts(v, made)
 	}
 	if err != nil {
 		return err
 	}
+	s.replaced(v, made)
 	one := &s.states[v]
 	one.there, one.here, one.unknown = made.There, made.Here, s.isUnknown(v)
 	if !s.layered {
@@ -285,6 +302,62 @@ func (s *session) vertex(v int) error {
 		s.fails(v, made.Fails)
 	}
 	return s.steps(v, made.Steps)
+}
+
+// made compares what a vertex makes. One of which BuildKit's daemon dies has no inputs there.
+func (s *session) made(v int, dies bool) (*rules.Compared, error) {
+	it := &s.sent.Vertices[v]
+	if it.Op.GetSource() != nil {
+		return s.source(v)
+	}
+	there, here := s.inputs(v)
+	if dies {
+		there = nil
+	}
+	var run *pb.Op
+	var from []int
+	if r, ok := s.inRun[it.Row]; ok {
+		run = s.run.Vertices[r].Op
+	}
+	if row := s.rows[it.Row]; row != nil {
+		from = row.Actions
+	}
+	return rules.Compare(s.ctx, it.Op, run, from, there, here, s.states[v].read)
+}
+
+// replaced says which files a merge of BuildKit can have as they were before, as far as times are known.
+func (s *session) replaced(v int, made *rules.Compared) {
+	op := s.sent.Vertices[v].Op
+	if !s.layered || op.GetSource() != nil {
+		return
+	}
+	there, _ := s.inputs(v)
+	for _, one := range made.There {
+		if op.GetMerge() == nil {
+			rules.NoteReplaced(one, there, s.anyTime)
+		} else if lines := rules.KeepsReplaced(one, there); len(lines) > 0 && rules.ReadingOf(s.states[v].read, 0) == rules.Shown {
+			made.Steps = append(made.Steps, rules.Step{Action: -1, Lines: lines})
+		}
+	}
+}
+
+// doParts does the parts of an op that was divided, and takes what they make if it is something else than the op makes.
+func (s *session) doParts(v int, made *rules.Compared) error {
+	parts := s.parts[s.sent.Vertices[v].Row]
+	if len(parts) == 0 || made.Here == nil {
+		return nil
+	}
+	_, inputs := s.inputs(v)
+	here, err := rewriting.DoParts(s.ctx, parts, inputs)
+	if s.ctx.Err() != nil {
+		return s.ctx.Err()
+	}
+	if err != nil || !slices.EqualFunc(here, made.Here, rules.Equal) {
+		made.Here = here
+		line := rules.Line{Words: "the parts of the op make something else", Notes: []string{rules.Rewriting}}
+		made.Steps = append(made.Steps, rules.Step{Action: -1, Lines: []rules.Line{line}})
+	}
+	return nil
 }
 
 // nameOf returns the name of a local source.
@@ -311,19 +384,19 @@ func (s *session) tree(v int) (*rules.Node, error) {
 	if t, ok := s.trees[file]; ok {
 		return t, nil
 	}
-	t, err := s.read(file, nil, s.request.Links[v])
+	t, err := s.read(file, nil, s.request.Links[v], s.request.Times[v])
 	s.trees[file] = t
 	return t, err
 }
 
 // read reads the tree in a file.
-func (s *session) read(file string, near *rules.Node, linked []string) (*rules.Node, error) {
+func (s *session) read(file string, near *rules.Node, linked []string, times map[string]rules.Time) (*rules.Node, error) {
 	text, err := os.Open(file)
 	if err != nil {
 		return nil, err
 	}
 	defer text.Close()
-	t, err := rules.ReadLinked(s.ctx, text, near, linked)
+	t, err := rules.ReadSource(s.ctx, text, near, linked, times)
 	if err == nil && t == nil {
 		err = fmt.Errorf("no tree is there")
 	}

@@ -6,6 +6,7 @@ import (
 	"container/heap"
 	"errors"
 	"fmt"
+	"slices"
 	"sort"
 	"strconv"
 	"strings"
@@ -26,8 +27,10 @@ const mostOfName = 200
 type Vertex struct {
 	Op     *pb.Op
 	Sent   *pb.Op // the op as the client sent it: the same one, unless it was rewritten
-	Row    int
-	Inputs []int // the vertices that the op's inputs name
+	Row    int    // of the definition as the client sent it
+	Inputs []int  // the vertices that the op's inputs name
+	// Whole is the vertex itself, or the last part of the op of which it is a part; before it are parts with some actions.
+	Whole, Before int
 	// Digest, Needs and Name are what clients know of the vertex: of the entry as the client sent it.
 	Digest digest.Digest
 	Needs  []digest.Digest
@@ -89,8 +92,8 @@ func (r *rows) inputs(k int) ([]int, error) {
 }
 
 // Read reads the graph of a definition that llbm may not have seen, and refuses one whose ops name what they have not.
-func Read(def, sent *pb.Definition) (*Graph, error) {
-	g, err := Load(def, sent)
+func Read(def, sent *pb.Definition, parts ...int) (*Graph, error) {
+	g, err := Load(def, sent, parts...)
 	if err != nil {
 		return nil, err
 	}
@@ -103,13 +106,13 @@ func Read(def, sent *pb.Definition) (*Graph, error) {
 }
 
 // Load reads the graph of a definition. The client sent the other definition, from which the first was rewritten row by row;
-// it may be the same.
-func Load(def, sent *pb.Definition) (*Graph, error) {
+// it may be the same. Further entries, before the last one, are parts of some rows.
+func Load(def, sent *pb.Definition, parts ...int) (*Graph, error) {
 	r, canonical, err := rowsOf(def)
 	if err != nil {
 		return nil, err
 	}
-	if len(r.ops) == 0 || len(sent.Def) != len(r.ops) {
+	if len(r.ops) == 0 || len(sent.Def) != len(r.ops)-len(parts) {
 		return nil, fmt.Errorf("%d entries, and %d before", len(r.ops), len(sent.Def))
 	}
 	order, err := r.order()
@@ -120,12 +123,10 @@ func Load(def, sent *pb.Definition) (*Graph, error) {
 	for v, k := range order {
 		number[k] = v
 	}
-	g := &Graph{Canonical: canonical, sent: sent}
+	g, from := &Graph{Canonical: canonical, sent: sent}, r.originsOf(parts)
 	for _, k := range order {
-		v := Vertex{Op: r.ops[k], Sent: r.ops[k], Row: k, Digest: digest.FromBytes(sent.Def[k])}
-		if !bytes.Equal(sent.Def[k], def.Def[k]) {
-			v.Sent = sentOp(sent.Def[k], v.Op)
-		}
+		v := g.vertex(r.ops[k], def.Def[k], from.rows[k])
+		v.Whole, v.Before = number[from.rows[k]], from.before[k]
 		inputs, err := r.inputs(k)
 		if err != nil {
 			return nil, err
@@ -134,8 +135,6 @@ func Load(def, sent *pb.Definition) (*Graph, error) {
 			v.Inputs = append(v.Inputs, number[row])
 			v.Needs = append(v.Needs, g.Vertices[number[row]].Digest)
 		}
-		metadata := sent.Metadata[v.Digest]
-		v.Name, v.Group = Describe(metadata, v.Sent), metadata.ProgressGroup
 		g.Vertices = append(g.Vertices, v)
 	}
 	result, output, err := r.result()
@@ -144,6 +143,26 @@ func Load(def, sent *pb.Definition) (*Graph, error) {
 	}
 	g.Result, g.Output = number[result], output
 	return g, nil
+}
+
+// vertex returns the vertex of an op, which was made of a row of the definition that was sent, without its inputs.
+func (g *Graph) vertex(op *pb.Op, entry []byte, row int) Vertex {
+	v := Vertex{Op: op, Sent: op, Row: row, Digest: digest.FromBytes(g.sent.Def[row])}
+	if !bytes.Equal(g.sent.Def[row], entry) {
+		v.Sent = sentOp(g.sent.Def[row], op)
+	}
+	metadata := g.sent.Metadata[v.Digest]
+	v.Name, v.Group = Describe(metadata, v.Sent), metadata.ProgressGroup
+	return v
+}
+
+// Find returns the vertex of a row of the definition that was sent: of parts the last one.
+func (g *Graph) Find(row int) (int, bool) {
+	v := slices.IndexFunc(g.Vertices, func(one Vertex) bool { return one.Row == row })
+	if v < 0 {
+		return 0, false
+	}
+	return g.Vertices[v].Whole, true
 }
 
 // sentOp returns the op as the client sent it, or else the op that it was rewritten to.
@@ -169,35 +188,21 @@ func (r *rows) result() (row, output int, err error) {
 	return row, int(first.Index), nil
 }
 
-// order returns the rows that the result depends on, in the order of their vertex numbers.
+// order returns the rows that the result depends on, in the order of their vertex numbers: the least row comes first of those whose
+// inputs have come.
 func (r *rows) order() ([]int, error) {
-	result, _, err := r.result()
+	before, err := r.reached()
 	if err != nil {
 		return nil, err
 	}
-	reached, todo := map[int]bool{}, []int{result}
 	users, waits, ready := map[int][]int{}, map[int]int{}, &least{}
-	for len(todo) > 0 {
-		k := todo[len(todo)-1]
-		if todo = todo[:len(todo)-1]; reached[k] {
-			continue
-		}
-		reached[k] = true
-		inputs, err := r.inputs(k)
-		if err != nil {
-			return nil, err
-		}
-		before := map[int]bool{}
+	for k, inputs := range before {
 		for _, b := range inputs {
-			if !before[b] {
-				before[b] = true
-				users[b] = append(users[b], k)
-			}
+			users[b] = append(users[b], k)
 		}
-		if waits[k] = len(before); len(before) == 0 {
+		if waits[k] = len(inputs); len(inputs) == 0 {
 			heap.Push(ready, k)
 		}
-		todo = append(todo, inputs...)
 	}
 	var order []int
 	for ready.Len() > 0 {
@@ -209,10 +214,33 @@ func (r *rows) order() ([]int, error) {
 			}
 		}
 	}
-	if len(order) != len(reached) {
+	if len(order) != len(before) {
 		return nil, fmt.Errorf("a cycle")
 	}
 	return order, nil
+}
+
+// reached returns the rows that the result depends on, each with the rows that its inputs name, once each.
+func (r *rows) reached() (map[int][]int, error) {
+	result, _, err := r.result()
+	if err != nil {
+		return nil, err
+	}
+	found, todo := map[int][]int{}, []int{result}
+	for len(todo) > 0 {
+		k := todo[len(todo)-1]
+		if todo = todo[:len(todo)-1]; found[k] != nil {
+			continue
+		}
+		inputs, err := r.inputs(k)
+		if err != nil {
+			return nil, err
+		}
+		todo = append(todo, inputs...)
+		slices.Sort(inputs)
+		found[k] = slices.Compact(inputs)
+	}
+	return found, nil
 }
 
 // Check compares the graph with the text that llbm shows of it.

@@ -28,6 +28,11 @@ func Rewrite(def *pb.Definition, change func(row int, op *pb.Op) (bool, error)) 
 	if len(w.changed) == 0 {
 		return def, nil
 	}
+	return w.definition(def)
+}
+
+// definition returns a definition with the new entries.
+func (w *rewriter) definition(def *pb.Definition) (*pb.Definition, error) {
 	out := &pb.Definition{Metadata: maps.Clone(def.Metadata), Source: def.Source}
 	if def.Source != nil {
 		out.Source = &pb.Source{Locations: maps.Clone(def.Source.Locations), Infos: def.Source.Infos}

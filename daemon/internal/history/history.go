@@ -189,13 +189,12 @@ func (h *History) pinned() int {
 	return n
 }
 
-// Listen sends the records that there are and then, unless the request asks for an early exit, what happens to them.
-func (h *History) Listen(ctx context.Context, user uint32, req *controlapi.BuildHistoryRequest, send func(*controlapi.BuildHistoryEvent) error) error {
-	l := &listener{user: user, ref: req.Ref, events: make(chan *controlapi.BuildHistoryEvent, mostPending)}
+// begin returns the records that there are, and from then on lets a listener hear, unless the request asks for an early exit.
+func (h *History) begin(l *listener, req *controlapi.BuildHistoryRequest) (now []*controlapi.BuildHistoryEvent) {
 	h.mu.Lock()
-	var now []*controlapi.BuildHistoryEvent
+	defer h.mu.Unlock()
 	for _, r := range h.records {
-		if r.user != user || req.Ref != "" && r.now.Ref != req.Ref || req.ActiveOnly && r.now.CompletedAt != nil {
+		if r.user != l.user || req.Ref != "" && r.now.Ref != req.Ref || req.ActiveOnly && r.now.CompletedAt != nil {
 			continue
 		}
 		kind := controlapi.BuildHistoryEventType_COMPLETE
@@ -207,7 +206,13 @@ func (h *History) Listen(ctx context.Context, user uint32, req *controlapi.Build
 	if !req.EarlyExit {
 		h.listeners[l] = true
 	}
-	h.mu.Unlock()
+	return now
+}
+
+// Listen sends the records that there are and then, unless the request asks for an early exit, what happens to them.
+func (h *History) Listen(ctx context.Context, user uint32, req *controlapi.BuildHistoryRequest, send func(*controlapi.BuildHistoryEvent) error) error {
+	l := &listener{user: user, ref: req.Ref, events: make(chan *controlapi.BuildHistoryEvent, mostPending)}
+	now := h.begin(l, req)
 	defer func() {
 		h.mu.Lock()
 		delete(h.listeners, l)

@@ -16,6 +16,7 @@ import (
 	"os"
 	"path/filepath"
 	"regexp"
+	"slices"
 	"sort"
 	"strconv"
 	"strings"
@@ -181,15 +182,33 @@ func Name(ref string) string {
 	return "sha256-" + hex.EncodeToString(sum[:])
 }
 
-// Add keeps what a build has solved, whole or not at all, and drops the oldest builds that are beyond the bounds.
+// Add keeps what a build has solved, whole or not at all, and drops the oldest builds that are beyond the bounds. Where the disk is
+// full, it drops the oldest builds until there is room, or no other build is left.
 func (f *Folder) Add(s Solved) error {
+	f.mu.Lock()
+	defer f.mu.Unlock()
+	err := f.add(s)
+	for isFull(err) {
+		oldest := slices.IndexFunc(f.builds, func(b *build) bool { return b.name != Name(s.Ref) })
+		if oldest < 0 {
+			return err
+		}
+		if err := f.drop(oldest); err != nil {
+			return err
+		}
+		err = f.add(s)
+	}
+	return err
+}
+
+func isFull(err error) bool { return errors.Is(err, unix.ENOSPC) || errors.Is(err, unix.EDQUOT) }
+
+func (f *Folder) add(s Solved) error {
 	folder, err := os.MkdirTemp(f.path, unseen)
 	if err != nil {
 		return err
 	}
 	defer os.RemoveAll(folder)
-	f.mu.Lock()
-	defer f.mu.Unlock()
 	name := Name(s.Ref)
 	b, ok := f.solving[name]
 	if !ok {
@@ -294,12 +313,21 @@ func (f *Folder) shorten(except *build) error {
 			f.builds[0], f.builds[1] = f.builds[1], f.builds[0]
 			continue
 		}
-		if err := os.RemoveAll(filepath.Join(f.path, b.name)); err != nil {
+		if err := f.drop(0); err != nil {
 			return err
 		}
 		total -= b.bytes
-		f.builds = f.builds[1:]
-		delete(f.solving, b.name)
 	}
+	return nil
+}
+
+// drop removes a build.
+func (f *Folder) drop(i int) error {
+	b := f.builds[i]
+	if err := os.RemoveAll(filepath.Join(f.path, b.name)); err != nil {
+		return err
+	}
+	f.builds = slices.Delete(f.builds, i, i+1)
+	delete(f.solving, b.name)
 	return nil
 }

@@ -6,8 +6,11 @@ import (
 	"io"
 	"os"
 	"path/filepath"
+	"slices"
 	"strings"
 	"testing"
+
+	"golang.org/x/sys/unix"
 )
 
 func solved(ref, text string) Solved {
@@ -186,6 +189,40 @@ func TestABuildThatIsNotKeptWholeLeavesNothing(t *testing.T) {
 	}
 	if err := f.Add(solved("good", "second")); err != nil || read(t, path, "good/last/0.tree") != "second" || names(t, filepath.Join(path, "good")) != "1 2 last" {
 		t.Error(err, names(t, filepath.Join(path, "good")))
+	}
+}
+
+// On a full disk a build is kept in the place of the oldest ones, as many of them as it takes.
+func TestOldBuildsMakeRoomOnAFullDisk(t *testing.T) {
+	path := t.TempDir()
+	f := opened(t, path, 10, 1<<20)
+	for _, ref := range []string{"a", "b", "c"} {
+		if err := f.Add(solved(ref, "x")); err != nil {
+			t.Fatal(err)
+		}
+	}
+	fits := func(ref string, beside ...string) Solved {
+		return Solved{Ref: ref, Sources: []Source{{"context", func(io.Writer) error {
+			for _, name := range strings.Fields(names(t, path)) {
+				if !strings.HasPrefix(name, unseen) && !slices.Contains(beside, name) {
+					return &os.PathError{Op: "write", Path: path, Err: unix.ENOSPC}
+				}
+			}
+			return nil
+		}}}}
+	}
+	if err := f.Add(fits("d", "c")); err != nil || names(t, path) != "c d" {
+		t.Error(err, names(t, path))
+	}
+	if err := f.Add(fits("c", "c")); err != nil || names(t, path) != "c" || names(t, filepath.Join(path, "c")) != "1 2 last" {
+		t.Error(err, names(t, path))
+	}
+	if err := f.Add(fits("c")); !errors.Is(err, unix.ENOSPC) || names(t, path) != "c" {
+		t.Error(err, names(t, path))
+	}
+	// What was dropped does not count any more.
+	if err := f.Add(solved("e", "x")); err != nil || names(t, path) != "c e" {
+		t.Error(err, names(t, path))
 	}
 }
 

@@ -28,6 +28,7 @@ type writer struct {
 	graph    *graph.Graph
 	given    Trees // or nil
 	treeless bool  // whether no tree is looked at
+	most     int   // how many actions an op has at most
 	states   []state
 	ops      map[int]*pb.Op
 	rows     Rows
@@ -35,12 +36,12 @@ type writer struct {
 
 // Definition rewrites a definition, as far as that is possible without trees, or with those that are given. A definition that
 // llbm refuses is an error. One with bytes that BuildKit's library would not write stays as it is, since its fields are not
-// all known.
+// all known. An op may have more actions than llbm takes: Divide makes several of it.
 func Definition(ctx context.Context, def *pb.Definition, given Trees) (*pb.Definition, Rows, error) {
 	return rewrite(ctx, def, given, false)
 }
 
-// Treeless rewrites a definition as far as that is possible without looking at any tree, also at none that its ops make.
+// Treeless does the same as far as that is possible without looking at any tree, also at none that its ops make.
 func Treeless(ctx context.Context, def *pb.Definition) (*pb.Definition, Rows, error) {
 	return rewrite(ctx, def, nil, true)
 }
@@ -50,7 +51,7 @@ func rewrite(ctx context.Context, def *pb.Definition, given Trees, treeless bool
 	if err != nil || !g.Canonical {
 		return def, nil, err
 	}
-	w, err := written(ctx, def, &writer{graph: g, given: given, treeless: treeless})
+	w, err := written(ctx, def, &writer{graph: g, given: given, treeless: treeless, most: mostActions})
 	if err != nil {
 		return nil, nil, err
 	}
@@ -71,7 +72,7 @@ func Bytes(ctx context.Context, data []byte, given Trees) (new []byte, rows Rows
 	if err != nil {
 		return nil, nil, nil, err
 	}
-	w, err := written(ctx, def, &writer{graph: g, given: given})
+	w, err := written(ctx, def, &writer{graph: g, given: given, most: mostRecords})
 	if err != nil {
 		return nil, nil, nil, err
 	}
@@ -184,7 +185,7 @@ func (w *writer) file(ctx context.Context, v int) error {
 			return err
 		}
 	}
-	f := newFileOp(it.Op)
+	f := w.fileOp(it.Op)
 	f.known = w.someInputs(v)
 	f.treeless(ctx)
 	if err := ctx.Err(); err != nil {
@@ -197,10 +198,10 @@ func (w *writer) file(ctx context.Context, v int) error {
 	return nil
 }
 
-// setFile takes the new actions of a file op, if something was changed.
+// setFile takes the new actions of a file op, if something was changed, and if they are not too many.
 func (w *writer) setFile(v int, f *fileOp) {
 	it := &w.graph.Vertices[v]
-	if len(f.Changes) == 0 && isSame(f.sent, f.new) {
+	if len(f.Changes) == 0 && isSame(f.sent, f.new) || len(f.new) > w.most {
 		return
 	}
 	op := *it.Op

@@ -24,6 +24,7 @@ type Row struct {
 type fileOp struct {
 	Row
 	count int              // the op's inputs
+	most  int              // how many actions it has at most
 	sent  []*pb.FileAction // is not changed
 	new   []*pb.FileAction
 	place map[int]pb.InputIndex // the new result of each action as sent, as an input
@@ -35,6 +36,12 @@ type fileOp struct {
 
 func newFileOp(op *pb.Op) *fileOp {
 	return &fileOp{count: len(op.Inputs), sent: op.GetFile().GetActions(), place: map[int]pb.InputIndex{}}
+}
+
+func (w *writer) fileOp(op *pb.Op) *fileOp {
+	f := newFileOp(op)
+	f.most = w.most
+	return f
 }
 
 func (f *fileOp) change(number int, what string) {

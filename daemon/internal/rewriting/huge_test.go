@@ -18,7 +18,7 @@ func onto(action *pb.FileAction, base, second pb.InputIndex, output pb.OutputInd
 }
 
 // A tree that has itself twice, forty times, has more paths than fit anywhere. What differs at all of them is left as it is, as an
-// op has at most 1,024 actions.
+// op has a bound of actions.
 func TestATreeThatHasItselfManyTimesIsRewrittenAsFarAsItFits(t *testing.T) {
 	names := []string{"a", "b"}
 	made := []func([]*pb.Input) *pb.Op{func([]*pb.Input) *pb.Op {

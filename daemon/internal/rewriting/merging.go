@@ -99,7 +99,7 @@ func (w *writer) mergeByTrees(ctx context.Context, v int, inputs []trees) error 
 
 // bridgeFrom returns a cursor that begins with an input of a merge, and copies from all of them.
 func (w *writer) bridgeFrom(ctx context.Context, v, base int, inputs []trees) *cursor {
-	t := &treeWriter{fileOp: &fileOp{count: len(inputs), place: map[int]pb.InputIndex{}}, ctx: ctx}
+	t := &treeWriter{fileOp: &fileOp{count: len(inputs), most: w.most, place: map[int]pb.InputIndex{}}, ctx: ctx}
 	c := &cursor{treeWriter: t, number: -1, at: pb.InputIndex(base), compared: map[[2]*rules.Node]bool{}}
 	for index, one := range inputs {
 		t.pairs = append(t.pairs, pair{one.here, one.again.Tree()})

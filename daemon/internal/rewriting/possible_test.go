@@ -52,7 +52,7 @@ func TestEachRuleByWhichAnActionEndsOtherwiseIsPossible(t *testing.T) {
 			t.Fatal(err)
 		}
 		op := g.Vertices[2].Op
-		made, err := rules.Compare(ctx, op, op, nil, []*rules.Ref{rules.Based(trees[0]), rules.Based(trees[1])}, trees)
+		made, err := rules.Compare(ctx, op, op, nil, []*rules.Ref{rules.Based(trees[0]), rules.Based(trees[1])}, trees, nil)
 		if err != nil {
 			t.Fatal(err)
 		}

@@ -9,10 +9,10 @@ import (
 	"llbm/daemon/internal/rules"
 )
 
-// mostActions is how many actions an op of llbm has at most.
-const mostActions = 1024
+// mostActions is how many actions a rewritten op has at most, before it is divided.
+const mostActions = 4 * mostRecords
 
-var errTooMany = errors.New("an op has at most 1,024 actions")
+var errTooMany = errors.New("an op would have too many actions")
 
 // A pair has the tree of an input or a result: as llbm makes it, and as BuildKit makes it of the new actions.
 type pair struct{ here, again *rules.Node }
@@ -42,7 +42,7 @@ func (w *writer) fileByTrees(ctx context.Context, v int, inputs []trees) (bool, 
 	case err != nil:
 		return false, err
 	}
-	f := newFileOp(it.Op)
+	f := w.fileOp(it.Op)
 	if byLLBM, err := rules.FileOp(ctx, it.Op.GetFile(), here, rules.None); err != nil || !areEqual(byLLBM, outputs) {
 		if ctx.Err() != nil {
 			return false, ctx.Err()
@@ -94,7 +94,7 @@ func (w *writer) settle(ctx context.Context, v int, f *fileOp, here, outputs, ag
 // fail.
 func (w *writer) failFile(ctx context.Context, v int, here []*rules.Ref, fault *rules.ActionFails) error {
 	it := &w.graph.Vertices[v]
-	f := newFileOp(it.Op)
+	f := w.fileOp(it.Op)
 	f.treeless(ctx)
 	_, err := rules.FileOp(ctx, &pb.FileOp{Actions: f.new}, here, rules.None)
 	if ctx.Err() != nil {
@@ -140,7 +140,7 @@ func (t *treeWriter) all(left map[int]*rules.Node) bool {
 			return false
 		}
 	}
-	return len(t.new) <= mostActions
+	return len(t.new) <= t.most
 }
 
 // act adds actions that do what BuildKit does for an action: the same one, if both agree on it, or else one that is rewritten
@@ -201,7 +201,7 @@ func (c *cursor) isAt(wanted *rules.Node) bool {
 
 // do adds an action, unless it fails by one of both sets of rules.
 func (c *cursor) do(action *pb.FileAction, second pb.InputIndex) error {
-	if len(c.new) >= mostActions {
+	if len(c.new) >= c.most {
 		return errTooMany
 	}
 	base, from := c.pair(c.at), c.pair(second)

@@ -33,6 +33,8 @@ type Line struct {
 	Words string   `json:"words"`
 	Notes []string `json:"notes"`
 	More  int      `json:"more,omitempty"` // how many further paths have the same notes
+	// Contents are those of two files of which only a difference matters, as their trees have them.
+	Contents [][]byte `json:"contents,omitempty"`
 }
 
 // Follows are the words for a difference without a rule.
@@ -69,15 +71,15 @@ type Compared struct {
 
 // Compare does a vertex, which is no source and no execution, as it was sent and as it runs. Of a file op it is given which action
 // that was sent each one is, or is a part of, that runs; nil if they are the same. What runs is nil if nothing needs it, and
-// inputs are nil if they are not known.
-func Compare(ctx context.Context, sent, run *pb.Op, from []int, there []*Ref, here []*Node) (*Compared, error) {
+// inputs are nil if they are not known. What nobody sees, by how the outputs are read, is no step.
+func Compare(ctx context.Context, sent, run *pb.Op, from []int, there []*Ref, here []*Node, read []Reading) (*Compared, error) {
 	if run == nil {
 		run, here = sent, nil
 	}
 	if sent.GetMerge() != nil {
-		return compareMerges(ctx, sent.GetMerge(), run, there, here)
+		return compareMerges(ctx, sent.GetMerge(), run, there, here, ReadingOf(read, 0))
 	}
-	return compareFileOps(ctx, sent.GetFile(), run.GetFile(), from, there, here)
+	return compareFileOps(ctx, sent.GetFile(), run.GetFile(), from, there, here, read)
 }
 
 // failed returns which action failed, if one did.

@@ -19,14 +19,16 @@ type sideBySide struct {
 	inputsHere            []*Node
 	outputsThere          []*Ref
 	outputsHere           []*Node
-	outputsAgree          bool // then what an action makes otherwise is seen by nobody
+	read                  []Reading    // who reads the outputs
+	seen                  map[int]bool // the actions of which somebody sees what they make otherwise
+	leads                 map[int]bool // the actions on which an output depends that is read
 }
 
 // compareFileOps does a file op as it was sent, on the inputs in BuildKit, and as it runs, on those in llbm. For each action that
 // runs it is given which one of those that were sent it is, or is a part of; nil if the actions are the same. Inputs are nil if
 // they are not known.
-func compareFileOps(ctx context.Context, sent, run *pb.FileOp, from []int, there []*Ref, here []*Node) (*Compared, error) {
-	f := &sideBySide{ctx: ctx, sent: sent, from: from, parts: map[int][]int{}, inputsThere: there, inputsHere: here}
+func compareFileOps(ctx context.Context, sent, run *pb.FileOp, from []int, there []*Ref, here []*Node, read []Reading) (*Compared, error) {
+	f := &sideBySide{ctx: ctx, sent: sent, from: from, parts: map[int][]int{}, inputsThere: there, inputsHere: here, read: read}
 	for number := range run.Actions {
 		f.parts[f.sentAs(number)] = append(f.parts[f.sentAs(number)], number)
 	}
@@ -52,10 +54,19 @@ func compareFileOps(ctx context.Context, sent, run *pb.FileOp, from []int, there
 	if there == nil || here == nil {
 		return c, nil
 	}
-	ended := f.faultThere == nil && f.faultHere == nil && len(f.outputsThere) == len(f.outputsHere)
-	f.outputsAgree = ended && len(pairsOf(asTrees(f.outputsThere), f.outputsHere)) == 0
+	f.seen = leadingTo(sent.Actions, len(there), f.isSeen)
+	f.leads = leadingTo(sent.Actions, len(there), func(output int) bool { return ReadingOf(read, output) == Shown })
 	c.Steps, err = f.steps()
 	return c, err
+}
+
+// isSeen is whether somebody sees how an output differs. Where one of both failed, what was done before it counts.
+func (f *sideBySide) isSeen(output int) bool {
+	how := ReadingOf(f.read, output)
+	if f.faultThere != nil || f.faultHere != nil || len(f.outputsThere) != len(f.outputsHere) {
+		return how == Shown
+	}
+	return output >= len(f.outputsHere) || how.isSeen(pair{f.outputsThere[output].tree, f.outputsHere[output]})
 }
 
 // sentAs returns which action of the op as it was sent an action is a part of.
@@ -113,6 +124,9 @@ func (f *sideBySide) whole() ([]Step, error) {
 		if i < len(f.outputsHere) {
 			one.here = f.outputsHere[i]
 		}
+		if !f.isSeen(i) {
+			continue
+		}
 		s := &search{ctx: f.ctx, most: mostLines}
 		if err := s.below("", one, nil); err != nil {
 			return nil, err
@@ -146,22 +160,32 @@ func (f *sideBySide) action(number int) (Step, error) {
 	there := &one
 	switch {
 	case f.faultThere != nil && f.faultHere != nil:
+		if f.leavesNoRoot(number) {
+			s.Lines = []Line{lineOf("does not fail if what it leaves is not read (here it fails)", []Rule{RmRoot})}
+		}
 	case f.faultThere != nil && f.faultThere.Action == number:
 		s.Lines = []Line{f.lineOfFault("fails: "+f.faultThere.Error(), f.causesOfFault(number, here), number)}
 	case f.faultHere != nil && f.sentAs(f.faultHere.Action) == number && !isThere:
 		s.Lines = []Line{lineOf("is not done (here it fails)", []Rule{UnusedAction})}
 	case f.faultHere != nil && f.sentAs(f.faultHere.Action) == number:
 		s.Lines = []Line{f.lineOfFault(wordsOfFault(f.faultHere), f.causesOf(number, there, here).ofFault(), number)}
-	case isThere && here != nil && !f.outputsAgree:
+	case isThere && here != nil && f.seen[number]:
 		var err error
 		if s, err = f.trees(number, there, here); err != nil {
 			return s, err
 		}
 	}
-	if isThere && f.writesLinked(number, there.base) {
+	if isThere && f.leads[number] && f.writesLinked(number, there.base) {
 		s.Lines = append(s.Lines, Line{Words: "writes a file that has other names in its source", Notes: []string{HardLinks}})
 	}
 	return s, f.ctx.Err()
+}
+
+// leavesNoRoot is whether BuildKit's daemon fails at an action only as it reads the action's output, which nobody does.
+func (f *sideBySide) leavesNoRoot(number int) bool {
+	output := f.sent.Actions[number].Output
+	isOnlyOutput := output != nothing && f.there.uses[len(f.inputsThere)+number] == 0
+	return f.faultThere.Action == number && f.faultThere.Err == errNoRoot && isOnlyOutput && ReadingOf(f.read, int(output)) == Unread
 }
 
 // trees returns the lines of an action that ends well in both.

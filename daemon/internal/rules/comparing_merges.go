@@ -23,7 +23,7 @@ func mergedHere(ctx context.Context, run *pb.Op, here []*Node) ([]*Node, error) 
 }
 
 // compareMerges does a merge.
-func compareMerges(ctx context.Context, sent *pb.MergeOp, run *pb.Op, there []*Ref, here []*Node) (c *Compared, err error) {
+func compareMerges(ctx context.Context, sent *pb.MergeOp, run *pb.Op, there []*Ref, here []*Node, read Reading) (c *Compared, err error) {
 	c = &Compared{}
 	if here != nil {
 		if c.Here, err = mergedHere(ctx, run, here); err != nil {
@@ -42,9 +42,10 @@ func compareMerges(ctx context.Context, sent *pb.MergeOp, run *pb.Op, there []*R
 	} else {
 		c.Fails = fault.Error()
 	}
-	if here != nil && (c.There != nil || c.Here != nil) {
-		c.Steps, err = stepsOfMerge(ctx, sent, c, there, here)
+	if here == nil || c.There == nil && c.Here == nil || c.There != nil && c.Here != nil && !read.isSeen(pair{c.There[0].tree, c.Here[0]}) {
+		return c, nil
 	}
+	c.Steps, err = stepsOfMerge(ctx, sent, c, there, here)
 	return c, err
 }
 

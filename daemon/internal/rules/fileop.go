@@ -18,6 +18,9 @@ type ActionFails struct {
 
 func (f *ActionFails) Error() string { return f.Err.Error() }
 
+// errNoRoot is that an output has no root, as an action removed it. BuildKit's daemon fails as it reads such an output.
+var errNoRoot = fails("the root is removed")
+
 // An outcome is what an action left. Of a copy it has, by the path of what was put into the tree as it is, where it was.
 type outcome struct {
 	tree    *Node
@@ -150,7 +153,7 @@ func (f *fileOp) do(ctx context.Context, number int) error {
 	if action.Output != nothing || f.uses[len(f.inputs)+number] > 1 {
 		if left.tree == nil {
 			f.failed = &step{base: base.tree, second: second}
-			return fails("the root is removed")
+			return errNoRoot
 		}
 		made.ref = On(made.base, left.tree)
 	}

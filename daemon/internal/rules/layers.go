@@ -8,6 +8,8 @@ type Ref struct {
 	base    *Ref
 	change  *change // of all its layers, once a merge has asked for it
 	isKnown bool
+	// replaced are the files in its layers that BuildKit takes for those before them.
+	replaced []Replaced
 }
 
 // Tree returns the ref's tree.
@@ -17,7 +19,13 @@ func (r *Ref) Tree() *Node { return r.tree }
 func Based(t *Node) *Ref { return &Ref{tree: t} }
 
 // On returns a tree that is a change of another one, or of nothing.
-func On(base *Ref, t *Node) *Ref { return &Ref{tree: t, base: base} }
+func On(base *Ref, t *Node) *Ref {
+	one := &Ref{tree: t, base: base}
+	if base != nil {
+		one.replaced = base.replaced
+	}
+	return one
+}
 
 // layers returns the change that all layers of a ref make of a tree that they are laid over.
 func (r *Ref) layers() *change {

@@ -43,11 +43,11 @@ func mkfile(given *pb.FileActionMkFile, base *Node, like Rules) (*Node, error) {
 	if err := checkParents(base, path); err != nil {
 		return nil, err
 	}
-	one := entry{mode: modeOfMade(given.Mode, like), content: contentOf(string(given.Data))}
+	one := entry{mode: modeOfMade(given.Mode, like), content: contentOf(string(given.Data)), time: Time{int64(len(given.Data)), max(0, given.Timestamp)}}
 	by := ownerOf(given.Owner, like)
 	switch {
 	case old != nil && like.Has(MkfileOver):
-		one = writtenOver(old.entry, given.Owner, one.content, like)
+		one = writtenOver(old.entry, given.Owner, one, like)
 	case old != nil:
 		by.of(&one, [2]uint32{}, [2]uint32{}, like)
 	default:

@@ -24,6 +24,7 @@ type entry struct {
 	linked            bool // of a file: whether its source has other names for it
 	mode, user, group uint32
 	content           content // of a file
+	time              Time    // the same, where it is known; equal nodes may have others
 }
 
 // A Node is an entry with all that is below it. No node is changed once it is made, and trees share nodes. No node is a tree
@@ -226,12 +227,12 @@ func Of(t tree.Tree) *Node {
 
 // Read reads the text of a tree. Where it has the same as another tree at the same place, the two share it.
 func Read(ctx context.Context, text io.Reader, near *Node) (*Node, error) {
-	return ReadLinked(ctx, text, near, nil)
+	return ReadSource(ctx, text, near, nil, nil)
 }
 
-// ReadLinked does the same for a tree of which some files have other names.
-func ReadLinked(ctx context.Context, text io.Reader, near *Node, linked []string) (*Node, error) {
-	b := builder{near: near, linked: map[string]bool{}}
+// ReadSource does the same for a tree of which some files have other names, and the times of some are known.
+func ReadSource(ctx context.Context, text io.Reader, near *Node, linked []string, times map[string]Time) (*Node, error) {
+	b := builder{near: near, linked: map[string]bool{}, times: times}
 	for _, path := range linked {
 		b.linked[paths.Clean(path)] = true
 	}

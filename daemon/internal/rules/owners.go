@@ -96,9 +96,9 @@ func made(one, in entry, by owner, like Rules) entry {
 
 // writtenOver returns the entry of a file that replaces another one. Rule MkfileOver: it keeps its mode, and its owner unless
 // the action has one; a change of the owner clears the set-id bits.
-func writtenOver(old entry, given *pb.ChownOpt, content content, like Rules) entry {
+func writtenOver(old entry, given *pb.ChownOpt, new entry, like Rules) entry {
 	one := old
-	one.content = content
+	one.content, one.time = new.content, new.time
 	if given != nil {
 		one.mode &^= setUser
 		if one.mode&groupExecutes != 0 {

@@ -16,6 +16,7 @@ import (
 type builder struct {
 	near   *Node           // a tree that may have the same
 	linked map[string]bool // the files that have other names
+	times  map[string]Time // of some files
 	open   []*building     // the directories that lead to the next entry
 	last   string
 }
@@ -32,7 +33,7 @@ type building struct {
 func (b *builder) entryOf(e *tree.Entry) entry {
 	one := entry{dir: e.Dir, mode: e.Mode, user: e.UID, group: e.GID}
 	if !e.Dir {
-		one.content, one.linked = contentOf(string(e.Content)), b.linked[e.Path]
+		one.content, one.linked, one.time = contentOf(string(e.Content)), b.linked[e.Path], b.times[e.Path]
 	}
 	return one
 }

@@ -1,8 +1,12 @@
 package server
 
 import (
+	"fmt"
+	"os"
+	"path/filepath"
 	"strings"
 	"testing"
+	"time"
 
 	"github.com/moby/buildkit/client"
 	"github.com/moby/buildkit/client/llb"
@@ -103,6 +107,48 @@ func TestAStrictBuildFailsWhereBuildKitEndsOtherwise(t *testing.T) {
 		_, err := one.daemon.solved(t, one.state, one.given)
 		if (err != nil) != (one.want != "") || err != nil && !strings.Contains(err.Error(), one.want) {
 			t.Errorf("%s: %v", name, err)
+		}
+	}
+}
+
+// An op of which llbm would have to do more actions than it takes becomes several, and the client's own actions are named.
+func TestAnOpThatBecomesManyActionsIsDivided(t *testing.T) {
+	const files = 520
+	name := func(i int) string { return fmt.Sprintf("/f%03d", i) }
+	first, second := llb.Mkfile(name(0), 0o604, []byte("1")), llb.Mkfile(name(0), 0o755, []byte("2"))
+	want := ""
+	for i := range files {
+		if i > 0 {
+			first, second = first.Mkfile(name(i), 0o604, []byte("1")), second.Mkfile(name(i), 0o755, []byte("2"))
+		}
+		want += fmt.Sprintf("0604 0:0 %s \"2\"\n", name(i)[1:])
+	}
+	d := started(t, func(o *Options) { o.Strict = true })
+	over := llb.Scratch().File(first).File(second)
+	if got, err := d.solved(t, over, client.SolveOpt{}); err != nil || got != want {
+		t.Errorf("%.100q: %v", got, err)
+	}
+	_, err := d.solved(t, llb.Scratch().File(first).File(second.Rm("/missing")), client.SolveOpt{})
+	if want := fmt.Sprintf("action %d fault 21 NotFound", files); err == nil || !strings.Contains(err.Error(), want) {
+		t.Errorf("%v, not %q", err, want)
+	}
+}
+
+// To BuildKit a file of the same size, mode, owner and time is not changed, so a merge can have the one before it.
+func TestAMergeThatCanHaveAnOldFileIsAWarning(t *testing.T) {
+	root := directory(t, map[string]string{"a": "1", "b": "2", "c": "1"})
+	for name, at := range map[string]time.Time{"a": time.Unix(1e9, 7), "b": time.Unix(1e9, 7), "c": time.Unix(1e9, 7)} {
+		if err := os.Chtimes(filepath.Join(root, name), at, at); err != nil {
+			t.Fatal(err)
+		}
+	}
+	d := started(t, nil)
+	source, other := llb.Local("src"), llb.Scratch().File(llb.Mkfile("/z", 0o644, nil))
+	for from, want := range map[string]string{"/b": "/a can be the file that was there before, which has its size and time: SameTime", "/c": ""} {
+		state := llb.Merge([]llb.State{other, source.File(llb.Copy(source, from, "/a"))})
+		got, err := d.warnings(t, state, client.SolveOpt{LocalDirs: map[string]string{"src": root}})
+		if err != nil || got != want {
+			t.Errorf("%s: %q, not %q: %v", from, got, want, err)
 		}
 	}
 }

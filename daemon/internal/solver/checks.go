@@ -30,25 +30,33 @@ func (s *Solver) checks(ctx context.Context) *checks {
 	return c
 }
 
-// load reads the graph of a definition, and lets llbm show it, which may end later. The two have to be the same.
-func (c *checks) load(def, sent *pb.Definition) (*graph.Graph, error) {
+// load reads the graph of a definition, and lets llbm show it, which may end later. The two have to be the same. Further entries of a
+// definition that was rewritten are parts of some rows.
+func (c *checks) load(def, sent *pb.Definition, parts ...int) (*graph.Graph, error) {
 	entries, err := graph.Entries(def)
 	if err != nil {
 		return nil, err
 	}
-	if len(entries) > mostUnseen {
-		shown, err := c.solver.show(c.ctx, entries)
-		if err != nil {
-			return nil, graph.WrapRow(sent, err, c.solver.said)
+	show := func() (string, error) {
+		shown, refused := c.solver.show(c.ctx, entries)
+		if refused != nil && len(parts) == 0 {
+			refused = graph.WrapRow(sent, refused, c.solver.said)
 		}
-		g, err := graph.Read(def, sent)
+		return shown, refused
+	}
+	if len(entries) > mostUnseen {
+		shown, err := show()
+		if err != nil {
+			return nil, err
+		}
+		g, err := graph.Read(def, sent, parts...)
 		return g, compared(g, err, shown)
 	}
-	g, err := graph.Read(def, sent)
+	g, err := graph.Read(def, sent, parts...)
 	c.group.Go(func() error {
-		shown, refused := c.solver.show(c.ctx, entries)
+		shown, refused := show()
 		if refused != nil {
-			return graph.WrapRow(sent, refused, c.solver.said)
+			return refused
 		}
 		return compared(g, err, shown)
 	})

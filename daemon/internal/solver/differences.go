@@ -13,6 +13,7 @@ import (
 	"google.golang.org/grpc/codes"
 	"google.golang.org/grpc/status"
 	"llbm/daemon/internal/comparison"
+	"llbm/daemon/internal/contents"
 	"llbm/daemon/internal/graph"
 	"llbm/daemon/internal/machine"
 	"llbm/daemon/internal/rules"
@@ -41,7 +42,8 @@ type comparing struct {
 	done   chan struct{} // is closed when nothing more is said
 	why    string        // why not all was compared
 	files  []*os.File
-	left   int // how many bytes of outputs may still be read
+	table  *contents.Table // of the sources' texts
+	left   int             // how many bytes of outputs may still be read
 	strict bool
 	// refusal is why the build fails, if it is strict: the first way in which BuildKit ends otherwise.
 	refusal error
@@ -61,9 +63,11 @@ func isCompared(g *graph.Graph) bool {
 // compare begins a comparison of a definition, which is rewritten if that is asked for. Its caller has to stop it before the texts
 // are closed. A build without a file op and without a merge has none.
 func (s *Solver) compare(
-	ctx context.Context, def *pb.Definition, g *graph.Graph, in *inputs, texts []machine.Source, rewrites bool, p *progress,
+	ctx context.Context, def *pb.Definition, g *graph.Graph, in *inputs, texts texts, rewrites bool, p *progress,
 ) *comparing {
-	c := &comparing{p: p, g: g, run: make(chan *comparison.Run, 1), asked: make(chan *comparison.Question), done: make(chan struct{}), left: mostAside}
+	c := &comparing{
+		p: p, g: g, table: texts.table, run: make(chan *comparison.Run, 1), asked: make(chan *comparison.Question), done: make(chan struct{}), left: mostAside,
+	}
 	c.ctx, c.cancel = context.WithCancel(ctx)
 	c.strict = s.Strict || p.b.Strict
 	c.static(def)
@@ -84,7 +88,7 @@ func (s *Solver) compare(
 var errNoRules = errors.New("the program llbm-rules is missing: tools/daemon builds it beside llbmd")
 
 // begin starts the child, and says what it has to compare.
-func (s *Solver) begin(c *comparing, def *pb.Definition, in *inputs, texts []machine.Source, rewrites bool) error {
+func (s *Solver) begin(c *comparing, def *pb.Definition, in *inputs, texts texts, rewrites bool) error {
 	if s.Rules == nil {
 		return errNoRules
 	}
@@ -111,9 +115,10 @@ func (s *Solver) begin(c *comparing, def *pb.Definition, in *inputs, texts []mac
 	}
 	c.talk = comparison.NewTalk(c.child, c.child.In)
 	request := &comparison.Request{Sent: file, Rewrite: rewrites, Received: true, Paths: mostDetails, Vertices: map[int]string{}, Links: map[int][]string{}}
+	request.Times = timesOf(c.g, in)
 	for i, one := range in.all {
 		for _, v := range one.vertices {
-			request.Vertices[v] = machine.PathOf(texts[i].Text)
+			request.Vertices[v] = machine.PathOf(texts.sources[i].Text)
 			if linked := slices.Concat(one.manifest.HardLinks()...); len(linked) > 0 {
 				request.Links[v] = linked
 			}
@@ -260,16 +265,17 @@ func (c *comparing) conclude() {
 // answer tells the child what an execution made.
 func (c *comparing) answer(run *machine.Run, g *graph.Graph, question *comparison.Question) error {
 	reply := &comparison.Reply{Vertex: question.Vertex, Outputs: []string{}}
-	if question.Vertex < 0 || question.Vertex >= len(g.Vertices) {
-		return fmt.Errorf("there is no vertex %d", question.Vertex)
+	v, ok := g.Find(question.Row)
+	if !ok {
+		return fmt.Errorf("there is no vertex of entry %d", question.Row)
 	}
 	c.close() // the child has read them
-	for index := range rules.Outputs(g.Vertices[question.Vertex].Op.GetExec()) {
+	for index := range rules.Outputs(g.Vertices[v].Op.GetExec()) {
 		path, err := c.file("output", nil)
 		if err != nil {
 			return err
 		}
-		size, err := run.Aside(question.Vertex, index, len(g.Vertices), c.left, c.files[len(c.files)-1])
+		size, err := run.Aside(v, index, len(g.Vertices), c.left, c.files[len(c.files)-1])
 		if err != nil {
 			return err
 		}
@@ -289,6 +295,9 @@ func (c *comparing) show(s *comparison.Step) {
 	var order []string
 	groups := map[string][]rules.Line{}
 	for _, line := range s.Lines {
+		if len(line.Contents) > 0 && haveOneContent(c.table, line.Contents) {
+			continue
+		}
 		key := strings.Join(line.Notes, " ")
 		if len(line.Notes) > 0 && groups[key] == nil {
 			order = append(order, key)

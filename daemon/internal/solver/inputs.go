@@ -239,14 +239,25 @@ func (in *inputs) rename(def *pb.Definition) (*pb.Definition, error) {
 	})
 }
 
-// texts writes the texts of all sources: by reference, or by value where the plan needs the contents themselves. The
-// table is that of the result; it is nil if there are no tokens.
-func (in *inputs) texts(g *graph.Graph) ([]machine.Source, *contents.Table, error) {
+// texts are the texts of all sources. The table is that of the result; it is nil if there are no tokens.
+type texts struct {
+	sources []machine.Source
+	table   *contents.Table
+}
+
+func (t *texts) close() {
+	for _, text := range t.sources {
+		_ = text.Text.Close()
+	}
+}
+
+// texts writes the texts of all sources: by reference, or by value where the plan needs the contents themselves.
+func (in *inputs) texts(g *graph.Graph) (texts, error) {
 	p := plan.Of(g.Vertices)
 	all := p.All || !g.Canonical
 	if !all {
 		table := contents.NewTable()
-		texts, err := in.write(func(one *input, to io.Writer) error {
+		written, err := in.write(func(one *input, to io.Writer) error {
 			for _, v := range one.vertices {
 				if p.Vertices[v] {
 					return writeValue(one, to, true)
@@ -260,15 +271,13 @@ func (in *inputs) texts(g *graph.Graph) ([]machine.Source, *contents.Table, erro
 				table.Close()
 				table = nil
 			}
-			return texts, table, err
+			return texts{written, table}, err
 		}
-		for _, text := range texts {
-			_ = text.Text.Close()
-		}
+		(&texts{sources: written}).close()
 		table.Close()
 	}
-	texts, err := in.write(func(one *input, to io.Writer) error { return writeValue(one, to, false) })
-	return texts, nil, err
+	written, err := in.write(func(one *input, to io.Writer) error { return writeValue(one, to, false) })
+	return texts{sources: written}, err
 }
 
 // given returns the texts of the sources that a graph needs, which may be fewer than were gathered.

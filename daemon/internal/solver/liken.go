@@ -35,11 +35,11 @@ func (s *Solver) liken(
 	if s.Literal || !g.Canonical {
 		return def, g, nil
 	}
-	made, rows, err := c.definition(checks.ctx, def)
+	made, rows, parts, err := c.definition(checks.ctx, def)
 	if err != nil || made == def {
 		return def, g, err
 	}
-	if g, err = checks.load(made, sent); err != nil {
+	if g, err = checks.load(made, sent, parts...); err != nil {
 		return nil, nil, err
 	}
 	p.change(g)
@@ -47,21 +47,26 @@ func (s *Solver) liken(
 	return made, g, nil
 }
 
-// definition returns what the comparison rewrote, or what can be rewritten without it.
-func (c *comparing) definition(ctx context.Context, def *pb.Definition) (*pb.Definition, rewriting.Rows, error) {
+// definition returns what the comparison rewrote, or what can be rewritten without it, and of which row each further entry is a part.
+func (c *comparing) definition(ctx context.Context, def *pb.Definition) (*pb.Definition, rewriting.Rows, []int, error) {
 	run := c.rewritten()
 	if run == nil {
 		if err := ctx.Err(); err != nil {
-			return nil, nil, status.FromContextError(err).Err()
+			return nil, nil, nil, status.FromContextError(err).Err()
 		}
-		return rewriting.Treeless(ctx, def)
+		made, rows, err := rewriting.Treeless(ctx, def)
+		if err != nil {
+			return nil, nil, nil, err
+		}
+		made, parts, _, err := rewriting.Divide(made, rows)
+		return made, rows, parts, err
 	}
 	if len(run.Rows) == 0 {
-		return def, nil, nil
+		return def, nil, nil, nil
 	}
 	made := &pb.Definition{}
-	if err := made.Unmarshal(run.Definition); err != nil || len(made.Def) != len(def.Def) {
-		return nil, nil, status.Errorf(codes.Internal, "the rewritten definition can't be read: %v", err)
+	if err := made.Unmarshal(run.Definition); err != nil || len(made.Def) != len(def.Def)+len(run.Parts) {
+		return nil, nil, nil, status.Errorf(codes.Internal, "the rewritten definition can't be read: %v", err)
 	}
-	return made, run.Rows, nil
+	return made, run.Rows, run.Parts, nil
 }

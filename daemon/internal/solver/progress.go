@@ -54,8 +54,9 @@ func (p *progress) change(g *graph.Graph) {
 
 // action returns the number that an action of a vertex had before the definition was rewritten.
 func (p *progress) action(v, place int) int {
-	if row := p.rows[p.g.Vertices[v].Row]; row != nil && place < len(row.Actions) {
-		return row.Actions[place]
+	row, at := p.rows[p.g.Vertices[v].Row], p.g.Vertices[v].Before+place
+	if row != nil && at < len(row.Actions) {
+		return row.Actions[at]
 	}
 	return place
 }
@@ -91,7 +92,7 @@ func (p *progress) event(e machine.Event) (int, bool) {
 	switch e.Kind {
 	case machine.Claim:
 		p.running[e.Worker] = e.Vertex
-		p.start(e.Vertex)
+		p.start(p.g.Vertices[e.Vertex].Whole)
 	case machine.Step:
 		if e.Ran != nil {
 			p.command(v, e.Ran)
@@ -128,9 +129,10 @@ func (p *progress) log(v int, stream int64, line string) {
 	}}})
 }
 
+// settled shows that a vertex is done. Of parts of an op the last one shows it.
 func (p *progress) settled(v int) {
 	d := p.g.Vertices[v].Digest
-	if p.shown.Has(d) {
+	if p.shown.Has(d) || p.g.Vertices[v].Whole != v {
 		return
 	}
 	now, it := time.Now(), p.vertex(v)
@@ -143,6 +145,7 @@ func (p *progress) settled(v int) {
 func (p *progress) failed(v int, err error) error {
 	p.mu.Lock()
 	defer p.mu.Unlock()
+	v = p.g.Vertices[v].Whole
 	p.start(v)
 	now, it := time.Now(), p.vertex(v)
 	it.Completed, it.Error = &now, messages.Of(err)

@@ -140,27 +140,28 @@ func (s *Solver) work(c *checks, b *builds.Build, def, sent *pb.Definition, from
 	if def, g, err = in.named(def, sent, g, p); err != nil {
 		return nil, err
 	}
-	texts, table, err := in.texts(g)
-	defer func() {
-		for _, text := range texts {
-			_ = text.Text.Close()
-		}
-	}()
+	return s.onTexts(c, b, def, sent, g, in, p)
+}
+
+// onTexts runs a definition on the texts of its sources, and returns the result with its contents.
+func (s *Solver) onTexts(c *checks, b *builds.Build, def, sent *pb.Definition, g *graph.Graph, in *inputs, p *progress) (*results.Result, error) {
+	texts, err := in.texts(g)
+	defer texts.close()
 	if err != nil {
 		return nil, err
 	}
 	result, err := s.run(c, b, def, sent, g, in, texts, p)
 	if err != nil {
-		table.Close()
+		texts.table.Close()
 		return nil, err
 	}
-	result.Contents = table
+	result.Contents = texts.table
 	return result, nil
 }
 
 // run runs a definition in a session of llbm, and returns the result's tree. What BuildKit would make is compared beside it.
 func (s *Solver) run(
-	checks *checks, b *builds.Build, def, sent *pb.Definition, g *graph.Graph, in *inputs, texts []machine.Source, p *progress,
+	checks *checks, b *builds.Build, def, sent *pb.Definition, g *graph.Graph, in *inputs, texts texts, p *progress,
 ) (*results.Result, error) {
 	c := s.compare(checks.ctx, def, g, in, texts, s.rewrites(g, p), p)
 	defer c.stop()
@@ -169,7 +170,7 @@ func (s *Solver) run(
 		return nil, err
 	}
 	p.sent = sent
-	result, record, err := s.session(checks.ctx, b, g, def, in.given(g, texts), p, c)
+	result, record, err := s.session(checks.ctx, b, g, def, in.given(g, texts.sources), p, c)
 	if s.Kept != nil {
 		s.keep(b, def, record, in, err)
 	}
