@@ -106,6 +106,7 @@ func TestARemovedRootThatNobodyReadsIsSaid(t *testing.T) {
 func TestAFileOfTheSameSizeAndTimeIsSaidAtAMerge(t *testing.T) {
 	const second = 1_000_000_000
 	same := rules.Time{Size: 1, At: 5*second + 7}
+	whole := rules.Time{Size: 1, At: 5 * second}
 	replaced := func(d *definition, s int) int { return d.add(t, file(2, copied(1, "/b", "/a")), s, s) }
 	merged := func(d *definition, a int) int {
 		return d.add(t, merge(2), d.add(t, file(0, on(mkfile("/z", 0o644, ""), -1, 0))), a)
@@ -121,7 +122,10 @@ func TestAFileOfTheSameSizeAndTimeIsSaidAtAMerge(t *testing.T) {
 		"no times":      {nil, func(d *definition, s int) int { return merged(d, replaced(d, s)) }, ""},
 		"other times":   {map[string]rules.Time{"a": same, "b": {Size: 1, At: same.At + 1}}, func(d *definition, s int) int { return merged(d, replaced(d, s)) }, ""},
 		"other sizes":   {map[string]rules.Time{"a": same, "b": {Size: 2, At: same.At}}, func(d *definition, s int) int { return merged(d, replaced(d, s)) }, ""},
-		"whole seconds": {map[string]rules.Time{"a": {Size: 1, At: second}, "b": {Size: 1, At: second}}, func(d *definition, s int) int { return merged(d, replaced(d, s)) }, ""},
+		"whole seconds": {map[string]rules.Time{"a": whole, "b": whole}, func(d *definition, s int) int { return merged(d, replaced(d, s)) }, ""},
+		"a merge of one": {map[string]rules.Time{"a": same, "b": same}, func(d *definition, s int) int {
+			return d.add(t, merge(1), replaced(d, s))
+		}, ""},
 		"replaced in an op": {map[string]rules.Time{"a": same, "b": same}, func(d *definition, s int) int {
 			return merged(d, d.add(t, file(1, onto(copied(0, "/a", "/f"), -1), copied(0, "/b", "/f")), s))
 		}, ""},

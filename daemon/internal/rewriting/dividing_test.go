@@ -80,7 +80,8 @@ func TestAnOpOfTooManyActionsIsDivided(t *testing.T) {
 		t.Fatal(err)
 	}
 	v, ok := g.Find(1)
-	if first := g.Vertices[v].Inputs[0]; !ok || v != g.Result || g.Vertices[first].Whole != v || g.Vertices[first].Row != 1 || g.Vertices[v].Before != mostRecords {
+	first := g.Vertices[g.Vertices[v].Inputs[0]]
+	if !ok || v != g.Result || first.Whole != v || first.Row != 1 || g.Vertices[v].Before != mostRecords {
 		t.Errorf("%+v", g.Vertices)
 	}
 	if want, got := run(t, def, given, rules.All), run(t, divided, given, rules.None); !isSameResult(want, got) {
