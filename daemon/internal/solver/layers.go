@@ -136,10 +136,7 @@ func (s *Solver) treeAt(run *machine.Run, p *progress, seen map[place]tree.Tree,
 		return t, nil
 	}
 	t := tree.Empty()
-	for v := range p.g.Vertices {
-		if p.g.Vertices[v].Row != at.row {
-			continue
-		}
+	if v, ok := p.g.Find(at.row); ok {
 		var err error
 		if t, err = run.Tree(v, at.output); err != nil {
 			return nil, err
