@@ -49,7 +49,7 @@ from llbm_tools.counts import Counts, total
 from llbm_tools.installing import installation
 from llbm_tools.page import browser, module_cases, wasm
 from llbm_tools.paths import ROOT
-from llbm_tools.repository import checks, minutes, parts
+from llbm_tools.repository import checks, minutes, parts, test
 from llbm_tools.repository.parts import Part
 
 PROGRAMS = [ROOT / "crates" / "llbm" / "out" / name for name in ("llbm", "llbm.by-rattle")]
@@ -63,6 +63,8 @@ CASES = 8000
 FEWER = 500
 # How many random definitions of each kind, and Dockerfiles, are built by BuildKit's daemon and by llbmd.
 BESIDE = 20
+# Tests of the tools that compile a program of their own.
+COMPILES = ("compiling.losing",)
 JOBS = "RT_JOBS"
 PROOFS = ["rt", "ci"]
 
@@ -73,7 +75,7 @@ NOT_DONE = (
     "the proved library (tools/library)"
 )
 TOO_LONG = ", and the tests of 65,535 vertices and of 64 workers (llb_examples) if they did not end in 60 seconds"
-LATER = (*TESTED, "library", "bindings", LIMITS, "suite", "tools/against-buildkit", "tools/page-tests", "pages")
+LATER = (*TESTED, "library", "bindings", *COMPILES, LIMITS, "suite", "against-buildkit", "page-tests", "pages")
 LEFT = (
     "with --more: the tests of the crates (llb_examples, llb_refusals, llbm), the library without proof and its "
     "bindings, the transcripts of tests/limits, BuildKit's tests and its daemon (tools/against-buildkit), the page "
@@ -157,7 +159,7 @@ def parts_that_are_quick(cases: int, seed: str) -> Iterator[Part]:
     folders = sorted(f"tests/{place.name}" for place in (ROOT / "tests").iterdir())
     yield tool("transcripts", "--unproved", "--llbm", program, *(name for name in folders if name != LIMITS), *EXAMPLES)
     yield tool("daemon-tests", "--llbm", program, *only("build", "format", "vet", "go"))
-    yield tool("test", "--llbm", program)
+    yield tool("test", "--llbm", program, *(name for name in test.MODULES if name not in COMPILES))
     yield tool("fuzz", "--cases", str(cases), "--llbm", program, "--seed", seed)
 
 
@@ -166,6 +168,7 @@ def parts_with_more() -> Iterator[Part]:
     program = str(paths.UNPROVED)
     yield tool("library", "--unproved")
     yield tool("bindings", str(library.UNPROVED), "--llbm", program)
+    yield tool("test", "--llbm", program, *COMPILES)
     yield tool("transcripts", "--unproved", "--llbm", program, LIMITS)
     yield tool("daemon-tests", "--llbm", program, *only("suite"))
     yield tool("against-buildkit", "--start", "--count", str(BESIDE), "--llbm", program)

@@ -19,6 +19,7 @@ import argparse
 import collections
 import io
 import multiprocessing
+import multiprocessing.pool
 import os
 import random
 import shutil
@@ -200,9 +201,13 @@ def counts_of(result: unittest.TestResult) -> Counts:
     return Counts(max(0, result.testsRun - len(wrong) - len(skipped)), len(wrong), len(skipped))
 
 
-def end_at_once() -> None:
-    """Lets SIGTERM end a process that runs tests."""
-    signal.signal(signal.SIGTERM, signal.SIG_DFL)
+def pool_of(jobs: int) -> multiprocessing.pool.Pool:
+    """Starts the processes that run tests, which SIGTERM ends from their start on."""
+    handler = signal.signal(signal.SIGTERM, signal.SIG_DFL)
+    try:
+        return multiprocessing.get_context("fork").Pool(jobs)
+    finally:
+        signal.signal(signal.SIGTERM, handler)
 
 
 def run_groups(jobs: int) -> Iterator[GroupResult]:
@@ -210,7 +215,7 @@ def run_groups(jobs: int) -> Iterator[GroupResult]:
     if jobs == 1:
         yield from map(run_group, range(len(groups)))
         return
-    with multiprocessing.get_context("fork").Pool(jobs, end_at_once) as pool:
+    with pool_of(jobs) as pool:
         yield from pool.imap_unordered(run_group, range(len(groups)))
 
 

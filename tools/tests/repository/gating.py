@@ -190,10 +190,10 @@ class Gate(base.WithPrograms):
         _, quick, lines = self.run_quick()
         self.assertTrue(lines[0].startswith("not done: proofs, "))
         self.assertTrue(lines[1].startswith("with --more: "))
-        self.assertEqual(lines[2], f"{2 * len(quick)} passed, 0 failed, 13 skipped")
+        self.assertEqual(lines[2], f"{2 * len(quick)} passed, 0 failed, 14 skipped")
         _, more, lines = self.run_quick("--more")
         self.assertEqual(quick, [part for part in more if part in quick])
-        self.assertEqual(len(more) - len(quick), 10)
+        self.assertEqual(len(more) - len(quick), 11)
         self.assertEqual(lines[1:], [f"{2 * len(more)} passed, 0 failed, 3 skipped"])
 
     def run_main(self, *words, whole=()):
