@@ -301,8 +301,8 @@ def main() -> int:
     """Runs the tool, and returns its exit status."""
     options = parse_options()
     os.umask(0o022)
-    # SIGINT is ignored in what a shell starts in the background, and SIGHUP below `nohup`; so they would be in the tools
-    # that tests interrupt.
+    # SIGINT is ignored in what a shell starts in the background, and SIGHUP below `nohup`; so they would be in the
+    # tools that tests interrupt.
     for number in (signal.SIGTERM, signal.SIGINT):
         signal.signal(number, signal.default_int_handler)
     if signal.getsignal(signal.SIGHUP) == signal.SIG_IGN:
