@@ -1,7 +1,7 @@
 """The folders that a build makes and removes, and those that a build left which was killed.
 
-A folder gets the name that a build's folders have once it is locked; the kernel ends the lock with the last process that
-holds it, however that ends. So a folder of this name that can be locked is used by nobody.
+A folder gets the name that a build's folders have once it is locked; the kernel ends the lock with the last process
+that holds it, however that ends. So a folder of this name that can be locked is used by nobody.
 """
 
 import contextlib

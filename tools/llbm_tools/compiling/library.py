@@ -117,7 +117,8 @@ def make(options: argparse.Namespace) -> int:
 def main() -> int:
     """Runs the tool, and returns its exit status."""
     parser = Parser(prog="tools/library", description="Makes the static library and the shared object.")
-    parser.add_argument("-o", metavar="FILE", type=pathlib.Path, help="where the archive is written; FILE.so is beside it")
+    where = "where the archive is written; FILE.so is beside it"
+    parser.add_argument("-o", metavar="FILE", type=pathlib.Path, help=where)
     parser.add_argument("--repository", metavar="DIRECTORY", type=pathlib.Path, default=ROOT, help="where `rt ci` ran")
     parser.add_argument("--unproved", action="store_true", help="compile without proof; no `rt ci` is needed")
     jobs = min(4, len(os.sched_getaffinity(0)))

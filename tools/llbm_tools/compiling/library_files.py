@@ -1,4 +1,4 @@
-"""The files of the library for C: what its archive has beside the crate's code, and the shared object made of the archive.
+"""The files of the library for C: what its archive has beside the crate's code, and the shared object made of it.
 
 The archive gets the kit's three functions over `malloc`, `realloc` and `free`, and a function that returns the version.
 No proof covers these four, nor the linking.

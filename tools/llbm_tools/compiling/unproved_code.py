@@ -1,9 +1,9 @@
 """The IR of the library for C, compiled without any proof, of which `tools/library --unproved` and the page are made.
 
 `rt try` compiles a program without proof. So a copy of the library gets a `main` that calls each of its functions, and
-`rt try` of a copy of the kit's two scripts compiles it with a clang that keeps what it is given (`library_code`). The IR
-has checks that the proved one has not: at an overflow or the like the module traps. Two things in its text are changed
-here: the functions have their names for C, and what instruments each access of memory is left out.
+`rt try` of a copy of the kit's two scripts compiles it with a clang that keeps what it is given (`library_code`). The
+IR has checks that the proved one has not: at an overflow or the like the module traps. Two things in its text are
+changed here: the functions have their names for C, and what instruments each access of memory is left out.
 """
 
 import os

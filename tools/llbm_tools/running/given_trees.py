@@ -1,4 +1,4 @@
-"""The words of the program's command line with texts of trees in the place of directories, which the program can't read.
+"""The words of the program's command line, with texts of trees in the place of directories, which it can't read.
 
 Of a directory only what the filters of its local source select is in the text, as BuildKit's clients do.
 """
@@ -16,7 +16,7 @@ from llbm_tools.trees.source_files import source_file
 
 
 class Given(NamedTuple):
-    """The words for the program, as they are and as they are read, and the names of sources whose filters are applied."""
+    """The words for the program, as they are and as they are read, and the names of sources with applied filters."""
 
     words: list[str]
     read: Words
