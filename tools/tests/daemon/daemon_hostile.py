@@ -7,6 +7,7 @@ import subprocess
 from llbm_tools.llb.messages import definition_of, edge, encoded, made
 from llbm_tools.measuring import bigdef
 from llbm_tools.measuring.bigdef import file_op, mkfile
+from tests import base
 from tests.daemon import daemon_clients
 
 # What the daemon may take, in kB: the kernel counts the most of it (VmHWM). Each of these takes 30 to 50 MB.
