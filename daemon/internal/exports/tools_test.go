@@ -168,7 +168,7 @@ var configurations = []string{
 	`{"created": "2030-01-01T00:00:00Z", "history": [{"created_by": "COPY"}, {"created_by": "ENV", "empty_layer": true, "comment": null}]}`,
 	`{"history": [{"created": "2002-02-02T02:02:02+02:00", "created_by": "COPY"}, {"created_by": "COPY b"}, {"empty_layer": false}]}`,
 	`{"history": [{"created": "2040-02-02T02:02:02Z", "empty_layer": true}], "created": null, "config": null}`,
-	`{"z": {"b": [true, false, null, {"y": 1, "x": "\ud83d\ude00"}], "a": ""}, "os.version": "1", "os.features": ["b", "a"]}`,
+	`{"z.org": {"b": [true, false, null, {"y": 1, "x": "\ud83d\ude00"}], "a": ""}, "os.version": "1", "os.features": ["b", "a"]}`,
 	`{"rootfs": {"type": "other"}, "moby.buildkit.buildinfo.v1": "x"}`,
 }
 
