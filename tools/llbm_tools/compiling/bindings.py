@@ -137,6 +137,8 @@ def try_go(top: pathlib.Path) -> None:
         call(words, module, GOCACHE=cache, **offline, **settings(top))
         return
     sources = top / "go-path" / "src"
+    # The tests look for the examples where they are in the repository, two folders above them.
+    shutil.copytree(top / "examples", sources / "examples")
     for name, place in ((MODULE, module), (FRONTEND, top / "examples" / "from-buildkit" / "frontend-test")):
         shutil.copytree(place, sources / name)
     go = go_building.with_packages(debian_packages.FOLDER, top / "go-path")
