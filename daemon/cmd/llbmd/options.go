@@ -75,7 +75,7 @@ func (o *options) flags() *flag.FlagSet {
 	f.StringVar(&o.Store, "store", os.TempDir(), "the `FOLDER` for contents of sources; they have no names there, so nothing is left")
 	f.Int64Var(&o.StoreBytes, "store-bytes", 0, "how many `BYTES` the contents may have; 0 is half of what is free there at the start, 64 MiB to 10 GiB")
 	f.DurationVar(&o.Idle, "idle", time.Minute, "how long a client may send nothing while it sends a source, or take nothing of a result")
-	f.BoolVar(&o.LeaveOut, "leave-out", false, "leave links, devices and sockets out of sources, with a warning, instead of refusing them")
+	f.BoolVar(&o.LeaveOut, "leave-out", false, "leave devices and sockets out of sources, with a warning, instead of refusing them")
 	f.Int64Var(&o.Limits.Memory, "memory", 4<<30, "how many `BYTES` of memory a build or a frontend may take; 0 is no bound")
 	f.DurationVar(&o.Limits.Time, "time", 10*time.Minute, "how long the program may run for a build; 0 is no bound")
 	f.Int64Var(&o.Limits.Output, "output", 256<<20, "how many `BYTES` the program may write for a build; 0 is no bound")

@@ -45,6 +45,7 @@ var rows = []row{
 	of(`^local source .*: (the client sent nothing|.* bytes came of|more than its .* bytes came)`, ofClient),
 	of(`^local source .*: (more than .* entries|its paths have more)|^(more than .* entries|its paths have more)`, ofSmaller),
 	of(`^local source .*fault 26`, ofNames),
+	of(`^local source .*links have tokens`, "leave its links out with .dockerignore, or put the copies of other sources into a stage of their own"),
 	of(`^local source .*: .* is "`, byClient),
 	of(`^local source `, "see what the client sends: `buildctl --debug build` prints it"),
 	of(`fault 121`, "give the client the directory: --local NAME=DIRECTORY of buildctl, or the context of docker buildx"),
@@ -58,6 +59,7 @@ var rows = []row{
 	of(`fault 185`, "leave out of the source what the build does not need (.dockerignore)"),
 	of(`^llbm: failed`, ofKept),
 	of(`^llbm: the build (took|wrote|needs)`, ofLimits),
+	of(`^llbm: .*(leads through|symbolic links)`, "name the path to which the link leads; docs/DAEMON.md, \"Links\", says which are followed"),
 	of(`^llbm: `, ofFaults),
 	// Exporters.
 	of(`has no attestations|attest`, "leave out --attest and --sbom; --provenance=false builds without it"),

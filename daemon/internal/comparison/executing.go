@@ -26,8 +26,11 @@ func (s *session) execution(v int) error {
 	if here == nil && there == nil {
 		return nil
 	}
+	err := s.follows(v, here)
+	if err != nil {
+		return err
+	}
 	var outputs []*rules.Node
-	var err error
 	if here != nil {
 		if outputs, err = s.outputs(v, nil, here); err != nil {
 			return err

@@ -25,6 +25,7 @@ type Request struct {
 	Links    map[int][]string  `json:"links,omitempty"`    // files of such sources that have other names, which are hard links
 	// Times are those of files of such sources; of those that are not there no other file has the size and the time.
 	Times    map[int]map[string]rules.Time `json:"times,omitempty"`
+	Known    []rules.Given                 `json:"known,omitempty"`    // what is known of contents for which trees have tokens
 	Received bool                          `json:"received,omitempty"` // whether the trees are what BuildKit's client sent
 	Executes bool                          `json:"executes,omitempty"` // whether executions can be done on other inputs
 	Folder   string                        `json:"folder,omitempty"`   // where trees are written
@@ -40,7 +41,14 @@ type Message struct {
 	Step    *Step     `json:"step,omitempty"`
 	Needs   *Question `json:"needs,omitempty"`
 	Execute *Question `json:"execute,omitempty"`
+	Follows *Follows  `json:"follows,omitempty"`
 	End     *End      `json:"end,omitempty"`
+}
+
+// A Follows says that BuildKit would follow a symbolic link at a vertex of the definition as it was sent, and llbm did not.
+type Follows struct {
+	Vertex int    `json:"vertex"`
+	Words  string `json:"words"`
 }
 
 // A Run is the definition that is to run. It comes before all questions. Of its further entries, which are before the last one, it has

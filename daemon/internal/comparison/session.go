@@ -49,9 +49,11 @@ type session struct {
 	ready   numbers              // vertices that can be done
 	waiting []int                // executions whose outputs are to be asked for
 	trees   map[string]*rules.Node
-	broken  bool   // whether something breaks BuildKit's daemon
-	runs    bool   // whether there is an execution
-	why     string // why BuildKit fails
+	known   rules.Known // what is known of contents
+	linked  bool        // whether contents may be symbolic links
+	broken  bool        // whether something breaks BuildKit's daemon
+	runs    bool        // whether there is an execution
+	why     string      // why BuildKit fails
 	files   int
 	layered bool // whether there is a merge, which needs layers
 	anyTime bool // whether a copy sets a time that is not one of whole seconds
@@ -63,6 +65,7 @@ func Serve(ctx context.Context, talk *Talk) error {
 	if err := talk.Read(&s.request); err != nil {
 		return refuse("the request is no line of JSON: %v", err)
 	}
+	s.known = rules.KnownOf(s.request.Known)
 	sent, err := definitionAt(s.request.Sent)
 	if err != nil {
 		return err
@@ -77,6 +80,7 @@ func Serve(ctx context.Context, talk *Talk) error {
 	if s.run, err = graph.Read(run, sent); err != nil {
 		return Refused{err}
 	}
+	s.linked = s.hasLinks()
 	s.prepare()
 	if err := s.outside(sent); err != nil {
 		return err
@@ -147,7 +151,7 @@ func (s *session) prepare() {
 		s.inSent[it.Row], s.layered = v, s.layered || it.Op.GetMerge() != nil
 		s.anyTime = s.anyTime || rules.SetsTime(it.Op)
 		for _, input := range it.Inputs {
-			s.states[input].needed = s.states[input].needed || s.request.Executes || it.Op.GetExec() == nil
+			s.states[input].needed = s.states[input].needed || s.request.Executes || s.linked || it.Op.GetExec() == nil
 			s.states[input].users++
 			s.states[v].waits++
 			s.users[input] = append(s.users[input], v)
@@ -314,6 +318,9 @@ func (s *session) made(v int, dies bool) (*rules.Compared, error) {
 	if dies {
 		there = nil
 	}
+	if err := s.follows(v, here); err != nil {
+		return nil, err
+	}
 	var run *pb.Op
 	var from []int
 	if r, ok := s.inRun[it.Row]; ok {
@@ -396,7 +403,7 @@ func (s *session) read(file string, near *rules.Node, linked []string, times map
 		return nil, err
 	}
 	defer text.Close()
-	t, err := rules.ReadSource(s.ctx, text, near, linked, times)
+	t, err := rules.Reader{Near: near, Linked: linked, Times: times, Known: s.known}.Read(s.ctx, text)
 	if err == nil && t == nil {
 		err = fmt.Errorf("no tree is there")
 	}

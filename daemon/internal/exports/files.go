@@ -23,6 +23,9 @@ func Stat(r *results.Result, e *tree.Entry, name string, when time.Time) (*fstyp
 			return nil, err
 		}
 		st.Size_ = content.Size
+		if content.Link != "" {
+			st.Mode, st.Linkname, st.Size_ = uint32(os.ModeSymlink|0o777), content.Link, int64(len(content.Link))
+		}
 	}
 	return st, nil
 }

@@ -227,6 +227,10 @@ func (f files) add(to *tar.Writer, e *tree.Entry) error {
 	if err != nil {
 		return err
 	}
+	if content.Link != "" {
+		h.Typeflag, h.Linkname, h.Mode = tar.TypeSymlink, content.Link, 0o777
+		return to.WriteHeader(h)
+	}
 	h.Size = content.Size
 	return addFile(to, h, content.Reader(0, -1))
 }

@@ -9,6 +9,7 @@ import (
 	"google.golang.org/grpc/codes"
 	"google.golang.org/grpc/status"
 	"llbm/daemon/internal/exports"
+	"llbm/daemon/internal/links"
 	"llbm/daemon/internal/results"
 	"llbm/daemon/internal/tree"
 )
@@ -21,11 +22,26 @@ func (g *Gateway) entry(ctx context.Context, id, name string) (*results.Result, 
 	if err != nil {
 		return nil, nil, err
 	}
-	e := r.Tree.Find(name)
+	to, err := links.Resolve(name, target(r))
+	if err != nil {
+		return nil, nil, status.Errorf(codes.InvalidArgument, "lstat %s: %v", name, err)
+	}
+	e := r.Tree.Find(to)
 	if e == nil {
 		return nil, nil, status.Errorf(codes.NotFound, "lstat %s: no such file or directory", name)
 	}
 	return r, e, nil
+}
+
+// target reads the links of a result.
+func target(r *results.Result) links.Read {
+	return func(path string) (string, error) {
+		e := r.Tree.Find(path)
+		if e == nil || e.Dir {
+			return "", nil
+		}
+		return r.Contents.Link(e.Content), nil
+	}
 }
 
 // ReadFile reads a file of a result, or a range of it.
@@ -73,7 +89,7 @@ func (g *Gateway) ReadDir(ctx context.Context, req *gatewaypb.ReadDirRequest) (*
 		return nil, status.Errorf(codes.InvalidArgument, "%s is not a directory", req.DirPath)
 	}
 	out := &gatewaypb.ReadDirResponse{}
-	for _, child := range r.Tree.List(req.DirPath) {
+	for _, child := range r.Tree.List(e.Path) {
 		name := path.Base(child.Path)
 		if req.IncludePattern != "" {
 			matches, err := path.Match(req.IncludePattern, name)

@@ -21,11 +21,15 @@ func SumOf(data []byte) Sum {
 	return Sum(full[:])
 }
 
-// An Extent is how many names the longest path below a value has, and how many bytes, with a slash for each name.
-type Extent struct{ Names, Bytes int }
+// An Extent is how many names the longest path below a value has, and how many bytes, with a slash for each name; and whether there is
+// a link at it or below it.
+type Extent struct {
+	Names, Bytes int
+	HasLinks     bool
+}
 
 func (e Extent) or(other Extent) Extent {
-	return Extent{max(e.Names, other.Names), max(e.Bytes, other.Bytes)}
+	return Extent{max(e.Names, other.Names), max(e.Bytes, other.Bytes), e.HasLinks || other.HasLinks}
 }
 
 // A Value is in a map.
@@ -90,7 +94,7 @@ func join[V Value](name string, value V, priority uint64, left, right *node[V]) 
 	made.Add(1)
 	n := &node[V]{name: name, value: value, priority: priority, left: left, right: right, size: 1 + sizeOf(left) + sizeOf(right)}
 	below := value.Extent()
-	n.extent = Extent{1 + below.Names, 1 + len(name) + below.Bytes}.or(extentOf(left)).or(extentOf(right))
+	n.extent = Extent{1 + below.Names, 1 + len(name) + below.Bytes, below.HasLinks}.or(extentOf(left)).or(extentOf(right))
 	var space [320]byte
 	data := binary.AppendUvarint(space[:0], uint64(len(name)))
 	data = append(data, name...)

@@ -12,7 +12,7 @@ import (
 type word string
 
 func (w word) Sum() Sum       { return SumOf([]byte(w)) }
-func (w word) Extent() Extent { return Extent{0, len(w)} }
+func (w word) Extent() Extent { return Extent{0, len(w), false} }
 
 func plain(m Map[word]) map[string]word { return maps.Collect(m.All()) }
 

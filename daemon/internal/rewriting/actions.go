@@ -47,6 +47,19 @@ type actionWriter struct{ changes []string }
 
 func (w *actionWriter) change(what string) { w.changes = append(w.changes, what) }
 
+// within drops what llbm does not take of a copy. It may copy more then.
+func (w *actionWriter) within(action *pb.FileAction) {
+	c := action.GetCopy()
+	if c.GetAttemptUnpackDockerCompatibility() {
+		w.change("no attemptUnpackDockerCompatibility: no archive is there")
+		c.AttemptUnpackDockerCompatibility = false
+	}
+	if c != nil && hasPatterns(c) {
+		w.change("no patterns")
+		c.IncludePatterns, c.ExcludePatterns = nil, nil
+	}
+}
+
 func (w *actionWriter) rewrite(action *pb.FileAction) {
 	switch a := action.Action.(type) {
 	case *pb.FileAction_Mkfile:

@@ -63,7 +63,9 @@ func put(t *testing.T, folder string, n *rules.Node) {
 	}
 	for _, one := range entries {
 		place := filepath.Join(folder, one.Path)
-		if !one.Dir {
+		if target, ok := targets[string(one.Content)]; ok {
+			check(os.Symlink(target, place))
+		} else if !one.Dir {
 			check(os.WriteFile(place, one.Content, 0o600))
 		} else if one.Path != "" {
 			check(os.Mkdir(place, 0o700))
@@ -72,7 +74,9 @@ func put(t *testing.T, folder string, n *rules.Node) {
 	for i := len(entries) - 1; i >= 0; i-- {
 		place := filepath.Join(folder, entries[i].Path)
 		check(os.Lchown(place, int(entries[i].UID), int(entries[i].GID)))
-		check(syscall.Chmod(place, entries[i].Mode))
+		if _, isLink := targets[string(entries[i].Content)]; !isLink {
+			check(syscall.Chmod(place, entries[i].Mode))
+		}
 	}
 }
 
@@ -92,8 +96,13 @@ func taken(t *testing.T, folder string) *rules.Node {
 			Path: strings.TrimPrefix(strings.TrimPrefix(place, folder), "/"), Dir: stat.Mode&syscall.S_IFMT == syscall.S_IFDIR,
 			Mode: stat.Mode & 0o7777, UID: stat.Uid, GID: stat.Gid,
 		}
-		if !one.Dir {
+		switch stat.Mode & syscall.S_IFMT {
+		case syscall.S_IFREG:
 			one.Content, err = os.ReadFile(place)
+		case syscall.S_IFLNK:
+			var target string
+			target, err = os.Readlink(place)
+			one.Content = tokenOf(target)
 		}
 		found = append(found, one)
 		return err
@@ -104,7 +113,7 @@ func taken(t *testing.T, folder string) *rules.Node {
 	if err != nil {
 		t.Fatal(err)
 	}
-	return rules.Of(found)
+	return withLinks.Of(found)
 }
 
 // user returns what BuildKit's reader of owners makes of numbers.
@@ -153,6 +162,62 @@ func byBackend(t *testing.T, action *pb.FileAction, base, second *rules.Node) (*
 	return taken(t, places[0]), false
 }
 
+// backendMakes fails the test if BuildKit's file backend makes something else of an action than its rules say. It returns whether the
+// action fails.
+func backendMakes(t *testing.T, number int, action *pb.FileAction, base, second *rules.Node) bool {
+	t.Helper()
+	want, err := rules.Act(context.Background(), action, base, second, rules.All)
+	if errors.Is(err, rules.ErrHost) {
+		return true // it depends on what is on this host
+	}
+	got, failed := byBackend(t, action, base, second)
+	if failed != (err != nil) || !failed && !rules.Equal(got, want) {
+		lines, _ := rules.Differences(context.Background(), got, want, 9)
+		t.Errorf("case %d: %v: fails %v, by its rules: %v %v", number, action, failed, err, lines)
+	}
+	return failed
+}
+
+// leads is whether BuildKit would remove the folder around.
+func leads(action *pb.FileAction) bool {
+	rm := action.GetRm()
+	return rm != nil && !rm.AllowWildcard && filepath.Base(filepath.Clean(rm.Path)) == ".."
+}
+
+func TestBuildKitsFileBackendFollowsLinksAndTakesPatternsAsItsRulesSay(t *testing.T) {
+	if os.Geteuid() != 0 {
+		t.Skip("only root can change owners")
+	}
+	before := syscall.Umask(0)
+	defer syscall.Umask(before)
+	random := rand.New(rand.NewSource(7))
+	fails, followed := 0, 0
+	for number := range 200 {
+		base, second := randomLinks(random), randomLinks(random)
+		action := randomAction(random, number%2 == 0, base, second)
+		if leads(action) {
+			continue
+		}
+		if c := action.GetCopy(); c != nil {
+			c.FollowSymlink = flag(random)
+			if random.Intn(3) == 0 {
+				c.IncludePatterns, c.ExcludePatterns = randomPatterns(random), randomPatterns(random)
+			}
+		}
+		if backendMakes(t, number, action, base, second) {
+			fails++
+		}
+		all, err := rules.Act(context.Background(), action, base, second, rules.All)
+		plain, plainErr := rules.Act(context.Background(), action, base, second, rules.All&^rules.Followed)
+		if (err == nil) != (plainErr == nil) || err == nil && !rules.Equal(all, plain) {
+			followed++
+		}
+	}
+	if fails > 150 || followed < 10 {
+		t.Errorf("%d fail, %d follow a link", fails, followed)
+	}
+}
+
 func TestBuildKitsFileBackendMakesWhatItsRulesSay(t *testing.T) {
 	if os.Geteuid() != 0 {
 		t.Skip("only root can change owners")
@@ -164,17 +229,8 @@ func TestBuildKitsFileBackendMakesWhatItsRulesSay(t *testing.T) {
 	for number := range 600 {
 		base, second := randomTree(random), randomTree(random)
 		action := randomAction(random, number%2 == 0, base, second)
-		if rm := action.GetRm(); rm != nil && !rm.AllowWildcard && filepath.Base(filepath.Clean(rm.Path)) == ".." {
-			continue // it would remove the folder around
-		}
-		want, err := rules.Act(context.Background(), action, base, second, rules.All)
-		got, failed := byBackend(t, action, base, second)
-		if failed {
+		if !leads(action) && backendMakes(t, number, action, base, second) {
 			fails++
-		}
-		if failed != (err != nil) || !failed && !rules.Equal(got, want) {
-			lines, _ := rules.Differences(context.Background(), got, want, 9)
-			t.Errorf("case %d: %v: fails %v, by its rules: %v %v", number, action, failed, err, lines)
 		}
 	}
 	t.Logf("%d fail", fails)

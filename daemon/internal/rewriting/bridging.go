@@ -49,7 +49,7 @@ func (c *cursor) bridge(path []string, now pair, wanted *rules.Node) error {
 	switch {
 	case now.are(rules.Equal, wanted):
 		return nil
-	case now.here == nil && now.again == nil, isFile:
+	case now.here == nil && now.again == nil, isFile && !now.here.IsLink() && !now.again.IsLink():
 		return c.create(path, wanted)
 	case wanted == nil:
 		return c.remove(path)

@@ -10,7 +10,10 @@ import (
 
 // write adds an mkfile with the mode and the owner that the file is to have.
 func (c *cursor) write(given *pb.FileActionMkFile, wanted *rules.Node) error {
-	path := paths.Names(given.Path)
+	path, err := rules.Follow(given.Path, c.pair(c.at).again)
+	if err != nil {
+		return err
+	}
 	one := wanted.At(path)
 	if one == nil || one.IsDir() {
 		return errNoSource
@@ -51,8 +54,8 @@ func (c *cursor) copies(given *pb.FileActionCopy, wanted *rules.Node) error {
 	if user, group, ok := ownerOf(owner); ok {
 		owner = chown(known(user), known(group))
 	}
-	for _, path := range sources {
-		if err := c.copyOne(given, path, second.At(path), owner, wanted); err != nil {
+	for _, one := range sources {
+		if err := c.copyOne(given, one, second.At(one.Path), owner, wanted); err != nil {
 			return err
 		}
 	}
@@ -68,8 +71,16 @@ func known(number uint32) uint32 {
 }
 
 // copyOne adds the copy of one source.
-func (c *cursor) copyOne(given *pb.FileActionCopy, path []string, from *rules.Node, owner *pb.ChownOpt, wanted *rules.Node) error {
-	dest := paths.Names(given.Dest)
+func (c *cursor) copyOne(given *pb.FileActionCopy, one rules.Source, from *rules.Node, owner *pb.ChownOpt, wanted *rules.Node) error {
+	dest, err := rules.Follow(given.Dest, c.pair(c.at).again)
+	if err != nil {
+		return err
+	}
+	path := one.Path
+	if len(given.IncludePatterns) > 0 && from.IsDir() { // a small part of it is wanted
+		c.from = append(c.from, source{c.targetOf(given, dest, one, from), c.second, path, given.Mode, owner, true})
+		return nil
+	}
 	isDirectory := strings.HasSuffix(given.Dest, "/") || strings.HasSuffix(given.Dest, "/.")
 	contents := from.IsDir() && given.DirCopyContents
 	parents := dest
@@ -79,16 +90,27 @@ func (c *cursor) copyOne(given *pb.FileActionCopy, path []string, from *rules.No
 	if err := c.makeParents(parents, wanted); err != nil {
 		return err
 	}
-	target := dest
-	hasName := len(path) > 0 && (given.AllowWildcard || !strings.HasSuffix(given.Src, "/."))
-	if !contents && hasName && c.here().At(dest).IsDir() {
-		target = below(dest, path[len(path)-1])
-	}
+	target := c.targetOf(given, dest, one, from)
 	action := copyOf(path, target, given.Mode, owner)
 	action.GetCopy().DirCopyContents = from.IsDir() && c.here().At(target).IsDir()
 	action.GetCopy().Timestamp = given.Timestamp
 	c.from = append(c.from, source{target, c.second, path, given.Mode, owner, true})
-	return c.do(action, c.second)
+	err = c.do(action, c.second)
+	if err != nil && len(given.ExcludePatterns) > 0 && c.ctx.Err() == nil {
+		return nil // what is excluded may be in the way, so it is copied piece by piece
+	}
+	return err
+}
+
+// targetOf returns where a source is copied to, once the directories above are there.
+func (c *cursor) targetOf(given *pb.FileActionCopy, dest []string, one rules.Source, from *rules.Node) []string {
+	contents := from.IsDir() && given.DirCopyContents
+	hasName := one.Name != "" && (given.AllowWildcard || !strings.HasSuffix(given.Src, "/."))
+	isDirectory := strings.HasSuffix(given.Dest, "/") && len(given.IncludePatterns) > 0
+	if !contents && hasName && (isDirectory || c.here().At(dest).IsDir()) {
+		return below(dest, one.Name)
+	}
+	return dest
 }
 
 // makeParents makes the directories at and above a path that are missing, as they are wanted.

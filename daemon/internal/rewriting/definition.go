@@ -155,20 +155,19 @@ func (w *writer) source(ctx context.Context, v int) error {
 	return err
 }
 
-// isTaken is whether llbm takes the actions of a file op, and it has an output.
-func isTaken(op *pb.FileOp) bool {
-	byName := func(owner *pb.ChownOpt) bool {
-		return owner.GetUser().GetByName() != nil || owner.GetGroup().GetByName() != nil
-	}
+// isTaken is whether the actions of a file op can be rewritten, and it has an output. Names of owners are looked up in an input, or
+// in what the action works on.
+func isTaken(op *pb.Op) bool {
 	hasOutput := false
-	for _, action := range op.GetActions() {
+	for _, action := range op.GetFile().GetActions() {
 		hasOutput = hasOutput || action.Output != noOutput
-		c := action.GetCopy()
-		switch {
-		case action.Action == nil, byName(action.GetMkdir().GetOwner()), byName(action.GetMkfile().GetOwner()):
+		if action.Action == nil {
 			return false
-		case c != nil && (c.AttemptUnpackDockerCompatibility || len(c.IncludePatterns)+len(c.ExcludePatterns) > 0 || byName(c.Owner)):
-			return false
+		}
+		for _, name := range rules.NamesOf(action) {
+			if int(name.Input) >= len(op.Inputs) && name.Input != action.Input {
+				return false
+			}
 		}
 	}
 	return hasOutput
@@ -177,7 +176,7 @@ func isTaken(op *pb.FileOp) bool {
 // file rewrites a file op: by its trees where they are known, and else by those of them that are.
 func (w *writer) file(ctx context.Context, v int) error {
 	it := &w.graph.Vertices[v]
-	if !isTaken(it.Op.GetFile()) {
+	if !isTaken(it.Op) {
 		return nil
 	}
 	if inputs, ok := w.inputs(v); ok {
@@ -188,7 +187,7 @@ func (w *writer) file(ctx context.Context, v int) error {
 	f := w.fileOp(it.Op)
 	f.known = w.someInputs(v)
 	f.treeless(ctx)
-	if err := ctx.Err(); err != nil {
+	if err := ctx.Err(); err != nil || f.isBeyond {
 		return err
 	}
 	w.setFile(v, f)

@@ -2,6 +2,7 @@ package rewriting
 
 import (
 	"context"
+	"errors"
 	"fmt"
 	"strings"
 
@@ -32,6 +33,8 @@ type fileOp struct {
 	isWhole bool
 	// known has the trees of inputs that are known, if not all are: what a copy copies can be.
 	known map[pb.InputIndex]*rules.Node
+	// isBeyond is whether an action stays one that llbm does not take.
+	isBeyond bool
 }
 
 func newFileOp(op *pb.Op) *fileOp {
@@ -130,7 +133,12 @@ func (f *fileOp) treeless(ctx context.Context) {
 	}
 	f.isWhole = len(order) == len(f.sent)
 	for _, number := range order {
-		if err := f.add(ctx, number); err != nil {
+		err := f.add(ctx, number)
+		if errors.Is(err, errBeyond) {
+			f.isBeyond = true
+			return
+		}
+		if err != nil {
 			f.fail(number, err.Error())
 			return
 		}
@@ -139,8 +147,7 @@ func (f *fileOp) treeless(ctx context.Context) {
 }
 
 // sources returns what is known of the sources of a copy. If it has none, BuildKit fails, whatever it would copy to.
-func (f *fileOp) sources(ctx context.Context, c *pb.FileActionCopy, second pb.InputIndex) (sourcesKnown, error) {
-	tree := f.known[second]
+func (f *fileOp) sources(ctx context.Context, c *pb.FileActionCopy, tree *rules.Node) (sourcesKnown, error) {
 	if tree == nil {
 		return unknownSources, nil
 	}
@@ -148,8 +155,8 @@ func (f *fileOp) sources(ctx context.Context, c *pb.FileActionCopy, second pb.In
 	if err != nil || len(found) == 0 {
 		return unknownSources, err
 	}
-	for _, path := range found {
-		if !tree.At(path).IsDir() {
+	for _, one := range found {
+		if !tree.At(one.Path).IsDir() {
 			return someSources, nil
 		}
 	}
@@ -158,12 +165,28 @@ func (f *fileOp) sources(ctx context.Context, c *pb.FileActionCopy, second pb.In
 
 // add adds an action, rewritten. It fails if BuildKit does.
 func (f *fileOp) add(ctx context.Context, number int) error {
-	action := cloned(f.sent[number])
-	known := unknownSources
+	parts, err := f.within(ctx, number)
+	if err != nil {
+		return err
+	}
+	base := f.placeOf(f.sent[number].Input)
+	for _, one := range parts {
+		if base, err = f.addPart(ctx, number, one, base); err != nil {
+			return err
+		}
+	}
+	f.place[number] = base
+	f.new[int(base)-f.count].Output = f.sent[number].Output
+	return nil
+}
+
+// addPart adds an action that llbm takes, and returns its result.
+func (f *fileOp) addPart(ctx context.Context, number int, one part, base pb.InputIndex) (pb.InputIndex, error) {
+	action, second, known := one.action, one.second, unknownSources
 	if c := action.GetCopy(); c != nil {
 		var err error
-		if known, err = f.sources(ctx, c, action.SecondaryInput); err != nil {
-			return err
+		if known, err = f.sources(ctx, c, one.from); err != nil {
+			return base, err
 		}
 	}
 	var w actionWriter
@@ -171,14 +194,11 @@ func (f *fileOp) add(ctx context.Context, number int) error {
 	for _, what := range w.changes {
 		f.change(number, what)
 	}
-	base, second, output := f.placeOf(action.Input), f.placeOf(action.SecondaryInput), action.Output
 	if c := action.GetCopy(); c != nil {
 		second = f.aside(number, c, second)
 		base = f.before(number, c, base, known)
 	}
-	f.place[number] = f.put(number, action, base, second)
-	action.Output = output
-	return nil
+	return f.put(number, action, base, second), nil
 }
 
 // aside copies the source of a copy to a tree of its own first, where BuildKit and llbm read the source's text in two ways: one that

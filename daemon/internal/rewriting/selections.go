@@ -34,19 +34,22 @@ func selectionsOf(actions []*pb.FileAction) *selections {
 	return s
 }
 
-func isPlain(c *pb.FileActionCopy) bool { return !c.AllowWildcard || !paths.HasWildcard(c.Src) }
+func isPlain(c *pb.FileActionCopy) bool {
+	return (!c.AllowWildcard || !paths.HasWildcard(c.Src)) && !hasPatterns(c)
+}
 
 // guard returns an action that fails if BuildKit refuses the op for a copy that it does not do, since no output needs it; nil if it
 // never does. It looks into inputs that no action works on: for plain texts, unless another one begins the text, and for
 // texts that are no patterns.
 func (s *selections) guard(action *pb.FileAction) *pb.FileAction {
 	c := action.GetCopy()
-	if c == nil || s.worked[action.SecondaryInput] {
+	if c == nil || s.worked[action.SecondaryInput] || hasPatterns(c) {
 		return nil
 	}
 	guard := cloned(action)
 	made := guard.GetCopy()
 	made.Dest, made.Owner, made.CreateDestPath, made.DirCopyContents, made.AllowEmptyWildcard = "/guard", nil, false, false, false
+	made.AttemptUnpackDockerCompatibility = false
 	if isPlain(c) {
 		made.AllowWildcard = false
 		if s.isCovered(place{action.SecondaryInput, c.FollowSymlink, c.Src}) {

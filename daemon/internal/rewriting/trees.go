@@ -34,16 +34,24 @@ func (w *writer) fileByTrees(ctx context.Context, v int, inputs []trees) (bool, 
 	}
 	it := &w.graph.Vertices[v]
 	here, there, again := lists(inputs)
-	left, outputs, err := rules.Steps(ctx, it.Op.GetFile(), there, rules.All)
+	did, err := rules.Steps(ctx, it.Op.GetFile(), there, rules.All)
 	var fault *rules.ActionFails
 	switch {
+	case rules.IsUnknown(err):
+		return false, nil
 	case errors.As(err, &fault):
 		return true, w.failFile(ctx, v, here, fault)
 	case err != nil:
 		return false, err
 	}
-	f := w.fileOp(it.Op)
-	if byLLBM, err := rules.FileOp(ctx, it.Op.GetFile(), here, rules.None); err != nil || !areEqual(byLLBM, outputs) {
+	f, outputs, isBeyond := w.fileOp(it.Op), did.Outputs, rules.IsBeyond(it.Op.GetFile())
+	f.sent = did.Actions
+	for number, action := range it.Op.GetFile().GetActions() {
+		if f.sent[number] != action {
+			f.change(number, numbered)
+		}
+	}
+	if byLLBM, err := rules.FileOp(ctx, it.Op.GetFile(), here, rules.None); isBeyond || err != nil || !areEqual(byLLBM, outputs) {
 		if ctx.Err() != nil {
 			return false, ctx.Err()
 		}
@@ -51,7 +59,7 @@ func (w *writer) fileByTrees(ctx context.Context, v int, inputs []trees) (bool, 
 		for _, one := range inputs {
 			t.pairs = append(t.pairs, pair{one.here, one.again.Tree().WithEntryOf(one.again.Tree())})
 		}
-		if !t.all(left) {
+		if !t.all(did.Left) {
 			return false, ctx.Err()
 		}
 	}
@@ -101,7 +109,7 @@ func (w *writer) failFile(ctx context.Context, v int, here []*rules.Ref, fault *
 		return ctx.Err()
 	}
 	var failed *rules.ActionFails
-	if !errors.As(err, &failed) || f.Actions[failed.Action] != fault.Action {
+	if f.isBeyond || !errors.As(err, &failed) || f.Actions[failed.Action] != fault.Action {
 		f.fail(fault.Action, fault.Error())
 	}
 	w.setFile(v, f)
@@ -238,12 +246,18 @@ func (c *cursor) end(wanted *rules.Node) error {
 }
 
 // asSent adds the action itself.
-func (c *cursor) asSent(*rules.Node) error { return c.do(cloned(c.sent), c.second) }
+func (c *cursor) asSent(*rules.Node) error {
+	if rules.Beyond(c.sent) != "" {
+		return errBeyond
+	}
+	return c.do(cloned(c.sent), c.second)
+}
 
 // treeless adds the action as it is rewritten without its trees.
 func (c *cursor) treeless(*rules.Node) error {
 	action := cloned(c.sent)
 	var w actionWriter
+	w.within(action)
 	w.rewrite(action)
 	c.changes = w.changes
 	if copied := action.GetCopy(); copied != nil {

@@ -208,7 +208,11 @@ func (f *sideBySide) lineOfFault(words string, causes []Rule, number int) Line {
 }
 
 func (f *sideBySide) causesOf(number int, there, here *step) *causes {
-	return causesOfAction(f.ctx, f.sent.Actions[number], there, here)
+	action := f.there.numbers[number] // its owner has numbers
+	if action == nil {
+		action = f.sent.Actions[number]
+	}
+	return causesOfAction(f.ctx, action, there, here)
 }
 
 // causesOfFault returns the rules by which an action fails in BuildKit: its own, on the trees that it failed on or, if BuildKit did

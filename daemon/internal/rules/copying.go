@@ -18,6 +18,8 @@ type copier struct {
 	by    owner
 	dest  []string
 	laid  map[laying]*Node
+	// filter has the patterns by which only a part is copied, or nil.
+	filter *filter
 	// grafted has, by the path of what was put into the tree as it is, the path where it was.
 	grafted map[string]string
 }
@@ -40,7 +42,11 @@ func copied(ctx context.Context, given *pb.FileActionCopy, base, second *Node, l
 	}
 	c := &copier{ctx: ctx, given: given, from: second, into: base, like: like, by: ownerOf(given.Owner, like)}
 	c.laid, c.grafted = map[laying]*Node{}, map[string]string{}
-	if c.dest, err = read(given.Dest, like); err != nil {
+	if given.CreateDestPath && len(sources) == 0 {
+		_, err = read(given.Dest, like) // no link is followed for nothing
+		return c, err
+	}
+	if err := c.readDest(); err != nil {
 		return nil, err
 	}
 	if !given.CreateDestPath && (len(sources) > 0 || like.Has(EmptyCopy)) && len(c.dest) > 0 {
@@ -49,6 +55,9 @@ func copied(ctx context.Context, given *pb.FileActionCopy, base, second *Node, l
 		}
 	}
 	for _, source := range sources {
+		if given.AttemptUnpackDockerCompatibility && second.At(source.Path).isArchive() {
+			return nil, ErrUnpacks
+		}
 		if err := c.copySource(source); err != nil {
 			return nil, err
 		}
@@ -56,15 +65,50 @@ func copied(ctx context.Context, given *pb.FileActionCopy, base, second *Node, l
 	return c, nil
 }
 
+// readDest reads where the action copies to.
+func (c *copier) readDest() error {
+	text, err := followClean(c.given.Dest, c.into, c.like)
+	if err != nil {
+		return err
+	}
+	c.dest, err = read(text, c.like)
+	return err
+}
+
+// A Source is what a copy copies: where it is, and the last name of the path that the copy names, if it has one.
+type Source struct {
+	Path []string
+	Name string
+}
+
 // Sources returns what a copy copies, in order.
-func Sources(ctx context.Context, given *pb.FileActionCopy, second *Node, like Rules) ([][]string, error) {
+func Sources(ctx context.Context, given *pb.FileActionCopy, second *Node, like Rules) ([]Source, error) {
+	found, err := pathsOfSources(ctx, given, second, like)
+	if err != nil {
+		return nil, err
+	}
+	var sources []Source
+	for _, path := range found {
+		one := Source{Path: path}
+		if len(path) > 0 {
+			one.Name = path[len(path)-1]
+		}
+		if one.Path, err = followSource(path, given.FollowSymlink, second, like); err != nil {
+			return nil, err
+		}
+		if second.At(one.Path) == nil {
+			return nil, fails("%s is missing", shown(one.Path))
+		}
+		sources = append(sources, one)
+	}
+	return sources, nil
+}
+
+func pathsOfSources(ctx context.Context, given *pb.FileActionCopy, second *Node, like Rules) ([][]string, error) {
 	if given.AllowWildcard {
-		return foundForCopy(ctx, given.Src, given.AllowEmptyWildcard, second, like)
+		return foundForCopy(ctx, given, second, like)
 	}
 	source, err := read(given.Src, like)
-	if err == nil && second.At(source) == nil {
-		err = fails("%s is missing", shown(source))
-	}
 	return [][]string{source}, err
 }
 
@@ -98,17 +142,17 @@ func (c *copier) makesDest() bool {
 }
 
 // nameOf returns the name of what is copied, as a path. Rule SourceDot: what is copied from a text that ends in `/.` has none.
-func (c *copier) nameOf(source []string) []string {
+func (c *copier) nameOf(source Source) []string {
 	dot := strings.HasSuffix(c.given.Src, "/.") && !c.given.AllowWildcard
-	if len(source) == 0 || dot && c.like.Has(SourceDot) {
+	if source.Name == "" || dot && c.like.Has(SourceDot) {
 		return nil
 	}
-	return source[len(source)-1:]
+	return []string{source.Name}
 }
 
 // targetOf returns where a source is copied to.
-func (c *copier) targetOf(source []string) ([]string, error) {
-	dir, dest := c.from.At(source).IsDir(), c.into.At(c.dest)
+func (c *copier) targetOf(source Source) ([]string, error) {
+	dir, dest := c.from.At(source.Path).IsDir(), c.into.At(c.dest)
 	if dir && c.given.DirCopyContents {
 		return c.dest, nil
 	}
@@ -122,8 +166,11 @@ func (c *copier) targetOf(source []string) ([]string, error) {
 }
 
 // copySource copies a source. Rule ContentsTarget: with `dirCopyContents` a missing target is made as parents are.
-func (c *copier) copySource(source []string) error {
+func (c *copier) copySource(source Source) error {
 	if err := c.ctx.Err(); err != nil {
+		return err
+	}
+	if err := c.readDest(); err != nil { // a source before may have put a link there
 		return err
 	}
 	if c.makesDest() {
@@ -134,7 +181,7 @@ func (c *copier) copySource(source []string) error {
 	if err := c.makeParents(nil); err != nil {
 		return err
 	}
-	from := c.from.At(source)
+	from := c.from.At(source.Path)
 	target, err := c.targetOf(source)
 	if err == nil {
 		err = checkFits(target, from, c.like)
@@ -151,7 +198,21 @@ func (c *copier) copySource(source []string) error {
 	if err != nil {
 		return err
 	}
-	one, err := c.lay(target, source, c.into.At(target), from, above(c.into, target), true)
+	return c.put(target, source.Path, from)
+}
+
+// put puts what is copied at a path whose parents are there.
+func (c *copier) put(target, source []string, from *Node) (err error) {
+	if c.filter, err = filterOf(c.given); err != nil {
+		return err
+	}
+	old, in := c.into.At(target), above(c.into, target)
+	var one *Node
+	if c.filter != nil && from.dir {
+		one, _, err = c.filtered(filtering{path: target, source: source, old: old, from: from, in: in, isSource: true})
+	} else {
+		one, err = c.lay(target, source, old, from, in, true)
+	}
 	if err == nil {
 		c.into = c.into.with(target, one)
 	}
@@ -191,12 +252,32 @@ func (c *copier) lay(path, source []string, old, from *Node, in entry, isSource 
 	if found := c.laid[key]; found != nil {
 		return found, nil
 	}
-	below, err := c.layBelow(path, source, old.children(), from, one)
+	below, err := c.layBelow(path, source, old.children(), from, c.during(old, from.entry, in, isSource))
 	if err != nil {
 		return nil, err
 	}
 	c.laid[key] = shared(newNode(one, below), old)
 	return c.laid[key], nil
+}
+
+// during returns what a directory is while what is below it is copied: it gets its owner and its mode afterwards. Rule SetGroup: until then
+// it has what it was made with.
+func (c *copier) during(old *Node, from, in entry, isSource bool) entry {
+	switch {
+	case old.IsDir() && (isSource || !c.like.Has(NestedDirectory)):
+		return old.entry
+	case old.IsDir():
+		one := old.entry
+		one.mode = from.mode
+		return one
+	}
+	one := from
+	one.mode &^= setGroup
+	if inherits(in, c.like) {
+		one.mode |= setGroup
+	}
+	one.group = creator(in, c.like)[1]
+	return one
 }
 
 // layBelow returns what is below a directory once that of another one is copied into it.

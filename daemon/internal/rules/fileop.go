@@ -18,6 +18,8 @@ type ActionFails struct {
 
 func (f *ActionFails) Error() string { return f.Err.Error() }
 
+func (f *ActionFails) Unwrap() error { return f.Err }
+
 // errNoRoot is that an output has no root, as an action removed it. BuildKit's daemon fails as it reads such an output.
 var errNoRoot = fails("the root is removed")
 
@@ -74,11 +76,15 @@ type fileOp struct {
 	uses    map[int]int
 	done    map[int]*working
 	steps   map[int]step
-	failed  *step // the trees on which an action failed
+	numbers map[int]*pb.FileAction // the actions that are done, with numbers for names
+	failed  *step                  // the trees on which an action failed
 }
 
 func newFileOp(op *pb.FileOp, inputs []*Ref, like Rules) *fileOp {
-	f := &fileOp{actions: op.GetActions(), inputs: inputs, like: like, uses: map[int]int{}, done: map[int]*working{}, steps: map[int]step{}}
+	f := &fileOp{
+		actions: op.GetActions(), inputs: inputs, like: like, uses: map[int]int{}, done: map[int]*working{}, steps: map[int]step{},
+		numbers: map[int]*pb.FileAction{},
+	}
 	for _, one := range f.actions {
 		f.uses[int(one.Input)]++
 		f.uses[int(one.SecondaryInput)]++
@@ -92,15 +98,25 @@ func FileOp(ctx context.Context, op *pb.FileOp, inputs []*Ref, like Rules) ([]*R
 	return newFileOp(op, inputs, like).outputs(ctx)
 }
 
-// Steps does the actions of a file op as FileOp does, and also returns what each action left that was done.
-func Steps(ctx context.Context, op *pb.FileOp, inputs []*Ref, like Rules) (left map[int]*Node, outputs []*Ref, err error) {
+// A Did is a file op that was done: what each action left that was done, and the actions, with numbers in the place of names.
+type Did struct {
+	Left    map[int]*Node
+	Actions []*pb.FileAction
+	Outputs []*Ref
+}
+
+// Steps does the actions of a file op as FileOp does.
+func Steps(ctx context.Context, op *pb.FileOp, inputs []*Ref, like Rules) (*Did, error) {
 	f := newFileOp(op, inputs, like)
-	outputs, err = f.outputs(ctx)
-	left = map[int]*Node{}
+	outputs, err := f.outputs(ctx)
+	did := &Did{Left: map[int]*Node{}, Actions: slices.Clone(f.actions), Outputs: outputs}
 	for number, one := range f.steps {
-		left[number] = one.left.tree
+		did.Left[number] = one.left.tree
 	}
-	return left, outputs, err
+	for number, one := range f.numbers {
+		did.Actions[number] = one
+	}
+	return did, err
 }
 
 // outputs does the actions, and returns the outputs of the op.
@@ -143,7 +159,14 @@ func (f *fileOp) do(ctx context.Context, number int) error {
 	if action.GetCopy() != nil {
 		second = f.startOf(int(action.SecondaryInput)).tree
 	}
-	left, err := act(ctx, action, base.tree, second, f.like)
+	action, err := Named(action, f.treeOf)
+	if err == nil {
+		f.numbers[number] = action
+	}
+	var left outcome
+	if err == nil {
+		left, err = act(ctx, action, base.tree, second, f.like)
+	}
 	if err != nil {
 		f.failed = &step{base: base.tree, second: second}
 		return err
@@ -159,6 +182,18 @@ func (f *fileOp) do(ctx context.Context, number int) error {
 	}
 	f.done[number] = made
 	return nil
+}
+
+// treeOf returns the tree of an input, or of a result that is done.
+func (f *fileOp) treeOf(index pb.InputIndex) (*Node, error) {
+	number := int(index) - len(f.inputs)
+	switch {
+	case number < 0:
+		return f.inputs[index].tree, nil
+	case f.done[number] == nil:
+		return nil, ErrUnknown
+	}
+	return f.done[number].tree, nil
 }
 
 // startOf returns the tree that an action is done on, with what its change is a change of.

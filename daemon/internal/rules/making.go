@@ -10,7 +10,11 @@ import (
 
 // mkdir returns a tree with a new directory. Rule MkdirOver: without `makeParents`, where a file is nothing changes.
 func mkdir(given *pb.FileActionMkDir, base *Node, like Rules) (*Node, error) {
-	path, err := readOfMkdir(given.Path, base, like)
+	text, err := follow(given.Path, base, like)
+	if err != nil {
+		return nil, err
+	}
+	path, err := readOfMkdir(text, base, like)
 	if err != nil || base.At(path).IsDir() {
 		return base, err
 	}
@@ -32,7 +36,11 @@ func mkdir(given *pb.FileActionMkDir, base *Node, like Rules) (*Node, error) {
 
 // mkfile returns a tree with a new file.
 func mkfile(given *pb.FileActionMkFile, base *Node, like Rules) (*Node, error) {
-	path, err := read(given.Path, like)
+	text, err := followClean(given.Path, base, like)
+	if err != nil {
+		return nil, err
+	}
+	path, err := read(text, like)
 	if err != nil {
 		return nil, err
 	}
@@ -59,33 +67,20 @@ func mkfile(given *pb.FileActionMkFile, base *Node, like Rules) (*Node, error) {
 // rm returns a tree without what is at or below a path, or below all that match a pattern. Rule RmRoot: an rm of the empty
 // path also removes the root.
 func rm(ctx context.Context, given *pb.FileActionRm, base *Node, like Rules) (*Node, error) {
-	if !given.AllowWildcard {
-		if like.Has(RmRoot) && path.Clean(given.Path) == "." {
-			return nil, nil
-		}
-		one, err := pathOfRm(given, base, like)
-		if err != nil {
-			return nil, err
-		}
-		return removed(base, [][]string{one}, given.AllowNotFound)
+	if !given.AllowWildcard && like.Has(RmRoot) && path.Clean(given.Path) == "." {
+		return nil, nil
 	}
-	found, err := foundForRm(ctx, given.Path, base, like)
+	found, err := foundForRm(ctx, given, base, like)
 	if err != nil {
 		return nil, err
 	}
-	if len(found) == 0 && !given.AllowNotFound && !like.Has(RmNoMatch) {
+	if given.AllowWildcard && len(found) == 0 && !given.AllowNotFound && !like.Has(RmNoMatch) {
 		return nil, fails("no path matches")
 	}
-	return removed(base, found, given.AllowNotFound)
-}
-
-// pathOfRm returns the path of an rm. Rule RmBelowFile: a path below a file is not skipped by `allowNotFound`.
-func pathOfRm(given *pb.FileActionRm, base *Node, like Rules) ([]string, error) {
-	path, err := read(given.Path, like)
-	if err == nil && like.Has(RmBelowFile) && base.isBelowFile(path) {
-		err = fails("%s is below a file", shown(path))
+	if found, err = followParents(found, base, given.AllowNotFound, like); err != nil {
+		return nil, err
 	}
-	return path, err
+	return removed(base, found, given.AllowNotFound)
 }
 
 // removed returns a tree without what is at or below some paths, which may be missing if they are skipped.

@@ -12,11 +12,12 @@ import (
 
 // A content is what a tree's text has of a file.
 type content struct {
-	text string
-	sum  persistent.Sum
+	text  string
+	sum   persistent.Sum
+	given *Given // what is known of it, if it is a token
 }
 
-func contentOf(text string) content { return content{text, persistent.SumOf([]byte(text))} }
+func contentOf(text string) content { return content{text: text, sum: persistent.SumOf([]byte(text))} }
 
 // An entry is what a directory or a file is by itself.
 type entry struct {
@@ -37,8 +38,11 @@ type Node struct {
 
 const newMode = 0o755
 
-// newNode makes a node; a file has nothing below it.
+// newNode makes a node; a file has nothing below it. The mode of a link is always the same.
 func newNode(one entry, below persistent.Map[*Node]) *Node {
+	if one.isLink() {
+		one.mode = modeOfLink
+	}
 	var space [64]byte
 	data := append(space[:0], 0)
 	if one.dir {
@@ -69,8 +73,12 @@ func (n *Node) Sum() persistent.Sum {
 	return n.sum
 }
 
-// Extent returns the longest path below the node.
-func (n *Node) Extent() persistent.Extent { return n.below.Extent() }
+// Extent returns the longest path below the node, and whether a link is at it or below it.
+func (n *Node) Extent() persistent.Extent {
+	extent := n.below.Extent()
+	extent.HasLinks = extent.HasLinks || n.isLink()
+	return extent
+}
 
 // Equal is whether two trees are equal.
 func Equal(a, b *Node) bool { return a == b || a != nil && b != nil && a.sum == b.sum }
@@ -113,6 +121,9 @@ func (n *Node) children() persistent.Map[*Node] {
 
 // IsDir is whether there is a directory.
 func (n *Node) IsDir() bool { return n != nil && n.dir }
+
+// isArchive is whether there is a file that BuildKit unpacks.
+func (n *Node) isArchive() bool { return n != nil && !n.dir && n.content.isArchive() }
 
 // Mode returns the low twelve bits of the mode.
 func (n *Node) Mode() uint32 { return n.mode }
@@ -217,23 +228,34 @@ func (n *Node) asEntry(path string) tree.Entry {
 }
 
 // Of returns the node of a tree, nil of none.
-func Of(t tree.Tree) *Node {
-	var b builder
+func Of(t tree.Tree) *Node { return Reader{}.Of(t) }
+
+// Read reads the text of a tree. Where it has the same as another tree at the same place, the two share it.
+func Read(ctx context.Context, text io.Reader, near *Node) (*Node, error) {
+	return Reader{Near: near}.Read(ctx, text)
+}
+
+// A Reader says what is known of a tree before its text is read.
+type Reader struct {
+	Near   *Node           // a tree that may have the same at the same place
+	Linked []string        // the files that have other names
+	Known  Known           // contents
+	Times  map[string]Time // of some files
+}
+
+// Of returns the node of a tree, nil of none.
+func (r Reader) Of(t tree.Tree) *Node {
+	b := builder{known: r.Known}
 	for i := range t {
 		_ = b.add(&t[i])
 	}
 	return b.tree()
 }
 
-// Read reads the text of a tree. Where it has the same as another tree at the same place, the two share it.
-func Read(ctx context.Context, text io.Reader, near *Node) (*Node, error) {
-	return ReadSource(ctx, text, near, nil, nil)
-}
-
-// ReadSource does the same for a tree of which some files have other names, and the times of some are known.
-func ReadSource(ctx context.Context, text io.Reader, near *Node, linked []string, times map[string]Time) (*Node, error) {
-	b := builder{near: near, linked: map[string]bool{}, times: times}
-	for _, path := range linked {
+// Read reads the text of a tree.
+func (r Reader) Read(ctx context.Context, text io.Reader) (*Node, error) {
+	b := builder{near: r.Near, linked: map[string]bool{}, times: r.Times, known: r.Known}
+	for _, path := range r.Linked {
 		b.linked[paths.Clean(path)] = true
 	}
 	return b.read(ctx, text)

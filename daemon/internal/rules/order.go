@@ -1,6 +1,7 @@
 package rules
 
 import (
+	"slices"
 	"strings"
 
 	"github.com/moby/buildkit/solver/pb"
@@ -136,6 +137,9 @@ func checkSelected(actions []*pb.FileAction, inputs []*Ref) error {
 		c, index := actions[number].GetCopy(), int(actions[number].SecondaryInput)
 		parts := paths.Names(c.Src)
 		wild := paths.Wild(parts)
+		if hasPatterns(c) {
+			continue
+		}
 		if !c.AllowWildcard || wild == len(parts) {
 			key := selection{index, c.FollowSymlink}
 			if plain[key] == nil {
@@ -146,22 +150,41 @@ func checkSelected(actions []*pb.FileAction, inputs []*Ref) error {
 			return &ActionFails{number, fails("a text is no pattern")}
 		}
 	}
+	for number, action := range actions {
+		for _, one := range filesOfOwner(action) {
+			key := selection{int(one.index), true}
+			if key.index < 0 || key.index >= len(inputs) || isWorkedOn(actions, one.index) {
+				continue
+			}
+			if plain[key] == nil {
+				order = append(order, key)
+			}
+			plain[key] = append(plain[key], selected{number, shown(one.path)})
+		}
+	}
 	for _, key := range order {
-		if err := checkPlain(plain[key], inputs[key.index].tree); err != nil {
+		if err := checkPlain(plain[key], key.follow, inputs[key.index].tree); err != nil {
 			return err
 		}
 	}
 	return nil
 }
 
+func isWorkedOn(actions []*pb.FileAction, index pb.InputIndex) bool {
+	return slices.ContainsFunc(actions, func(one *pb.FileAction) bool { return one.Input == index })
+}
+
 // checkPlain fails if a path is missing, unless the text of another one begins its text.
-func checkPlain(found []selected, t *Node) error {
+func checkPlain(found []selected, isFollowed bool, t *Node) error {
 	texts := map[string]bool{}
 	for _, one := range found {
 		texts[one.text] = true
 	}
 	for _, one := range found {
-		if !isBelowAny(one.text, texts) && t.At(paths.Names(one.text)) == nil {
+		if isBelowAny(one.text, texts) {
+			continue
+		}
+		if path, err := followSource(paths.Names(one.text), isFollowed, t, All); err != nil || t.At(path) == nil {
 			return &ActionFails{one.action, fails("%s is missing", one.text)}
 		}
 	}

@@ -7,6 +7,7 @@ import (
 	"strings"
 	"unicode/utf8"
 
+	"github.com/moby/buildkit/solver/pb"
 	"llbm/daemon/internal/paths"
 	"llbm/daemon/internal/persistent"
 )
@@ -199,36 +200,60 @@ func foundBelow(ctx context.Context, names, parts []string, t *Node, like Rules)
 	return matched(ctx, base, names, parts, like)
 }
 
-// foundForRm returns the paths that an rm with `allowWildcard` removes; without a wildcard in the text its path.
-func foundForRm(ctx context.Context, text string, t *Node, like Rules) ([][]string, error) {
-	names, parts, err := patternOf(text, like)
-	switch {
-	case err != nil:
+// foundForRm returns the paths that an rm removes: with `allowWildcard` those that match, and without a wildcard its path.
+func foundForRm(ctx context.Context, given *pb.FileActionRm, t *Node, like Rules) ([][]string, error) {
+	if !given.AllowWildcard {
+		one, err := read(given.Path, like)
+		if err != nil {
+			return nil, err
+		}
+		return plainForRm(one, t, like)
+	}
+	names, parts, err := patternOf(given.Path, like)
+	if err != nil {
 		return nil, err
-	case len(parts) > 0:
-		return foundBelow(ctx, names, parts, t, like)
-	case like.Has(RmBelowFile) && t.isBelowFile(names):
+	}
+	if len(parts) == 0 {
+		return plainForRm(names, t, like)
+	}
+	if names, err = followSource(names, false, t, like); err != nil {
+		return nil, err
+	}
+	return foundBelow(ctx, names, parts, t, like)
+}
+
+// plainForRm returns the one path of an rm. Rule RmBelowFile: a path below a file is not skipped by `allowNotFound`.
+func plainForRm(names []string, t *Node, like Rules) ([][]string, error) {
+	to, err := followSource(names, false, t, like)
+	if err != nil {
+		return nil, err
+	}
+	if like.Has(RmBelowFile) && t.isBelowFile(to) {
 		return nil, fails("%s is below a file", shown(names))
 	}
-	return [][]string{names}, nil
+	return [][]string{to}, nil
 }
 
 // foundForCopy returns the paths that a copy with `allowWildcard` copies. Rule PlainWildcard: without a wildcard in the text
 // its path must be there, whatever `allowEmptyWildcard` says.
-func foundForCopy(ctx context.Context, text string, allowEmpty bool, t *Node, like Rules) ([][]string, error) {
-	names, parts, err := patternOf(text, like)
+func foundForCopy(ctx context.Context, given *pb.FileActionCopy, t *Node, like Rules) ([][]string, error) {
+	names, parts, err := patternOf(given.Src, like)
+	if err != nil {
+		return nil, err
+	}
+	at, err := followSource(names, given.FollowSymlink, t, like)
 	if err != nil {
 		return nil, err
 	}
 	var found [][]string
 	if len(parts) > 0 {
-		if found, err = foundBelow(ctx, names, parts, t, like); err != nil {
+		if found, err = foundBelow(ctx, at, parts, t, like); err != nil {
 			return nil, err
 		}
-	} else if t.At(names) != nil {
+	} else if t.At(at) != nil {
 		found = [][]string{names}
 	}
-	if len(found) == 0 && (!allowEmpty || len(parts) == 0 && like.Has(PlainWildcard)) {
+	if len(found) == 0 && (!given.AllowEmptyWildcard || len(parts) == 0 && like.Has(PlainWildcard)) {
 		return nil, fails("nothing is there")
 	}
 	return found, nil

@@ -17,6 +17,7 @@ type builder struct {
 	near   *Node           // a tree that may have the same
 	linked map[string]bool // the files that have other names
 	times  map[string]Time // of some files
+	known  Known           // contents
 	open   []*building     // the directories that lead to the next entry
 	last   string
 }
@@ -34,6 +35,7 @@ func (b *builder) entryOf(e *tree.Entry) entry {
 	one := entry{dir: e.Dir, mode: e.Mode, user: e.UID, group: e.GID}
 	if !e.Dir {
 		one.content, one.linked, one.time = contentOf(string(e.Content)), b.linked[e.Path], b.times[e.Path]
+		one.content.given = b.known[one.content.text]
 	}
 	return one
 }

@@ -52,7 +52,10 @@ type Rules uint64
 
 const (
 	None Rules = 0
-	All  Rules = 1<<numberOfRules - 1
+	All  Rules = 1<<numberOfRules - 1 | Followed
+	// Followed is that symbolic links are followed, as in BuildKit. It is no rule: where llbm would not make the same, a build is
+	// refused.
+	Followed Rules = 1 << 63
 )
 
 func (s Rules) Has(r Rule) bool { return s>>r&1 == 1 }

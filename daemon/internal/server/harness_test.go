@@ -152,7 +152,7 @@ func toTar(kind string, to *buffer, attrs map[string]string) client.ExportEntry 
 	return client.ExportEntry{Type: kind, Attrs: attrs, Output: func(map[string]string) (io.WriteCloser, error) { return to, nil }}
 }
 
-// listed returns an archive's entries, a line each: mode, owner, name and content.
+// listed returns an archive's entries, a line each: mode, owner, name and content, or the target of a symbolic link.
 func listed(t testing.TB, archive []byte) string {
 	t.Helper()
 	var out strings.Builder
@@ -167,6 +167,10 @@ func listed(t testing.TB, archive []byte) string {
 		data, err := io.ReadAll(r)
 		if err != nil {
 			t.Fatal(err)
+		}
+		if h.Typeflag == tar.TypeSymlink {
+			fmt.Fprintf(&out, "%04o %d:%d %s -> %s\n", h.Mode, h.Uid, h.Gid, h.Name, h.Linkname)
+			continue
 		}
 		fmt.Fprintf(&out, "%04o %d:%d %s %q\n", h.Mode, h.Uid, h.Gid, h.Name, data)
 	}

@@ -9,6 +9,7 @@ import (
 	"google.golang.org/grpc/status"
 	"llbm/daemon/internal/graph"
 	"llbm/daemon/internal/printable"
+	"llbm/daemon/internal/rules"
 	"llbm/daemon/internal/sources"
 	"llbm/daemon/internal/standins"
 )
@@ -22,6 +23,8 @@ type checks struct {
 	solver *Solver
 	group  *errgroup.Group
 	ctx    context.Context
+	// isBeyond is whether llbm was not shown all.
+	isBeyond bool
 }
 
 func (s *Solver) checks(ctx context.Context) *checks {
@@ -30,10 +33,25 @@ func (s *Solver) checks(ctx context.Context) *checks {
 	return c
 }
 
+// loadWithin does what load does, but llbm is not shown what it does not take and the rewriting may take away.
+func (c *checks) loadWithin(def, sent *pb.Definition) (*graph.Graph, error) {
+	shown, isBeyond, err := within(def)
+	if err != nil || c.solver.Literal || !isBeyond {
+		return c.load(def, sent)
+	}
+	c.isBeyond = true
+	return c.loadAs(def, sent, shown)
+}
+
 // load reads the graph of a definition, and lets llbm show it, which may end later. The two have to be the same. Further entries of a
 // definition that was rewritten are parts of some rows.
 func (c *checks) load(def, sent *pb.Definition, parts ...int) (*graph.Graph, error) {
-	entries, err := graph.Entries(def)
+	return c.loadAs(def, sent, def, parts...)
+}
+
+// loadAs does the same, and lets llbm show another definition of the same form.
+func (c *checks) loadAs(def, sent, other *pb.Definition, parts ...int) (*graph.Graph, error) {
+	entries, err := graph.Entries(other)
 	if err != nil {
 		return nil, err
 	}
@@ -63,8 +81,20 @@ func (c *checks) load(def, sent *pb.Definition, parts ...int) (*graph.Graph, err
 	return g, err
 }
 
+// beyond is what can be done about what an action has that llbm does not take.
+var beyond = map[string]string{
+	rules.ByName:   "the numbers of an owner are looked up only in a tree that is known before an execution runs: give the owner as numbers",
+	rules.Unpacked: "an archive is not unpacked, nor a file that is packed by xz: unpack it before, or use COPY",
+	rules.Filtered: "patterns are taken only of a tree that is known before an execution runs: copy from the context, or without them",
+}
+
 // said returns what is wrong with an op that llbm refuses, where its line does not say it, and on a second line what can be done.
 func (s *Solver) said(op *pb.Op) string {
+	for _, action := range op.GetFile().GetActions() {
+		if advice := beyond[rules.Beyond(action)]; advice != "" {
+			return "\n" + advice
+		}
+	}
 	if source := op.GetSource(); source != nil && !sources.IsLocal(source) {
 		return "\n" + sources.Instead(source.Identifier)
 	}

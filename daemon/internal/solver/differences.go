@@ -16,6 +16,7 @@ import (
 	"llbm/daemon/internal/contents"
 	"llbm/daemon/internal/graph"
 	"llbm/daemon/internal/machine"
+	"llbm/daemon/internal/messages"
 	"llbm/daemon/internal/rules"
 )
 
@@ -47,13 +48,16 @@ type comparing struct {
 	strict bool
 	// refusal is why the build fails, if it is strict: the first way in which BuildKit ends otherwise.
 	refusal error
-	leave   func()
+	// followed is why the build fails: BuildKit would follow a symbolic link, or whether it would is not known.
+	followed error
+	linked   bool // whether a source has a symbolic link
+	leave    func()
 }
 
-// isCompared is whether a graph has something to compare.
-func isCompared(g *graph.Graph) bool {
+// isCompared is whether a graph has something to compare. What an execution does with links is looked at, too.
+func isCompared(g *graph.Graph, isLinked bool) bool {
 	for v := range g.Vertices {
-		if op := g.Vertices[v].Op; op.GetFile() != nil || op.GetMerge() != nil {
+		if op := g.Vertices[v].Op; op.GetFile() != nil || op.GetMerge() != nil || isLinked && op.GetExec() != nil {
 			return true
 		}
 	}
@@ -71,7 +75,8 @@ func (s *Solver) compare(
 	c.ctx, c.cancel = context.WithCancel(ctx)
 	c.strict = s.Strict || p.b.Strict
 	c.static(def)
-	if !isCompared(g) {
+	c.linked = in.hasLinks()
+	if !isCompared(g, c.linked) {
 		close(c.done)
 		return c
 	}
@@ -116,6 +121,7 @@ func (s *Solver) begin(c *comparing, def *pb.Definition, in *inputs, texts texts
 	c.talk = comparison.NewTalk(c.child, c.child.In)
 	request := &comparison.Request{Sent: file, Rewrite: rewrites, Received: true, Paths: mostDetails, Vertices: map[int]string{}, Links: map[int][]string{}}
 	request.Times = timesOf(c.g, in)
+	request.Known = in.known
 	for i, one := range in.all {
 		for _, v := range one.vertices {
 			request.Vertices[v] = machine.PathOf(texts.sources[i].Text)
@@ -173,6 +179,10 @@ func (c *comparing) listen() {
 			c.run <- m.Run
 		case m.Step != nil:
 			c.show(m.Step)
+		case m.Follows != nil:
+			if v := m.Follows.Vertex; c.followed == nil && v >= 0 && v < len(c.g.Vertices) {
+				c.followed = c.g.Wrap(v, status.Error(codes.Unimplemented, "llbm: "+messages.Text(m.Follows.Words)))
+			}
 		case m.Needs != nil:
 			select {
 			case c.asked <- m.Needs:
@@ -256,6 +266,9 @@ func (c *comparing) conclude() {
 		return
 	}
 	text := "not all was compared with what BuildKit would make: " + c.why
+	if c.linked && c.followed == nil {
+		c.followed = status.Error(codes.Unimplemented, "llbm: a source has symbolic links, and whether BuildKit would follow one is not known: "+text)
+	}
 	c.refuse(c.g.Result, text)
 	if c.p.shown.Note("not all was compared") {
 		c.p.warnOf(c.g.Vertices[c.g.Result].Digest, text, nil)

@@ -18,6 +18,7 @@ import (
 	"llbm/daemon/internal/graph"
 	"llbm/daemon/internal/machine"
 	"llbm/daemon/internal/plan"
+	"llbm/daemon/internal/rules"
 	"llbm/daemon/internal/sources"
 )
 
@@ -45,7 +46,9 @@ type inputs struct {
 	names   map[string]bool // that llbm knows sources by
 	build   *builds.Build
 	renamed bool
-	held    int // the bytes of texts that count as the build's
+	held    int           // the bytes of texts that count as the build's
+	known   []rules.Given // what is known of contents that have tokens
+	wanted  wanted
 }
 
 func sessionOf(b *builds.Build, source *pb.SourceOp) string {
@@ -159,7 +162,7 @@ func (s *Solver) transfer(ctx context.Context, b *builds.Build, one *input, p *p
 	}
 	v := one.vertices[0]
 	if manifest.Left > 0 {
-		p.warn(v, fmt.Sprintf("%s: %d entries are left out, as llbm has only directories and files", one.what(), manifest.Left), manifest.LeftOut)
+		p.warn(v, fmt.Sprintf("%s: %d entries are left out, as llbm has only directories, files and links", one.what(), manifest.Left), manifest.LeftOut)
 	}
 	if manifest.Attributed > 0 {
 		text := fmt.Sprintf("%s: extended attributes are lost, which BuildKit keeps: of /%s", one.what(), manifest.FirstAttributed)
@@ -254,29 +257,31 @@ func (t *texts) close() {
 // texts writes the texts of all sources: by reference, or by value where the plan needs the contents themselves.
 func (in *inputs) texts(g *graph.Graph) (texts, error) {
 	p := plan.Of(g.Vertices)
-	all := p.All || !g.Canonical
-	if !all {
+	in.wanted = wantedOf(g)
+	if !p.All && g.Canonical {
 		table := contents.NewTable()
 		written, err := in.write(func(one *input, to io.Writer) error {
 			for _, v := range one.vertices {
 				if p.Vertices[v] {
-					return writeValue(one, to, true)
+					return writeValue(one, to, table)
 				}
 			}
-			return one.manifest.WriteByReference(to, table)
+			return one.manifest.WriteByReference(to, table, in.note)
 		})
 		var mark sources.HasMark
 		if !errors.As(err, &mark) {
 			if err != nil {
 				table.Close()
-				table = nil
+				return texts{sources: written}, err
 			}
-			return texts{written, table}, err
+			in.addLinks(table)
+			return texts{written, table}, nil
 		}
 		(&texts{sources: written}).close()
 		table.Close()
+		in.known = nil
 	}
-	written, err := in.write(func(one *input, to io.Writer) error { return writeValue(one, to, false) })
+	written, err := in.write(func(one *input, to io.Writer) error { return writeValue(one, to, nil) })
 	return texts{sources: written}, err
 }
 
@@ -291,12 +296,19 @@ func (in *inputs) given(g *graph.Graph, texts []machine.Source) []machine.Source
 	return slices.DeleteFunc(slices.Clone(texts), func(one machine.Source) bool { return !needed[one.Name] })
 }
 
-func writeValue(one *input, to io.Writer, noMark bool) error {
+// writeValue writes a source by value, with tokens for its links alone.
+func writeValue(one *input, to io.Writer, table *contents.Table) error {
 	if one.manifest.Bytes > mostOfText/2 {
 		return status.Errorf(
 			codes.ResourceExhausted, "llbm: fault 185 TooLong: %s has to be given by value, and has %d bytes", one.what(), one.manifest.Bytes)
 	}
-	return one.manifest.WriteByValue(to, noMark)
+	err := one.manifest.WriteByValue(to, table, false)
+	var link sources.HasLink
+	if errors.As(err, &link) {
+		return status.Errorf(codes.Unimplemented,
+			"local source %s: %v: links have tokens, and this build can't have any, since the byte 255 is in a content that llbm has to know", one.request.Name, err)
+	}
+	return err
 }
 
 func (in *inputs) write(text func(*input, io.Writer) error) ([]machine.Source, error) {

@@ -36,7 +36,7 @@ func (s *Solver) liken(
 		return def, g, nil
 	}
 	made, rows, parts, err := c.definition(checks.ctx, def)
-	if err != nil || made == def {
+	if err != nil || made == def && !checks.isBeyond {
 		return def, g, err
 	}
 	if g, err = checks.load(made, sent, parts...); err != nil {

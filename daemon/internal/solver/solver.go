@@ -119,7 +119,7 @@ type replaced struct {
 
 // work gathers the sources of a definition, rewrites it if it is to be run as BuildKit would, and runs it.
 func (s *Solver) work(c *checks, b *builds.Build, def, sent *pb.Definition, from *replaced) (*results.Result, error) {
-	g, err := c.load(def, sent)
+	g, err := c.loadWithin(def, sent)
 	if err != nil {
 		return nil, err
 	}
@@ -223,13 +223,18 @@ func (s *Solver) session(
 		if v, failed := p.event(event); failed {
 			err := p.failed(v, s.failure(run, p, v))
 			c.end(run, g)
+			if c.followed != nil {
+				err = c.followed
+			}
 			return nil, record.Bytes(), err
 		}
 	}
 	result, err := s.result(run, g, p)
 	if err == nil {
 		c.end(run, g)
-		err = c.refusal
+		if err = c.followed; err == nil {
+			err = c.refusal
+		}
 	}
 	return result, record.Bytes(), err
 }
@@ -280,11 +285,11 @@ func (s *Solver) keep(b *builds.Build, def *pb.Definition, record []byte, in *in
 	for _, one := range in.all {
 		solved.Sources = append(solved.Sources, kept.Source{Name: one.given, Write: func(to io.Writer) error {
 			if one.manifest.Bytes <= mostOfText/2 {
-				return one.manifest.WriteByValue(to, false)
+				return one.manifest.WriteByValue(to, nil, true)
 			}
 			table := contents.NewTable()
 			defer table.Close()
-			return one.manifest.WriteByReference(to, table)
+			return one.manifest.WriteByReference(to, table, nil)
 		}})
 	}
 	if err := s.Kept.Add(solved); err != nil {

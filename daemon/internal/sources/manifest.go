@@ -21,6 +21,7 @@ type Entry struct {
 	UID, GID uint32
 	Modified int64
 	Content  contents.Ref
+	Link     string // the target of a symbolic link, which has no content
 }
 
 // A Manifest is a local source as it was sent: its entries in path order, without the root. Its holders share it.
@@ -35,6 +36,7 @@ type Manifest struct {
 	// Attributed is how many entries have extended attributes, which a tree of llbm has not, and FirstAttributed is the first.
 	Attributed      int
 	FirstAttributed string
+	FirstLink       string // the path of the first symbolic link, if there is one
 	links           []link
 	memory          int       // the bytes of the entries and their paths, about
 	began           time.Time // when the transfer began
@@ -85,9 +87,18 @@ func (m *Manifest) place(path string) (int, bool) {
 	return slices.BinarySearchFunc(m.Entries, path, func(e Entry, path string) int { return tree.Compare(e.Path, path) })
 }
 
-// WriteByReference writes the source's tree with a token of the table in the place of each content.
-func (m *Manifest) WriteByReference(to io.Writer, table *contents.Table) error {
-	return m.write(to, func(e *Entry) ([]byte, error) { return table.Add(e.Content) })
+// WriteByReference writes the source's tree with a token of the table in the place of each content, and notes each, if it is asked to.
+func (m *Manifest) WriteByReference(to io.Writer, table *contents.Table, note func(e *Entry, token []byte) error) error {
+	return m.write(to, func(e *Entry) ([]byte, error) {
+		if e.Link != "" {
+			return table.AddLink(e.Link)
+		}
+		token, err := table.Add(e.Content)
+		if err == nil && note != nil {
+			err = note(e, token)
+		}
+		return token, err
+	})
 }
 
 // A HasMark says that a source by value has the byte with which tokens begin, so tokens would be mistaken.
@@ -95,14 +106,28 @@ type HasMark string
 
 func (path HasMark) Error() string { return string(path) + " has the byte 255" }
 
-// WriteByValue writes the source's tree with its contents. With tokens elsewhere, the byte 255 in a content is a HasMark.
-func (m *Manifest) WriteByValue(to io.Writer, noMark bool) error {
+// A HasLink says that a source with a symbolic link has to be given by value, where nothing has tokens.
+type HasLink string
+
+func (path HasLink) Error() string { return string(path) + " is a symbolic link" }
+
+// WriteByValue writes the source's tree with its contents. With tokens elsewhere, which a table has, the byte 255 in a content is a
+// HasMark; without a table a symbolic link is a HasLink, unless links are files that have their targets.
+func (m *Manifest) WriteByValue(to io.Writer, table *contents.Table, linksAsFiles bool) error {
 	return m.write(to, func(e *Entry) ([]byte, error) {
+		switch {
+		case e.Link != "" && linksAsFiles:
+			return []byte(e.Link), nil
+		case e.Link != "" && table == nil:
+			return nil, HasLink(e.Path)
+		case e.Link != "":
+			return table.AddLink(e.Link)
+		}
 		data := make([]byte, e.Content.Size)
 		if _, err := e.Content.ReadAt(data, 0); err != nil {
 			return nil, fmt.Errorf("%s: %w", e.Path, err)
 		}
-		if noMark && bytes.IndexByte(data, contents.Mark) >= 0 {
+		if table != nil && bytes.IndexByte(data, contents.Mark) >= 0 {
 			return nil, HasMark(e.Path)
 		}
 		return data, nil
@@ -117,7 +142,7 @@ func (m *Manifest) write(to io.Writer, content func(*Entry) ([]byte, error)) err
 	for i := range m.Entries {
 		e := &m.Entries[i]
 		line := tree.Entry{Path: e.Path, Dir: e.Dir, Mode: e.Mode, UID: e.UID, GID: e.GID}
-		if !e.Dir && e.Content.Size > 0 {
+		if !e.Dir && (e.Content.Size > 0 || e.Link != "") {
 			var err error
 			if line.Content, err = content(e); err != nil {
 				return err

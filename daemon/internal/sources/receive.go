@@ -25,6 +25,9 @@ const (
 	mostPacks   = 16
 	// heldAtOnce is how many bytes at least are counted at once of what is held in memory.
 	heldAtOnce = 64 << 10
+	// mostOfTarget is how many bytes the target of a symbolic link has at most, and modeOfLink is the mode of each.
+	mostOfTarget = 4095
+	modeOfLink   = 0o777
 	// mostOfMessage bounds what is shown of a client's error.
 	mostOfMessage = 1000
 	// settled is how much older than a transfer a file's time has to be to tell a later change from it. Clocks of file systems
@@ -32,8 +35,8 @@ const (
 	settled = 2 * time.Second
 )
 
-// The bounds of a source: its entries with those that are left out, and the bytes of their paths and of the names that hard links
-// have. llbm takes no longer text of a tree either.
+// The bounds of a source: its entries with those that are left out, and the bytes of their paths and of the names that links have.
+// llbm takes no longer text of a tree either.
 var (
 	mostEntries = 2_000_000
 	mostOfPaths = 64 << 20
@@ -50,7 +53,7 @@ type Options struct {
 	Name     string
 	What     string        // what the source is in refusals, if it is no local source
 	Before   *Manifest     // what was sent before, or nil
-	LeaveOut bool          // links, devices and sockets are left out instead of refused
+	LeaveOut bool          // devices and sockets are left out instead of refused
 	Progress func(n int64) // is called with the number of bytes that have come so far
 	// Hold counts bytes that are held in memory, or refuses them; nil does not count.
 	Hold func(n int) error
@@ -177,8 +180,11 @@ func (r *receiver) stat(st *fstypes.Stat) error {
 	if err := r.checkPath(st.Path, mode.IsDir()); err != nil {
 		return err
 	}
+	if mode&os.ModeType == os.ModeSymlink {
+		return r.symlink(st)
+	}
 	if !mode.IsDir() && !mode.IsRegular() {
-		return r.leaveOut(st.Path, mode)
+		return r.leaveOut(st.Path)
 	}
 	r.attributes(st)
 	e := Entry{Path: st.Path, Dir: mode.IsDir(), Mode: tree.UnixMode(mode), UID: st.Uid, GID: st.Gid, Modified: st.ModTime}
@@ -190,6 +196,20 @@ func (r *receiver) stat(st *fstypes.Stat) error {
 		return r.link(st.Linkname)
 	}
 	return r.content(id, st.Size_)
+}
+
+// symlink takes a symbolic link.
+func (r *receiver) symlink(st *fstypes.Stat) error {
+	if st.Linkname == "" || len(st.Linkname) > mostOfTarget || strings.IndexByte(st.Linkname, 0) >= 0 {
+		return r.refuse(codes.InvalidArgument, "%s: a symbolic link to %.80q", st.Path, st.Linkname)
+	}
+	if r.manifest.FirstLink == "" {
+		r.manifest.FirstLink = st.Path
+	}
+	r.attributes(st)
+	e := Entry{Path: st.Path, Mode: modeOfLink, UID: st.Uid, GID: st.Gid, Modified: st.ModTime, Link: st.Linkname}
+	r.manifest.Entries = append(r.manifest.Entries, e)
+	return nil
 }
 
 // count counts an entry, whether it is taken or left out.
@@ -229,7 +249,7 @@ func (r *receiver) attributes(st *fstypes.Stat) {
 func (r *receiver) link(target string) error {
 	place := len(r.manifest.Entries) - 1
 	i, ok := r.manifest.place(target)
-	if !ok || r.manifest.Entries[i].Dir || i == place {
+	if !ok || r.manifest.Entries[i].Dir || r.manifest.Entries[i].Link != "" || i == place {
 		return r.refuse(codes.InvalidArgument, "%s: a link to %.80q, which is no file that came before it", r.manifest.Entries[place].Path, target)
 	}
 	if r.manifest.isLink(i) {
@@ -287,7 +307,8 @@ func (r *receiver) same(e *Entry, size int64) *Entry {
 		return nil
 	}
 	old := &r.Before.Entries[r.before]
-	is := old.Path == e.Path && !old.Dir && old.Content.Size == size && old.Modified == e.Modified && old.Mode == e.Mode && old.UID == e.UID && old.GID == e.GID
+	is := old.Path == e.Path && !old.Dir && old.Link == "" && old.Content.Size == size && old.Modified == e.Modified && old.Mode == e.Mode &&
+		old.UID == e.UID && old.GID == e.GID
 	tells := e.Modified%int64(time.Second) != 0 && e.Modified < r.Before.began.Add(-settled).UnixNano()
 	if !is || !tells {
 		return nil
@@ -354,13 +375,10 @@ func (r *receiver) checkPath(path string, dir bool) error {
 	return nil
 }
 
-func (r *receiver) leaveOut(path string, mode os.FileMode) error {
-	kind := "a special file"
-	if mode&os.ModeSymlink != 0 {
-		kind = "a symbolic link"
-	}
+func (r *receiver) leaveOut(path string) error {
+	const kind = "a special file"
 	if !r.LeaveOut {
-		return r.refuse(codes.Unimplemented, "%s is %s: only directories and files are taken (llbmd -leave-out leaves it out)", path, kind)
+		return r.refuse(codes.Unimplemented, "%s is %s: only directories, files and symbolic links are taken (llbmd -leave-out leaves it out)", path, kind)
 	}
 	r.manifest.Left++
 	if len(r.manifest.LeftOut) < mostLeftOut {

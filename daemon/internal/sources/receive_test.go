@@ -113,7 +113,7 @@ func newStore(t testing.TB, most int64) *contents.Store {
 func text(t testing.TB, m *Manifest) string {
 	t.Helper()
 	var out bytes.Buffer
-	if err := m.WriteByValue(&out, false); err != nil {
+	if err := m.WriteByValue(&out, nil, true); err != nil {
 		t.Fatal(err)
 	}
 	return out.String()
@@ -144,35 +144,41 @@ func TestWhatAClientMayNotSendIsRefused(t *testing.T) {
 		client *script
 		want   string
 	}{
-		"a path with ..":           {sends(nil, dir(".."), last), "is no name"},
-		"a path with .. inside":    {sends(nil, dir("a"), dir("a/.."), last), "is no name"},
-		"an absolute path":         {sends(nil, stat("/a", 0o644, 0), last), "is no name"},
-		"a path without text":      {sends(nil, stat("", 0o644, 0), last), "is no name"},
-		"an unclean path":          {sends(nil, dir("a"), stat("a//b", 0o644, 0), last), "is no name"},
-		"a trailing slash":         {sends(nil, dir("a/"), last), "is no name"},
-		"a dot":                    {sends(nil, dir("."), last), "is no name"},
-		"a line end":               {sends(nil, stat("a\nf 0644 0 0 - /b", 0o644, 0), last), "is no name"},
-		"a name that is no UTF-8":  {sends(nil, stat("\xff", 0o644, 0), last), "is no name"},
-		"a long name":              {sends(nil, stat(long, 0o644, 0), last), "is no name"},
-		"a deep path":              {sends(nil, stat(deep, 0o644, 0), last), "more than 128 names"},
-		"a path twice":             {sends(nil, dir("a"), dir("a"), last), "comes after"},
-		"a path out of order":      {sends(nil, dir("b"), dir("a"), last), "comes after"},
-		"bytes for names":          {sends(nil, dir("a"), stat("a-b", 0o644, 0), stat("a/b", 0o644, 0), last), "comes after"},
-		"a missing directory":      {sends(nil, stat("a/b", 0o644, 0), last), "without its directory"},
-		"a file as a directory":    {sends(nil, stat("a", 0o644, 0), stat("a/b", 0o644, 0), last), "without its directory"},
-		"a symbolic link":          {sends(nil, stat("a", os.ModeSymlink|0o777, 0), last), "a is a symbolic link"},
-		"a device":                 {sends(nil, stat("a", os.ModeDevice|0o600, 0), last), "a is a special file"},
-		"a socket":                 {sends(nil, stat("a", os.ModeSocket|0o600, 0), last), "a is a special file"},
-		"a pipe":                   {sends(nil, stat("a", os.ModeNamedPipe|0o600, 0), last), "a is a special file"},
-		"a size below 0":           {sends(nil, stat("a", 0o644, -1), last), "a size below 0"},
-		"a size beyond the store":  {sends(nil, stat("a", 0o644, 1<<62), last), "full"},
-		"more than its size":       {sends(map[uint32]string{0: "abcdef"}, stat("a", 0o644, 5), last), "more than its 5 bytes"},
-		"less than its size":       {sends(map[uint32]string{0: "abcd"}, stat("a", 0o644, 5), last), "4 bytes came of 5"},
-		"nothing of its size":      {sends(map[uint32]string{0: ""}, stat("a", 0o644, 5), last), "0 bytes came of 5"},
-		"data of nothing":          {sends(nil, data(3, "x")), "was not asked for"},
-		"data of an empty file":    {sends(nil, stat("a", 0o644, 0), data(0, "x")), "was not asked for"},
-		"data of a directory":      {sends(nil, dir("a"), data(0, "x")), "was not asked for"},
-		"data after its end":       {sends(map[uint32]string{0: "abc", 1: "d"}, stat("a", 0o644, 3), data(0, "abc"), data(0, ""), data(0, "x")), "was not asked for"},
+		"a path with ..":            {sends(nil, dir(".."), last), "is no name"},
+		"a path with .. inside":     {sends(nil, dir("a"), dir("a/.."), last), "is no name"},
+		"an absolute path":          {sends(nil, stat("/a", 0o644, 0), last), "is no name"},
+		"a path without text":       {sends(nil, stat("", 0o644, 0), last), "is no name"},
+		"an unclean path":           {sends(nil, dir("a"), stat("a//b", 0o644, 0), last), "is no name"},
+		"a trailing slash":          {sends(nil, dir("a/"), last), "is no name"},
+		"a dot":                     {sends(nil, dir("."), last), "is no name"},
+		"a line end":                {sends(nil, stat("a\nf 0644 0 0 - /b", 0o644, 0), last), "is no name"},
+		"a name that is no UTF-8":   {sends(nil, stat("\xff", 0o644, 0), last), "is no name"},
+		"a long name":               {sends(nil, stat(long, 0o644, 0), last), "is no name"},
+		"a deep path":               {sends(nil, stat(deep, 0o644, 0), last), "more than 128 names"},
+		"a path twice":              {sends(nil, dir("a"), dir("a"), last), "comes after"},
+		"a path out of order":       {sends(nil, dir("b"), dir("a"), last), "comes after"},
+		"bytes for names":           {sends(nil, dir("a"), stat("a-b", 0o644, 0), stat("a/b", 0o644, 0), last), "comes after"},
+		"a missing directory":       {sends(nil, stat("a/b", 0o644, 0), last), "without its directory"},
+		"a file as a directory":     {sends(nil, stat("a", 0o644, 0), stat("a/b", 0o644, 0), last), "without its directory"},
+		"a link's empty target":     {sends(nil, symlink("a", ""), last), "a: a symbolic link to"},
+		"a link's long target":      {sends(nil, symlink("a", strings.Repeat("b", 4096)), last), "a: a symbolic link to"},
+		"a zero in a link's target": {sends(nil, symlink("a", "b\x00"), last), "a: a symbolic link to"},
+		"a path below a link":       {sends(nil, symlink("a", "b"), stat("a/c", 0o644, 0), last), "comes without its directory"},
+		"a hard link to a link":     {sends(nil, symlink("a", "x"), hardLink("b", "a"), last), "no file"},
+		"a device":                  {sends(nil, stat("a", os.ModeDevice|0o600, 0), last), "a is a special file"},
+		"a socket":                  {sends(nil, stat("a", os.ModeSocket|0o600, 0), last), "a is a special file"},
+		"a pipe":                    {sends(nil, stat("a", os.ModeNamedPipe|0o600, 0), last), "a is a special file"},
+		"a size below 0":            {sends(nil, stat("a", 0o644, -1), last), "a size below 0"},
+		"a size beyond the store":   {sends(nil, stat("a", 0o644, 1<<62), last), "full"},
+		"more than its size":        {sends(map[uint32]string{0: "abcdef"}, stat("a", 0o644, 5), last), "more than its 5 bytes"},
+		"less than its size":        {sends(map[uint32]string{0: "abcd"}, stat("a", 0o644, 5), last), "4 bytes came of 5"},
+		"nothing of its size":       {sends(map[uint32]string{0: ""}, stat("a", 0o644, 5), last), "0 bytes came of 5"},
+		"data of nothing":           {sends(nil, data(3, "x")), "was not asked for"},
+		"data of an empty file":     {sends(nil, stat("a", 0o644, 0), data(0, "x")), "was not asked for"},
+		"data of a directory":       {sends(nil, dir("a"), data(0, "x")), "was not asked for"},
+		"data after its end": {
+			sends(map[uint32]string{0: "abc", 1: "d"}, stat("a", 0o644, 3), data(0, "abc"), data(0, ""), data(0, "x")), "was not asked for",
+		},
 		"an entry after the last":  {sends(nil, last, dir("a")), "after the last"},
 		"an end at once":           {sends(nil, fin), "an early end"},
 		"an end before contents":   {sends(nil, stat("a", 0o644, 3), last, fin), "an early end"},
@@ -275,16 +281,17 @@ func bound(t *testing.T, what *int, most int) {
 func TestTheEntriesAndTheirPathsAreBounded(t *testing.T) {
 	bound(t, &mostEntries, 3)
 	bound(t, &mostOfPaths, 12)
-	link, a := stat("a", os.ModeSymlink|0o777, 0), stat("aaa", 0o644, 0)
+	fifo, a := stat("a", os.ModeNamedPipe, 0), stat("aaa", 0o644, 0)
 	for name, c := range map[string]struct {
 		packets []*fstypes.Packet
 		want    string
 	}{
 		"as many as may be":       {[]*fstypes.Packet{dir("a"), dir("b"), stat("cccccccccc", 0o644, 0), last}, ""},
 		"entries":                 {[]*fstypes.Packet{dir("a"), dir("b"), dir("c"), dir("d"), last}, "more than 3 entries"},
-		"entries that are none":   {[]*fstypes.Packet{link, stat("b", os.ModeSocket, 0), dir("c"), dir("d"), last}, "more than 3 entries"},
+		"entries that are none":   {[]*fstypes.Packet{fifo, stat("b", os.ModeSocket, 0), dir("c"), dir("d"), last}, "more than 3 entries"},
 		"bytes of paths":          {[]*fstypes.Packet{dir("aaaaaa"), dir("bbbbbbb"), last}, "its paths have more than 12 bytes"},
 		"bytes of names of links": {[]*fstypes.Packet{a, hardLink("bbb", "aaa"), hardLink("ccc", "aaa"), last}, "its paths have more than 12 bytes"},
+		"bytes of targets":        {[]*fstypes.Packet{a, symlink("bbb", "a/target"), last}, "its paths have more than 12 bytes"},
 	} {
 		m, err := Receive(sends(nil, c.packets...), newStore(t, 100), Options{LeaveOut: true})
 		if c.want == "" && err != nil {
@@ -353,17 +360,6 @@ func TestSomeTimesTellAChange(t *testing.T) {
 		if read := len(client.asked) == 1; read != c.read || (after.Unread == 1) == c.read {
 			t.Error(name, client.asked, after.Unread)
 		}
-	}
-}
-
-func TestLinksAndDevicesAreLeftOutIfAsked(t *testing.T) {
-	client := sends(nil, stat("a", os.ModeSymlink|0o777, 0), dir("b"), stat("b/c", os.ModeDevice, 0), stat("d", 0o600, 0), last)
-	m, err := Receive(client, newStore(t, 100), Options{LeaveOut: true})
-	if err != nil || m.Left != 2 || strings.Join(m.LeftOut, ", ") != "a (a symbolic link), b/c (a special file)" {
-		t.Fatalf("%+v %v", m, err)
-	}
-	if got := text(t, m); got != "d 0755 0 0 /\nd 0755 0 0 /b\nf 0600 0 0 - /d\n" {
-		t.Error(got)
 	}
 }
 

@@ -6,18 +6,18 @@ buildctl from Debian's packages in the cache folder, or --packages FOLDER, and r
 until it ends. llbmd is --llbmd PROGRAM, or out/llbmd, with `llbm-rules` and `dockerfile-frontend` beside it, as
 `tools/daemon --clients` leaves them; it runs --llbm PROGRAM, or that of the repository. The definitions are those of
 examples/, the least examples of the rules, and --count N random ones of each kind (plain, wild, of many layers, with
-filters); then there are N random Dockerfiles without RUN. They depend only on --seed. Definitions that BuildKit's
-daemon dies of are left out.
+filters); then there are Dockerfiles as projects have them and N random ones, without RUN. They depend only on --seed.
+Definitions that BuildKit's daemon dies of are left out.
 
 Each is built by both daemons on the same trees, with the owner 0:0, as BuildKit's client sends them. A result is a tree
 without its root, or a failure.
 
 Out: on standard output a line for each definition that ends otherwise without a warning that names a rule, or otherwise
-than the model says (not counting those with an execution), and for each Dockerfile that ends otherwise at all, with the
-seed that makes it; then the counts. --keep FOLDER stores such definitions, Dockerfiles and their trees. With --start
-the last line is `N passed, M failed, K skipped`; if the packages are not there, or the daemon can't be built, can't be
-run here or does not copy and merge, since the host forbids mounts for example, or llbmd is not there, a line says so,
-and that is all: one skipped.
+than the model says (not counting those with an execution), and for each Dockerfile that ends otherwise at all, but for
+those that llbmd refuses by a link, with the seed that makes it; then the counts. --keep FOLDER stores such definitions,
+Dockerfiles and their trees. With --start the last line is `N passed, M failed, K skipped`; if the packages are not
+there, or the daemon can't be built, can't be run here or does not copy and merge, since the host forbids mounts for
+example, or llbmd is not there, a line says so, and that is all: one skipped.
 
 Exit status: 0 there was none, or all is skipped; 1 there was one; 2 the command line is refused, or the daemon does not
 answer; 3 a read or a write failed.
@@ -40,7 +40,8 @@ from typing import NamedTuple
 from llbm_tools import common
 from llbm_tools.command_line import Parser
 from llbm_tools.counts import Counts
-from llbm_tools.daemon import debian_packages, random_definitions, random_dockerfiles, runs, started_daemon
+from llbm_tools.daemon import debian_packages, project_dockerfiles, random_definitions, random_dockerfiles, runs
+from llbm_tools.daemon import started_daemon
 from llbm_tools.daemon import daemon as daemons
 from llbm_tools.daemon.runs import MOST_SECONDS, Daemon, DaemonBusy, DaemonLost, Ran
 from llbm_tools.definitions import adopting
@@ -58,6 +59,8 @@ FRONTEND = "dockerfile-frontend"
 # The kinds of notes that a warning can name: rules, and what has no rule, such as executions.
 NAMED = ("rule", "other")
 AT_ONCE = 4
+# What a refusal of llbmd has that names a link.
+LINKED = "which llbm does not follow"
 
 Lines = list[bytes] | None
 
@@ -107,6 +110,12 @@ def least_cases() -> Iterator[Case]:
         yield Case(f"{one.rule}: {one.shows}", one.data, one.sources)
 
 
+def project_cases() -> Iterator[Case]:
+    """Yields Dockerfiles as projects have them."""
+    for name, one in project_dockerfiles.PROJECTS.items():
+        yield Case(f"project {name}", one.dockerfile, {"context": one.context}, True)
+
+
 def random_cases(count: int, seed: int) -> Iterator[Case]:
     """Yields random definitions of each kind that the program accepts, and random Dockerfiles."""
     for number, kind in itertools.product(range(count), random_definitions.KINDS):
@@ -146,6 +155,8 @@ class Comparison:
     def dockerfile(self, case: Case) -> Verdict:
         """Builds a Dockerfile by both."""
         there, here = (one.run_dockerfile(case.data, case.sources["context"]) for one in (self.theirs, self.ours))
+        if there.tree is not None and here.tree is None and LINKED in here.said:
+            return Verdict(["Dockerfiles", "Dockerfiles that are refused by a link"], [])
         verdict = self.verdict(case.name, there, here, "Dockerfiles")
         if lines_of(there.tree) == lines_of(here.tree) or verdict.lines:
             return verdict
@@ -199,7 +210,7 @@ def keep(folder: str | None, case: Case) -> None:
 def verdicts(one: Comparison, options: argparse.Namespace) -> Iterator[tuple[Case, Verdict]]:
     """Yields all cases with how they ended. The random ones, whose sources have names of their own, are run in
     parallel; sources of one name would share a transfer."""
-    for case in [*stored_cases(), *least_cases()]:
+    for case in [*stored_cases(), *least_cases(), *project_cases()]:
         yield case, one.compare(case)
     cases = random_cases(options.count, options.seed)
     with concurrent.futures.ThreadPoolExecutor(options.jobs) as pool:

@@ -26,7 +26,7 @@ FOLDER = paths.CACHE / "buildkitd"
 PROGRAM = FOLDER / "bin" / "buildkitd"
 STUBS = DAEMON / "buildkitd" / "testdata"
 SYSTEMD = pathlib.Path("src", "github.com", "coreos", "go-systemd", "v22")
-TAGS = ["-tags", "no_containerd_worker,osusergo,netgo,static_build"]
+TAGS = ["-tags", "no_containerd_worker,osusergo,netgo,static_build,dfparents,dfexcludepatterns"]
 SETTINGS = "[worker.oci]\n  gc = false\n"
 PATIENCE = 3000
 PAUSE = 0.1

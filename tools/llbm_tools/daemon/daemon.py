@@ -25,7 +25,8 @@ from llbm_tools.daemon.go_building import BUILDKIT, MODULE, OUT, Go
 from llbm_tools.streams import Refused, exit_status
 
 PROGRAM = OUT / "llbmd"
-STATIC = ["-tags", "osusergo,netgo"]
+# The frontend takes `COPY --parents` and `--exclude`, as that of the images `docker/dockerfile` does.
+STATIC = ["-tags", "osusergo,netgo,dfparents,dfexcludepatterns"]
 CLIENTS = {
     "buildctl": f"{BUILDKIT}/cmd/buildctl",
     "dockerfile-frontend": f"{BUILDKIT}/frontend/dockerfile/cmd/dockerfile-frontend",

@@ -1,13 +1,15 @@
-"""Makes Dockerfiles without RUN and without links at random, with their contexts.
+"""Makes Dockerfiles without RUN at random, with their contexts.
 
-They copy from the context and from stages, with owners, modes and `--link`, by patterns and odd paths, into directories
-that are there and that are not; they change directories and users; some have a .dockerignore, and some heredocs.
+They copy from the context and from stages, with owners, also by name, modes, patterns, `--parents` and `--link`, by
+patterns and odd paths, into directories that are there and that are not, and through symbolic links; they change
+directories and users; some have a .dockerignore, some heredocs, and some add files that are no archives.
 """
 
 import json
 import random
 from typing import NamedTuple
 
+from llbm_tools.daemon.runs import link_to
 from llbm_tools.trees.maps import Entry, Path, Tree
 
 NAMES = ["a", "b", "c", "d"]
@@ -20,11 +22,14 @@ DESTS = [
     "/a/../d/",
 ]  # fmt: skip
 ROOTS = [".", "./", "/", "*", "./*", "../"]
-OWNERS = ["7:8", "7", "0:0", "0", "1000:1000", "7:0"]
+OWNERS = ["7:8", "7", "0:0", "0", "1000:1000", "7:0", "app", "app:staff", "nobody", "7:staff"]
+TARGETS = ["a", "b", "../a", "/a", "..", ".", "/", "a/b", "/b/c", "missing", "../../b", "/n"]
+ACCOUNTS = {"/etc/passwd": "root:x:0:0::/:\napp:x:1000:1001::/:", "/etc/group": "root:x:0:\nstaff:x:50:"}
 GIVEN_MODES = ["0644", "755", "0700", "600", "4755", "1777", "0"]
 DIRECTORIES = ["/w", "/n/m", "sub", "/a", "..", "./x/../y", "/", "/b/"]
-USERS = ["7:8", "7", "0"]
+USERS = ["7:8", "7", "0", "app"]
 IGNORED = ["a", "*", "*/b", "**/c", "!a", "!*/a", "a/**", "# a", "b/", "[ab]", "/a", "./d"]
+EXCLUDED = ["a", "*", "*/b", "**/c", "[ab]", "a/**", "b/*"]
 QUOTED = set(' "\\[$<#')
 
 
@@ -60,6 +65,8 @@ class Maker:
             content = None if is_directory else self.random.choice(CONTENTS).hex().encode()
             mode = self.random.choice(DIRECTORY_MODES if is_directory else FILE_MODES)
             tree[path] = Entry(mode, 0, 0, content)
+            if not is_directory and self.chance(0.2):
+                tree[path] = link_to(self.random.choice(TARGETS))
             if is_directory:
                 below.append(path)
         if self.chance(0.3):
@@ -102,7 +109,12 @@ class Maker:
         """Returns a COPY from the context or an earlier stage."""
         count = self.random.choice([1, 1, 1, 2, 3])
         start, sources, dest = "COPY" + self.flags(), [self.source() for _ in range(count)], self.dest()
-        if stage and self.chance(0.3):
+        start += f" --exclude={self.random.choice(EXCLUDED)}" if self.chance(0.15) else ""
+        if self.chance(0.1):
+            start += " --parents"
+        elif self.chance(0.15):
+            start = start.replace("COPY", "ADD", 1)
+        if start.startswith("COPY") and stage and self.chance(0.3):
             before = self.random.randrange(stage)
             start += f" --from={self.random.choice([f's{before}', str(before)])}"
             made = self.dests[before]
@@ -124,6 +136,8 @@ class Maker:
         base = f"s{self.random.randrange(stage)}" if stage and self.chance(0.4) else "scratch"
         self.lines.append(f"FROM {base} AS s{stage}")
         self.dests.append([])
+        if self.chance(0.3):
+            self.lines += [f"COPY <<EOF {place}\n{text}\nEOF" for place, text in ACCOUNTS.items()]
         for _ in range(self.random.choice([1, 2, 3, 4])):
             match self.random.randrange(10):
                 case 0:

@@ -24,6 +24,8 @@ LOST = ("connection refused", "error reading from server", "connection reset", "
 # A warning of what ends otherwise ends with names, and can have more paths.
 WARNED = re.compile(r"^#\d+ WARN: .*: ([A-Z]\w+(?:, [A-Z]\w+)*)(?:, and \d+ more)?$", re.M)
 FRONTEND = "dockerfile.v0"
+# In these trees a symbolic link is a file whose content begins so; then comes its target, in hexadecimal.
+LINK = b"link-"
 
 
 class DaemonLost(Exception):
@@ -43,6 +45,11 @@ class Ran(NamedTuple):
     names: frozenset[str] = frozenset()
 
 
+def link_to(target: str) -> Entry:
+    """Returns a symbolic link, as these trees have it."""
+    return Entry(0o777, 0, 0, LINK + target.encode().hex().encode("ascii"))
+
+
 def write_tree(tree: Tree, place: bytes) -> None:
     """Writes a tree at a path where nothing is; it needs the right to change owners."""
     for path in sorted(tree):
@@ -50,13 +57,16 @@ def write_tree(tree: Tree, place: bytes) -> None:
         content = tree[path].content
         if content is None:
             os.mkdir(at, 0o700)
+        elif content.startswith(LINK):
+            os.symlink(bytes.fromhex(content.removeprefix(LINK).decode("ascii")), at)
         else:
             pathlib.Path(os.fsdecode(at)).write_bytes(bytes.fromhex(content.decode("ascii")))
     for path in sorted(tree, reverse=True):
         at = b"/".join((place, *path))
         with contextlib.suppress(OSError):
-            os.chown(at, tree[path].user, tree[path].group)
-        os.chmod(at, tree[path].mode)
+            os.chown(at, tree[path].user, tree[path].group, follow_symlinks=False)
+        if not (tree[path].content or b"").startswith(LINK):
+            os.chmod(at, tree[path].mode)
 
 
 def tree_in(archive: str) -> Tree:
@@ -67,6 +77,8 @@ def tree_in(archive: str) -> Tree:
             path = tuple(os.fsencode(part) for part in one.name.split("/") if part not in ("", "."))
             if one.isdir():
                 content = None
+            elif one.issym():
+                content = LINK + os.fsencode(one.linkname).hex().encode("ascii")
             elif one.islnk():
                 content = tree[tuple(os.fsencode(part) for part in one.linkname.split("/") if part)].content
             else:

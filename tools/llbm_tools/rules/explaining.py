@@ -49,7 +49,7 @@ OTHERS = [
     ),
     (
         re.compile(r"local source .*: \d+ entries are left out, .*"),
-        "the client's directory has links, devices, pipes or sockets, which llbmd leaves out (`-leave-out`)",
+        "the client's directory has devices, pipes or sockets, which llbmd leaves out (`-leave-out`)",
     ),
 ]
 DIFFER = re.compile(r"the results differ at [0-9,]+ paths?")

@@ -8,11 +8,14 @@ import pathlib
 import re
 import shutil
 import subprocess
+import tarfile
 import tempfile
 import unittest
 from unittest import mock
 
-from llbm_tools.daemon import against_buildkit, daemon, random_dockerfiles, runs, started_daemon
+from llbm_tools.daemon import (
+    against_buildkit, daemon, project_dockerfiles, random_dockerfiles, runs, started_daemon,
+)  # fmt: skip
 from llbm_tools.rules import examples
 from llbm_tools.trees import maps
 from tests import base
@@ -212,9 +215,25 @@ class Runs(unittest.TestCase):
 
 
 class Dockerfiles(unittest.TestCase):
-    """Random Dockerfiles."""
+    """Random Dockerfiles, and those of projects."""
 
-    def test_a_seed_makes_one_dockerfile_without_run_and_without_links(self):
+    def test_a_link_is_written_and_read_as_it_is(self):
+        tree = {(): maps.ROOT, (b"a",): runs.link_to("b/c"), (b"f",): maps.Entry(0o644, 0, 0, b"61")}
+        with tempfile.TemporaryDirectory() as folder:
+            runs.write_tree(tree, os.fsencode(f"{folder}/made"))
+            self.assertEqual(os.readlink(f"{folder}/made/a"), "b/c")
+            with tarfile.open(f"{folder}/made.tar", "w") as archive:
+                archive.add(f"{folder}/made", "")
+            read = runs.tree_in(f"{folder}/made.tar")
+        self.assertEqual(read[b"a",].content, b"link-" + b"b/c".hex().encode())
+
+    def test_each_project_has_a_link_and_directories_above_what_it_has(self):
+        for name, made in project_dockerfiles.PROJECTS.items():
+            self.assertTrue(any((one.content or b"").startswith(runs.LINK) for one in made.context.values()), name)
+            parents = {path[:-1] for path in made.context if path}
+            self.assertTrue(all(made.context[path].is_directory() for path in parents), name)
+
+    def test_a_seed_makes_one_dockerfile_without_run(self):
         for number in range(200):
             made = random_dockerfiles.make(f"test {number}")
             self.assertEqual(made, random_dockerfiles.make(f"test {number}"))
