@@ -182,7 +182,7 @@ func textAt(t testing.TB, place string, options sources.Options) (string, error)
 	}
 	defer manifest.Drop()
 	var out bytes.Buffer
-	if err := manifest.WriteByValue(&out, false); err != nil {
+	if err := manifest.WriteByValue(&out, nil, false); err != nil {
 		t.Fatal(err)
 	}
 	return out.String(), nil
