@@ -15,7 +15,7 @@ from llbm_tools.images import packing
 from llbm_tools.llb.given_definitions import definition_at
 from llbm_tools.rules import filters
 from llbm_tools.streams import Refused, program_at
-from llbm_tools.trees import source_texts, times
+from llbm_tools.trees import times
 
 OUTPUTS = ("-", "/dev/stdout")
 LARGEST = 16 << 30
@@ -99,6 +99,9 @@ class Request:
 
     def selected_of(self, source: Named) -> filters.Paths | None:
         """Returns the paths that the filters of a source select."""
+        # The help of the tool needs no sources, nor what reads them.
+        from llbm_tools.trees import source_texts
+
         if inputs.is_pipe(source.place) or source_texts.kind_of(source.place) != source_texts.DIRECTORY:
             return None
         return filters.selected(self.data, source.name, source.place)
