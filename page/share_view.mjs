@@ -3,7 +3,7 @@
 import { by } from './dom.mjs';
 import { fragmentOf } from './share.mjs';
 
-// The path of a server of builds begins with a part that must not be told.
+// The path of a server of builds begins with a part that must stay secret.
 const SECRET = /^\/[\w-]{20,}\//;
 
 async function copy(element) {

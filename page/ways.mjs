@@ -3,7 +3,7 @@
  * another event begins a way of its own; what was done before stays.
  *
  * A record can have 200,000 events, so no call but `path`, `branches` and `route` walks over places: whether one place
- * is before another is told by the ways between them, which are few.
+ * is before another follows from the ways between them, which are few.
  */
 
 /**

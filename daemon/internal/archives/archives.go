@@ -1,4 +1,4 @@
-// Package archives tells which files BuildKit takes for archives, and reads them.
+// Package archives says which files BuildKit takes for archives, and reads them.
 package archives
 
 import (

@@ -98,8 +98,10 @@ func TestAHelperThatDiedAsItWaitedIsNotUsed(t *testing.T) {
 	if err := dead.cmd.Process.Signal(syscall.SIGKILL); err != nil {
 		t.Fatal(err)
 	}
-	for !dead.hasEnded() {
-		time.Sleep(time.Millisecond)
+	for wait := time.Now().Add(10 * time.Minute); !dead.hasEnded(); time.Sleep(time.Millisecond) {
+		if time.Now().After(wait) {
+			t.Fatal("no answer: the process that waited is not seen to have ended")
+		}
 	}
 	talk, err := a.Talk(context.Background())
 	if err != nil {

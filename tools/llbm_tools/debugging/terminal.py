@@ -47,7 +47,7 @@ Looking:
   tree TREE       the entries of V.I:/path, work W I:/path or cache K I:/path
   print VALUE     a file, a directory or a vertex: V, %ENTRY, V.I:/path, work W I:/path or cache K I:/path
   work W, caches  the trees of what worker W runs; the keys of the caches
-  try COMMAND     what a command would do to the trees where the run stands; they stay as they are
+  try COMMAND     what a command would do to the trees where the run is; they stay as they are
   help, quit"""
 
 

@@ -50,7 +50,7 @@ class NoAnswer(Exception):
 
 
 def content_of(folder: pathlib.Path, name: str, default: bytes = b"") -> bytes:
-    """Returns the content of a file of a case, or what stands for it where it is missing."""
+    """Returns the content of a file of a case, or the default where it is missing."""
     try:
         return (folder / name).read_bytes()
     except FileNotFoundError:

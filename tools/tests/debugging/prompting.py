@@ -120,7 +120,7 @@ class Stopping(Prompt):
 
 
 class Looking(Prompt):
-    """What is shown of a run that stands."""
+    """What is shown of a run that has stopped."""
 
     def test_a_difference_has_its_paths(self):
         self.assertEqual(self.lines("diff", "next 5", "diff")[0], "the run is at its beginning")
