@@ -5,3 +5,4 @@ pub mod ScriptTextRoundTrip
 pub mod AndOnlyScripts
 pub mod DirectoryChains
 mod FirstCommandOfScript
+mod PathsOfWords

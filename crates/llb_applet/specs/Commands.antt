@@ -128,20 +128,20 @@ run setting view (command.Listing path out) = listing_by setting view path >>= w
 run setting view (command.Envfile out) = writes setting view out (flat_map line setting.env)
 run setting view (command.Sha256 path out) = file_by setting view path >>= λ file. writes setting view out (line (digits_of file.1))
 
--- a command may be refused memory: not `true` and `false`, nor one that begins with a word which has to be a path and is none
+-- a command may be refused memory: not `true` and `false`, nor one whose first word that has to be a path is none; `concat` reads its inputs first
 abbrev pub MayWant : Setting → Command → Type 0
 MayWant setting command.True = ⊥
 MayWant setting command.False = ⊥
 MayWant setting (command.Mkdir parents path) = IsSome (path_by setting path)
 MayWant setting (command.Rm path) = IsSome (path_by setting path)
-MayWant setting (command.Write path word) = Unit {0}
+MayWant setting (command.Write path word) = IsSome (path_by setting path)
 MayWant setting (command.Append path word) = IsSome (path_by setting path)
 MayWant setting (command.Cp from to) = IsSome (path_by setting from)
-MayWant setting (command.Concat out parts) = Unit {0}
+MayWant setting (command.Concat out parts) = IsSome (path_by setting (unwrap_or (slice_get parts 0) out))
 MayWant setting (command.Chmod mode path) = IsSome (path_by setting path)
 MayWant setting (command.Test kind path) = IsSome (path_by setting path)
 MayWant setting (command.Listing path out) = IsSome (path_by setting path)
-MayWant setting (command.Envfile out) = Unit {0}
+MayWant setting (command.Envfile out) = IsSome (path_by setting out)
 MayWant setting (command.Sha256 path out) = IsSome (path_by setting path)
 
 -- the status of a command with this result: 0 if the result is a view, 1 if it is nothing

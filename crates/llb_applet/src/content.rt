@@ -1,6 +1,6 @@
 //! The contents that commands write.
 
-ghost use Rattle.std.specs.Prelude.{◌≡◌, ◌++◌, [], length, ◌∷◌, IfOk, OnOk, OnErr, IsSome, option_map, unwrap_or};
+ghost use Rattle.std.specs.Prelude.{◌≡◌, ◌++◌, [], length, ◌∷◌, IfOk, OnOk, OnErr, IsSome, option_map, option_and_then, unwrap_or, slice_get};
 ghost use Rattle.std.specs.List.{flat_map};
 ghost use Rattle.std.specs.FinMap as finite;
 ghost use Rattle.llb_tree.specs.Tree.{is_dir};
@@ -63,14 +63,16 @@ fn content_by<'v>(
     }
 }
 
-/// Returns the joined contents of the files that words name; `None` if one of the words names no file. Fails with 5 `Memory` alone.
+/// Returns the joined contents of the files that words name; `None` if one of the words names no file. Fails with 5 `Memory` alone, and only if the first word
+/// is a path.
 pub fn joined(
     alloc: Global,
     words: &[Text],
     setting: &Setting,
     view: &View,
 ) -> Result<Option<Bytes>, Memory>
-    ensures { IfOk result (λ b. b ≡ joined setting.now view.now words.now) }
+    ensures content { IfOk result (λ b. b ≡ joined setting.now view.now words.now) }
+    ensures last { OnErr result (IsSome (option_and_then (path_by setting.now) (slice_get words.now 0))) }
 {
     let mut content = Vec::new(alloc);
     for word in words {

@@ -1,10 +1,11 @@
 //! Runs a command on a view. A command that is done changes one mount's tree in place, or nothing; a command that fails, or for which memory is refused, leaves
 //! the view as it was. Each function for one command returns whether the command is done.
 
-ghost use Rattle.std.specs.Prelude.{◌≡◌, ◌≢◌, IfOk, IfSome, OnOk, OnErr, IsSome, option_and_then};
+ghost use Rattle.std.specs.Prelude.{◌≡◌, ◌≢◌, IfOk, IfSome, OnOk, OnErr, IsSome, option_and_then, unwrap_or, slice_get};
 ghost use Rattle.llb_applet.specs.declared.command.Command.TheVariants as command;
 ghost use Rattle.llb_applet.specs.ViewSpots.{IsSpot, entry_at};
-ghost use Rattle.llb_applet.specs.Commands.{run, status_of, left, writes, written, copied, target_of, with_mode, is_kind, path_by, MayWant};
+ghost use Rattle.llb_applet.specs.Commands.{run, status_of, left, writes, written, copied, joined, target_of, with_mode, is_kind};
+ghost use Rattle.llb_applet.specs.Commands.{path_by, MayWant};
 ghost use Rattle.llb_applet.specs.ViewChanges.{Does};
 
 use crate::change::{make_dir, make_dirs, put_dir, put_file, put_shared, remove};
@@ -59,11 +60,46 @@ fn write(
     setting: &Setting,
     view: &mut View,
 ) -> Result<bool, Memory>
-    ensures { Does result (writes setting.now view.old path.now content) view.old view.new }
+    ensures does { Does result (writes setting.now view.old path.now content) view.old view.new }
+    ensures last { OnErr result (IsSome (path_by setting.now path.now)) }
 {
     match spot_by(alloc, setting, view, path)? {
         None => Ok(false),
         Some(spot) => write_at(alloc, view, &spot, content),
+    }
+}
+
+// Writes a file with a word and a line end at a path.
+fn write_line(
+    alloc: Global,
+    path: &Text,
+    word: &Text,
+    setting: &Setting,
+    view: &mut View,
+) -> Result<bool, Memory>
+    ensures does { Does result (run setting.now view.old (command.Write path.now word.now)) view.old view.new }
+    ensures last { OnErr result (IsSome (path_by setting.now path.now)) }
+{
+    match spot_by(alloc, setting, view, path)? {
+        None => Ok(false),
+        Some(spot) => {
+            let content = line(alloc, word.as_str())?;
+            write_at(alloc, view, &spot, content)
+        }
+    }
+}
+
+// Writes a file with the entries of the setting's environment at a path.
+fn write_env(alloc: Global, path: &Text, setting: &Setting, view: &mut View) -> Result<bool, Memory>
+    ensures does { Does result (run setting.now view.old (command.Envfile path.now)) view.old view.new }
+    ensures last { OnErr result (IsSome (path_by setting.now path.now)) }
+{
+    match spot_by(alloc, setting, view, path)? {
+        None => Ok(false),
+        Some(spot) => {
+            let content = envfile(alloc, setting)?;
+            write_at(alloc, view, &spot, content)
+        }
     }
 }
 
@@ -86,6 +122,7 @@ fn write_some(
 ) -> Result<bool, Memory>
     ensures does { Does result (option_and_then (writes setting.now view.old path.now) content) view.old view.new }
     ensures last { OnErr result (IsSome content) }
+    ensures path { OnErr result (IsSome (path_by setting.now path.now)) }
 {
     match content {
         None => Ok(false),
@@ -163,6 +200,21 @@ fn target_of(view: &View, source: &Path, path: Path) -> Result<Option<Spot>, Mem
         Err(TreeFault::Memory) => Err(Memory),
         Err(_) => Ok(None),
     }
+}
+
+// Writes a file with the joined contents of the files that words name at a path; if one of the words names no file, returns false and changes nothing.
+fn concat(
+    alloc: Global,
+    out: &Text,
+    parts: &[Text],
+    setting: &Setting,
+    view: &mut View,
+) -> Result<bool, Memory>
+    ensures does { Does result (option_and_then (writes setting.now view.old out.now) (joined setting.now view.old parts.now)) view.old view.new }
+    ensures last { OnErr result (IsSome (path_by setting.now (unwrap_or (slice_get parts.now 0) out.now))) }
+{
+    let content = joined(alloc, parts, setting, view)?;
+    write_some(alloc, out, content, setting, view)
 }
 
 // Sets the mode of the entry at a path.
@@ -251,26 +303,17 @@ fn done(
         Command::False => Ok(false),
         Command::Mkdir { parents, path } => mkdir(alloc, *parents, path, setting, view),
         Command::Rm { path } => rm(alloc, path, setting, view),
-        Command::Write { path, word } => {
-            let content = line(alloc, word.as_str())?;
-            write(alloc, path, content, setting, view)
-        }
+        Command::Write { path, word } => write_line(alloc, path, word, setting, view),
         Command::Append { path, word } => append(alloc, path, word, setting, view),
         Command::Cp { from, to } => cp(alloc, from, to, setting, view),
-        Command::Concat { out, parts } => {
-            let content = joined(alloc, parts.as_slice(), setting, view)?;
-            write_some(alloc, out, content, setting, view)
-        }
+        Command::Concat { out, parts } => concat(alloc, out, parts.as_slice(), setting, view),
         Command::Chmod { mode, path } => chmod(alloc, *mode, path, setting, view),
         Command::Test { kind, path } => test(alloc, *kind, path, setting, view),
         Command::Listing { path, out } => {
             let content = listing_by(alloc, path, setting, view)?;
             write_some(alloc, out, content, setting, view)
         }
-        Command::Envfile { out } => {
-            let content = envfile(alloc, setting)?;
-            write(alloc, out, content, setting, view)
-        }
+        Command::Envfile { out } => write_env(alloc, out, setting, view),
         Command::Sha256 { path, out } => {
             let content = sha256_by(alloc, path, setting, view)?;
             write_some(alloc, out, content, setting, view)

@@ -28,7 +28,8 @@ pub fn rm(alloc: Global, remove: &Rm, base: &Tree) -> Result<Tree, ActFault>
 // Returns the tree without what is at and below a path. Fails with 25 `Root` at the root, and with 21 `NotFound` if nothing
 // is there and `allowed` is false.
 fn rm_path(path: &Path, allowed: bool, base: &Tree) -> Result<Tree, TreeFault>
-    ensures { tree.Gives (λ t. t) result (rm_path allowed base.now path.now) }
+    ensures gives { tree.Gives (λ t. t) result (rm_path allowed base.now path.now) }
+    ensures last { tree.MemoryLast result (rm_path allowed base.now path.now) }
 {
     if path.is_root() {
         return Err(TreeFault::Root);
@@ -55,7 +56,8 @@ fn rm_pattern(pattern: &Pattern, allowed: bool, base: &Tree) -> Result<Tree, Tre
 
 /// Returns the tree after an action that has found nothing to remove or to copy: a copy of the tree if `allowed` is true; otherwise fails with 21 `NotFound`.
 pub fn absent(allowed: bool, base: &Tree) -> Result<Tree, TreeFault>
-    ensures { tree.Gives (λ t. t) result (absent allowed base.now) }
+    ensures gives { tree.Gives (λ t. t) result (absent allowed base.now) }
+    ensures last { tree.MemoryLast result (absent allowed base.now) }
 {
     if allowed {
         base.copy()

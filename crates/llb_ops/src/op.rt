@@ -1,7 +1,8 @@
 //! An op and its inputs, with the names of `ops.proto` of BuildKit: read from bytes, and written as bytes.
 
-ghost use Rattle.std.specs.Prelude.{◌≡◌, Ok, IfOk};
-ghost use Rattle.llb_ops.specs.Faults.{Gives};
+ghost use Rattle.std.specs.Prelude.{◌≡◌, ◌≤◌, Ok, IfErr, IfOk, length, true};
+ghost use Rattle.llb_ops.specs.Faults.{Gives, is_memory};
+ghost use Rattle.llb_ops.specs.Limits.{entry_limit};
 ghost use Rattle.llb_ops.specs.OpKindNames.{kind_text};
 ghost use Rattle.llb_ops.specs.Messages.{op_of};
 ghost use Rattle.llb_ops.specs.Writing.{op_bytes};
@@ -188,10 +189,11 @@ impl Message for Op {
 /// Fails with the first fault: 13 `OverLimit` for an entry of more than 16,777,216 bytes; then the faults of the message Op, in this order: at the first faulty
 /// record from left to right, 1 to 4 `Wire` if it can't be read, or 11 `WrongWireType` if the table of messages has its field with another wire type; 12
 /// `NotUtf8` for a string; the faults of nested messages, in the order of their field numbers, and within each message in this same order; 13 `OverLimit`
-/// for a field that has more than 1,024 records. Fails with 14 `Memory` if memory is refused.
+/// for a field that has more than 1,024 records. Fails with 14 `Memory` if memory is refused, but never for an entry that is too long.
 #[tactic(auto, unfolding(crate::specs::Messages::op_of))]
 pub fn read_op(alloc: Global, bytes: &[u8]) -> Result<Op, OpFault>
     ensures gives { Gives (λ op. op) result (op_of bytes.now) }
+    ensures last { IfErr result (λ e. is_memory e ≡ true → length bytes.now ≤ entry_limit) }
     ensures within { IfOk result IsWithinLimits }
 {
     if bytes.len() > ENTRY_LIMIT {

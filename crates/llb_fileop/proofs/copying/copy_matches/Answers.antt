@@ -19,7 +19,7 @@ returns-then-is_empty c =
     let none : matching pattern c.args.second.now ≡ [] = sym found ∙ no_path c.in_ok-sources.sources.items zero in
     subst (λ r. tree.Gives (λ t. t) c.absent.result r)
     (sym (copy_none c.args.action.now (c.args.dest.now.path, c.args.dest.now.inside) c.args.second.now c.args.base.now (matching pattern c.args.second.now)
-    c.args.action.now.allow_empty_wildcard none)) c.absent.ensures
+    c.args.action.now.allow_empty_wildcard none)) c.absent.ensures.gives
 
 pub copy_one-requires : goal.copy_one-requires
 copy_one-requires c =

@@ -19,7 +19,7 @@ returns-in-None c =
     sym (rm_is c.args.pattern.now c.args.base.now c.args.allowed c.is_tree.ensures)
     ∙ ap (λ r. r >>= or_absent c.args.allowed c.args.base.now)
     ((λ i. rid_of fits_part (sym c.parts.ensures i) c.args.base.now) ∙ c.in_ok-tree.ensures.gives ∙ ap Ok c.in-None.is) in
-    subst (λ r. tree.Gives (λ t. t) c.absent.result r) (sym none) c.absent.ensures
+    subst (λ r. tree.Gives (λ t. t) c.absent.result r) (sym none) c.absent.ensures.gives
 
 pub returns-in_err-tree : goal.returns-in_err-tree
 returns-in_err-tree c =
