@@ -6,3 +6,4 @@ pub mod AndOnlyScripts
 pub mod DirectoryChains
 mod FirstCommandOfScript
 mod PathsOfWords
+mod ExactCauses

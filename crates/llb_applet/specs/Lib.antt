@@ -8,5 +8,6 @@ pub mod Scripts
 pub mod CallReading
 pub mod ViewSpots
 pub mod Commands
+pub mod Causes
 pub mod ViewChanges
 pub mod ScriptTextLaws

@@ -261,8 +261,8 @@ fn chain(alloc: Global, names: &[Name]) -> Result<Tree, AllocError>
     }
 }
 
-// Makes a chain of directories with these names, each in the one before, as `dirs_below` does; after a fault the first ones may have been made.
-fn make_below(tree: &mut Tree, at: &Path, names: &[Name]) -> Result<(), TreeFault>
+/// Makes a chain of directories with these names, each in the one before, as `dirs_below` does; after a fault the first ones may have been made.
+pub fn make_below(tree: &mut Tree, at: &Path, names: &[Name]) -> Result<(), TreeFault>
     requires { length at.now + length names.now ≤ 128 }
     ensures { Gives (λ _. tree.new) result (dirs_below tree.old at.now names.now) }
 {

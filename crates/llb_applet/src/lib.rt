@@ -17,9 +17,11 @@
 
 mod applet;
 mod call;
+mod cause;
 mod change;
 mod command;
 mod content;
+mod edit_cause;
 mod fault;
 mod join;
 mod laws;
@@ -30,6 +32,7 @@ mod spot;
 mod texts;
 mod words;
 
+pub use cause::{Cause, What, why_failed};
 pub use command::{Command, Kind};
 pub use fault::{Memory, ScriptFault};
 pub use join::{Join, Joined};

@@ -60,8 +60,8 @@ pub fn spot_of(view: &View, path: &Path) -> Result<Option<Spot>, Memory>
     Ok(Some(Spot { mount, base, place }))
 }
 
-// Returns a copy of a path with these names appended.
-fn extended(path: &Path, names: &[Name]) -> Result<Path, Memory>
+/// Returns a copy of a path with these names appended.
+pub fn extended(path: &Path, names: &[Name]) -> Result<Path, Memory>
     ensures { IfOk result (λ p. p ≡ path.now ++ names.now) }
 {
     let mut longer = path.copy()?;
@@ -81,8 +81,8 @@ pub fn meta_in(entry: &Entry<'_>) -> Meta
     }
 }
 
-// Returns the mode and owner of a new file, 0644 0:0.
-fn new_meta() -> Meta
+/// Returns the mode and owner of a new file, 0644 0:0.
+pub fn new_meta() -> Meta
     ensures { result ≡ new_meta }
 {
     Meta::new(0o644, 0, 0).unwrap()

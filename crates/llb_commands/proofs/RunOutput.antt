@@ -21,7 +21,7 @@ use Rattle.llb_work.specs.declared.end.RunFault.{RunFault}
 use Rattle.llb_model.specs.Program.{Build}
 use Rattle.llb_model.specs.State.{State}
 use Rattle.llb_treetext.specs.TreeText.{tree_text}
-use Rattle.llb_commands.specs.GraphText.{graph_text}
+use Rattle.llb_session.specs.GraphText.{graph_text}
 use Rattle.llb_commands.specs.ProgramOutput.{build_of, result_in, Yields, YieldsAll, IsRefused, IsUnopened, IsNotRun, YieldsPart, DrawsPart, FailsAll}
 use Rattle.llb_commands.specs.ProgramOutput.{failed_lines}
 use Rattle.llb_commands.specs.ProgramOutput.{Runs}

@@ -11,8 +11,8 @@ use Rattle.llb_board.specs.BoardValue.{BoardValue, opened}
 use Rattle.llb_board.specs.Opening.{may_work, open_unless, open_of}
 use Rattle.llb_board.specs.declared.fault.OpenFault.{OpenFault}
 use Rattle.llb_board.specs.declared.fault.OpenFault.TheVariants as opening
-use Rattle.llb_session.specs.declared.request.Looks.{Looks}
 use Rattle.llb_session.specs.declared.session.Session.{Session}
+use Rattle.llb_session.specs.declared.session.Options.{Options}
 use Rattle.llb_stepper.specs.Stepping.{Stepping}
 use Rattle.llb_session.specs.Conversation.{Conversation, Converses}
 use Rattle.llb_session.specs.declared.fault.SessionFault.{SessionFault}
@@ -73,26 +73,26 @@ unmanned locals g h ls c d workers is =
     few (build_of locals g) c workers (missing_local locals g.vertices) (ap (few_in (build_of locals g) c workers) is)
 
 -- a session on a board that was just opened
-pub begins : (looks : Looks) (locals : List Local) (g : Numbered) (workers : ℕ) (s : Stepping) (b : BoardValue)
+pub begins : (options : Options) (locals : List Local) (g : Numbered) (workers : ℕ) (s : Stepping) (b : BoardValue)
     → s ≡ record { board = b; past = []; breaks = [] }
-    → b ≡ opened (build_of locals g) workers [] → ◌≡◌ {A = Session} (record { stepper = s; looks = looks }) (begun looks locals g workers)
-begins looks locals g workers s b made is = ap with made ∙ ap on is where
+    → b ≡ opened (build_of locals g) workers [] → ◌≡◌ {A = Session} (record { stepper = s; options = options }) (begun options locals g workers)
+begins options locals g workers s b made is = ap with made ∙ ap on is where
   with : Stepping → Session
-  with x = record { stepper = x; looks = looks }
+  with x = record { stepper = x; options = options }
 
   on : BoardValue → Session
   on x = with (record { board = x; past = []; breaks = [] })
 
-module _ (looks : Looks) (workers : ℕ) (locals : List Local) (file : Option (List ℕ)) (commands output : Stream) where
+module _ (options : Options) (workers : ℕ) (locals : List Local) (file : Option (List ℕ)) (commands output : Stream) where
   abbrev on : Session → Session → Conversation
   on s t = record { limit = limit; reads = most_reads; before = s; after = t; commands = commands; replies = output }
 
   -- a session was held over the graph of the bytes
   pub tells_session : (g : Numbered) (s t : Session) (r : Result (Unit {0}) SessionFault) → IfSome file (λ bytes. IsGraphIn bytes g)
-      → s ≡ begun looks locals g workers → Converses (on s t) r
-      → IfSome file (IsSession looks workers locals commands output r)
+      → s ≡ begun options locals g workers → Converses (on s t) r
+      → IfSome file (IsSession options workers locals commands output r)
   tells_session g s t r loads same talks =
-      some_map (λ bytes. IsGraphIn bytes g) (IsSession looks workers locals commands output r) file
+      some_map (λ bytes. IsGraphIn bytes g) (IsSession options workers locals commands output r) file
       (λ bytes loaded. record {
         graph = g;
         loaded = loaded;
@@ -100,18 +100,18 @@ module _ (looks : Looks) (workers : ℕ) (locals : List Local) (file : Option (L
         talks = subst (λ x. Converses (on x t) r) same talks;
       }) loads
 
-  broken : (f : SessionFault) → IfSome file (IsSession looks workers locals commands output (Err f))
-      → IfSome file (IsBroken looks workers locals commands output)
+  broken : (f : SessionFault) → IfSome file (IsSession options workers locals commands output (Err f))
+      → IfSome file (IsBroken options workers locals commands output)
   broken f held =
-      some_map (IsSession looks workers locals commands output (Err f)) (IsBroken looks workers locals commands output) file (λ bytes is. (f, is)) held
+      some_map (IsSession options workers locals commands output (Err f)) (IsBroken options workers locals commands output) file (λ bytes is. (f, is)) held
 
   module _ (errors : Stream) where
     abbrev io : Io
     io = record { input = commands; output = output; errors = errors }
 
     -- how it ended, by the fault of the session, and the line and the status for it
-    by_session : (f : SessionFault) (status : ℕ) → IfSome file (IsSession looks workers locals commands output (Err f))
-        → (status ≡ status_of (session_fault f)) × IsWritten errors (fault_line (program_text (session_fault f))) → Steps looks workers locals file io status
+    by_session : (f : SessionFault) (status : ℕ) → IfSome file (IsSession options workers locals commands output (Err f))
+        → (status ≡ status_of (session_fault f)) × IsWritten errors (fault_line (program_text (session_fault f))) → Steps options workers locals file io status
     by_session session.TooLong status held (two, line) = inr (inl (two, inr (held, line)))
     by_session (session.Failed kind) status held (three, line) = inr (inr (three, inr (broken (session.Failed kind) held)))
     by_session (session.Unending interrupted) status held (three, line) = inr (inr (three, inr (broken (session.Unending interrupted) held)))
@@ -119,14 +119,14 @@ module _ (looks : Looks) (workers : ℕ) (locals : List Local) (file : Option (L
     by_session session.Memory status held (three, line) = inr (inr (three, inr (broken session.Memory held)))
 
     not_opened : (status : ℕ) → ((status ≡ 2) × IsKept output × TellsWhy (IsNotRun workers locals) file errors) ⊎ ((status ≡ 3) × (IsKept output ⊎ ⊥))
-        → Steps looks workers locals file io status
+        → Steps options workers locals file io status
     not_opened status (inl (two, keeps, why)) = inr (inl (two, inl (keeps, why)))
     not_opened status (inr (three, inl keeps)) = inr (inr (three, inl keeps))
     not_opened status (inr (three, inr part)) = absurd part
 
     -- a run that ended with a fault has the status for it, with its line
-    pub ends_by : (e : ProgramFault) (status : ℕ) → StepsIn looks workers locals file commands output (Err e) → Tells errors.before errors.after e status
-        → Steps looks workers locals file io status
+    pub ends_by : (e : ProgramFault) (status : ℕ) → StepsIn options workers locals file commands output (Err e) → Tells errors.before errors.after e status
+        → Steps options workers locals file io status
     ends_by e status (inl (keeps, tells)) told =
         not_opened status (ends_told (IsNotRun workers locals) ⊥ file output errors e status (inl (keeps, tells)) told)
     ends_by e status (inr (f, same, held)) (inr three) = inr (inr (three, inr (broken f held)))

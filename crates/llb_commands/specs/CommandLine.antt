@@ -1,5 +1,5 @@
 -- The command line of the program, as it is described to `clap`, and what the words of a command line ask for.
-use Rattle.std.specs.Prelude.{◌≡◌, ◌≢◌, ◌⊎◌, ◌==◌, ℕ, nat_lt, pos, Bool, true, not, if◌then◌else◌, List, [], ◌++◌, length, map, find, codes}
+use Rattle.std.specs.Prelude.{◌≡◌, ◌≢◌, ◌⊎◌, ◌==◌, ℕ, nat_lt, pos, Bool, true, false, not, if◌then◌else◌, List, [], ◌++◌, length, map, find, codes}
 use Rattle.std.specs.Prelude.{Option, Some, None, is_some, option_map, option_and_then, unwrap_or, Result, Ok, Err}
 use Rattle.std.specs.Borrow.{Bor}
 use Rattle.std.specs.List.{position_or_len, before_first, after_first}
@@ -51,6 +51,10 @@ workers_rule = record (new_rule (codes "workers")) {
 abbrev pub looks_rule : Rule
 looks_rule = record (new_rule (codes "looks")) { long = Some (codes "looks"); action = Some SetTrue }
 
+-- the rule by which `clap` reads the option `--ends`, which takes no value
+abbrev pub ends_rule : Rule
+ends_rule = record (new_rule (codes "ends")) { long = Some (codes "ends"); action = Some SetTrue }
+
 -- the rule by which `clap` reads the option `--findings`, which takes no value
 abbrev pub findings_rule : Rule
 findings_rule = record (new_rule (codes "findings")) { long = Some (codes "findings"); action = Some SetTrue }
@@ -63,9 +67,13 @@ run_app = with_rule (with_rule (new_app (codes "run")) workers_rule) local_rule
 abbrev pub show_app : App
 show_app = with_rule (new_app (codes "show")) findings_rule
 
+-- `clap`'s description of the command `step` with its options alone
+abbrev pub step_options_app : App
+step_options_app = with_rule (with_rule (with_rule (new_app (codes "step")) workers_rule) looks_rule) ends_rule
+
 -- `clap`'s description of the command `step`: the word for the file comes before the words for local sources
 abbrev pub step_app : App
-step_app = with_rule (with_rule (with_rule (with_rule (new_app (codes "step")) workers_rule) looks_rule) file_rule) local_rule
+step_app = with_rule (with_rule step_options_app file_rule) local_rule
 
 -- the given app with one more command, which takes no words
 abbrev pub with_plain : App → Text → App
@@ -75,8 +83,8 @@ with_plain app name = with_subcommand app (new_app name).top
 abbrev pub graph_app : App
 graph_app = with_subcommand (with_subcommand (with_subcommand base_app run_app.top) show_app.top) step_app.top
 
--- `clap`'s description of the program: `run` takes workers and local sources, `step` takes these, a file and whether it answers looks, `show` takes whether it
--- prints faults, and the other commands take no words
+-- `clap`'s description of the program: `run` takes workers and local sources, `step` takes these, a file, whether it answers looks and whether an empty line
+-- ends each reply, `show` takes whether it prints faults, and the other commands take no words
 abbrev pub llbm_app : App
 llbm_app = with_plain (with_plain graph_app (codes "asm")) (codes "dis")
 
@@ -151,6 +159,16 @@ abbrev pub IsLooks : Command → List Row → Looks → Type 0
 IsLooks Step rows looks = looks ≡ looks_by (first_of (codes "looks") rows)
 IsLooks _ rows looks = looks ≡ Refused
 
+-- whether a flag is set, given the text that `clap` has for the flag: `true` if the words have it, and else `false`
+abbrev pub is_set : Option Text → Bool
+is_set None = false
+is_set (Some text) = is_text text (codes "true")
+
+-- an empty line ends each reply if the words of `step` have the option `--ends`; for any other command it does not
+abbrev pub IsEnds : Command → List Row → Bool → Type 0
+IsEnds Step rows ends = ends ≡ is_set (first_of (codes "ends") rows)
+IsEnds _ rows ends = ends ≡ false
+
 -- what `show` prints, given the text that `clap` has for the flag of faults: `true` if the words have it, and else `false`
 abbrev pub shows_by : Option Text → Shows
 shows_by None = Graph
@@ -166,12 +184,13 @@ abbrev pub IsFile : Command → List Row → Option (Bor Text) → Type 0
 IsFile Step rows file = option_map (λ w. w.now) file ≡ first_of (codes "file") rows
 IsFile _ rows file = file ≡ None
 
--- the line has the command of this name, and the number of workers, the looks, what `show` prints, the file and the local sources that are in these matches of
--- `clap`
+-- the line has the command of this name, and the number of workers, the looks, the ends of replies, what `show` prints, the file and the local sources that
+-- are in these matches of `clap`
 pub record SaysCommand (name : Text) (rows : List Row) (line : Line) : Type 0 where
   pub command : name_of line.command ≡ name
   pub workers : IsWorkers line.command rows line.workers
   pub looks : IsLooks line.command rows line.looks
+  pub ends : IsEnds line.command rows line.ends
   pub shows : IsShows line.command rows line.shows
   pub file : IsFile line.command rows line.file
   pub locals : AreSplit (local_words rows) line.locals

@@ -3,7 +3,7 @@ use Rattle.std.specs.Prelude.{◌⊎◌, ℕ, List, [], Option, Some, None, Ok, 
 use Rattle.std.specs.Borrow.{Bor}
 use Rattle.clap.specs.Words.{Text, fault_of, subcommand_of}
 use Rattle.llb_loader.specs.LocalSources.{Local}
-use Rattle.llb_session.specs.declared.request.Looks.{Looks}
+use Rattle.llb_session.specs.declared.session.Options.{Options}
 use Rattle.llb_commands.specs.ProgramOutput.{Runs, Draws}
 use Rattle.llb_commands.specs.Assembly.{Assembles, Disassembles}
 use Rattle.llb_commands.specs.CommandLine.{llbm_app, named_local_words, IsByWords, Says, TellsWords}
@@ -27,20 +27,20 @@ Shelf = List ℕ → Option (List ℕ)
 
 -- How `step` ends. If the command line names a file, it ends as `Steps` says. If the command line names no file, nothing is written to the output, the line
 -- `fault 183` is written to standard error, and the status is 2 (3 if the line could not be written).
-abbrev pub StepsAt : Shelf → Option (Bor (List ℕ)) → Looks → ℕ → List Local → Io → ℕ → Type 0
-StepsAt files None looks workers locals io status = IsKept io.output × TellsWords io.errors.before io.errors.after (Words None) status
-StepsAt files (Some file) looks workers locals io status = Steps looks workers locals (files file.now) io status
+abbrev pub StepsAt : Shelf → Option (Bor (List ℕ)) → Options → ℕ → List Local → Io → ℕ → Type 0
+StepsAt files None options workers locals io status = IsKept io.output × TellsWords io.errors.before io.errors.after (Words None) status
+StepsAt files (Some file) options workers locals io status = Steps options workers locals (files file.now) io status
 
 -- how `show` ends, by what it prints
 abbrev pub ShowsAs : Shows → Io → ℕ → Type 0
 ShowsAs Graph = Draws
 ShowsAs Findings = Lists
 
--- how a command ends, with the workers, the looks, what `show` prints and the file that the words name
+-- how a command ends, with the workers, the options of a session, what `show` prints and the file that the words name
 abbrev pub PerformsAs : Shelf → Command → Line → List Local → Io → ℕ → Type 0
 PerformsAs files Run line locals io = Runs line.workers locals io
 PerformsAs files Show line locals io = ShowsAs line.shows io
-PerformsAs files Step line locals io = StepsAt files line.file line.looks line.workers locals io
+PerformsAs files Step line locals io = StepsAt files line.file (record { looks = line.looks; ends = line.ends }) line.workers locals io
 PerformsAs files Assemble line locals io = Assembles io
 PerformsAs files Disassemble line locals io = Disassembles io
 

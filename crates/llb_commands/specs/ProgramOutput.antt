@@ -27,7 +27,7 @@ use Rattle.llb_commands.specs.declared.fault.ProgramFault.{ProgramFault}
 use Rattle.llb_commands.specs.declared.fault.ProgramFault.TheVariants as fault
 use Rattle.llb_commands.specs.Faults.{TellsWhy}
 use Rattle.llb_commands.specs.CallStreams.{Io, Stream, IsKept, IsPartWritten, IsWritten}
-use Rattle.llb_commands.specs.GraphText.{graph_text}
+use Rattle.llb_session.specs.GraphText.{graph_text}
 
 -- the build of a run: a graph and the local trees
 abbrev pub build_of : List Local → Numbered → Build

@@ -1,6 +1,6 @@
 //! The command line, which `clap` reads. `run` takes the number of workers, and local sources as NAME=FILE; `step` takes these, the file of a definition, and
-//! whether looks are answered; `show` takes whether faults are printed; `asm` and `dis` take no words. No words at all mean `run`. The texts of the pages of
-//! help are in `pages`.
+//! whether looks are answered and whether an empty line ends each reply; `show` takes whether faults are printed; `asm` and `dis` take no words. No words at
+//! all mean `run`. The texts of the pages of help are in `pages`.
 
 ghost use Rattle.std.specs.Prelude.{◌≡◌, false, map, option_map, IfOk, IfErr};
 ghost use Rattle.clap.specs.Words.{app_of, kind_of, fault_of, found_of, new_app, rows_of, rule_of, subcommand_of};
@@ -12,18 +12,22 @@ ghost use Rattle.llb_commands.specs.CommandLine.{
   run_app,
   show_app,
   step_app,
+  step_options_app,
   findings_rule,
   local_rule,
   file_rule,
   workers_rule,
   looks_rule,
+  ends_rule,
   local_words,
   named_local_words,
   AreSplit,
   IsFile,
   IsLooks,
+  IsEnds,
   IsName,
   looks_by,
+  is_set,
   IsShows,
   shows_by,
   IsWorkers,
@@ -88,7 +92,18 @@ fn looks_arg<'a>(alloc: Global) -> Arg<'a>
 {
     Arg::new(alloc, "looks")
         .long("looks")
-        .help("Answer looks at workers and caches")
+        .help("Answer looks at workers, caches and the graph")
+        .action(ArgAction::SetTrue)
+}
+
+// Returns `clap`'s description of the option by which an empty line ends each reply.
+fn ends_arg<'a>(alloc: Global) -> Arg<'a>
+    ensures rule { rule_of result ≡ ends_rule }
+    ensures plain { result.global ≡ false }
+{
+    Arg::new(alloc, "ends")
+        .long("ends")
+        .help("End each reply with an empty line")
         .action(ArgAction::SetTrue)
 }
 
@@ -124,15 +139,24 @@ fn show_command<'a>(alloc: Global) -> Result<clap::Command<'a>, AllocError>
         .arg(findings_arg(alloc))
 }
 
-// Returns `clap`'s description of the command `step`.
-fn step_command<'a>(alloc: Global) -> Result<clap::Command<'a>, AllocError>
-    ensures app { IfOk result (λ c. app_of c ≡ step_app) }
+// Returns `clap`'s description of the command `step` with its options alone.
+fn step_options<'a>(alloc: Global) -> Result<clap::Command<'a>, AllocError>
+    ensures app { IfOk result (λ c. app_of c ≡ step_options_app) }
     ensures plain { IfOk result (λ c. (fields_of c).has_globals ≡ false) }
 {
     clap::Command::new(alloc, "step")
         .about("Steps through the run of a definition, by commands on standard input")
         .arg(workers_arg(alloc, "The number of workers, 1 to 64; without it, 2"))?
         .arg(looks_arg(alloc))?
+        .arg(ends_arg(alloc))
+}
+
+// Returns `clap`'s description of the command `step`.
+fn step_command<'a>(alloc: Global) -> Result<clap::Command<'a>, AllocError>
+    ensures app { IfOk result (λ c. app_of c ≡ step_app) }
+    ensures plain { IfOk result (λ c. (fields_of c).has_globals ≡ false) }
+{
+    step_options(alloc)?
         .arg(file_arg(alloc))?
         .arg(local_arg(alloc))
 }
@@ -251,6 +275,26 @@ fn looks_in(command: Command, matches: &ArgMatches<'_>) -> Looks
     }
 }
 
+// Returns whether a flag is set, given the text that `clap` has for the flag.
+fn is_set(text: Option<&str>) -> bool
+    ensures { result ≡ is_set (option_map (λ t. t.now) text.entry) }
+{
+    match text {
+        Some("true") => true,
+        _ => false,
+    }
+}
+
+// Returns whether the words of `step` ask for an empty line after each reply, by what `clap` found in them; for any other command they do not.
+fn ends_in(command: Command, matches: &ArgMatches<'_>) -> bool
+    ensures { IsEnds command (rows_of (found_of matches.now)) result }
+{
+    match command {
+        Command::Step => is_set(matches.get_str("ends")),
+        _ => false,
+    }
+}
+
 // Returns what `show` prints, given the text that `clap` has for the flag of faults.
 fn shows_by(findings: Option<&str>) -> Shows
     ensures { result ≡ shows_by (option_map (λ t. t.now) findings.entry) }
@@ -296,6 +340,7 @@ fn line_of<'a>(
         command,
         workers: workers_in(command, matches),
         looks: looks_in(command, matches),
+        ends: ends_in(command, matches),
         shows: shows_in(command, matches),
         file: file_in(command, matches),
         locals,
@@ -310,6 +355,7 @@ fn bare_run<'a>(alloc: Global) -> Line<'a>
         command: Command::Run,
         workers: 1,
         looks: Looks::Refused,
+        ends: false,
         shows: Shows::Graph,
         file: None,
         locals: Many::new(Vec::new(alloc)),

@@ -63,7 +63,8 @@ Arguments:
 
 Options:
       --workers <N>  The number of workers, 1 to 64; without it, 2
-      --looks        Answer looks at workers and caches
+      --looks        Answer looks at workers, caches and the graph
+      --ends         End each reply with an empty line
   -h, --help         Print help
 ";
 

@@ -17,6 +17,7 @@ use crate::stepping::session_over;
 use crate::words::{Command, Line, Shows, WordsFault, tell_refusal, words_refusal};
 use llb_board::Board;
 use llb_loader::Locals;
+use llb_session::Options;
 use std::alloc::Global;
 use std::convert::AsStr;
 use std::io::{Read, Write};
@@ -77,7 +78,11 @@ fn perform<T: Threads + Wait + Sync, S: Sources, R: Read, W: Write, E: Write>(
                 return words_refusal(&WordsFault::Words(None), err);
             };
             let board = board_of(alloc, sources, file, locals, line.workers);
-            session_over(alloc, board, line.looks, input, out, err)
+            let options = Options {
+                looks: line.looks,
+                ends: line.ends,
+            };
+            session_over(alloc, board, options, input, out, err)
         }
         Command::Assemble => asm_over(alloc, input, out, err),
         Command::Disassemble => dis_over(alloc, input, out, err),

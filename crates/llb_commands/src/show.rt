@@ -2,7 +2,7 @@
 
 ghost use Rattle.std.specs.Prelude.{◌≡◌};
 ghost use Rattle.llb_commands.specs.ProgramOutput.{Draws};
-ghost use Rattle.llb_commands.specs.GraphText.{graph_text};
+ghost use Rattle.llb_session.specs.GraphText.{graph_text};
 ghost use Rattle.llb_commands.specs.WrittenPrefix.{PrintsOut};
 ghost use Rattle.llb_commands.specs.Running.{ShowsIn};
 

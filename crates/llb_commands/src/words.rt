@@ -49,6 +49,8 @@ pub struct Line<'a> {
     pub workers: u32,
     /// Whether a session answers looks; refused for every other command.
     pub looks: Looks,
+    /// Whether an empty line ends each reply of a session; false for every other command.
+    pub ends: bool,
     /// What `show` prints; the text of the graph for every other command.
     pub shows: Shows,
     /// The file of the definition, if the command takes one.

@@ -36,13 +36,13 @@ replies line old new s status was locals on = (locals, subst By (sym was) on)
 
 -- a line of the session is refused: its reply is put, or memory for the reply is refused too
 pub refuses : (line : List ℕ) (old held new : Held) (s t : Session) (fault : StepperFault) (status : ℕ) → old.session ≡ Some s → held.locals ≡ old.locals
-    → held.session ≡ Some t → held.lines ≡ old.lines → ¬ Quits s line → IsRefused (request_in s.looks line) s.stepper (held.lines + 1) fault → t ≡ s
+    → held.session ≡ Some t → held.lines ≡ old.lines → ¬ Quits s line → IsRefused (request_in s.options.looks line) s.stepper (held.lines + 1) fault → t ≡ s
     → Refused fault held new status → Replied line old new status
 refuses line old held new s t fault status was locals session lines goes_on refused same (kept, stays, by) =
     replies line old new s status was (kept ∙ locals) (by_status by)
   where
-    numbered : IsRefused (request_in s.looks line) s.stepper (old.lines + 1) fault
-    numbered = subst (λ n. IsRefused (request_in s.looks line) s.stepper (n + 1) fault) lines refused
+    numbered : IsRefused (request_in s.options.looks line) s.stepper (old.lines + 1) fault
+    numbered = subst (λ n. IsRefused (request_in s.options.looks line) s.stepper (n + 1) fault) lines refused
 
     by_status : ((status ≡ 0) × (new.lines ≡ held.lines + 1) × (new.output.items ≡ fault_line fault) × (new.messages.items ≡ []))
         ⊎ ((new.lines ≡ held.lines) × (new.output.items ≡ []) × Tells (Some []) (Some new.messages.items) problem.Memory status)
@@ -58,7 +58,7 @@ refuses line old held new s t fault status was locals session lines goes_on refu
             record {
               goes_on = goes_on;
               answers = inr (record { fault = fault; refused = numbered; printed = output; same = ap (λ (x : Session). x.stepper) same });
-              looks = ap (λ (x : Session). x.looks) same;
+              options = ap (λ (x : Session). x.options) same;
             },
           ),
         )

@@ -5,7 +5,6 @@ use Rattle.llb_loader.specs.Graph.{Numbered}
 use Rattle.llb_loader.specs.LoadResult.{IsGraphIn}
 use Rattle.llb_loader.specs.LocalSources.{with_local}
 use Rattle.llb_stepper.specs.declared.fault.StepperFault.{StepperFault}
-use Rattle.llb_session.specs.declared.request.Looks.TheVariants.{Allowed}
 use Rattle.llb_session.specs.declared.session.Session.{Session}
 use Rattle.llb_session.specs.Answers.{Answers, IsRefused, Quits}
 use Rattle.llb_session.specs.Request.{request_in}
@@ -20,7 +19,7 @@ use Rattle.llb_commands.specs.Assembly.{Assembles, Disassembles}
 use Rattle.llb_commands.specs.CommandLine.{TellsWords}
 use Rattle.llb_commands.specs.Faults.{Tells, TellsWhy}
 use Rattle.llb_commands.specs.Sources.{ReadsTree, TellsSource}
-use Rattle.llb_commands.specs.Stepping.{begun}
+use Rattle.llb_commands.specs.Stepping.{begun, only_looks}
 use Rattle.llb_embed.specs.declared.held.Held.{Held}
 
 -- a stream that was empty before the call, and to which these bytes are written
@@ -84,7 +83,7 @@ Added name text old new status = (new.session ≡ old.session) × (new.lines ≡
 
 -- a session with looks is begun on the graph of the definition, with the local trees and this number of workers; no line was sent to the session yet
 abbrev pub IsBegun : List ℕ → ℕ → Held → Held → Type 0
-IsBegun definition workers old new = (g : Numbered) × IsGraphIn definition g × (new.session ≡ Some (begun Allowed old.locals g workers)) × (new.lines ≡ 0)
+IsBegun definition workers old new = (g : Numbered) × IsGraphIn definition g × (new.session ≡ Some (begun only_looks old.locals g workers)) × (new.lines ≡ 0)
 
 -- Status 0: a session is begun. 2 or 3: no session is begun, and a session that was open before is unchanged. With status 2 the messages have a line that says
 -- why.
@@ -113,7 +112,7 @@ RepliesOn line s old new status =
     ((status ≡ 0) × (new.messages.items ≡ []) × GoesOn line s (old.lines + 1) new)
     ⊎ (((status ≡ 1) × (new.messages.items ≡ []) × (new.output.items ≡ []) × (new.session ≡ None) × (new.lines ≡ old.lines) × Quits s line)
     ⊎ (KeepsRest old new × (new.output.items ≡ [])
-    × (((cause : StepperFault) × IsRefused (request_in s.looks line) s.stepper (old.lines + 1) cause
+    × (((cause : StepperFault) × IsRefused (request_in s.options.looks line) s.stepper (old.lines + 1) cause
     × Tells (Some []) (Some new.messages.items) problem.Memory status)
     ⊎ ((old.lines ≡ 18446744073709551615) × Tells (Some []) (Some new.messages.items) problem.TooLong status))))
 

@@ -9,7 +9,7 @@ use llb_commands::{
     ProgramFault, SourceFault, WordsFault, add_local, asm_over, dis_over, findings_over, open_over,
     refusal, run_over, show_over, source_refusal, words_refusal,
 };
-use llb_session::{Looks, Session, respond};
+use llb_session::{Looks, Options, Session, respond};
 use llb_stepper::{Stepper, StepperFault};
 use std::alloc::Global;
 use std::io::Write;
@@ -73,7 +73,10 @@ pub(crate) fn open(alloc: Global, held: &mut Held, definition: &[u8], workers: u
         Ok(board) => {
             held.session = Some(Session {
                 stepper: Stepper::new(alloc, board),
-                looks: Looks::Allowed,
+                options: Options {
+                    looks: Looks::Allowed,
+                    ends: false,
+                },
             });
             held.lines = 0;
             DONE

@@ -5,7 +5,7 @@ use super::graphs::ONE_FILE;
 use super::printed::{is_so, row_holds};
 use super::sessions::{LIMIT, READS};
 use super::written::board_of;
-use llb_session::{Looks, Session, SessionFault, converse};
+use llb_session::{Looks, Options, Session, SessionFault, converse};
 use llb_stepper::Stepper;
 use std::alloc::Global;
 use std::cell::Cell;
@@ -17,7 +17,10 @@ use std::process::Abort;
 fn on_one_file(rt: &impl Abort, alloc: Global) -> Session {
     Session {
         stepper: Stepper::new(alloc, board_of(rt, alloc, ONE_FILE, "", 1)),
-        looks: Looks::Refused,
+        options: Options {
+            looks: Looks::Refused,
+            ends: false,
+        },
     }
 }
 

@@ -8,7 +8,7 @@ use super::keeping::is_kept;
 use super::plain::are_outcomes;
 use super::two_definitions::{are_matchings, are_parts, are_renamings, are_shared};
 use super::written::board_in;
-use llb_session::{Looks, Session, converse};
+use llb_session::{Looks, Options, Session, converse};
 use llb_stepper::Stepper;
 use std::alloc::Global;
 use std::process::Abort;
@@ -44,7 +44,10 @@ fn say(rt: &impl Abort, alloc: Global, session: &mut Session, line: &str, out: &
 pub(crate) fn looking(stepper: Stepper) -> Session {
     Session {
         stepper,
-        looks: Looks::Allowed,
+        options: Options {
+            looks: Looks::Allowed,
+            ends: false,
+        },
     }
 }
 

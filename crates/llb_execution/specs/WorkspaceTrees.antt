@@ -21,6 +21,13 @@ trees_with (Files inputs results) trees = inputs ++ results
 trees_with (Layers inputs t) trees = inputs ++ t ∷ []
 trees_with (Mounted mounts caches last) trees = map shown_tree (filled mounts caches trees)
 
+-- the mounts of an exec's workspace, in which a mount that shows a cache has the empty tree; nothing for a workspace of another kind
+abbrev pub mounts_of : Workspace → Option (List Shown)
+mounts_of (Mounted mounts caches last) = Some mounts
+mounts_of (LocalTree t) = None
+mounts_of (Files inputs results) = None
+mounts_of (Layers inputs t) = None
+
 -- the tree that a value of the code's type `Look` names: a tree that the value borrows, or tree k of `trees`, the trees of the cache instances
 abbrev pub looked : List TreeMap → Option Look → Option TreeMap
 looked trees None = None

@@ -4,7 +4,7 @@
 ghost use Rattle.std.specs.Prelude.{◌≡◌, ◌++◌, ◌∷◌, [], ℕ, List, Option, length, map, option_map, slice_get};
 ghost use Rattle.llb_tree.specs.Tree.{TreeMap};
 ghost use Rattle.llb_model.specs.Program.{filled};
-ghost use Rattle.llb_execution.specs.WorkspaceTrees.{trees_with, looked, tree_or, last_tree, next_place, shown_tree, role_in, roles_of};
+ghost use Rattle.llb_execution.specs.WorkspaceTrees.{trees_with, looked, tree_or, last_tree, next_place, shown_tree, role_in, roles_of, mounts_of};
 ghost use Rattle.llb_execution.specs.WorkspaceTrees.{Local, Laid, input_role, mount_role, results_from};
 
 use crate::workspace::{WorkState, Workspace};
@@ -46,6 +46,16 @@ impl Workspace {
             WorkState::Files(inputs, results) => here(among(inputs, results, i)),
             WorkState::Layers(inputs, laid) => here(before_last(inputs, laid, i)),
             WorkState::Mounted(mounts, numbers, _) => look_in(mounts, numbers, i, held),
+        }
+    }
+
+    /// Returns the mounts of an exec; `None` for a workspace of another kind. A mount that shows a cache has the empty tree here. Does not allocate.
+    pub fn mounts(&self) -> Option<&Mounts>
+        ensures { option_map (λ v. v.now) result ≡ mounts_of self.now }
+    {
+        match &self.own {
+            WorkState::Mounted(mounts, _, _) => Some(mounts),
+            _ => None,
         }
     }
 

@@ -3,7 +3,10 @@
 use super::growths::{Row, Trial, are_refused};
 use super::printed::{path_of, printed_fault, printed_text, printed_tree, say, text_of};
 use super::written::tree_named;
-use llb_applet::{Command, Joined, Script, ScriptFault, Setting, View, read_script, run_command};
+use llb_applet::{
+    Cause, Command, Joined, Script, ScriptFault, Setting, View, What, read_script, run_command,
+    why_failed,
+};
 use llb_mount::Shown;
 use llb_wire::{Many, Same, Text};
 use std::alloc::Global;
@@ -18,6 +21,7 @@ enum Answer {
     Script(Result<Script, ScriptFault>),
     Command(Result<Command, ScriptFault>),
     Ran(Result<u8, llb_applet::Memory>),
+    Why(Result<Option<Cause>, llb_applet::Memory>),
 }
 
 // The arguments of a script; the script; the directory and the environment in which its commands run; a view, and a
@@ -152,6 +156,45 @@ fn ran(alloc: Global, script: &Script, setting: &Setting, view: &mut View) -> An
     }
 }
 
+fn why(alloc: Global, script: &Script, setting: &Setting, view: &View) -> Answer {
+    match first_of(script) {
+        Some(joined) => Answer::Why(why_failed(alloc, &joined.command, setting, view)),
+        None => Answer::None,
+    }
+}
+
+fn word_of(what: What) -> &'static str {
+    match what {
+        What::TooLong => "TooLong",
+        What::Nothing => "Nothing",
+        What::NoFile => "NoFile",
+        What::NoDir => "NoDir",
+        What::IsFile => "IsFile",
+        What::IsDir => "IsDir",
+        What::IsThere => "IsThere",
+        What::IsDest => "IsDest",
+        What::NoSelector => "NoSelector",
+        What::ReadOnly => "ReadOnly",
+    }
+}
+
+// Returns what is wrong, and for a path its last name.
+fn printed_cause(rt: &impl Abort, alloc: Global, cause: &Option<Cause>) -> String {
+    match cause {
+        None => printed_text(rt, alloc, "nothing"),
+        Some(Cause::Always) => printed_text(rt, alloc, "Always"),
+        Some(Cause::NoPath(_)) => printed_text(rt, alloc, "NoPath"),
+        Some(Cause::At(what, path)) => {
+            let mut text = printed_text(rt, alloc, word_of(*what));
+            if let Some(name) = path.names().last() {
+                say(rt, &mut text, " ");
+                say(rt, &mut text, name.as_str());
+            }
+            text
+        }
+    }
+}
+
 // Returns the trees of a view, each after a `|`.
 fn printed_view(rt: &impl Abort, alloc: Global, view: &View) -> String {
     let mut text = String::new(alloc);
@@ -197,6 +240,7 @@ impl OnView {
             "read_script" => read(alloc, &self.args),
             "Script::copy" => Answer::Script(self.script.copy()),
             "Command::copy" => copied_command(&self.script),
+            "why_failed" => why(alloc, &self.script, &self.setting, view),
             _ => ran(alloc, &self.script, &self.setting, view),
         }
     }
@@ -246,6 +290,8 @@ impl Trial for OnView {
             }
             Answer::Setting(Err(fault)) => printed_fault(rt, alloc, fault),
             Answer::Ran(Err(fault)) => printed_fault(rt, alloc, fault),
+            Answer::Why(Ok(cause)) => printed_cause(rt, alloc, cause),
+            Answer::Why(Err(fault)) => printed_fault(rt, alloc, fault),
         }
     }
 
@@ -274,6 +320,15 @@ const ROWS: &[Row] = &[
     ("read_script", "true && nosuch", "74", "71 nosuch"),
     ("Script::copy", SCRIPT, "", "the script"),
     ("Command::copy", SCRIPT, "74", "the command"),
+    ("why_failed", "true", "", "nothing"),
+    ("why_failed", "false", "", "Always"),
+    ("why_failed", "cp /none /b", "75", "NoFile none"),
+    ("why_failed", "cp /t/in/f /t", "75", "nothing"),
+    ("why_failed", "write /a/b x", "75", "NoDir a"),
+    ("why_failed", "mkdir -p /t/in/f/x", "75", "IsFile f"),
+    ("why_failed", "mkdir -p /x/y", "75", "nothing"),
+    ("why_failed", "concat /t/in/f /t/in/f /t", "75", "IsDir t"),
+    ("why_failed", "rm /t/in", "75", "IsDest in"),
     (
         "run_command",
         "cp /t/in/f /t/x on EMPTY",

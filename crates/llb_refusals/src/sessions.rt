@@ -3,7 +3,7 @@
 use super::growths::{print_count, refuse_all, was_refused};
 use super::printed::is_same;
 use super::steppers::stepper_of;
-use llb_session::{Looks, Session, answer};
+use llb_session::{Looks, Options, Session, answer};
 use std::alloc::Global;
 use std::process::Abort;
 use std::str::from_utf8;
@@ -17,6 +17,8 @@ const REFUSED: &[(&str, &str, &str)] = &[
     (ONE_FILE, "work 0 0", "fault 173 7\n"),
     (ONE_FILE, "caches", "fault 173 7\n"),
     (ONE_FILE, "cache 0 0", "fault 173 7\n"),
+    (ONE_FILE, "graph", "fault 173 7\n"),
+    (ONE_FILE, "digests", "fault 173 7\n"),
     (ONE_FILE, "back", "fault 172\n"),
     (ONE_FILE, "claim 9 0", "fault 171 131\n"),
     (ONE_FILE, "claim 0 9", "fault 171 133\n"),
@@ -50,7 +52,10 @@ fn goes_on(alloc: Global, session: &mut Session, line: &str, out: &mut Vec<u8>) 
 fn reply(rt: &impl Abort, alloc: Global, on: &'static str, line: &str) -> Vec<u8> {
     let mut session = Session {
         stepper: stepper_of(rt, alloc, on),
-        looks: Looks::Refused,
+        options: Options {
+            looks: Looks::Refused,
+            ends: false,
+        },
     };
     let mut out = Vec::with_capacity(alloc, 64).expect(rt, "memory");
     assert!(rt; goes_on(alloc, &mut session, line, &mut out), "{line}");

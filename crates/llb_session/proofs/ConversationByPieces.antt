@@ -7,7 +7,7 @@ use Rattle.std.proofs.KnownBytes.{Appends-nil, Appends-trans, Appends-kept}
 use Rattle.llb_session.specs.declared.session.Session.{Session}
 use Rattle.llb_session.specs.declared.fault.SessionFault.{SessionFault}
 use Rattle.llb_session.specs.declared.fault.SessionFault.TheVariants.{Failed, Unending, Write, Memory, TooLong}
-use Rattle.llb_session.specs.Answers.{Answers}
+use Rattle.llb_session.specs.Answers.{Replies}
 use Rattle.llb_session.specs.Conversation.{IsLine, Spelled, Standing, Talked, Answered, Quit, CutShort, AtLineEnd}
 use Rattle.llb_session.specs.ConversationStates.{IsSaid, Went, IsHeard, Hears}
 use Rattle.llb_session.proofs.Streams.{between}
@@ -178,7 +178,7 @@ byte_refused p b line o is = record { heard = []; unheard = b ∷ []; split = re
 
 -- the line that it ends got its reply
 line_went : (p q : Standing) (text : List ℕ) → IsLine p.line → q.number ≡ p.number + 1 → q.line ≡ []
-    → Answers p.session p.number p.line text q.session → Talked p (10 ∷ []) text q
+    → Replies p.session p.number p.line text q.session → Talked p (10 ∷ []) text q
 line_went p q text is next new a =
     let P : List ℕ → Type 0 = λ x. Spelled (p.line ∷ []) x (p.line ++ 10 ∷ []) in
     record {

@@ -11,7 +11,7 @@ use Rattle.llb_session.specs.declared.fault.SessionFault.{SessionFault}
 use Rattle.llb_session.specs.declared.fault.SessionFault.TheVariants.{Failed, Unending, Write, Memory, TooLong}
 use Rattle.llb_session.specs.Streams.{Stream}
 use Rattle.llb_session.specs.Conversation.{Standing, opening, Answered, last_line, Conversation, Converses}
-use Rattle.llb_session.specs.Answers.{Answers}
+use Rattle.llb_session.specs.Answers.{Replies}
 use Rattle.llb_session.specs.ConversationStates.{IsLast, IsSaid, Went, IsHeard, Hears}
 use Rattle.llb_session.proofs.Streams.{between}
 use Rattle.llb_session.proofs.RepliesByPieces.{Talks-more, Talks-one, few_said}
@@ -261,7 +261,7 @@ ends_long reads limit room s q r a b c o o1 o2 fits over l taken full more h =
 
 -- ---- what is said to a last line without its end
 
-said_last : (s t : Session) (n : ℕ) (line : List ℕ) (o o' : Option (List ℕ)) (text : List ℕ) → 0 < length line → Answers s n line text t → Appends o o' text
+said_last : (s t : Session) (n : ℕ) (line : List ℕ) (o o' : Option (List ℕ)) (text : List ℕ) → 0 < length line → Replies s n line text t → Appends o o' text
     → IsLast (record { session = s; number = n; line = line }) t (between o o') (Ok tt)
 said_last s t n [] o o' text more answers printed = absurd (omega (arith, more))
 said_last s t n (b ∷ line) o o' text more answers printed = inl (text, Talks-one s t n (b ∷ line) text answers, printed)

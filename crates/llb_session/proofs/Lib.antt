@@ -7,3 +7,4 @@ pub mod ConversationByPieces
 pub mod ConversationEnds
 pub mod GoLines
 pub mod ConsecutiveTexts
+pub mod GraphLines

@@ -1,7 +1,7 @@
 -- The replies to lines, and to the bytes that spell them, one piece after the other.
 use Rattle.std.proofs.Common.{◌≡◌, ℕ, ◌+◌, ◌≤◌, List, [], ◌∷◌, ◌++◌, length, refl, sym, ap, ◌∙◌, subst, append_assoc, append-nil, length-append, arith}
 use Rattle.llb_session.specs.declared.session.Session.{Session}
-use Rattle.llb_session.specs.Answers.{Answers}
+use Rattle.llb_session.specs.Answers.{Replies}
 use Rattle.llb_session.specs.Conversation.{IsLine, Spelled, Talks, Standing, Talked}
 use Rattle.llb_session.proofs.LinesOfBytes.{Spelled-more, Spelled-none, few_lines}
 
@@ -17,7 +17,7 @@ Talks-more (l ∷ ls) ms s t u n m text more at (said, later, v, first, behind, 
     (said, later ++ more, v, first, rest, ap (λ x. x ++ more) split ∙ append_assoc said later more)
 
 -- one line
-pub Talks-one : (s t : Session) (n : ℕ) (line text : List ℕ) → Answers s n line text t → Talks s n (line ∷ []) text t
+pub Talks-one : (s t : Session) (n : ℕ) (line text : List ℕ) → Replies s n line text t → Talks s n (line ∷ []) text t
 Talks-one s t n line text a = (text, [], t, a, (refl, refl), sym (append-nil text))
 
 -- more bytes after some

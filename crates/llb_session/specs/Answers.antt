@@ -18,7 +18,9 @@ use Rattle.llb_session.specs.declared.request.Look.{Look}
 use Rattle.llb_session.specs.declared.request.Look.TheVariants as look
 use Rattle.llb_session.specs.declared.request.Request.{Request}
 use Rattle.llb_session.specs.declared.request.Request.TheVariants as ask
+use Rattle.llb_session.specs.GraphText.{graph_text, digest_lines}
 use Rattle.llb_session.specs.Request.{request_in}
+use Rattle.llb_session.specs.Reasons.{why_at, why_lines}
 use Rattle.llb_session.specs.Streams.{Stream, IsKept, IsWritten, IsPartWritten}
 use Rattle.llb_session.specs.Texts.{status_lines, record_line, record_lines, tree_lines, work_lines, key_lines, fault_line, back_line}
 
@@ -49,6 +51,9 @@ look_lines (look.Work w) s = work_lines (option_map (λ (x : Execution). x.own) 
 look_lines (look.WorkTree w i) s = tree_lines (worked_on s.board.state w i)
 look_lines look.Caches s = key_lines s.board.rows (length s.board.rows)
 look_lines (look.Cache k i) s = tree_lines (cached_at s.board.rows s.board.state.store k i)
+look_lines (look.Why w k) s = why_lines (why_at s.board.build s.board.state w k)
+look_lines look.Graph s = graph_text s.board.build.graph
+look_lines look.Digests s = digest_lines s.board.build.graph.vertices
 
 -- the request is granted on stepper s and prints the text; t is the stepper after the request
 abbrev pub Grants : Request → Stepping → List ℕ → Stepping → Type 0
@@ -132,20 +137,35 @@ AnswersAs o s n text t = IsGranted o s text t ⊎ PrintsRefusal o s n text t
 
 -- the line ends session s
 abbrev pub Quits : Session → List ℕ → Type 0
-Quits s line = request_in s.looks line ≡ Some ask.Quit
+Quits s line = request_in s.options.looks line ≡ Some ask.Quit
 
 -- The result of line n of session s, and the session t after the line: the text that is printed; none if the line ends the session; or why it is refused.
 abbrev pub Responds : Session → ℕ → List ℕ → Session → Result (Option (Vec ℕ Global)) StepperFault → Type 0
 Responds s n line t (Ok (Some text)) =
-    (¬ Quits s line) × IsGranted (request_in s.looks line) s.stepper text.items t.stepper × (t.looks ≡ s.looks)
+    (¬ Quits s line) × IsGranted (request_in s.options.looks line) s.stepper text.items t.stepper × (t.options ≡ s.options)
 Responds s n line t (Ok None) = Quits s line × (t ≡ s)
-Responds s n line t (Err fault) = (¬ Quits s line) × IsRefused (request_in s.looks line) s.stepper n fault × (t ≡ s)
+Responds s n line t (Err fault) = (¬ Quits s line) × IsRefused (request_in s.options.looks line) s.stepper n fault × (t ≡ s)
 
 -- line n of session s, counted from 1, does not end the session; the text is the reply to the line, and t is the session after the line
 pub record Answers (s : Session) (n : ℕ) (line text : List ℕ) (t : Session) : Type 0 where
   pub goes_on : ¬ Quits s line
-  pub answers : AnswersAs (request_in s.looks line) s.stepper n text t.stepper
-  pub looks : t.looks ≡ s.looks
+  pub answers : AnswersAs (request_in s.options.looks line) s.stepper n text t.stepper
+  pub options : t.options ≡ s.options
+
+-- the line that follows each reply: an empty line, if replies are ended so; else none
+abbrev pub end_line : Bool → List ℕ
+end_line ends = if ends then codes "\n" else []
+
+-- the text is what is written for line n of session s, and t is the session after the line: the reply to the line, and the line that follows each reply
+pub record Replies (s : Session) (n : ℕ) (line text : List ℕ) (t : Session) : Type 0 where
+  pub said : List ℕ
+  pub answers : Answers s n line said t
+  pub ended : text ≡ said ++ end_line s.options.ends
+
+-- the text is written; or the writer failed and a prefix of the text is written
+abbrev pub IsTextWritten : List ℕ → Stream → Result (Unit {0}) Failed → Type 0
+IsTextWritten text out (Ok u) = IsWritten out text
+IsTextWritten text out (Err e) = IsPartWritten out text
 
 -- the reply is written, and the session goes on; or the writer failed and a prefix of the reply is written
 abbrev pub IsReplyWritten : List ℕ → Stream → Result Bool Failed → Type 0
@@ -153,8 +173,8 @@ IsReplyWritten bytes out (Ok true) = IsWritten out bytes
 IsReplyWritten bytes out (Ok false) = ⊥
 IsReplyWritten bytes out (Err e) = IsPartWritten out bytes
 
--- what is written for a line: the reply to the line, a prefix of the reply if the writer failed, or nothing if the line ends the session
+-- what is written for a line: the reply and the line that follows it, a prefix of both if the writer failed, or nothing if the line ends the session
 abbrev pub Says : Session → ℕ → List ℕ → Session → Stream → Result Bool Failed → Type 0
-Says s n line t out (Ok true) = (text : List ℕ) × Answers s n line text t × IsWritten out text
+Says s n line t out (Ok true) = (text : List ℕ) × Replies s n line text t × IsWritten out text
 Says s n line t out (Ok false) = Quits s line × (t ≡ s) × IsKept out
-Says s n line t out (Err e) = (text : List ℕ) × Answers s n line text t × IsPartWritten out text
+Says s n line t out (Err e) = (text : List ℕ) × Replies s n line text t × IsPartWritten out text

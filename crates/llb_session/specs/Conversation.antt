@@ -6,7 +6,7 @@ use Rattle.llb_session.specs.declared.session.Session.{Session}
 use Rattle.llb_session.specs.declared.fault.SessionFault.{SessionFault}
 use Rattle.llb_session.specs.declared.fault.SessionFault.TheVariants.{Failed, Unending, Write, Memory, TooLong}
 use Rattle.llb_session.specs.Streams.{Stream, IsWritten}
-use Rattle.llb_session.specs.Answers.{Answers, Quits}
+use Rattle.llb_session.specs.Answers.{Replies, Quits}
 
 -- ---- lines
 
@@ -36,7 +36,7 @@ last_line (b ∷ rest) = (b ∷ rest) ∷ []
 abbrev pub Talks : Session → ℕ → List (List ℕ) → List ℕ → Session → Type 0
 Talks s n [] text t = (text ≡ []) × (t ≡ s)
 Talks s n (line ∷ lines) text t =
-    (said : List ℕ) × (more : List ℕ) × (u : Session) × Answers s n line said u × Talks u (n + 1) lines more t × (text ≡ said ++ more)
+    (said : List ℕ) × (more : List ℕ) × (u : Session) × Replies s n line said u × Talks u (n + 1) lines more t × (text ≡ said ++ more)
 
 -- the state of a conversation: the session, the number of the line that is being read, and the bytes of this line so far
 pub record Standing : Type 0 where
@@ -77,7 +77,7 @@ pub record CutShort (p : Standing) (bytes : List ℕ) (t : Session) (out : Strea
   pub at : Standing
   pub talked : Talked p bytes text at
   pub said : List ℕ
-  pub answers : Answers at.session at.number at.line said t
+  pub answers : Replies at.session at.number at.line said t
   pub front : List ℕ
   pub rest : List ℕ
   pub split : said ≡ front ++ rest

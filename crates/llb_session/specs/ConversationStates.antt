@@ -4,7 +4,7 @@ use Rattle.llb_session.specs.declared.session.Session.{Session}
 use Rattle.llb_session.specs.declared.conversation.Pending.{Pending}
 use Rattle.llb_session.specs.declared.fault.SessionFault.{SessionFault}
 use Rattle.llb_session.specs.declared.fault.SessionFault.TheVariants.{Failed, Unending, Write, Memory, TooLong}
-use Rattle.llb_session.specs.Answers.{Answers, Quits}
+use Rattle.llb_session.specs.Answers.{Replies, Quits}
 use Rattle.llb_session.specs.Streams.{Stream, IsKept, IsWritten, IsPartWritten}
 use Rattle.llb_session.specs.Conversation.{Talks, Talked, Standing, Answered, Quit, CutShort, AtLineEnd, last_line}
 
@@ -14,9 +14,9 @@ standing s p = record { session = s; number = p.answered + 1; line = p.line.item
 
 -- what is written once the line that p has begun is complete: the reply; nothing if the line ends the session; with the fault `Write` a prefix of the reply
 abbrev pub IsSaid : Standing → Session → Stream → Result Bool SessionFault → Type 0
-IsSaid p t out (Ok true) = (text : List ℕ) × Answers p.session p.number p.line text t × IsWritten out text
+IsSaid p t out (Ok true) = (text : List ℕ) × Replies p.session p.number p.line text t × IsWritten out text
 IsSaid p t out (Ok false) = Quits p.session p.line × (t ≡ p.session) × IsKept out
-IsSaid p t out (Err Write) = (text : List ℕ) × Answers p.session p.number p.line text t × IsPartWritten out text
+IsSaid p t out (Err Write) = (text : List ℕ) × Replies p.session p.number p.line text t × IsPartWritten out text
 IsSaid p t out (Err (Failed kind)) = ⊥
 IsSaid p t out (Err (Unending interrupted)) = ⊥
 IsSaid p t out (Err Memory) = ⊥
@@ -27,7 +27,7 @@ abbrev pub IsLast : Standing → Session → Stream → Result (Unit {0}) Sessio
 IsLast p t out (Ok u) =
     ((text : List ℕ) × Talks p.session p.number (last_line p.line) text t × IsWritten out text)
     ⊎ ((0 < length p.line) × Quits p.session p.line × (t ≡ p.session) × IsKept out)
-IsLast p t out (Err Write) = (0 < length p.line) × ((text : List ℕ) × Answers p.session p.number p.line text t × IsPartWritten out text)
+IsLast p t out (Err Write) = (0 < length p.line) × ((text : List ℕ) × Replies p.session p.number p.line text t × IsPartWritten out text)
 IsLast p t out (Err (Failed kind)) = ⊥
 IsLast p t out (Err (Unending interrupted)) = ⊥
 IsLast p t out (Err Memory) = ⊥

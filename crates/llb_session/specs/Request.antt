@@ -78,7 +78,11 @@ command_in line = by_words line (parted line)
 
 -- the look that a line of one word spells, if any
 abbrev pub look_alone : List ℕ → Option Look
-look_alone word = if is_text word (codes "caches") then Some look.Caches else None
+look_alone word =
+    if is_text word (codes "caches") then Some look.Caches
+    else if is_text word (codes "graph") then Some look.Graph
+    else if is_text word (codes "digests") then Some look.Digests
+    else None
 
 -- the look of a line `work W` or `work W I`, for worker W and its tree I, given the text after `work` and the number that this text spells, if any
 abbrev pub work_by : List ℕ → Option ℕ → Option Look
@@ -94,6 +98,7 @@ abbrev pub look_with_rest : List ℕ → List ℕ → Option Look
 look_with_rest word rest =
     if is_text word (codes "work") then work_in rest
     else if is_text word (codes "cache") then option_map (λ (p : ℕ × ℕ). look.Cache p.0 p.1) (pair_in rest)
+    else if is_text word (codes "why") then option_map (λ (p : ℕ × ℕ). look.Why p.0 p.1) (pair_in rest)
     else None
 
 -- the look that a text spells, given the text and, if the text has more than one word, its first word and the text after this word

@@ -2,10 +2,12 @@
 
 ghost use Rattle.std.specs.Prelude.{◌≡◌, ◌++◌, ◌-◌, length, IfOk, IfErr, string_bytes};
 ghost use Rattle.llb_session.specs.declared.request.Request.TheVariants as ask;
-ghost use Rattle.llb_session.specs.Answers.{IsPerformed, Responds, IsReplyWritten, Says, look_lines, stop_line};
+ghost use Rattle.llb_session.specs.Answers.{IsPerformed, Responds, IsReplyWritten, IsTextWritten, Says, end_line, look_lines, stop_line};
 ghost use Rattle.llb_session.specs.Texts.{fault_line, record_lines};
 ghost use Rattle.llb_stepper.specs.declared.fault.StepperFault.TheVariants as refusal;
 
+use crate::graph_text::{digests_text, graph_text};
+use crate::reasons::why_text;
 use crate::refusal::write_refusal;
 use crate::request::{Look, Request, request_in};
 use crate::session::Session;
@@ -121,7 +123,8 @@ fn tree(alloc: Global, stepper: &mut Stepper, v: u32, i: u32) -> Result<Vec<u8>,
     tree_text(alloc, stepper.board().output(v, i))
 }
 
-// Returns what a look shows: a line for each tree that a worker works on or for each key of the caches, or the text of one tree (`none` if there is no such).
+// Returns what a look shows: a line for each tree that a worker works on, for each key of the caches or for each vertex, or the text of one tree (`none` if
+// there is no such).
 fn look_text(alloc: Global, stepper: &Stepper, look: Look) -> Result<Vec<u8>, StepperFault>
     ensures lines { IfOk result (λ v. v.items ≡ look_lines look stepper.now) }
     ensures memory { IfErr result (λ e. e ≡ refusal.Memory) }
@@ -132,6 +135,9 @@ fn look_text(alloc: Global, stepper: &Stepper, look: Look) -> Result<Vec<u8>, St
         Look::WorkTree(w, i) => tree_text(alloc, board.worked_on(w, i)),
         Look::Caches => Ok(caches_text(alloc, board)?.into_bytes()),
         Look::Cache(k, i) => tree_text(alloc, board.cached(k, i)),
+        Look::Why(w, k) => Ok(why_text(alloc, board, w, k)?.into_bytes()),
+        Look::Graph => Ok(graph_text(alloc, board.graph())?.into_bytes()),
+        Look::Digests => Ok(digests_text(alloc, board.graph())?.into_bytes()),
     }
 }
 
@@ -168,7 +174,7 @@ pub fn respond(
 ) -> Result<Option<Vec<u8>>, StepperFault>
     ensures { Responds session.old number line.now session.new result }
 {
-    let Some(request) = request_in(session.looks, line) else {
+    let Some(request) = request_in(session.options.looks, line) else {
         return Err(StepperFault::BadCommand(number));
     };
     if request == Request::Quit {
@@ -180,24 +186,55 @@ pub fn respond(
     }
 }
 
-// Writes a text, and returns true, which means that the session goes on.
-fn reply<W: Write>(text: &[u8], out: &mut W) -> Result<bool, Failed>
-    ensures { IsReplyWritten text.now (record { before = W.contents out.old; after = W.contents out.new }) result }
+// Writes the empty line that ends a reply, if replies are ended so, and returns true, which means that the session goes on.
+fn end_reply<W: Write>(ends: bool, out: &mut W) -> Result<bool, Failed>
+    ensures { IsReplyWritten (end_line ends) (record { before = W.contents out.old; after = W.contents out.new }) result }
 {
-    write_all(&mut Over::new(out), text)?;
+    if ends {
+        write_all(&mut Over::new(out), b"\n")?;
+    }
     Ok(true)
 }
 
-// Writes the line of a refusal, and returns true, which means that the session goes on. Does not allocate.
-fn refuse<W: Write>(fault: &StepperFault, out: &mut W) -> Result<bool, Failed>
-    ensures { IsReplyWritten (fault_line fault.now) (record { before = W.contents out.old; after = W.contents out.new }) result }
+// Writes a text.
+fn write_text<W: Write>(text: &[u8], out: &mut W) -> Result<(), Failed>
+    ensures { IsTextWritten text.now (record { before = W.contents out.old; after = W.contents out.new }) result }
+{
+    write_all(&mut Over::new(out), text)?;
+    Ok(())
+}
+
+// Writes the line of a refusal. Does not allocate.
+fn write_fault<W: Write>(fault: &StepperFault, out: &mut W) -> Result<(), Failed>
+    ensures { IsTextWritten (fault_line fault.now) (record { before = W.contents out.old; after = W.contents out.new }) result }
 {
     write_refusal(fault, &mut Over::new(out))?;
-    Ok(true)
+    Ok(())
+}
+
+// Writes a text and the line that ends it, and returns true, which means that the session goes on.
+fn reply<W: Write>(text: &[u8], ends: bool, out: &mut W) -> Result<bool, Failed>
+    ensures { IsReplyWritten (text.now ++ end_line ends) (record { before = W.contents out.old; after = W.contents out.new }) result }
+{
+    match write_text(text, out) {
+        Ok(()) => end_reply(ends, out),
+        Err(fault) => Err(fault),
+    }
+}
+
+// Writes the line of a refusal and the line that ends it, and returns true, which means that the session goes on. Does not allocate.
+fn refuse<W: Write>(fault: &StepperFault, ends: bool, out: &mut W) -> Result<bool, Failed>
+    ensures { IsReplyWritten (fault_line fault.now ++ end_line ends) (record { before = W.contents out.old; after = W.contents out.new }) result }
+{
+    match write_fault(fault, out) {
+        Ok(()) => end_reply(ends, out),
+        Err(fault) => Err(fault),
+    }
 }
 
 /// Does what a line asks for as `respond` does, and writes the text to `out`; if the line is refused, writes `fault` and the refusal, which does not allocate.
-/// Returns false if the line ends the session; nothing is written then. Fails with `Failed` if the writer failed, and a prefix of the reply is written.
+/// If the session's options say so, an empty line follows. Returns false if the line ends the session; nothing is written then. Fails with `Failed` if the
+/// writer failed, and a prefix of the reply is written.
 pub fn answer<W: Write>(
     alloc: Global,
     session: &mut Session,
@@ -207,9 +244,10 @@ pub fn answer<W: Write>(
 ) -> Result<bool, Failed>
     ensures { Says session.old number line.now session.new (record { before = W.contents out.old; after = W.contents out.new }) result }
 {
+    let ends = session.options.ends;
     match respond(alloc, session, number, line) {
-        Ok(Some(text)) => reply(text.as_slice(), out),
+        Ok(Some(text)) => reply(text.as_slice(), ends, out),
         Ok(None) => Ok(false),
-        Err(fault) => refuse(&fault, out),
+        Err(fault) => refuse(&fault, ends, out),
     }
 }

@@ -18,7 +18,7 @@ pub enum Looks {
     Allowed,
 }
 
-/// What a look shows: the trees that a worker works on, or the caches.
+/// What a look shows: the trees that a worker works on, the caches, or the graph.
 #[derive(Clone, Copy, Debug, PartialEq, Eq)]
 pub enum Look {
     /// Prints a line for each tree that worker `w` works on, for `Work(w)`.
@@ -29,6 +29,12 @@ pub enum Look {
     Caches,
     /// Prints as text the tree of instance `i` of the cache key with the number `k`, for `Cache(k, i)`.
     Cache(u32, u32),
+    /// Prints why command `k` of the exec that worker `w` runs fails on the trees that the worker works on now, for `Why(w, k)`.
+    Why(u32, u32),
+    /// Prints the text of the graph, as `llbm show` does.
+    Graph,
+    /// Prints a line for each vertex, by number, with the digest of its entry.
+    Digests,
 }
 
 /// What a line of a session asks for.
@@ -166,6 +172,10 @@ fn look_alone(word: &str) -> Option<Look>
 {
     if word == "caches" {
         Some(Look::Caches)
+    } else if word == "graph" {
+        Some(Look::Graph)
+    } else if word == "digests" {
+        Some(Look::Digests)
     } else {
         None
     }
@@ -191,6 +201,9 @@ fn look_with_rest(word: &str, rest: &str) -> Option<Look>
     } else if word == "cache" {
         let (k, i) = pair(rest)?;
         Some(Look::Cache(k, i))
+    } else if word == "why" {
+        let (w, k) = pair(rest)?;
+        Some(Look::Why(w, k))
     } else {
         None
     }

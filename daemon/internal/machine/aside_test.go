@@ -59,12 +59,12 @@ func TestATreeThatIsReadAsideIsNoOutput(t *testing.T) {
 	run := ran(t, 500)
 	for range 10 {
 		var text bytes.Buffer
-		size, err := run.Aside(0, 0, 1, 1000, &text)
+		size, err := run.Aside(0, 0, 1000, &text)
 		if err != nil || size != text.Len() || size < 40 || !strings.HasSuffix(text.String(), " /f\n") {
 			t.Fatal(text.String(), size, err)
 		}
 	}
-	if size, err := run.Aside(0, 1, 1, 1000, io.Discard); size != 0 || err != nil {
+	if size, err := run.Aside(0, 1, 1000, io.Discard); size != 0 || err != nil {
 		t.Error(size, err)
 	}
 	if tree, err := run.Tree(0, 0); err != nil || len(tree) != 2 {
@@ -74,7 +74,7 @@ func TestATreeThatIsReadAsideIsNoOutput(t *testing.T) {
 
 func TestATreeThatIsReadAsideIsBounded(t *testing.T) {
 	run := ran(t, 1000)
-	if size, err := run.Aside(0, 0, 1, 30, io.Discard); err == nil {
+	if size, err := run.Aside(0, 0, 30, io.Discard); err == nil {
 		t.Error(size)
 	}
 }

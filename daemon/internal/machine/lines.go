@@ -19,6 +19,7 @@ const (
 // An Event is a line of the record: `N KIND WORKER [VERTEX] -> REPLY`.
 type Event struct {
 	Line   string
+	Number int // of a settle, from 1
 	Kind   string
 	Worker int
 	Vertex int  // of a claim and a settle
@@ -77,7 +78,7 @@ func parseEvent(line string) (Event, error) {
 		return e, nil
 	}
 	if n, ok := numbers(before, "# settle #"); ok {
-		e.Kind, e.Worker = Settle, n[1]
+		e.Number, e.Kind, e.Worker = n[0], Settle, n[1]
 		vertex, failed := numbers(reply, "# failed")
 		if !failed {
 			vertex, ok = numbers(reply, "# done")

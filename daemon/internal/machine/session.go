@@ -34,13 +34,14 @@ func InMemory(name string) (*os.File, error) {
 // PathOf returns a path by which a child of the daemon can open one of its files.
 func PathOf(file *os.File) string { return fmt.Sprintf("/proc/%d/fd/%d", os.Getpid(), file.Fd()) }
 
-// A Run is a session of `llbm step`.
+// A Run is a session of `llbm step`, in which an empty line ends each reply.
 type Run struct {
 	*process
 	in          io.WriteCloser
 	out         io.ReadCloser
 	lines       *bufio.Reader
 	outstanding int
+	events      int // how many were done
 	aside       *int // how many bytes may still be read aside, while that is done
 }
 
@@ -52,7 +53,7 @@ const window = 64
 func (p *Program) Step(ctx context.Context, definition *os.File, sources []Source, workers int, written *atomic.Int64) (*Run, error) {
 	const firstFile = 3
 	files := []*os.File{definition}
-	words := []string{"step", place(firstFile), "--workers", strconv.Itoa(workers)}
+	words := []string{"step", place(firstFile), "--looks", "--ends", "--workers", strconv.Itoa(workers)}
 	for i, source := range sources {
 		files = append(files, source.Text)
 		words = append(words, source.Name+"="+place(firstFile+1+i))
@@ -117,6 +118,24 @@ func (r *Run) counted(n int) error {
 	return nil
 }
 
+// reply reads the lines of the next reply, up to the empty line that ends it, and calls a function for each. After an error of the
+// function it reads on, so that the next reply is the next one.
+func (r *Run) reply(found func(line []byte) error) error {
+	var fault error
+	for {
+		line, err := r.read()
+		if err != nil {
+			return err
+		}
+		if len(line) == 0 {
+			return fault
+		}
+		if fault == nil {
+			fault = found(line)
+		}
+	}
+}
+
 // ask sends commands. If they can't be sent the process has ended, and its last words are still to be read: they say why.
 func (r *Run) ask(commands string) { _, _ = io.WriteString(r.in, commands) }
 
@@ -135,87 +154,118 @@ func (r *Run) Next() (Event, bool, error) {
 		r.ask(strings.Repeat("next\n", window-r.outstanding))
 		r.outstanding = window
 	}
-	line, err := r.read()
-	if err != nil {
+	var line string
+	if err := r.reply(func(found []byte) error { line = string(found); return nil }); err != nil {
 		return Event{}, false, err
 	}
 	r.outstanding--
-	if string(line) == "end" {
+	if line == "end" {
 		return Event{}, false, nil
 	}
-	if bytes.HasPrefix(line, []byte("fault ")) {
-		err := Fault(string(line))
+	if strings.HasPrefix(line, "fault ") {
+		err := Fault(line)
 		r.Stop()
 		return Event{}, false, err
 	}
-	event, err := parseEvent(string(line))
+	r.events++
+	event, err := parseEvent(line)
 	return event, err == nil, err
 }
 
-// settle skips the replies to events that were asked for in advance.
+// settle reads the replies to events that were asked for in advance.
 func (r *Run) settle() error {
 	for ; r.outstanding > 0; r.outstanding-- {
-		if _, err := r.read(); err != nil {
+		err := r.reply(func(line []byte) error {
+			if string(line) != "end" {
+				r.events++
+			}
+			return nil
+		})
+		if err != nil {
 			return err
 		}
 	}
 	return nil
 }
 
-// Failure returns how a vertex failed, of a board with some vertices.
-func (r *Run) Failure(vertex, vertices int) (found Failure, err error) {
+// skip skips replies.
+func (r *Run) skip(count int) error {
+	for range count {
+		if err := r.reply(func([]byte) error { return nil }); err != nil {
+			return err
+		}
+	}
+	return nil
+}
+
+// Failure returns how a vertex failed.
+func (r *Run) Failure(vertex int) (found Failure, err error) {
 	if err := r.settle(); err != nil {
 		return found, err
 	}
 	r.ask("status\n")
-	err = fmt.Errorf("llbm: it does not say how vertex %d failed", vertex)
-	for range vertices {
-		line, broken := r.read()
-		if broken != nil {
-			return found, broken
-		}
+	isFound := false
+	err = r.reply(func(line []byte) error {
 		if failure, ok := parseFailure(string(line)); ok && failure.Vertex == vertex {
-			found, err = failure, nil
+			found, isFound = failure, true
 		}
+		return nil
+	})
+	if err == nil && !isFound {
+		err = fmt.Errorf("llbm: it does not say how vertex %d failed", vertex)
 	}
 	return found, err
 }
 
-// Tree returns the tree of an output of a board that is complete.
+// Why returns in words why a command failed of the vertex that an event settled, or "" if it is not known. It goes back to before the
+// event, where the worker still has the trees that the command saw, and then forward again.
+func (r *Run) Why(settled Event, command int) (string, error) {
+	if err := r.settle(); err != nil {
+		return "", err
+	}
+	back, why := r.events-settled.Number+1, ""
+	r.ask(strings.Repeat("back\n", back) + fmt.Sprintf("why %d %d\n", settled.Worker, command) + strings.Repeat("next\n", back))
+	if err := r.skip(back); err != nil {
+		return "", err
+	}
+	err := r.reply(func(line []byte) error { why = string(line); return nil })
+	if err != nil {
+		return "", err
+	}
+	if why == "none" || strings.HasPrefix(why, "fault ") {
+		why = ""
+	}
+	return why, r.skip(back)
+}
+
+// Tree returns the tree of an output, or nil if there is none yet.
 func (r *Run) Tree(vertex, output int) (tree.Tree, error) {
-	t, last, err := r.tree(vertex, output, "next")
-	if err == nil && last != "end" {
-		return nil, fmt.Errorf("llbm: %.80q after a tree", last)
+	var out tree.Tree
+	err := r.treeLines(vertex, output, func(line []byte) error {
+		entry, err := tree.ParseLine(line)
+		out = append(out, entry)
+		return err
+	})
+	if err != nil {
+		return nil, err
 	}
-	return t, err
+	return out, nil
 }
 
-// TreeOf returns the tree of an output of a board with some vertices, or nil if there is none yet.
-func (r *Run) TreeOf(vertex, output, vertices int) (tree.Tree, error) {
-	t, _, err := r.tree(vertex, output, "status")
-	for i := 1; err == nil && i < vertices; i++ {
-		_, err = r.read()
-	}
-	return t, err
-}
-
-// Aside writes the text of the tree of an output of a board with some vertices, and returns how many bytes it has, 0 if there is
-// none yet. They do not count as output of the build. If they are more than some, the session ends.
-func (r *Run) Aside(vertex, output, vertices, most int, to io.Writer) (int, error) {
+// Aside writes the text of the tree of an output, and returns how many bytes it has, 0 if there is none yet. They do not count as
+// output of the build. If they are more than some, the session ends.
+func (r *Run) Aside(vertex, output, most int, to io.Writer) (int, error) {
 	if err := r.settle(); err != nil {
 		return 0, err
 	}
 	left, written := most, 0
 	r.aside = &left
 	defer func() { r.aside = nil }()
-	_, err := r.treeLines(vertex, output, "status", func(line []byte) error {
+	err := r.treeLines(vertex, output, func(line []byte) error {
 		written += len(line) + 1
 		_, err := to.Write(append(line, '\n'))
 		return err
 	})
-	for i := 1; err == nil && i < vertices; i++ {
-		_, err = r.read()
-	}
 	if left < 0 {
 		r.Stop()
 		return 0, errAside
@@ -223,42 +273,21 @@ func (r *Run) Aside(vertex, output, vertices, most int, to io.Writer) (int, erro
 	return written, err
 }
 
-// tree asks for a tree and then for what ends it, and returns the first line of the latter.
-func (r *Run) tree(vertex, output int, after string) (tree.Tree, string, error) {
-	var out tree.Tree
-	last, err := r.treeLines(vertex, output, after, func(line []byte) error {
-		entry, err := tree.ParseLine(line)
-		out = append(out, entry)
-		return err
-	})
-	if err != nil {
-		return nil, "", err
-	}
-	return out, last, nil
-}
-
-// treeLines asks for a tree and then for what ends it, calls a function for each line of the tree, and returns the first line of
-// what ends it.
-func (r *Run) treeLines(vertex, output int, after string, found func(line []byte) error) (string, error) {
+// treeLines asks for a tree, and calls a function for each line of it.
+func (r *Run) treeLines(vertex, output int, found func(line []byte) error) error {
 	if err := r.settle(); err != nil {
-		return "", err
+		return err
 	}
-	r.ask(fmt.Sprintf("tree %d %d\n%s\n", vertex, output, after))
-	for {
-		line, err := r.read()
-		if err != nil {
-			return "", err
+	r.ask(fmt.Sprintf("tree %d %d\n", vertex, output))
+	return r.reply(func(line []byte) error {
+		switch {
+		case string(line) == "none":
+			return nil
+		case !bytes.HasPrefix(line, []byte("d ")) && !bytes.HasPrefix(line, []byte("f ")):
+			return fmt.Errorf("llbm: %.80q is no line of a tree", line)
 		}
-		if string(line) == "none" {
-			continue
-		}
-		if !bytes.HasPrefix(line, []byte("d ")) && !bytes.HasPrefix(line, []byte("f ")) {
-			return string(line), nil
-		}
-		if err := found(line); err != nil {
-			return "", err
-		}
-	}
+		return found(line)
+	})
 }
 
 // Stop ends the run at once.

@@ -60,7 +60,7 @@ func TestOutputPastItsBoundIsRefusedAfterItsEnd(t *testing.T) {
 }
 
 func TestWhatAProgramSaysLastIsReadAfterItsEnd(t *testing.T) {
-	run := stepped(t, &Program{Path: script(t, "echo '1 claim 0 0 -> file 1'\necho 'fault 123'\nexit 1"), Proved: true})
+	run := stepped(t, &Program{Path: script(t, "echo '1 claim 0 0 -> file 1'\necho\necho 'fault 123'\necho\nexit 1"), Proved: true})
 	untilEnded(t, run) // what it is asked can't be sent any more
 	if event, more, err := run.Next(); err != nil || !more || event.Kind != Claim {
 		t.Errorf("%+v %v %v", event, more, err)

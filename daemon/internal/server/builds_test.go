@@ -71,7 +71,7 @@ func TestALocalSourceGoesThroughWithoutItsContentsBeingRead(t *testing.T) {
 	}
 }
 
-func TestACommandThatCanNotReadAFileSaysWhich(t *testing.T) {
+func TestACommandThatFailsSaysWhy(t *testing.T) {
 	d := started(t, nil)
 	dirs := map[string]string{"src": directory(t, map[string]string{"sub/a": "x"})}
 	base := llb.Scratch().File(llb.Mkfile("/f", 0o644, nil))
@@ -80,8 +80,11 @@ func TestACommandThatCanNotReadAFileSaysWhich(t *testing.T) {
 		"cp ../in/missing /y":                  "command 0 status 1: cp ../in/missing /y: there is no file /in/missing",
 		"concat /y /f /in/b":                   "command 0 status 1: concat /y /f /in/b: there is no file /in/b",
 		"write /x x && sha256 /in /y":          "command 1 status 1: sha256 /in /y: /in is a directory",
-		"write /x x && cp /in/sub/a /no/where": "command 1 status 1: cp /in/sub/a /no/where",
-		"rm /f && cp /f /y":                    "command 1 status 1: cp /f /y", // the root mount has changed
+		"write /x x && cp /in/sub/a /no/where": "command 1 status 1: cp /in/sub/a /no/where: there is no directory /no",
+		"rm /f && cp /f /y":                    "command 1 status 1: cp /f /y: there is no file /f",
+		"write /in/new x":                      "command 0 status 1: write /in/new x: the mount /in is read-only",
+		"mkdir /d && mkdir /d":                 "command 1 status 1: mkdir /d: /d is there already",
+		"test -f /f && false":                  "command 1 status 1: false: it always fails",
 	} {
 		run := base.Run(llb.Args([]string{"/bin/sh", "-c", script}), llb.Dir("/dir"))
 		run.AddMount("/in", llb.Local("src"), llb.Readonly)

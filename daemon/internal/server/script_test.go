@@ -31,7 +31,7 @@ step)
 	event=0
 	while read command vertex output; do
 		if [ "$command" = tree ]; then
-			printf 'd 0755 0 0 /\nf 0644 0 0 6869 /a\n'
+			printf 'd 0755 0 0 /\nf 0644 0 0 6869 /a\n\n'
 			continue
 		fi
 		event=$((event + 1))
@@ -41,6 +41,7 @@ step)
 		3) echo '3 settle 0 -> 0 done' ;;
 		*) echo end ;;
 		esac
+		echo
 	done
 	exec sleep 600 ;;
 esac

@@ -288,7 +288,7 @@ func (c *comparing) answer(run *machine.Run, g *graph.Graph, question *compariso
 		if err != nil {
 			return err
 		}
-		size, err := run.Aside(v, index, len(g.Vertices), c.left, c.files[len(c.files)-1])
+		size, err := run.Aside(v, index, c.left, c.files[len(c.files)-1])
 		if err != nil {
 			return err
 		}

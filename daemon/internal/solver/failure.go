@@ -16,10 +16,10 @@ import (
 )
 
 // failure returns why a vertex failed: `V failed action A fault N` or `V failed command C status S` as llbm prints it,
-// with what the action or the command is, and the reason where it is known.
-func (s *Solver) failure(run *machine.Run, p *progress, v int) error {
+// with what the action or the command is, and the reason where it is known. The vertex was settled by an event.
+func (s *Solver) failure(run *machine.Run, p *progress, v int, settled machine.Event) error {
 	g := p.g
-	failure, err := run.Failure(v, len(g.Vertices))
+	failure, err := run.Failure(v)
 	if err != nil {
 		return err
 	}
@@ -42,7 +42,11 @@ func (s *Solver) failure(run *machine.Run, p *progress, v int) error {
 	text := fmt.Sprintf("llbm: failed %d command %d status %d", v, place, code)
 	if calls := plan.Calls(op); place < len(calls) {
 		text += ": " + printable.Of(strings.Join(calls[place], " "))
-		if why := notRead(run, g, v, place, calls[place]); why != "" {
+		why, err := run.Why(settled, place)
+		if err != nil {
+			return err
+		}
+		if why != "" {
 			text += ": " + printable.Of(why)
 		}
 	}
@@ -98,6 +102,6 @@ func inputTree(run *machine.Run, g *graph.Graph, v, input int) (tree.Tree, bool)
 	case input >= len(inputs):
 		return nil, false
 	}
-	t, err := run.TreeOf(g.Vertices[v].Inputs[input], int(inputs[input].Index), len(g.Vertices))
+	t, err := run.Tree(g.Vertices[v].Inputs[input], int(inputs[input].Index))
 	return t, err == nil && t != nil
 }

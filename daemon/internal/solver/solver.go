@@ -221,7 +221,7 @@ func (s *Solver) session(
 			record.WriteString(event.Line + "\n")
 		}
 		if v, failed := p.event(event); failed {
-			err := p.failed(v, s.failure(run, p, v))
+			err := p.failed(v, s.failure(run, p, v, event))
 			c.end(run, g)
 			if c.followed != nil {
 				err = c.followed

@@ -3,7 +3,6 @@
 import contextlib
 import os
 import pathlib
-import shutil
 import subprocess
 from collections.abc import Iterable
 from typing import BinaryIO
@@ -13,7 +12,7 @@ from llbm_tools.building.children import ended
 from llbm_tools.building.requests import Ended
 from llbm_tools.common import say, shortened
 from llbm_tools.sessions import shows
-from llbm_tools.streams import FAILED, Refused
+from llbm_tools.streams import FAILED
 
 MOST_OF_A_NAME = 100
 NOT_DONE = 1
@@ -57,23 +56,13 @@ class Program:
             raise Ended(status)
         return result
 
-    def shown(self) -> shows.Show | None:
-        """Returns the graph as the program shows it, or None if the definition is refused; the session says why."""
-        graph = os.path.join(self.folder, "graph")
-        with open(self.definition, "rb") as given, open(graph, "wb") as text:
-            ended(self.start([self.place, "show"], stdin=given, stdout=text, stderr=subprocess.DEVNULL))
-        with contextlib.suppress(Refused):
-            return shows.show_of(pathlib.Path(graph).read_text("ascii", "backslashreplace"))
-        return None
-
     def run_session(self, workers: str | None) -> str:
         """Runs the definition vertex by vertex, prints a line for each, and returns the path of the result's text."""
-        show = self.shown()
         result, causes = os.path.join(self.folder, "result"), os.path.join(self.folder, "causes")
         with open(causes, "wb") as words, open(result, "wb") as text:
-            command = self.words("step", self.definition, workers=workers or "1")
+            command = self.words("step", self.definition, "--looks", "--ends", workers=workers or "1")
             child = self.start(command, stdin=subprocess.PIPE, stdout=subprocess.PIPE, stderr=words)
-            failures = self.follow(progress.Session(child), show, text)
+            failures = self.follow(progress.Session(child), text)
             status = ended(child)
             is_empty = not text.tell()
         with open(causes, "rb") as given:
@@ -85,14 +74,15 @@ class Program:
             raise Ended(FAILED, "the session ended before the result was out")
         return result
 
-    def follow(self, session: progress.Session, show: shows.Show | None, text: BinaryIO) -> list[bytes]:
+    def follow(self, session: progress.Session, text: BinaryIO) -> list[bytes]:
         """Runs a session to its end, and writes the result's text, or returns a line for each failure."""
         failures: list[bytes] = []
         try:
             with contextlib.suppress(progress.Closed):
+                show = session.graph()
                 failures = self.print_progress(session, show)
                 if show and not failures:
-                    shutil.copyfileobj(session.last("tree {} {}".format(*show.result)), text)
+                    session.copy_tree(*show.result, text)
         except progress.Unexpected as line:
             self.pass_on([str(line).encode()])
             raise Ended(FAILED, "the session gave an unexpected answer") from line

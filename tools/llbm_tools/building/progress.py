@@ -1,8 +1,10 @@
 """A session of `llbm step` that a build runs vertex by vertex, and the names of vertices.
 
-The commands and their answers are those of docs/FORMATS.md, under "A stepping session" and "The lines of a record".
+The commands and their answers are those of docs/FORMATS.md, under "A stepping session" and "The lines of a record". The
+session is run with `--looks` and `--ends`, so an empty line ends each answer.
 """
 
+import collections
 import contextlib
 import re
 import subprocess
@@ -11,10 +13,11 @@ from typing import BinaryIO, NamedTuple, cast
 
 from llbm_tools.llb import names
 from llbm_tools.llb.wire import Unreadable
+from llbm_tools.sessions import shows
+from llbm_tools.streams import Refused
 
 CLAIM = re.compile(r"[0-9]+ claim [0-9]+ ([0-9]+) -> (\w+) [0-9]+")
 SETTLE = re.compile(r"[0-9]+ settle [0-9]+ -> ([0-9]+) (done|failed)")
-EVENT = re.compile(r"[0-9]+ (?:claim|step|settle|cancel) .* -> .*")
 FAILURE = re.compile(r"([0-9]+) failed (.*)")
 
 
@@ -65,24 +68,39 @@ class Session:
         with contextlib.suppress(BrokenPipeError):
             self.commands.close()
 
-    def line(self) -> str:
-        """Returns the next line of an answer."""
-        line = self.answers.readline().decode("utf-8", "backslashreplace")
-        if not line.endswith("\n"):
-            raise Closed
-        return line[:-1]
+    def lines(self) -> Iterator[bytes]:
+        """Yields the lines of the next answer, with their line ends."""
+        while (line := self.answers.readline()) != b"\n":
+            if not line.endswith(b"\n"):
+                raise Closed
+            yield line
 
-    def last(self, *commands: str) -> BinaryIO:
-        """Sends the last commands, and returns the stream of their answers."""
-        self.ask(*commands, "quit")
-        self.close()
-        return self.answers
+    def answer(self) -> list[str]:
+        """Returns the lines of the next answer."""
+        return [line.decode("utf-8", "backslashreplace")[:-1] for line in self.lines()]
+
+    def graph(self) -> shows.Show | None:
+        """Returns the graph, or None if the answer is not one."""
+        self.ask("graph")
+        with contextlib.suppress(Refused):
+            return shows.show_of("".join(f"{line}\n" for line in self.answer()))
+        return None
+
+    def copy_tree(self, vertex: int, output: int, text: BinaryIO) -> None:
+        """Writes the text of the tree of an output; nothing if the session ends within it."""
+        self.ask(f"tree {vertex} {output}")
+        try:
+            text.writelines(self.lines())
+        except Closed:
+            text.seek(0)
+            text.truncate()
+            raise
 
     def settled(self) -> Iterator[Settled]:
         """Yields the vertices as they settle, up to the end; the session chooses the events."""
         while True:
             self.ask("next")
-            line = self.line()
+            line = "\n".join(self.answer())
             if line == "end":
                 return
             claim = CLAIM.fullmatch(line)
@@ -93,19 +111,25 @@ class Session:
     def settle(self, vertex: str, kind: str) -> Settled:
         """Continues until the claimed vertex has settled."""
         self.ask("clear", f"break settle {vertex}", "go")
-        before, line = "", self.line()
-        while EVENT.fullmatch(line):
-            before, line = line, self.line()
+        for _ in ("clear", "break"):
+            self.expect_nothing()
+        last_two = collections.deque(self.lines(), 2)
+        before, line = ["", "", *(line.decode("ascii", "backslashreplace")[:-1] for line in last_two)][-2:]
         settle = SETTLE.fullmatch(before)
         if line != "stop" or not settle or settle[1] != vertex:
             raise Unexpected(line)
         return Settled(int(vertex), kind, settle[2])
 
+    def expect_nothing(self) -> None:
+        """Reads an answer that has no lines."""
+        if lines := self.answer():
+            raise Unexpected(lines[0])
+
     def failures(self) -> list[str]:
-        """Returns a line for each vertex that failed, as a run prints it; the session ends."""
+        """Returns a line for each vertex that failed, as a run prints it."""
+        self.ask("status")
         found = []
-        for line in self.last("status"):
-            failure = FAILURE.fullmatch(line.decode("utf-8", "backslashreplace").rstrip("\n"))
-            if failure:
+        for line in self.answer():
+            if failure := FAILURE.fullmatch(line):
                 found.append(f"failed {failure[1]} {failure[2]}")
         return found

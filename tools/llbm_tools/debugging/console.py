@@ -7,7 +7,7 @@ from llbm_tools.sessions.session import Session
 MOST_LINES = 1_000
 
 EVENT = re.compile("claim [0-9]{1,9} [0-9]{1,9}|(?:step|settle|cancel) [0-9]{1,9}")
-LOOK = re.compile("tree [0-9]{1,9} [0-9]{1,9}|work [0-9]{1,9}(?: [0-9]{1,9})?|caches|cache [0-9]{1,9} [0-9]{1,9}")
+LOOK = re.compile("tree [0-9]{1,9} [0-9]{1,9}|work [0-9]{1,9}(?: [0-9]{1,9})?|caches|cache [0-9]{1,9} [0-9]{1,9}|graph|digests")
 
 HELP = """\
 Expressions, also for watches:
@@ -23,6 +23,8 @@ Commands that look, with the lines that llbm step prints:
   work W I          tree I of these
   caches            the keys of the caches
   cache K I         instance I of key K
+  graph             the graph, as llbm show prints it
+  digests           the digest of each vertex
 Commands that add an event; the run stops after it:
   claim W V         worker W takes vertex V
   step W            worker W does its next micro-step

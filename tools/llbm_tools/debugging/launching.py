@@ -216,7 +216,7 @@ def start(arguments: Object, folder: str, say: Say, program_argument: str) -> La
         say(note)
     file = os.path.join(folder, "definition")
     pathlib.Path(file).write_bytes(data)
-    command = [program, "step", "--looks", file, "--workers", str(workers), *words]
+    command = [program, "step", "--looks", "--ends", file, "--workers", str(workers), *words]
     try:
         session = start_session(command, workers, len(graph.vertices), named_entries)
     except Refused as fault:

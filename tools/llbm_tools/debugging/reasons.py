@@ -7,12 +7,11 @@ command is named.
 import re
 from typing import Protocol
 
-from llbm_tools.common import printable
-from llbm_tools.debugging import applets, looks
-from llbm_tools.debugging.applets import Names, View, node_in, path_text
+from llbm_tools.common import MOST_NAMES, is_name, printable
+from llbm_tools.debugging import looks
 from llbm_tools.debugging.trees import Node
 from llbm_tools.llb import definition
-from llbm_tools.llb.ops import ExecOp, FileAction, FileActionCopy, FileActionRm, Meta, Op
+from llbm_tools.llb.ops import FileAction, FileActionCopy, FileActionRm, Op
 from llbm_tools.sessions.session import Event, Session, TooLarge
 
 MOST_READ = 16_777_216
@@ -33,12 +32,45 @@ SENTENCES = {
 }
 
 
+Names = list[str]
+
+
 class Vertex(Protocol):
     """A vertex, which has an op."""
 
     @property
     def op(self) -> Op:
         """The op."""
+
+
+def names_in(text: str) -> Names | None:
+    """Reads a path from the root. None where it is no path."""
+    names: Names = []
+    for part in text.split("/"):
+        if part in ("", "."):
+            continue
+        if part == "..":
+            names = names[:-1]
+        elif not is_name(part.encode("utf-8")) or len(names) == MOST_NAMES:
+            return None
+        else:
+            names.append(part)
+    return names
+
+
+def path_text(names: Names) -> str:
+    """Returns a path as a text."""
+    return "/" + "/".join(names)
+
+
+def node_in(root: Node, names: Names) -> Node | None:
+    """Returns the node at a path of a tree, or None."""
+    node = root
+    for name in names:
+        if not node.is_directory() or name not in node.entries:
+            return None
+        node = node.entries[name]
+    return node
 
 
 def words_of(vertex: Vertex, command: int) -> list[str]:
@@ -55,25 +87,11 @@ def tree_of(session: Session, worker: int, number: int) -> Node:
     return looks.tree_by(session, f"work {worker} {number}", MOST_READ) or Node("0755", "0:0", {}, b"")
 
 
-def view_of(session: Session, worker: int, vertex: Vertex) -> View:
-    """Returns the mounts that the execution of a worker sees."""
-    execution = vertex.op.exec or ExecOp()
-    mounts = []
-    for number, mount in enumerate(execution.mounts):
-        dest, selector = (applets.names_from([], text) or [] for text in (mount.dest, mount.selector))
-        mounts.append(applets.Mount(dest, selector, mount.readonly, tree_of(session, worker, number)))
-    return View(mounts, applets.names_from([], (execution.meta or Meta()).cwd) or [])
-
-
 def why_command(session: Session, worker: int, vertex: Vertex, command: int) -> str:
-    """Says why a command failed, while the worker still has the trees that it saw."""
-    words = words_of(vertex, command)
-    try:
-        cause = applets.why(view_of(session, worker, vertex), words)
-    except TooLarge:
-        cause = None
-    text = f"command {command} ({' '.join(words)}) failed"
-    return printable(f"{text}: {cause}" if cause else text)
+    """Says why a command failed, while the worker still has the trees that it saw; the program knows the reason."""
+    text = f"command {command} ({' '.join(words_of(vertex, command))}) failed"
+    cause, = session.lines_by(f"why {worker} {command}")
+    return printable(text if cause == b"none" else f"{text}: {cause.decode('utf-8')}")
 
 
 def first_missing(root: Node, names: Names, fault: int) -> str | None:
@@ -89,7 +107,7 @@ def first_missing(root: Node, names: Names, fault: int) -> str | None:
 
 def why_at(root: Node, text: str, fault: int) -> str | None:
     """Says what is wrong at a path of a tree, or returns None."""
-    names = applets.names_from([], text)
+    names = names_in(text)
     if names is None:
         return f"{text} is not a valid path" if fault == BAD_NAME else None
     node = node_in(root, names)
@@ -106,7 +124,7 @@ def why_copy(root: Node, source: Node, copy: FileActionCopy, fault: int) -> str 
     """Says why a copy failed, or returns None."""
     if fault == NOT_FOUND and copy.allow_wildcard:
         return why_at(root, copy.dest, fault) or f"nothing matches {copy.src} in the tree that it copies from"
-    names = applets.names_from([], copy.src)
+    names = names_in(copy.src)
     if names is None:
         return f"{copy.src} is not a valid path" if fault == BAD_NAME and not copy.allow_wildcard else None
     if fault == NOT_FOUND and node_in(source, names) is None:

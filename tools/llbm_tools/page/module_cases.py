@@ -29,8 +29,8 @@ MOST_SECONDS = 120
 AT_A_TIME = 100
 # The fault of the program's words.
 WORDS_FAULT = "fault 183"
-LOOKING = (b"work ", b"caches", b"cache ")
-LOOKS = b"next\nstatus\nwork %d\nwork %d 0\ncaches\ncache 0 0\ntree 0 0\n"
+LOOKING = (b"work ", b"caches", b"cache ", b"graph", b"digests")
+LOOKS = b"next\nstatus\nwork %d\nwork %d 0\ncaches\ncache 0 0\ntree 0 0\ngraph\ndigests\n"
 
 
 class Answer(NamedTuple):

@@ -44,7 +44,8 @@ def workers(usual: int) -> Option:
     return Option("workers", "", "N", f"The number of workers, 1 to {MOST_WORKERS}; without it, {usual}")
 
 
-LOOKS = Option("looks", "", "", "Answer looks at workers and caches")
+LOOKS = Option("looks", "", "", "Answer looks at workers, caches and the graph")
+ENDS = Option("ends", "", "", "End each reply with an empty line")
 FINDINGS = Option("findings", "", "", "Print all faults of the definition instead")
 HELP = Option("help", "h", "", "Print help")
 VERSION = Option("version", "V", "", "Print version")
@@ -58,7 +59,7 @@ COMMANDS = (
     ),
     Command("show", "Prints the graph of the definition on standard input", (FINDINGS, HELP)),
     Command(
-        "step", "Steps through the run of a definition, by commands on standard input", (workers(2), LOOKS, HELP),
+        "step", "Steps through the run of a definition, by commands on standard input", (workers(2), LOOKS, ENDS, HELP),
         (FILE, LOCAL),
     ),
     Command("asm", "Writes the definition of the entries in the text on standard input", (HELP,)),

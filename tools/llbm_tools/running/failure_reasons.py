@@ -33,7 +33,7 @@ class Reasons:
     def __init__(self, program: str, definition: str, sources: list[tuple[str, str]]) -> None:
         self.definition = definition
         given = (f"{name}={file}" for name, file in sources)
-        self.command = [program, "step", "--looks", definition, "--workers", "1", *given]
+        self.command = [program, "step", "--looks", "--ends", definition, "--workers", "1", *given]
         self.found: dict[int, str] | None = None
 
     def of_line(self, line: str) -> list[str]:

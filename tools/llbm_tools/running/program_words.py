@@ -8,7 +8,7 @@ from typing import NamedTuple
 
 COMMANDS = ("run", "show", "step", "asm", "dis")
 SOLVING = ("run", "step")
-FLAGS = {"step": "--looks", "show": "--findings"}
+FLAGS = {"show": ("--findings",), "step": ("--looks", "--ends")}
 MOST_OF_A_NUMBER = 1 << 32
 HELP = ("-h", "--help")
 PAGES = (*HELP, "-V", "--version")
@@ -55,21 +55,21 @@ class Reader:
         self.file: str | None = None
         self.sources: list[Source] = []
         self.has_workers = False
-        self.has_flag = False
+        self.flags: set[str] = set()
 
     def flag(self, name: str, has_value: bool) -> str:
-        """Reads the flag of a command, and returns why it is refused; empty if it is not."""
+        """Reads a flag of a command, and returns why it is refused; empty if it is not."""
         if has_value:
             return f"{name} takes no value"
-        if self.has_flag:
+        if name in self.flags:
             return f"{name} is given twice"
-        self.has_flag = True
+        self.flags.add(name)
         return ""
 
     def option(self, word: str) -> str:
         """Reads an option, and returns why it is refused; empty if it is not."""
         name, equals, value = word.partition("=")
-        if name == FLAGS.get(self.command):
+        if name in FLAGS.get(self.command, ()):
             return self.flag(name, bool(equals))
         if name != "--workers" or self.command not in SOLVING:
             return f"{word!r} is no option of {self.command}"

@@ -1,9 +1,7 @@
 """A stepping session of the program, as in docs/FORMATS.md: sends commands, and reads each answer to its end.
 
-The command determines where its answer ends: an event and `back` have an answer of one line, `status` one line for each
-vertex. Trees, the trees of a worker and caches have no known length: an empty line is sent after them, which is not a
-command, and the fault that answers it marks the end. The commands `break`, `clear` and `go` are not used: without them
-a run can be paused between any two events, and breakpoints work backwards too.
+The program is run with `--ends`, so an empty line ends each answer. The commands `break`, `clear` and `go` are not used:
+without them a run can be paused between any two events, and breakpoints work backwards too.
 """
 
 import contextlib
@@ -14,6 +12,8 @@ from collections.abc import Iterator
 from typing import BinaryIO, NamedTuple, cast
 
 LINE = re.compile(r"([0-9]+) (claim|step|settle|cancel) ([0-9]+)(?: ([0-9]+))? -> (.+)")
+EVENT = re.compile(f"{LINE.pattern}|end")
+BACK = re.compile("back [0-9]+")
 
 
 class SessionFailed(Exception):
@@ -79,18 +79,16 @@ class Session:
         self.vertices = vertices
         self.record: list[Event] = []
         self.runs: list[Run | None] = [None] * workers
-        self.lines = 0
         self.words = tempfile.TemporaryFile()
         # What is ended and removed with the session.
         self.kept = contextlib.ExitStack()
         self.child = subprocess.Popen(command, stdin=subprocess.PIPE, stdout=subprocess.PIPE, stderr=self.words)
         self.given, self.printed = cast(BinaryIO, self.child.stdin), cast(BinaryIO, self.child.stdout)
 
-    def send(self, *lines: str) -> None:
-        """Sends lines to the program."""
-        self.lines += len(lines)
+    def send(self, command: str) -> None:
+        """Sends a command to the program."""
         try:
-            self.given.write("".join(f"{line}\n" for line in lines).encode("ascii"))
+            self.given.write(f"{command}\n".encode("ascii"))
             self.given.flush()
         except OSError as fault:
             raise self.ended() from fault
@@ -102,21 +100,36 @@ class Session:
             raise self.ended()
         return line[:-1]
 
-    def line(self) -> str:
-        """Returns the program's next line as a text."""
-        return self.raw().decode("utf-8", "backslashreplace")
-
-    def ask(self, command: str) -> str:
-        """Sends a command, and returns its answer of one line."""
+    def answer(self, command: str) -> Iterator[bytes]:
+        """Sends a command, and yields the lines of its answer as they come."""
         self.send(command)
-        answer = self.line()
-        if answer.startswith("fault "):
-            raise Refusal(answer)
-        return answer
+        is_first = True
+        while line := self.raw():
+            if is_first and line.startswith(b"fault "):
+                self.check_end()
+                raise Refusal(line.decode("utf-8", "backslashreplace"))
+            is_first = False
+            yield line
+
+    def check_end(self) -> None:
+        """Checks that an answer has no more lines."""
+        if line := self.raw():
+            raise self.broken(line.decode("utf-8", "backslashreplace"))
+
+    def ask(self, command: str, form: re.Pattern[str]) -> str:
+        """Sends a command, and returns its answer, which is one line of a form."""
+        found = ""
+        for line in self.answer(command):
+            found = line.decode("utf-8", "backslashreplace")
+            if not form.fullmatch(found):
+                raise self.broken(found)
+            self.check_end()
+            return found
+        raise self.broken(found)
 
     def event(self, command: str) -> Event | None:
         """Does a command that adds an event, and returns it; None if `next` finds the run complete."""
-        answer = self.ask(command)
+        answer = self.ask(command, EVENT)
         return None if answer == "end" else self.added(answer)
 
     def added(self, line: str) -> Event:
@@ -136,7 +149,7 @@ class Session:
 
     def back(self) -> Event:
         """Undoes the last event of the record, and returns it."""
-        answer = self.ask("back")
+        answer = self.ask("back", BACK)
         if not self.record or answer != f"back {len(self.record) - 1}":
             raise self.broken(answer)
         event = self.record.pop()
@@ -145,16 +158,14 @@ class Session:
 
     def status(self) -> list[str]:
         """Returns the status of each vertex, by number."""
-        self.send("status")
-        statuses = []
-        for vertex in range(self.vertices):
-            line = self.line()
-            if line.startswith("fault "):
-                raise Refusal(line)
-            number, _, status = line.partition(" ")
+        statuses: list[str] = []
+        for vertex, line in enumerate(self.answer("status")):
+            number, _, status = line.decode("ascii", "backslashreplace").partition(" ")
             if number != str(vertex):
-                raise self.broken(line)
+                raise self.broken(f"{number} {status}")
             statuses.append(status)
+        if len(statuses) != self.vertices:
+            raise self.broken(f"{len(statuses)} lines of `status`")
         return statuses
 
     @contextlib.contextmanager
@@ -180,7 +191,7 @@ class Session:
     def redo(self, event: Event) -> None:
         """Does an event that was undone, and checks that its line is the same."""
         try:
-            line = self.ask(event.command)
+            line = self.ask(event.command, LINE)
         except Refusal as refusal:
             raise self.broken(str(refusal)) from refusal
         if self.added(line) != event:
@@ -197,30 +208,15 @@ class Session:
 
     def lines_by(self, command: str, most: int | None = None) -> list[bytes]:
         """Returns the lines that a command prints, whatever their number; raises TooLarge above `most` bytes."""
-        self.send(command, "")
         lines: list[bytes] = []
         size = 0
-        while not self.is_end(line := self.raw()):
-            if not lines and line.startswith(b"fault "):
-                self.check_end(self.raw())
-                raise Refusal(line.decode("utf-8", "backslashreplace"))
-            if line == b"fault 174":
-                break
+        for line in self.answer(command):
             size += len(line) + 1
             if most is None or size <= most:
                 lines.append(line)
         if most is not None and size > most:
             raise TooLarge(most)
         return lines
-
-    def is_end(self, line: bytes) -> bool:
-        """Returns whether a line is the answer to the empty line after a command."""
-        return line == b"fault 173 %d" % self.lines
-
-    def check_end(self, line: bytes) -> None:
-        """Checks that a line is the answer to the empty line after a command."""
-        if not self.is_end(line) and line != b"fault 174":
-            raise self.broken(line.decode("utf-8", "backslashreplace"))
 
     def error_lines(self) -> list[str]:
         """Returns the program's lines on standard error."""

@@ -14,23 +14,21 @@ import os, signal, time
 words = [word.partition("=")[0] if "=" in word else word for word in sys.argv[1:]]
 with open("given", "a") as file:
     file.write(" ".join(words[:1] + words[2:] if words[0] == "step" else words) + "\\n")
-if sys.argv[1] == "show":
-    sys.stdin.buffer.read()
-    sys.stdout.write(open("shown").read())
-    sys.exit(0 if os.path.getsize("shown") else 2)
 if sys.argv[1] != "step":
     sys.exit(77)
-answers = dict(next=[], go=[])
+answers, unended = dict(next=[], go=[], graph=[open("shown").read().rstrip("\\n")]), []
 exec(open("does").read())
 for line in sys.stdin:
     with open("given", "a") as file:
         file.write(line)
-    replies = answers.get(line.strip())
-    if replies:
-        sys.stdout.write(replies.pop(0) + "\\n")
-        sys.stdout.flush()
-    if line == "quit\\n":
-        sys.exit(0)
+    command = line.strip()
+    if command in answers:
+        if not answers[command]:
+            sys.exit(0)
+        sys.stdout.write(answers[command].pop(0) + "\\n")
+    if command not in unended:
+        sys.stdout.write("\\n")
+    sys.stdout.flush()
 """
 
 SHOWN = "0 source steps 1 outputs 1 inputs -\n1 file steps 1 outputs 2 inputs 0.0\nresult 1.1\n"
@@ -46,7 +44,7 @@ FAILED = SOURCE + """
 answers["go"] += ["5 step 0 -> fault 0 21\\n6 settle 0 -> 1 failed\\nstop"]
 answers["status"] = ["0 done\\n1 failed action 0 fault 21"]
 """
-COMMANDS = "next\nclear\nbreak settle 0\ngo\nnext\nclear\nbreak settle 1\ngo\nnext\n"
+COMMANDS = "graph\nnext\nclear\nbreak settle 0\ngo\nnext\nclear\nbreak settle 1\ngo\nnext\n"
 
 
 def named(entry, name):
@@ -113,7 +111,7 @@ class Progress(Builds):
         lines = ["reading src from in", "left out: nothing", "running definition"]
         lines += [f"[1/2] vertex 0 source done: {'x' * 97}...", r"[2/2] vertex 1 file done: copy\nit"]
         self.assertEqual(done.stderr.decode().splitlines(), [*lines, "writing out", "out is written"])
-        given = f"show\nstep --workers 3 src\n{COMMANDS}tree 1 1\nquit\n"
+        given = f"step --looks --ends --workers 3 src\n{COMMANDS}tree 1 1\n"
         self.assertEqual((self.at / "given").read_text(), given)
         self.assertEqual((self.at / "out/a").read_text(), "hi")
         self.check_nothing_is_left({"out"})
@@ -121,7 +119,7 @@ class Progress(Builds):
     def test_the_default_is_one_worker(self):
         self.set_behavior(DONE)
         self.assertEqual(self.follow().returncode, 0)
-        self.assertIn("step --workers 1\n", (self.at / "given").read_text())
+        self.assertIn("step --looks --ends --workers 1\n", (self.at / "given").read_text())
 
     def test_a_failure_is_reported_as_by_a_run(self):
         self.set_behavior(FAILED)
@@ -131,7 +129,7 @@ class Progress(Builds):
         lines = ["running definition", "[1/2] vertex 0 source done", "[2/2] vertex 1 file failed"]
         self.check_end(self.follow(), 1, *lines, "failed 1 action 0 fault 21", *meaning, "nothing is written")
         # A second session, which finds out why, begins after the first one.
-        self.assertIn(f"{COMMANDS}status\nquit\nstep ", (self.at / "given").read_text())
+        self.assertIn(f"{COMMANDS}status\nstep ", (self.at / "given").read_text())
 
     def test_a_refusal_is_reported_as_by_a_run(self):
         self.set_graph("")
@@ -153,7 +151,7 @@ class Progress(Builds):
         lines = ["[1/2] vertex 0 source done", "[2/2] vertex 1 file done"]
         self.check_end(self.follow(), 3, "running definition", *lines, early)
         self.set_behavior(DONE)
-        self.set_graph("")
+        self.set_graph("no graph")
         lines = ["[1/?] vertex 0 source done", "[2/?] vertex 1 file done"]
         self.check_end(self.follow(), 3, "running definition", *lines, early)
 
@@ -194,7 +192,7 @@ class Progress(Builds):
         self.check_nothing_is_left({"out.tar"})
 
     def test_an_interrupt_leaves_nothing(self):
-        self.set_behavior(SOURCE + "time.sleep(0)\n" + 'answers["go"] = ["2 step 0 -> read"]\n')
+        self.set_behavior(SOURCE + 'answers["go"], unended = ["2 step 0 -> read"], ["go"]\n')
         words = ["--llbm", self.llbm, "--progress", "definition", "out"]
         child = subprocess.Popen(command("build", *words), stderr=subprocess.PIPE, **self.settings)
         self.addCleanup(child.stderr.close)

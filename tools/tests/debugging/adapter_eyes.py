@@ -182,7 +182,7 @@ class Changes(Eyes):
         text = self.llbm("dis", given=data).decode()
         entries = places.definition.entries_of(data)
         graph = places.graph_of(shown, places.Text(text, places.lines_of(text)), entries, ["", ""])
-        session = Session([base.llbm, "step", "--looks", place], 2, 1)
+        session = Session([base.llbm, "step", "--looks", "--ends", place], 2, 1)
         self.addCleanup(session.end)
         session.event("claim 0 0")
         session.event("step 0")

@@ -1,16 +1,10 @@
-use Rattle.std.proofs.Common.{◌≡◌, List, ℕ, subst, sym, ap, ◌∙◌}
-use Rattle.std.specs.Prelude.{Result, Ok, Err}
+use Rattle.std.proofs.Common.{subst, ap, ◌∙◌}
+use Rattle.std.specs.Prelude.{Err}
 use Rattle.std.specs.Io.KnownBytes.{Appends}
-use Rattle.llb_commands.specs.GraphText.{is_memory, Writes, vertex_lines, result_line}
-use Rattle.llb_commands.specs.declared.fault.OutputFault.{OutputFault}
+use Rattle.llb_session.specs.GraphText.{vertex_lines, result_line}
+use Rattle.llb_commands.specs.GraphText.{is_memory, Writes}
 use Rattle.llb_commands.proofs.TextsOfLines.{writes_after, writes_part}
 use Rattle.llb_commands.proofs.graph_text.print_graph.Goals as goal
-
-abbrev ok_of : List ℕ → Result (List ℕ) OutputFault
-ok_of text = Ok text
-
-inside : {a b : List ℕ} → ok_of a ≡ ok_of b → a ≡ b
-inside is = cc
 
 pub returns-in-Err-clause-writes : goal.returns-in-Err-clause-writes
 returns-in-Err-clause-writes g c =
@@ -28,7 +22,7 @@ returns-in-Ok-result_line-clause-writes g c =
     let lines = g.W.Sink.taken c.print_vertices.new.out in
     let last = g.W.Sink.taken c.write_line.new.out in
     let failed = g.W.Sink.failed c.write_line.new.out in
-    let line = c.as_str.ensures.value ∙ sym (inside c.in-Ok-result_line.ensures) ∙ ap result_line c.result.ensures in
+    let line = c.as_str.ensures.value ∙ c.in-Ok-result_line.ensures ∙ ap result_line c.result.ensures in
     writes_after is_memory out lines last failed (vertex_lines graph.vertices) (result_line graph.result) c.write_line.result
     (subst (λ vs. Appends out lines (vertex_lines vs)) c.vertices.ensures.all c.in-Ok.ensures.writes)
     (subst (λ text. Writes lines last failed text c.write_line.result) line c.write_line.ensures.writes)

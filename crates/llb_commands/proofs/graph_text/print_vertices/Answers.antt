@@ -2,7 +2,8 @@ use Rattle.std.proofs.Common.{◌∙◌, length, refl, arith}
 use Rattle.std.specs.List.{enumerate_from}
 use Rattle.std.proofs.lemmas.Option.{slice_get_read}
 use Rattle.std.proofs.lemmas.List.FromFn.{length-enumerate_from}
-use Rattle.llb_commands.specs.GraphText.{is_memory, numbered_line}
+use Rattle.llb_session.specs.GraphText.{numbered_line}
+use Rattle.llb_commands.specs.GraphText.{is_memory}
 use Rattle.llb_commands.proofs.TextsOfLines.{numbered_at, prints_err, prints_more, prints_all}
 use Rattle.llb_commands.proofs.graph_text.print_vertices.Goals as goal
 

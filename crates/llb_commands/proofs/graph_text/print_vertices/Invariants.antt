@@ -2,7 +2,7 @@
 use Rattle.std.proofs.Common.{◌≡◌, take}
 use Rattle.std.specs.List.{flat_map, enumerate_from}
 use Rattle.std.specs.Io.KnownBytes.{Appends}
-use Rattle.llb_commands.specs.GraphText.{numbered_line}
+use Rattle.llb_session.specs.GraphText.{numbered_line}
 use Rattle.llb_commands.proofs.graph_text.print_vertices.Given as goal
 
 abbrev pub invariant-loop-number : goal.invariant-loop-number

@@ -9,7 +9,7 @@ returns-in-Ok g c = λ workers locals file opens. inl (refl, Keeps-refl (g.E.Wri
 
 pub returns-in-Err : goal.returns-in-Err
 returns-in-Err g c = λ workers locals file opens.
-    ends_by c.args.looks workers locals file (stream (g.C.Read.remaining c.args.commands.now) (g.C.Read.remaining c.stepped.new.commands))
+    ends_by c.args.options workers locals file (stream (g.C.Read.remaining c.args.commands.now) (g.C.Read.remaining c.stepped.new.commands))
     (stream (g.W.Write.contents c.args.out.now) (g.W.Write.contents c.stepped.new.out))
     (stream (g.E.Write.contents c.args.err.now) (g.E.Write.contents c.refusal.new.err)) c.in-Err.fault c.refusal.result
     (c.in-Err.ensures workers locals file opens) c.refusal.ensures

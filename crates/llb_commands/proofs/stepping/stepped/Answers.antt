@@ -11,9 +11,9 @@ use Rattle.llb_commands.proofs.stepping.stepped.Goals as goal
 pub returns-in-Ok : goal.returns-in-Ok
 returns-in-Ok g c = λ workers locals file opens.
     let (graph, loads, board) = subst (Opens workers locals file) c.in_ok-board.was opens in
-    let session : Session = record { stepper = c.new-stepper.result; looks = c.args.looks } in
-    let begun = begins c.args.looks locals graph workers c.new-stepper.result c.in_ok-board.board c.new-stepper.ensures board in
-    tells_session c.args.looks workers locals file (stream (g.C.Read.remaining c.args.commands.now) (g.C.Read.remaining c.converse.new.commands))
+    let session : Session = record { stepper = c.new-stepper.result; options = c.args.options } in
+    let begun = begins c.args.options locals graph workers c.new-stepper.result c.in_ok-board.board c.new-stepper.ensures board in
+    tells_session c.args.options workers locals file (stream (g.C.Read.remaining c.args.commands.now) (g.C.Read.remaining c.converse.new.commands))
     (stream (g.W.Write.contents c.args.out.now) (g.W.Write.contents c.converse.new.out)) graph session c.converse.new.session
     (Ok c.in-Ok.field-0) loads begun c.in-Ok.ensures
 
@@ -21,12 +21,12 @@ pub returns : goal.returns
 returns g c = λ workers locals file opens.
     let (graph, loads, board) = subst (Opens workers locals file) c.in_ok-board.was opens in
     let fault = c.in-Err.fault in
-    let session : Session = record { stepper = c.new-stepper.result; looks = c.args.looks } in
-    let begun = begins c.args.looks locals graph workers c.new-stepper.result c.in_ok-board.board c.new-stepper.ensures board in
+    let session : Session = record { stepper = c.new-stepper.result; options = c.args.options } in
+    let begun = begins c.args.options locals graph workers c.new-stepper.result c.in_ok-board.board c.new-stepper.ensures board in
     inr (
       fault,
       c.session_fault.ensures,
-      tells_session c.args.looks workers locals file (stream (g.C.Read.remaining c.args.commands.now) (g.C.Read.remaining c.converse.new.commands))
+      tells_session c.args.options workers locals file (stream (g.C.Read.remaining c.args.commands.now) (g.C.Read.remaining c.converse.new.commands))
           (stream (g.W.Write.contents c.args.out.now) (g.W.Write.contents c.converse.new.out)) graph session c.converse.new.session
           (Err fault) loads begun c.in-Err.ensures,
     )

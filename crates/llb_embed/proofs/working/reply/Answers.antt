@@ -11,8 +11,8 @@ returns-in-Ok-Some c =
     let text = c.in-Ok-Some.text in
     let new : Held = record { locals = held.locals; session = Some t; lines = held.lines + 1; output = text; messages = held.messages } in
     let next = ap (λ h. h.lines + 1) rest in
-    let (goes_on, granted, looks) = subst (λ o. Responds s (held.lines + 1) c.args.line.now t (Ok o)) c.in-Ok-Some.field-0-is c.in-Ok-Some.ensures in
-    let answers : Answers s (held.lines + 1) c.args.line.now text.items t = record { goes_on = goes_on; answers = inl granted; looks = looks } in
+    let (goes_on, granted, options) = subst (λ o. Responds s (held.lines + 1) c.args.line.now t (Ok o)) c.in-Ok-Some.field-0-is c.in-Ok-Some.ensures in
+    let answers : Answers s (held.lines + 1) c.args.line.now text.items t = record { goes_on = goes_on; answers = inl granted; options = options } in
     replies c.args.line.now c.args.held.now new s 0 (sym (ap (λ h. h.session) rest) ∙ c.in-Some.is) (ap (λ h. h.locals) rest)
     (inl (refl, c.clear.ensures.messages, (t, refl, next, subst (λ n. Answers s n c.args.line.now text.items t) next answers)))
 
