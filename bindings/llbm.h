@@ -12,8 +12,8 @@
  *
  * What a call returns: the status of the program's command. 0: done. 1: of llb_run, a vertex failed; of llb_line, the line ended the
  * session. 2: what was handed in is refused. 3: memory was refused. 4: of llb_line, no session is open. At 2 the messages are a line `fault`
- * with its number (docs/FAULTS.md); llb_findings has its lines in the output instead. At 3 output and messages may be cut short anywhere, or be
- * empty, since there may be no memory for them.
+ * with its number (docs/FAULTS.md); llb_findings and llb_script have their lines in the output instead. At 3 output and messages may be cut
+ * short anywhere, or be empty, since there may be no memory for them.
  *
  * If a call returns 2 or 3, the local trees and the session are as they were: a line, too, is either done, with its whole reply as the
  * output, or not done. What the call before wrote, its output and its messages, is removed by each call but llb_output and llb_messages. */
@@ -56,6 +56,15 @@ uint8_t llb_dis(llb *it, const uint8_t *definition, size_t length);
 /* Writes a line for each fault of a definition, as `llbm show --findings`, to the output: 0 if there is none, 2 if there is any. At 2 the
  * messages are empty. */
 uint8_t llb_findings(llb *it, const uint8_t *definition, size_t length);
+
+/* Writes a line for each vertex of a definition to the output: whether what it reads goes by value, as `llbm show --plan`, or which vertex of
+ * an older definition it matches, as `llbm show --matches`. */
+uint8_t llb_plan(llb *it, const uint8_t *definition, size_t length);
+uint8_t llb_matches(llb *it, const uint8_t *old, size_t old_length, const uint8_t *definition, size_t length);
+
+/* Writes the line of the fault of a text as a script, which `/bin/sh -c` would run, to the output: 0 if it is a script, 2 if it is none. At 2 the
+ * messages are empty, unless the text is not UTF-8. */
+uint8_t llb_script(llb *it, const uint8_t *text, size_t length);
 
 /* Copies what fits of the last call's output, or messages, to the front of `out`, and returns the length of the whole. */
 size_t llb_output(llb *it, uint8_t *out, size_t room);

@@ -140,6 +140,21 @@ export class Handle {
     return this.call('findings', [definition]);
   }
 
+  /** Writes for each vertex of a definition whether what it reads goes by value, and returns the status. */
+  plan(definition) {
+    return this.call('plan', [definition]);
+  }
+
+  /** Writes for each vertex of a definition which vertex of an older definition it matches, and returns the status. */
+  matches(old, definition) {
+    return this.call('matches', [old, definition]);
+  }
+
+  /** Writes the line of the fault of a text as a script, and returns the status: 2 where there is one. */
+  script(text) {
+    return this.call('script', [text]);
+  }
+
   /** Assembles a text to a definition, and returns the status. */
   asm(text) {
     return this.call('asm', [text]);

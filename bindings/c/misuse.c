@@ -178,6 +178,9 @@ static uint8_t call_open(llb *it) { return llb_open(it, definition, definition_l
 static uint8_t call_run(llb *it) { return llb_run(it, definition, definition_length); }
 static uint8_t call_show(llb *it) { return llb_show(it, definition, definition_length); }
 static uint8_t call_findings(llb *it) { return llb_findings(it, definition, definition_length); }
+static uint8_t call_plan(llb *it) { return llb_plan(it, definition, definition_length); }
+static uint8_t call_matches(llb *it) { return llb_matches(it, definition, definition_length, definition, definition_length); }
+static uint8_t call_script(llb *it) { return llb_script(it, (const uint8_t *)"true", 4); }
 static uint8_t call_asm(llb *it) { return llb_asm(it, text, text_length); }
 static uint8_t call_dis(llb *it) { return llb_dis(it, definition, definition_length); }
 static uint8_t call_next(llb *it) { return line(it, "next"); }
@@ -246,6 +249,9 @@ int main(int count, char **words) {
     refuse("llb_run", call_run, NULL);
     refuse("llb_show", call_show, NULL);
     refuse("llb_findings", call_findings, NULL);
+    refuse("llb_plan", call_plan, NULL);
+    refuse("llb_matches", call_matches, NULL);
+    refuse("llb_script", call_script, NULL);
     refuse("llb_asm", call_asm, NULL);
     refuse("llb_dis", call_dis, NULL);
     refuse("llb_line next", call_next, "2 claim 1 1 -> file 1\n");

@@ -12,6 +12,9 @@ static struct {
     __typeof__(llb_run) *run;
     __typeof__(llb_show) *show;
     __typeof__(llb_findings) *findings;
+    __typeof__(llb_plan) *plan;
+    __typeof__(llb_matches) *matches;
+    __typeof__(llb_script) *script;
     __typeof__(llb_asm) *assemble;
     __typeof__(llb_dis) *disassemble;
     __typeof__(llb_output) *output;
@@ -34,6 +37,8 @@ const char *llbm_load(const char *path) {
         {"llb_dis", (void **)&calls.disassemble},   {"llb_output", (void **)&calls.output},
         {"llb_messages", (void **)&calls.messages}, {"llb_close", (void **)&calls.close},
         {"llb_version", (void **)&calls.version},   {"llb_findings", (void **)&calls.findings},
+        {"llb_plan", (void **)&calls.plan},         {"llb_matches", (void **)&calls.matches},
+        {"llb_script", (void **)&calls.script},
     };
     for (size_t i = 0; i < sizeof names / sizeof *names; i++) {
         *names[i].at = dlsym(library, names[i].name);
@@ -59,6 +64,14 @@ WEAK uint8_t llb_run(llb *it, const uint8_t *definition, size_t length) { return
 WEAK uint8_t llb_show(llb *it, const uint8_t *definition, size_t length) { return calls.show(it, definition, length); }
 
 WEAK uint8_t llb_findings(llb *it, const uint8_t *definition, size_t length) { return calls.findings(it, definition, length); }
+
+WEAK uint8_t llb_plan(llb *it, const uint8_t *definition, size_t length) { return calls.plan(it, definition, length); }
+
+WEAK uint8_t llb_matches(llb *it, const uint8_t *old, size_t old_length, const uint8_t *definition, size_t length) {
+    return calls.matches(it, old, old_length, definition, length);
+}
+
+WEAK uint8_t llb_script(llb *it, const uint8_t *text, size_t length) { return calls.script(it, text, length); }
 
 WEAK uint8_t llb_asm(llb *it, const uint8_t *text, size_t length) { return calls.assemble(it, text, length); }
 

@@ -109,6 +109,30 @@ func (m *Machine) Findings(definition []byte) ([]string, error) {
 	return nil, err
 }
 
+// Plan returns a line for each vertex of a definition: whether what it reads goes by value.
+func (m *Machine) Plan(definition []byte) (string, error) {
+	_, output, err := m.do(func(it *C.llb) C.uint8_t { return C.llb_plan(it, first(definition), size(definition)) })
+	return string(output), err
+}
+
+// Matches returns a line for each vertex of a definition: which vertex of an older definition it matches.
+func (m *Machine) Matches(old, definition []byte) (string, error) {
+	_, output, err := m.do(func(it *C.llb) C.uint8_t {
+		return C.llb_matches(it, first(old), size(old), first(definition), size(definition))
+	})
+	return string(output), err
+}
+
+// Script returns the line of the fault of a text as a script, without its end; an empty text if it is one.
+func (m *Machine) Script(text string) (string, error) {
+	t := []byte(text)
+	status, output, err := m.do(func(it *C.llb) C.uint8_t { return C.llb_script(it, first(t), size(t)) })
+	if status == 2 && len(output) > 0 {
+		return strings.TrimSuffix(string(output), "\n"), nil
+	}
+	return "", err
+}
+
 // Assemble returns the definition of a text.
 func (m *Machine) Assemble(text string) ([]byte, error) {
 	t := []byte(text)

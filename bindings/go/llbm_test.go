@@ -76,6 +76,28 @@ func TestFindings(t *testing.T) {
 	}
 }
 
+func TestPlanAndMatches(t *testing.T) {
+	m := machine(t)
+	definition := example(t, "tour.definition")
+	plan, err := m.Plan(definition)
+	if err != nil || strings.Count(plan, " reads value ") != 3 || !strings.HasSuffix(plan, "\nmarks no\n") {
+		t.Errorf("the plan is %q, %v", plan, err)
+	}
+	matches, err := m.Matches(definition, definition)
+	if err != nil || strings.Count(matches, " matches ") != 3 || strings.Contains(matches, " matches -") {
+		t.Errorf("the matches are %q, %v", matches, err)
+	}
+}
+
+func TestScript(t *testing.T) {
+	m := machine(t)
+	for text, want := range map[string]string{"cp /a /b && true": "", "gzip /a": "fault 71 gzip", "cp /a": "fault 72 0", "": "fault 73 0"} {
+		if line, err := m.Script(text); err != nil || line != want {
+			t.Errorf("%q has the fault %q, %v", text, line, err)
+		}
+	}
+}
+
 func TestResult(t *testing.T) {
 	m := machine(t)
 	if err := m.AddLocal("source", string(example(t, "tour.tree"))); err != nil {

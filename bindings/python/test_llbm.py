@@ -56,6 +56,22 @@ class Definitions(unittest.TestCase):
         self.assertEqual([], self.machine.findings((EXAMPLES / "tour.definition").read_bytes()))
         self.assertEqual(["fault 81 3"], self.machine.findings(b"\7"))
 
+    def test_a_plan(self) -> None:
+        lines = self.machine.plan((EXAMPLES / "tour.definition").read_bytes()).splitlines()
+        self.assertEqual(["value", "value", "value"], [line.split(" ")[3] for line in lines[:-1]])
+        self.assertEqual("marks no", lines[-1])
+
+    def test_matches(self) -> None:
+        definition = (EXAMPLES / "tour.definition").read_bytes()
+        lines = self.machine.matches(definition, definition).splitlines()
+        self.assertEqual([[0, 0], [1, 1], [2, 2]], [[int(line.split(" ")[place]) for place in (0, 3)] for line in lines])
+        with self.assertRaisesRegex(Fault, "fault 81 3"):
+            self.machine.matches(b"\7", definition)
+
+    def test_scripts(self) -> None:
+        for text, line in [("cp /a /b && true", ""), ("gzip /a", "fault 71 gzip"), ("cp /a", "fault 72 0"), ("", "fault 73 0")]:
+            self.assertEqual(line, self.machine.script(text))
+
     def test_a_number_of_workers_that_is_too_large_or_negative(self) -> None:
         definition = (EXAMPLES / "tour.definition").read_bytes()
         self.machine.add_local("source", TREE)

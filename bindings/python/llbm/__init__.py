@@ -76,6 +76,24 @@ class Machine:
             self._checked(status)
         return self._output().decode().split("\n")[:-1]
 
+    def plan(self, definition: bytes) -> str:
+        """Returns a line for each vertex of a definition: whether what it reads goes by value."""
+        self._checked(self._call("llb_plan", definition))
+        return self._output().decode()
+
+    def matches(self, old: bytes, definition: bytes) -> str:
+        """Returns a line for each vertex of a definition: which vertex of an older definition it matches."""
+        self._checked(self._call("llb_matches", old, definition))
+        return self._output().decode()
+
+    def script(self, text: str) -> str:
+        """Returns the line of the fault of a text as a script, without its end; an empty text if it is one."""
+        status = self._call("llb_script", text.encode())
+        line = self._output().decode()
+        if not line:
+            self._checked(status)
+        return line.rstrip("\n")
+
     def assemble(self, text: str) -> bytes:
         """Returns the definition of a text."""
         self._checked(self._call("llb_asm", text.encode()))

@@ -19,6 +19,9 @@ extern "C" {
     fn llb_run(it: *mut Handle, definition: *const u8, n: usize) -> u8;
     fn llb_show(it: *mut Handle, definition: *const u8, n: usize) -> u8;
     fn llb_findings(it: *mut Handle, definition: *const u8, n: usize) -> u8;
+    fn llb_plan(it: *mut Handle, definition: *const u8, n: usize) -> u8;
+    fn llb_matches(it: *mut Handle, old: *const u8, n: usize, definition: *const u8, m: usize) -> u8;
+    fn llb_script(it: *mut Handle, text: *const u8, n: usize) -> u8;
     fn llb_asm(it: *mut Handle, text: *const u8, n: usize) -> u8;
     fn llb_dis(it: *mut Handle, definition: *const u8, n: usize) -> u8;
     fn llb_output(it: *mut Handle, out: *mut u8, room: usize) -> usize;
@@ -73,6 +76,26 @@ impl Machine {
         match unsafe { llb_findings(&mut self.0, definition.as_ptr(), definition.len()) } {
             2 => Ok(String::from_utf8_lossy(&self.copied(llb_output)).split_terminator('\n').map(String::from).collect()),
             status => self.checked(status).map(|()| Vec::new()),
+        }
+    }
+
+    /// Returns a line for each vertex of a definition: whether what it reads goes by value.
+    pub fn plan(&mut self, definition: &[u8]) -> Result<String, Fault> {
+        let status = unsafe { llb_plan(&mut self.0, definition.as_ptr(), definition.len()) };
+        self.text(status)
+    }
+
+    /// Returns a line for each vertex of a definition: which vertex of an older definition it matches.
+    pub fn matches(&mut self, old: &[u8], definition: &[u8]) -> Result<String, Fault> {
+        let status = unsafe { llb_matches(&mut self.0, old.as_ptr(), old.len(), definition.as_ptr(), definition.len()) };
+        self.text(status)
+    }
+
+    /// Returns the line of the fault of a text as a script, without its end; `None` if it is one.
+    pub fn script(&mut self, text: &str) -> Result<Option<String>, Fault> {
+        match unsafe { llb_script(&mut self.0, text.as_ptr(), text.len()) } {
+            2 => Ok(Some(String::from_utf8_lossy(&self.copied(llb_output)).trim_end_matches('\n').to_string())),
+            status => self.checked(status).map(|()| None),
         }
     }
 

@@ -63,6 +63,24 @@ fn findings() -> Result<(), Fault> {
 }
 
 #[test]
+fn plans_and_matches() -> Result<(), Fault> {
+    let mut machine = Machine::new();
+    let definition = example("tour.definition");
+    assert_eq!(machine.plan(&definition)?.matches(" reads value ").count(), 3);
+    assert!(!machine.matches(&definition, &definition)?.contains(" matches -"));
+    assert_eq!(machine.matches(&[7], &definition).unwrap_err().number, Some(81));
+    Ok(())
+}
+
+#[test]
+fn scripts() -> Result<(), Fault> {
+    let mut machine = Machine::new();
+    assert_eq!(machine.script("cp /a /b && true")?, None);
+    assert_eq!(machine.script("gzip /a")?.as_deref(), Some("fault 71 gzip"));
+    Ok(())
+}
+
+#[test]
 fn faults() {
     let mut machine = Machine::new();
     let refused = machine.run(b"\x01").unwrap_err();

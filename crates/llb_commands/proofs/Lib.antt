@@ -13,3 +13,5 @@ pub mod SteppingOutput
 mod ReachedStates
 pub mod FailureLines
 pub mod FoundFaults
+pub mod TextsInMemory
+pub mod MatchedDefinitions

@@ -77,7 +77,7 @@ module _ {A : Type 0} (line : A → List ℕ) where
       → flat_map line es ≡ flat_map line (take at es) ++ (line e ++ flat_map line (drop (suc at) es))
   lines_split es at e there = ap (flat_map line) (split_here es at e there) ∙ flat_map-append line (take at es) (e ∷ drop (suc at) es)
 
-  lines_more : (es : List A) (at : ℕ) (e : A) → slice_get es at ≡ Some e → flat_map line (take (at + 1) es) ≡ flat_map line (take at es) ++ line e
+  pub lines_more : (es : List A) (at : ℕ) (e : A) → slice_get es at ≡ Some e → flat_map line (take (at + 1) es) ≡ flat_map line (take at es) ++ line e
   lines_more es at e there =
       ap (λ k. flat_map line (take k es)) (add-one at) ∙ ap (flat_map line) (take_more es at e there) ∙ flat_map-append line (take at es) (e ∷ [])
       ∙ ap (λ ys. flat_map line (take at es) ++ ys) (append-nil (line e))

@@ -18,7 +18,7 @@ use Rattle.llb_commands.specs.declared.words.Command.{Command}
 use Rattle.llb_commands.specs.declared.words.Command.TheVariants.{Run, Show, Step, Assemble, Disassemble}
 use Rattle.llb_commands.specs.declared.words.Line.{Line}
 use Rattle.llb_commands.specs.declared.words.Shows.{Shows}
-use Rattle.llb_commands.specs.declared.words.Shows.TheVariants.{Graph, Findings}
+use Rattle.llb_commands.specs.declared.words.Shows.TheVariants.{Graph, Findings, Plan, Matches, Several}
 use Rattle.llb_commands.specs.declared.words.Local.{Local}
 use Rattle.llb_commands.specs.declared.words.WordsFault.{WordsFault}
 use Rattle.llb_commands.specs.declared.words.WordsFault.TheVariants.{Words, Memory}
@@ -59,13 +59,21 @@ ends_rule = record (new_rule (codes "ends")) { long = Some (codes "ends"); actio
 abbrev pub findings_rule : Rule
 findings_rule = record (new_rule (codes "findings")) { long = Some (codes "findings"); action = Some SetTrue }
 
+-- the rule by which `clap` reads the option `--plan`, which takes no value
+abbrev pub plan_rule : Rule
+plan_rule = record (new_rule (codes "plan")) { long = Some (codes "plan"); action = Some SetTrue }
+
+-- the rule by which `clap` reads the option `--matches`: the file of the older definition
+abbrev pub matches_rule : Rule
+matches_rule = record (new_rule (codes "matches")) { long = Some (codes "matches"); action = Some Set; value_names = 1 }
+
 -- `clap`'s description of the command `run`
 abbrev pub run_app : App
 run_app = with_rule (with_rule (new_app (codes "run")) workers_rule) local_rule
 
 -- `clap`'s description of the command `show`
 abbrev pub show_app : App
-show_app = with_rule (new_app (codes "show")) findings_rule
+show_app = with_rule (with_rule (with_rule (new_app (codes "show")) findings_rule) plan_rule) matches_rule
 
 -- `clap`'s description of the command `step` with its options alone
 abbrev pub step_options_app : App
@@ -84,7 +92,7 @@ abbrev pub graph_app : App
 graph_app = with_subcommand (with_subcommand (with_subcommand base_app run_app.top) show_app.top) step_app.top
 
 -- `clap`'s description of the program: `run` takes workers and local sources, `step` takes these, a file, whether it answers looks and whether an empty line
--- ends each reply, `show` takes whether it prints faults, and the other commands take no words
+-- ends each reply, `show` takes what it prints in place of the graph, and the other commands take no words
 abbrev pub llbm_app : App
 llbm_app = with_plain (with_plain graph_app (codes "asm")) (codes "dis")
 
@@ -169,19 +177,24 @@ abbrev pub IsEnds : Command → List Row → Bool → Type 0
 IsEnds Step rows ends = ends ≡ is_set (first_of (codes "ends") rows)
 IsEnds _ rows ends = ends ≡ false
 
--- what `show` prints, given the text that `clap` has for the flag of faults: `true` if the words have it, and else `false`
-abbrev pub shows_by : Option Text → Shows
-shows_by None = Graph
-shows_by (Some text) = if is_text text (codes "true") then Findings else Graph
+-- what `show` prints, by whether the words have the options `--findings`, `--plan` and `--matches`
+abbrev pub shows_by : Bool → Bool → Bool → Shows
+shows_by false false false = Graph
+shows_by true false false = Findings
+shows_by false true false = Plan
+shows_by false false true = Matches
+shows_by _ _ _ = Several
 
--- faults are printed if the words of `show` have the option `--findings`; for any other command what `show` prints is the text of the graph
+-- the words of `show` have no option, or the one by which it prints this, or several; for any other command what `show` prints is the text of the graph
 abbrev pub IsShows : Command → List Row → Shows → Type 0
-IsShows Show rows shows = shows ≡ shows_by (first_of (codes "findings") rows)
+IsShows Show rows shows =
+    shows ≡ shows_by (is_set (first_of (codes "findings") rows)) (is_set (first_of (codes "plan") rows)) (is_some (first_of (codes "matches") rows))
 IsShows _ rows shows = shows ≡ Graph
 
--- the file is the file that the words of `step` name; for any other command there is no file
+-- the file is the file that the words of `step` name, or that of the older definition that the words of `show` name; for any other command there is no file
 abbrev pub IsFile : Command → List Row → Option (Bor Text) → Type 0
 IsFile Step rows file = option_map (λ w. w.now) file ≡ first_of (codes "file") rows
+IsFile Show rows file = option_map (λ w. w.now) file ≡ first_of (codes "matches") rows
 IsFile _ rows file = file ≡ None
 
 -- the line has the command of this name, and the number of workers, the looks, the ends of replies, what `show` prints, the file and the local sources that

@@ -1,14 +1,19 @@
 -- How each command ends, and how the program ends.
-use Rattle.std.specs.Prelude.{◌⊎◌, ℕ, List, [], Option, Some, None, Ok, Err}
+use Rattle.std.specs.Prelude.{◌≡◌, ◌⊎◌, ℕ, List, [], Option, Some, None, Ok, Err, IfSome}
 use Rattle.std.specs.Borrow.{Bor}
 use Rattle.clap.specs.Words.{Text, fault_of, subcommand_of}
 use Rattle.llb_loader.specs.LocalSources.{Local}
 use Rattle.llb_session.specs.declared.session.Options.{Options}
-use Rattle.llb_commands.specs.ProgramOutput.{Runs, Draws}
+use Rattle.llb_commands.specs.ProgramOutput.{Runs, Draws, IsRefused}
+use Rattle.llb_commands.specs.Running.{TellsRefusal}
+use Rattle.llb_commands.specs.Faults.{Tells}
+use Rattle.llb_commands.specs.declared.fault.ProgramFault.{ProgramFault}
 use Rattle.llb_commands.specs.Assembly.{Assembles, Disassembles}
 use Rattle.llb_commands.specs.CommandLine.{llbm_app, named_local_words, IsByWords, Says, TellsWords}
 use Rattle.llb_commands.specs.CallStreams.{Io, IsKept}
 use Rattle.llb_commands.specs.FindingLines.{Lists}
+use Rattle.llb_commands.specs.MatchText as matching
+use Rattle.llb_commands.specs.PlanText.{Plans}
 use Rattle.llb_commands.specs.HelpPages.{HasPage, TellsWithPage}
 use Rattle.llb_commands.specs.Sources.{Gathers, TellsSource}
 use Rattle.llb_commands.specs.Stepping.{Steps}
@@ -17,7 +22,7 @@ use Rattle.llb_commands.specs.declared.words.Command.{Command}
 use Rattle.llb_commands.specs.declared.words.Command.TheVariants.{Run, Show, Step, Assemble, Disassemble}
 use Rattle.llb_commands.specs.declared.words.Line.{Line}
 use Rattle.llb_commands.specs.declared.words.Shows.{Shows}
-use Rattle.llb_commands.specs.declared.words.Shows.TheVariants.{Graph, Findings}
+use Rattle.llb_commands.specs.declared.words.Shows.TheVariants.{Graph, Findings, Plan, Matches}
 use Rattle.llb_commands.specs.declared.words.WordsFault.{WordsFault}
 use Rattle.llb_commands.specs.declared.words.WordsFault.TheVariants.{Words}
 
@@ -25,21 +30,36 @@ use Rattle.llb_commands.specs.declared.words.WordsFault.TheVariants.{Words}
 abbrev pub Shelf : Type 0
 Shelf = List ℕ → Option (List ℕ)
 
+-- the words are refused: nothing is written to the output, the line `fault 183` is written to standard error, and the status is 2 (3 if the line could not be
+-- written)
+abbrev pub IsNotAsked : Io → ℕ → Type 0
+IsNotAsked io status = IsKept io.output × TellsWords io.errors.before io.errors.after (Words None) status
+
 -- How `step` ends. If the command line names a file, it ends as `Steps` says. If the command line names no file, nothing is written to the output, the line
 -- `fault 183` is written to standard error, and the status is 2 (3 if the line could not be written).
 abbrev pub StepsAt : Shelf → Option (Bor (List ℕ)) → Options → ℕ → List Local → Io → ℕ → Type 0
-StepsAt files None options workers locals io status = IsKept io.output × TellsWords io.errors.before io.errors.after (Words None) status
+StepsAt files None options workers locals io status = IsNotAsked io status
 StepsAt files (Some file) options workers locals io status = Steps options workers locals (files file.now) io status
 
--- how `show` ends, by what it prints
-abbrev pub ShowsAs : Shows → Io → ℕ → Type 0
-ShowsAs Graph = Draws
-ShowsAs Findings = Lists
+-- How `show --matches` ends, with the bytes of the file of the older definition, if they are known. Either these are read, and it ends as `Matches` says. Or
+-- the file could not be read, and the line that says why is written.
+abbrev pub MatchesWith : Option (List ℕ) → Io → ℕ → Type 0
+MatchesWith file io status =
+    ((old : List ℕ) × IfSome file (λ bytes. old ≡ bytes) × matching.Matches old io status)
+    ⊎ (IsKept io.output × ((e : ProgramFault) × TellsRefusal IsRefused file e × Tells io.errors.before io.errors.after e status))
+
+-- how `show` ends, by what it prints and by the file that the words name
+abbrev pub ShowsAs : Shelf → Shows → Option (Bor (List ℕ)) → Io → ℕ → Type 0
+ShowsAs files Graph file io status = Draws io status
+ShowsAs files Findings file io status = Lists io status
+ShowsAs files Plan file io status = Plans io status
+ShowsAs files Matches (Some file) io status = MatchesWith (files file.now) io status
+ShowsAs files _ file io status = IsNotAsked io status
 
 -- how a command ends, with the workers, the options of a session, what `show` prints and the file that the words name
 abbrev pub PerformsAs : Shelf → Command → Line → List Local → Io → ℕ → Type 0
 PerformsAs files Run line locals io = Runs line.workers locals io
-PerformsAs files Show line locals io = ShowsAs line.shows io
+PerformsAs files Show line locals io = ShowsAs files line.shows line.file io
 PerformsAs files Step line locals io = StepsAt files line.file (record { looks = line.looks; ends = line.ends }) line.workers locals io
 PerformsAs files Assemble line locals io = Assembles io
 PerformsAs files Disassemble line locals io = Disassembles io

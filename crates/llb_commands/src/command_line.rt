@@ -1,6 +1,6 @@
 //! The command line, which `clap` reads. `run` takes the number of workers, and local sources as NAME=FILE; `step` takes these, the file of a definition, and
-//! whether looks are answered and whether an empty line ends each reply; `show` takes whether faults are printed; `asm` and `dis` take no words. No words at
-//! all mean `run`. The texts of the pages of help are in `pages`.
+//! whether looks are answered and whether an empty line ends each reply; `show` takes what it prints in place of the graph; `asm` and `dis` take no words. No
+//! words at all mean `run`. The texts of the pages of help are in `pages`.
 
 ghost use Rattle.std.specs.Prelude.{◌≡◌, false, map, option_map, IfOk, IfErr};
 ghost use Rattle.clap.specs.Words.{app_of, kind_of, fault_of, found_of, new_app, rows_of, rule_of, subcommand_of};
@@ -14,6 +14,8 @@ ghost use Rattle.llb_commands.specs.CommandLine.{
   step_app,
   step_options_app,
   findings_rule,
+  plan_rule,
+  matches_rule,
   local_rule,
   file_rule,
   workers_rule,
@@ -118,6 +120,29 @@ fn findings_arg<'a>(alloc: Global) -> Arg<'a>
         .action(ArgAction::SetTrue)
 }
 
+// Returns `clap`'s description of the option by which `show` prints what goes by value.
+fn plan_arg<'a>(alloc: Global) -> Arg<'a>
+    ensures rule { rule_of result ≡ plan_rule }
+    ensures plain { result.global ≡ false }
+{
+    Arg::new(alloc, "plan")
+        .long("plan")
+        .help("Print for each vertex whether what it reads goes by value")
+        .action(ArgAction::SetTrue)
+}
+
+// Returns `clap`'s description of the option for the older definition.
+fn matches_arg<'a>(alloc: Global) -> Arg<'a>
+    ensures rule { rule_of result ≡ matches_rule }
+    ensures plain { result.global ≡ false }
+{
+    Arg::new(alloc, "matches")
+        .long("matches")
+        .value_name("OLD")
+        .help("Print for each vertex which vertex of the definition OLD it matches")
+        .action(ArgAction::Set)
+}
+
 // Returns `clap`'s description of the command `run`.
 fn run_command<'a>(alloc: Global) -> Result<clap::Command<'a>, AllocError>
     ensures app { IfOk result (λ c. app_of c ≡ run_app) }
@@ -136,7 +161,9 @@ fn show_command<'a>(alloc: Global) -> Result<clap::Command<'a>, AllocError>
 {
     clap::Command::new(alloc, "show")
         .about("Prints the graph of the definition on standard input")
-        .arg(findings_arg(alloc))
+        .arg(findings_arg(alloc))?
+        .arg(plan_arg(alloc))?
+        .arg(matches_arg(alloc))
 }
 
 // Returns `clap`'s description of the command `step` with its options alone.
@@ -279,10 +306,7 @@ fn looks_in(command: Command, matches: &ArgMatches<'_>) -> Looks
 fn is_set(text: Option<&str>) -> bool
     ensures { result ≡ is_set (option_map (λ t. t.now) text.entry) }
 {
-    match text {
-        Some("true") => true,
-        _ => false,
-    }
+    matches!(text, Some("true"))
 }
 
 // Returns whether the words of `step` ask for an empty line after each reply, by what `clap` found in them; for any other command they do not.
@@ -295,13 +319,16 @@ fn ends_in(command: Command, matches: &ArgMatches<'_>) -> bool
     }
 }
 
-// Returns what `show` prints, given the text that `clap` has for the flag of faults.
-fn shows_by(findings: Option<&str>) -> Shows
-    ensures { result ≡ shows_by (option_map (λ t. t.now) findings.entry) }
+// Returns what `show` prints, by which of its options the words have.
+fn shows_by(findings: bool, plan: bool, matches: bool) -> Shows
+    ensures { result ≡ shows_by findings plan matches }
 {
-    match findings {
-        Some("true") => Shows::Findings,
-        _ => Shows::Graph,
+    match (findings, plan, matches) {
+        (false, false, false) => Shows::Graph,
+        (true, false, false) => Shows::Findings,
+        (false, true, false) => Shows::Plan,
+        (false, false, true) => Shows::Matches,
+        _ => Shows::Several,
     }
 }
 
@@ -310,17 +337,22 @@ fn shows_in(command: Command, matches: &ArgMatches<'_>) -> Shows
     ensures { IsShows command (rows_of (found_of matches.now)) result }
 {
     match command {
-        Command::Show => shows_by(matches.get_str("findings")),
+        Command::Show => shows_by(
+            is_set(matches.get_str("findings")),
+            is_set(matches.get_str("plan")),
+            matches.get_str("matches").is_some(),
+        ),
         _ => Shows::Graph,
     }
 }
 
-// Returns the file that `clap` found for the command `step`; `None` for any other command.
+// Returns the file that `clap` found for the command `step`, or that of the older definition for `show`; `None` for any other command.
 fn file_in<'a>(command: Command, matches: &ArgMatches<'a>) -> Option<&'a str>
     ensures { IsFile command (rows_of (found_of matches.now)) result }
 {
     match command {
         Command::Step => matches.get_str("file"),
+        Command::Show => matches.get_str("matches"),
         _ => None,
     }
 }

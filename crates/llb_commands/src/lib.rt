@@ -1,6 +1,6 @@
 //! The program's commands (`run`, `show`, `step`, `asm`, `dis`) over any readers and writers, with contracts about the bytes that are read and
 //! written; the words that ask for a command, and the exit status of each command. The crate is built on `llb_asm`, `llb_findings`,
-//! `llb_session` and `llb_work`; the process's own words, files and streams are in `llbm`.
+//! `llb_laws`, `llb_session` and `llb_work`; the process's own words, files and streams are in `llbm`.
 //!
 //! Types: `Line` and `Command` (what words ask for), `Sources` (files by name), `Streams`, `ProgramFault`, `SourceFault`, `WordsFault`.
 //! Promise: `laws::aim` is the aim of the whole machine (docs/CLAIMS.md). `program` is the program without its process: what it writes to
@@ -24,10 +24,13 @@ mod finding_lines;
 mod graph_text;
 mod input;
 pub mod laws;
+mod match_text;
 mod opening;
 mod pages;
 mod performing;
+mod plan_text;
 mod run;
+mod script_line;
 mod show;
 mod sources;
 mod stepping;
@@ -40,9 +43,12 @@ pub use command_line::{command_of, llbm_command};
 pub use disassembling::dis_over;
 pub use fault::{OutputFault, ProgramFault, refusal};
 pub use finding_lines::findings_over;
+pub use match_text::matches_over;
 pub use opening::open_over;
 pub use performing::{Streams, program};
+pub use plan_text::plan_over;
 pub use run::{run_many_over, run_over};
+pub use script_line::script_over;
 pub use show::show_over;
 pub use sources::{SourceFault, Sources, add_local, source_refusal};
 pub use stepping::{look_over, step_over};

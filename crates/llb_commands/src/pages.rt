@@ -49,8 +49,10 @@ const SHOW_PAGE: &str = "Prints the graph of the definition on standard input
 Usage: llbm show [OPTIONS]
 
 Options:
-      --findings  Print all faults of the definition instead
-  -h, --help      Print help
+      --findings       Print all faults of the definition instead
+      --plan           Print for each vertex whether what it reads goes by value
+      --matches <OLD>  Print for each vertex which vertex of the definition OLD it matches
+  -h, --help           Print help
 ";
 
 const STEP_PAGE: &str = "Steps through the run of a definition, by commands on standard input

@@ -1,15 +1,18 @@
 //! Does the command that a command line asks for, on the program's streams and the local trees. `program` also reads the words and the local sources.
 
-ghost use Rattle.std.specs.Prelude.{map};
-ghost use Rattle.llb_commands.specs.Commands.{IsProgram, Performs};
-ghost use Rattle.llb_commands.specs.Running.{Opens};
+ghost use Rattle.std.specs.Prelude.{◌≡◌, map, IfOk, IfErr, IfSome};
+ghost use Rattle.llb_commands.specs.Commands.{IsProgram, MatchesWith, Performs, ShowsAs};
+ghost use Rattle.llb_commands.specs.ProgramOutput.{IsRefused};
+ghost use Rattle.llb_commands.specs.Running.{Opens, TellsRefusal};
 
 use crate::assembling::asm_over;
 use crate::command_line::line_or_page;
 use crate::disassembling::dis_over;
-use crate::fault::ProgramFault;
+use crate::fault::{ProgramFault, refusal};
 use crate::finding_lines::findings_over;
+use crate::match_text::{definition_in, matches_over};
 use crate::opening::open_over;
+use crate::plan_text::plan_over;
 use crate::run::run_many_over;
 use crate::show::show_over;
 use crate::sources::{Sources, locals_of, source_refusal};
@@ -48,6 +51,62 @@ fn board_of<S: Sources>(
     }
 }
 
+// Reads the definition in a file to its end, and closes the file. Fails with 181 if the file can't be opened.
+fn old_in<S: Sources>(alloc: Global, sources: &S, file: &str) -> Result<Vec<u8>, ProgramFault>
+    ensures read { IfOk result (λ b. IfSome (S.bytes sources.now file.now) (λ xs. b.items ≡ xs)) }
+    ensures refused { IfErr result (TellsRefusal IsRefused (S.bytes sources.now file.now)) }
+{
+    match sources.open(file) {
+        Ok(mut definition) => definition_in(alloc, &mut definition),
+        Err(_) => Err(ProgramFault::Read),
+    }
+}
+
+// Prints what the vertices of a definition match in the older definition in a file.
+fn match_by<S: Sources, R: Read, W: Write, E: Write>(
+    alloc: Global,
+    file: &str,
+    sources: &S,
+    input: &mut R,
+    out: &mut W,
+    err: &mut E,
+) -> u8
+    ensures { MatchesWith (S.bytes sources.now file.now) (record {
+      input = record { before = R.remaining input.old; after = R.remaining input.new };
+      output = record { before = W.contents out.old; after = W.contents out.new };
+      errors = record { before = E.contents err.old; after = E.contents err.new };
+    }) result }
+{
+    match old_in(alloc, sources, file) {
+        Ok(old) => matches_over(alloc, old.as_slice(), input, out, err),
+        Err(fault) => refusal(&fault, err),
+    }
+}
+
+// Prints what the words of `show` ask for. If they ask for several things, the program writes `fault 183` and the status is 2.
+fn show_by<S: Sources, R: Read, W: Write, E: Write>(
+    alloc: Global,
+    line: &Line<'_>,
+    sources: &S,
+    input: &mut R,
+    out: &mut W,
+    err: &mut E,
+) -> u8
+    ensures { ShowsAs (S.bytes sources.now) line.now.shows line.now.file (record {
+      input = record { before = R.remaining input.old; after = R.remaining input.new };
+      output = record { before = W.contents out.old; after = W.contents out.new };
+      errors = record { before = E.contents err.old; after = E.contents err.new };
+    }) result }
+{
+    match (line.shows, line.file) {
+        (Shows::Graph, _) => show_over(alloc, input, out, err),
+        (Shows::Findings, _) => findings_over(alloc, input, out, err),
+        (Shows::Plan, _) => plan_over(alloc, input, out, err),
+        (Shows::Matches, Some(file)) => match_by(alloc, file, sources, input, out, err),
+        _ => words_refusal(&WordsFault::Words(None), err),
+    }
+}
+
 // Does the command that a command line (`line`) asks for, on the trees of its local sources, and returns the status of the command. For `step` the definition
 // is first read, to its end, from the file that the command line names; then the commands of the session are read. If the command line names no file, the
 // program writes `fault 183` and the status is 2; if the file can't be opened, it writes `fault 181` and the status is 3. The call may wait for threads if the
@@ -69,10 +128,7 @@ fn perform<T: Threads + Wait + Sync, S: Sources, R: Read, W: Write, E: Write>(
     let Streams { input, out, err } = streams;
     match line.command {
         Command::Run => run_many_over(rt, alloc, input, out, err, locals, line.workers),
-        Command::Show => match line.shows {
-            Shows::Graph => show_over(alloc, input, out, err),
-            Shows::Findings => findings_over(alloc, input, out, err),
-        },
+        Command::Show => show_by(alloc, line, sources, input, out, err),
         Command::Step => {
             let Some(file) = line.file else {
                 return words_refusal(&WordsFault::Words(None), err);

@@ -32,6 +32,12 @@ pub enum Shows {
     Graph,
     /// A line for each of its faults.
     Findings,
+    /// For each vertex whether what it reads goes by value.
+    Plan,
+    /// For each vertex which vertex of an older definition it matches.
+    Matches,
+    /// The words ask for more than one of these; they are refused.
+    Several,
 }
 
 /// A local source: the name of the source, and the file with the text of its tree.
@@ -53,7 +59,7 @@ pub struct Line<'a> {
     pub ends: bool,
     /// What `show` prints; the text of the graph for every other command.
     pub shows: Shows,
-    /// The file of the definition, if the command takes one.
+    /// The file of the definition for `step`; that of the older definition for `show`, if the words name one.
     pub file: Option<&'a str>,
     /// The local sources, in the order of the words.
     pub locals: Many<Local<'a>>,

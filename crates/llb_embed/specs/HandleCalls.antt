@@ -15,6 +15,9 @@ use Rattle.llb_commands.specs.declared.words.WordsFault.TheVariants.{Words}
 use Rattle.llb_commands.specs.CallStreams.{Io, Stream}
 use Rattle.llb_commands.specs.ProgramOutput.{Runs, Draws, IsNotRun}
 use Rattle.llb_commands.specs.FindingLines.{Lists}
+use Rattle.llb_commands.specs.MatchText.{Matches}
+use Rattle.llb_commands.specs.PlanText.{Plans}
+use Rattle.llb_commands.specs.ScriptLine.{Judges}
 use Rattle.llb_commands.specs.Assembly.{Assembles, Disassembles}
 use Rattle.llb_commands.specs.CommandLine.{TellsWords}
 use Rattle.llb_commands.specs.Faults.{Tells, TellsWhy}
@@ -56,6 +59,14 @@ Shown = EndsBy Draws
 abbrev pub Listed : List ℕ → Held → Held → ℕ → Type 0
 Listed = EndsBy Lists
 
+-- a line is written for each vertex of a definition: whether what it reads goes by value, as `llbm show --plan` does
+abbrev pub Planned : List ℕ → Held → Held → ℕ → Type 0
+Planned = EndsBy Plans
+
+-- a line is written for each vertex of a definition: which vertex of an older definition it matches, as `llbm show --matches` does
+abbrev pub Matched : List ℕ → List ℕ → Held → Held → ℕ → Type 0
+Matched old = EndsBy (Matches old)
+
 -- a text is assembled, as `llbm asm` does
 abbrev pub Assembled : List ℕ → Held → Held → ℕ → Type 0
 Assembled = EndsBy Assembles
@@ -63,6 +74,11 @@ Assembled = EndsBy Assembles
 -- a definition is disassembled, as `llbm dis` does
 abbrev pub Disassembled : List ℕ → Held → Held → ℕ → Type 0
 Disassembled = EndsBy Disassembles
+
+-- the line of the fault of a text as a script is written to the output; or the text is not UTF-8, and the messages say so
+abbrev pub Judged : List ℕ → Held → Held → ℕ → Type 0
+Judged text old new status = KeepsRest old new × (Judges text (written new.output.items) (written new.messages.items) status
+    ⊎ ((¬ (IsUtf8 text)) × (new.output.items ≡ []) × TellsWords (Some []) (Some new.messages.items) (Words None) status))
 
 -- ---- local trees
 

@@ -16,7 +16,7 @@
 ghost use Rattle.std.specs.Prelude.{◌≡◌, length, None};
 ghost use Rattle.llb_embed.specs.BufferCopies.{copied};
 ghost use Rattle.llb_embed.specs.Handle.{held_in, messages_in, output_in, Calls, IsSound};
-ghost use Rattle.llb_embed.specs.HandleCalls.{Added, Opened, Replied, Ran, Shown, Listed, Assembled, Disassembled};
+ghost use Rattle.llb_embed.specs.HandleCalls.{Added, Opened, Replied, Ran, Shown, Listed, Planned, Matched, Judged, Assembled, Disassembled};
 
 mod handle;
 mod held;
@@ -26,7 +26,9 @@ mod working;
 pub use handle::Llb;
 use handle::{put, start, take};
 use std::alloc::Global;
-use working::{assemble, copy_out, disassemble, list, local, open, reply, run, show};
+use working::{
+    assemble, copy_out, disassemble, list, local, match_old, open, plan, reply, run, script, show,
+};
 
 /// The status if memory for the value that a handle holds was refused.
 const NO_MEMORY: u8 = 3;
@@ -127,6 +129,53 @@ pub extern "C" fn llb_findings(alloc: Global, it: &mut Llb, definition: &[u8]) -
         return NO_MEMORY;
     };
     let status = list(alloc, held.as_mut(), definition);
+    put(it, held);
+    status
+}
+
+/// Writes a line to the output for each vertex of a definition: whether what it reads goes by value. Returns the status of `llbm show --plan`: 0, 2 or 3.
+#[unsafe(no_mangle)]
+pub extern "C" fn llb_plan(alloc: Global, it: &mut Llb, definition: &[u8]) -> u8
+    requires { IsSound it.old }
+    ensures sound { IsSound it.new }
+    ensures planned { Calls (Planned definition.now) (held_in it.old) (held_in it.new) result }
+{
+    let Some(mut held) = start(it, alloc) else {
+        return NO_MEMORY;
+    };
+    let status = plan(alloc, held.as_mut(), definition);
+    put(it, held);
+    status
+}
+
+/// Writes a line to the output for each vertex of a definition: which vertex of an older definition it matches. Returns the status of `llbm show --matches`: 0,
+/// 2 or 3.
+#[unsafe(no_mangle)]
+pub extern "C" fn llb_matches(alloc: Global, it: &mut Llb, old: &[u8], definition: &[u8]) -> u8
+    requires { IsSound it.old }
+    ensures sound { IsSound it.new }
+    ensures matched { Calls (Matched old.now definition.now) (held_in it.old) (held_in it.new) result }
+{
+    let Some(mut held) = start(it, alloc) else {
+        return NO_MEMORY;
+    };
+    let status = match_old(alloc, held.as_mut(), old, definition);
+    put(it, held);
+    status
+}
+
+/// Writes the line of the first fault of a text as a script, as `/bin/sh -c` gets it, to the output. Returns 0 if the text is a script; 2 if it has a fault
+/// (71 to 73), or if it is not UTF-8, and then the messages say so (183); 3 if memory is refused (184).
+#[unsafe(no_mangle)]
+pub extern "C" fn llb_script(alloc: Global, it: &mut Llb, text: &[u8]) -> u8
+    requires { IsSound it.old }
+    ensures sound { IsSound it.new }
+    ensures judged { Calls (Judged text.now) (held_in it.old) (held_in it.new) result }
+{
+    let Some(mut held) = start(it, alloc) else {
+        return NO_MEMORY;
+    };
+    let status = script(alloc, held.as_mut(), text);
     put(it, held);
     status
 }

@@ -2,12 +2,13 @@
 
 ghost use Rattle.std.specs.Prelude.{◌≡◌, ◌<◌, ◌+◌, ◌^◌, length, []};
 ghost use Rattle.llb_embed.specs.BufferCopies.{copied};
-ghost use Rattle.llb_embed.specs.HandleCalls.{Added, Opened, Replied, Refused, Ran, Shown, Listed, Assembled, Disassembled};
+ghost use Rattle.llb_embed.specs.HandleCalls.{Added, Opened, Replied, Refused, Ran, Shown, Listed, Planned, Matched, Judged, Assembled, Disassembled};
 
 use crate::held::Held;
 use llb_commands::{
-    ProgramFault, SourceFault, WordsFault, add_local, asm_over, dis_over, findings_over, open_over,
-    refusal, run_over, show_over, source_refusal, words_refusal,
+    ProgramFault, SourceFault, WordsFault, add_local, asm_over, dis_over, findings_over,
+    matches_over, open_over, plan_over, refusal, run_over, script_over, show_over, source_refusal,
+    words_refusal,
 };
 use llb_session::{Looks, Options, Session, respond};
 use llb_stepper::{Stepper, StepperFault};
@@ -162,6 +163,35 @@ pub(crate) fn list(alloc: Global, held: &mut Held, definition: &[u8]) -> u8
     clear(held);
     let mut input = definition;
     findings_over(alloc, &mut input, &mut held.output, &mut held.messages)
+}
+
+/// Writes for each vertex of a definition whether what it reads goes by value to the output, and returns the status of `llbm show --plan`.
+pub(crate) fn plan(alloc: Global, held: &mut Held, definition: &[u8]) -> u8
+    ensures { Planned definition.now held.old held.new result }
+{
+    clear(held);
+    let mut input = definition;
+    plan_over(alloc, &mut input, &mut held.output, &mut held.messages)
+}
+
+/// Writes for each vertex of a definition which vertex of an older definition it matches to the output, and returns the status of `llbm show --matches`.
+pub(crate) fn match_old(alloc: Global, held: &mut Held, old: &[u8], definition: &[u8]) -> u8
+    ensures { Matched old.now definition.now held.old held.new result }
+{
+    clear(held);
+    let mut input = definition;
+    matches_over(alloc, old, &mut input, &mut held.output, &mut held.messages)
+}
+
+/// Writes the line of the fault of a text as a script to the output, and returns the status: 0 if the text is a script, and 2 if it is not.
+pub(crate) fn script(alloc: Global, held: &mut Held, text: &[u8]) -> u8
+    ensures { Judged text.now held.old held.new result }
+{
+    clear(held);
+    let Ok(text) = from_utf8(text) else {
+        return words_refusal(&WordsFault::Words(None), &mut held.messages);
+    };
+    script_over(alloc, text, &mut held.output, &mut held.messages)
 }
 
 /// Assembles a text, and writes the definition to the output; returns the status of `llbm asm`.

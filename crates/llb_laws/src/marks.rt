@@ -80,8 +80,8 @@ fn env_of(exec: &ExecOp) -> &[Text]
     }
 }
 
-// Returns whether an action writes the byte 255.
-fn body_has_mark(action: &Action) -> bool
+/// Returns whether an action writes the byte 255.
+pub fn body_has_mark(action: &Action) -> bool
     ensures { result ≡ body_has_mark action.now.kind }
 {
     match &action.kind {
@@ -90,8 +90,8 @@ fn body_has_mark(action: &Action) -> bool
     }
 }
 
-// Returns whether one of these actions writes the byte 255.
-fn bodies_have_mark(actions: &[Action]) -> bool
+/// Returns whether one of these actions writes the byte 255.
+pub fn bodies_have_mark(actions: &[Action]) -> bool
     ensures { result ≡ list_any (λ (a : Action). body_has_mark a.kind) actions.now }
 {
     for action in actions {

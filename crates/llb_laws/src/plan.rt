@@ -32,9 +32,9 @@ fn digest(commands: &[Joined]) -> bool
     false
 }
 
-// Returns whether an op of this kind makes a digest; for an exec, `script` has the commands.
+/// Returns whether an op of this kind makes a digest; for an exec, `script` has the commands.
 #[tactic(auto, using(crate::proofs::WritesAndDigests::runs_digest, crate::proofs::WritesAndDigests::acts_digest, crate::proofs::WritesAndDigests::lays_digest))]
-fn makes_digest(kind: &Option<Kind>, script: &Option<Script>) -> bool
+pub fn makes_digest(kind: &Option<Kind>, script: &Option<Script>) -> bool
     ensures { result ≡ list_any step_digests (steps_of kind.now script.now) }
 {
     match kind {
@@ -63,8 +63,8 @@ pub fn some_makes_digest(graph: &Graph) -> bool
     false
 }
 
-// Returns whether a vertex mounts a cache.
-fn mounts_cache(vertex: &Vertex) -> bool
+/// Returns whether a vertex mounts a cache.
+pub fn mounts_cache(vertex: &Vertex) -> bool
     ensures { result ≡ mounts_cache vertex.now }
 {
     for mount in mounts_of(&vertex.op.kind) {

@@ -46,6 +46,7 @@ impl Trial for OnWords {
             "no words" => printed_words(alloc, &NO_WORDS),
             "show" => printed_words(alloc, &["show"]),
             "show --findings" => printed_words(alloc, &["show", "--findings"]),
+            "show --matches a" => printed_words(alloc, &["show", "--matches", "a"]),
             "show x" => printed_words(alloc, &["show", "x"]),
             _ => printed_words(alloc, &["run", "--workers", "3", "p=a"]),
         };
@@ -65,6 +66,7 @@ const WORDS: &[Row] = &[
     ("command_of", "no words", "184", "granted"),
     ("command_of", "show", "184", "granted"),
     ("command_of", "show --findings", "184", "granted"),
+    ("command_of", "show --matches a", "184", "granted"),
     ("command_of", "show x", "184", "183"),
     ("command_of", "run --workers 3 p=a", "184", "granted"),
 ];

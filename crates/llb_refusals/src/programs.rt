@@ -4,7 +4,8 @@ use super::growths::{MOST, Row, Trial, are_refused, is_lack, print_count, refuse
 use super::printed::{is_same, printed_bytes, printed_text, say};
 use super::written::{definition_of, entries_text, locals_of};
 use llb_commands::{
-    asm_over, dis_over, findings_over, look_over, run_many_over, run_over, show_over, step_over,
+    asm_over, dis_over, findings_over, look_over, matches_over, plan_over, run_many_over, run_over,
+    script_over, show_over, step_over,
 };
 use llb_loader::Locals;
 use llb_samples::tree_text;
@@ -29,10 +30,11 @@ fn ran_nothing(rt: &impl Abort, alloc: Global) -> Ran {
     }
 }
 
-// Returns the input of a command: the assembler's text for `asm_over`, and a definition for any other command.
+// Returns the input of a command: the assembler's text for `asm_over`, a script for `script_over`, and a definition for any other command.
 fn input_of(rt: &impl Abort, alloc: Global, call: &str, on: &str) -> Vec<u8> {
     match call {
         "asm_over" => entries_text(rt, alloc, on).into_bytes(),
+        "script_over" => printed_text(rt, alloc, on).into_bytes(),
         _ => definition_of(rt, alloc, on).into_vec(),
     }
 }
@@ -121,13 +123,16 @@ fn look(alloc: Global, mut file: &[u8], commands: &str, handed: &mut Vec<Locals>
     }
 }
 
-// Calls a command that takes no local trees.
+// Calls a command that takes no local trees. `matches_over` has the definition also as the older one.
 fn other(alloc: Global, call: &str, mut input: &[u8], ran: &mut Ran) {
     let Ran { status, out, err } = ran;
     *status = match call {
         "asm_over" => asm_over(alloc, &mut input, out, err),
         "dis_over" => dis_over(alloc, &mut input, out, err),
         "findings_over" => findings_over(alloc, &mut input, out, err),
+        "plan_over" => plan_over(alloc, &mut input, out, err),
+        "matches_over" => matches_over(alloc, input, &mut input, out, err),
+        "script_over" => script_over(alloc, str::from_utf8(input).unwrap_or(""), out, err),
         _ => show_over(alloc, &mut input, out, err),
     };
 }
@@ -234,6 +239,14 @@ const A_TREE: &str = "d 0755 0 0 /\nf 0644 0 0 6869 /a\n";
 
 const SHOWN: &str =
     "0 file steps 1 outputs 1 inputs -\n1 file steps 1 outputs 1 inputs 0.0\nresult 1.0\n";
+
+const PLANNED: &str =
+    "0 sha256:e00d65597895790f7dc26dbf724a411bd83c8e15881ab3eea18ea75095782dab reads token cause - \
+    marks -\nmarks no\n";
+
+const MATCHED: &str =
+    "0 sha256:e00d65597895790f7dc26dbf724a411bd83c8e15881ab3eea18ea75095782dab matches 0 \
+    sha256:e00d65597895790f7dc26dbf724a411bd83c8e15881ab3eea18ea75095782dab\n";
 
 const A_MERGE: &str = "raw 320d0a0b08ffffffffffffffffff01520e0a05616d64363412056c696e75785a00";
 
@@ -363,6 +376,14 @@ const ROWS: &[Row] = &[
         "3 fault 184 and 3 fault 91",
         "fault 88 0 DiffOp\n",
     ),
+    ("plan_over", ONE_FILE, "3 fault 184 and 3 fault 91", PLANNED),
+    (
+        "matches_over",
+        ONE_FILE,
+        "3 fault 184 and 3 fault 91",
+        MATCHED,
+    ),
+    ("script_over", "gzip /a", "3 fault 184", "fault 71 gzip\n"),
     (
         "asm_over",
         "# a comment; \traw b20000",

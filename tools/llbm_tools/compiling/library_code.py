@@ -14,7 +14,8 @@ from typing import NamedTuple
 from llbm_tools.streams import Failed, Refused
 
 CRATE = "llb_embed"
-EXPORTS = ("local", "open", "line", "run", "show", "findings", "asm", "dis", "output", "messages", "close")
+CALLS = ("local", "open", "line", "run", "show", "findings", "plan", "matches", "script", "asm", "dis")
+EXPORTS = (*CALLS, "output", "messages", "close")
 PREFIX = "llb_"
 USUAL = "x86_64-unknown-linux-gnu"
 KEPT = "*.kept"

@@ -33,6 +33,9 @@ fn main(rt: HostRuntime) {
     let _run = llb_run(alloc, &mut it, &bytes);
     let _show = llb_show(alloc, &mut it, &bytes);
     let _findings = llb_findings(alloc, &mut it, &bytes);
+    let _plan = llb_plan(alloc, &mut it, &bytes);
+    let _matches = llb_matches(alloc, &mut it, &bytes, &bytes);
+    let _script = llb_script(alloc, &mut it, &bytes);
     let _asm = llb_asm(alloc, &mut it, &bytes);
     let _dis = llb_dis(alloc, &mut it, &bytes);
     let _output = llb_output(alloc, &mut it, &mut room);

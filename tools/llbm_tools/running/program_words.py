@@ -8,7 +8,8 @@ from typing import NamedTuple
 
 COMMANDS = ("run", "show", "step", "asm", "dis")
 SOLVING = ("run", "step")
-FLAGS = {"show": ("--findings",), "step": ("--looks", "--ends")}
+FLAGS = {"show": ("--findings", "--plan"), "step": ("--looks", "--ends")}
+VALUES = {"run": ("--workers",), "step": ("--workers",), "show": ("--matches",)}
 MOST_OF_A_NUMBER = 1 << 32
 HELP = ("-h", "--help")
 PAGES = (*HELP, "-V", "--version")
@@ -54,29 +55,27 @@ class Reader:
         self.words = words
         self.file: str | None = None
         self.sources: list[Source] = []
-        self.has_workers = False
-        self.flags: set[str] = set()
+        self.given: set[str] = set()
 
-    def flag(self, name: str, has_value: bool) -> str:
-        """Reads a flag of a command, and returns why it is refused; empty if it is not."""
-        if has_value:
-            return f"{name} takes no value"
-        if name in self.flags:
-            return f"{name} is given twice"
-        self.flags.add(name)
-        return ""
+    def value(self, name: str, given: str | None) -> str:
+        """Reads the value of an option, and returns why it is refused; empty if it is not."""
+        word = given if given is not None else self.words.pop(0) if self.words else None
+        if name == "--workers":
+            return number_fault(word)
+        return "" if word and (given or not word.startswith("-")) else f"{name} has no file after it"
 
     def option(self, word: str) -> str:
         """Reads an option, and returns why it is refused; empty if it is not."""
         name, equals, value = word.partition("=")
-        if name in FLAGS.get(self.command, ()):
-            return self.flag(name, bool(equals))
-        if name != "--workers" or self.command not in SOLVING:
+        flags = FLAGS.get(self.command, ())
+        if name not in flags + VALUES.get(self.command, ()):
             return f"{word!r} is no option of {self.command}"
-        if self.has_workers:
-            return "--workers is given twice"
-        self.has_workers = True
-        return number_fault(value if equals else self.words.pop(0) if self.words else None)
+        if name in self.given:
+            return f"{name} is given twice"
+        self.given.add(name)
+        if name in flags:
+            return f"{name} takes no value" if equals else ""
+        return self.value(name, value if equals else None)
 
     def argument(self, word: str) -> str:
         """Reads a word that is no option, and returns why it is refused; empty if it is not."""
@@ -98,6 +97,8 @@ class Reader:
             cause = self.option(word) if word.startswith("-") and word != "-" else self.argument(word)
             if cause:
                 return cause
+        if self.command == "show" and len(self.given) > 1:
+            return f"show takes one option: {' or '.join(sorted(self.given))}"
         return "step needs the FILE of a definition" if self.command == "step" and self.file is None else ""
 
 

@@ -21,7 +21,7 @@ class CommandLine(unittest.TestCase):
         self.assertEqual((words.refused, words.names()), ("", ["a", "b", "a"]))
         session = read_words(["step", "--workers=4294967295", "d", "a=x"])
         self.assertEqual((session.file, session.sources, session.refused), ("d", (Source("a", "x"),), ""))
-        for given in [[], ["show"], ["show", "--findings"], ["asm"], ["dis"], ["run"], ["step", "d"]]:
+        for given in [[], ["show"], ["show", "--findings"], ["show", "--plan"], ["show", "--matches", "d"], ["asm"], ["dis"], ["run"], ["step", "d"]]:
             self.assertEqual(read_words(given).refused, "", given)
         for given in [["--help"], ["-V"], ["run", "--help"], ["step", "-h"]]:
             self.assertTrue(read_words(given).asks, given)
@@ -36,6 +36,8 @@ class CommandLine(unittest.TestCase):
             (["run", "--findings"], "'--findings' is no option of run"),
             (["show", "--findings", "--findings"], "--findings is given twice"),
             (["show", "--findings=x"], "--findings takes no value"),
+            (["show", "--matches"], "--matches has no file after it"),
+            (["show", "--plan", "--findings"], "show takes one option: --findings or --plan"),
             (["run", "--workers"], "--workers has no number after it"),
             (["run", "--workers", "x"], "'x' after --workers is not a number below 2^32"),
             (["run", "--workers=4294967296"], "'4294967296' after --workers is not a number below 2^32"),
