@@ -5,8 +5,8 @@ import (
 
 	"github.com/moby/buildkit/solver/pb"
 	"llbm/daemon/internal/paths"
-	"llbm/daemon/internal/plan"
 	"llbm/daemon/internal/rules"
+	"llbm/daemon/internal/standins"
 )
 
 // hasLinks is whether contents of trees may be symbolic links.
@@ -69,7 +69,7 @@ func followedByExec(op *pb.Op, inputs []*rules.Node) *rules.Following {
 	if found := w.on(cwd, nil, true); found != nil {
 		return found
 	}
-	for _, call := range plan.Calls(op) {
+	for _, call := range standins.Calls(w.exec) {
 		for _, one := range pathsOf(call) {
 			names := paths.Names(one.text)
 			if !strings.HasPrefix(one.text, "/") {

@@ -1,4 +1,4 @@
-// Package graph joins the graph that llbm shows of a definition with the definition's entries.
+// Package graph reads the graph of a definition: which entries its result depends on, and what clients call them.
 package graph
 
 import (
@@ -8,7 +8,6 @@ import (
 	"fmt"
 	"slices"
 	"sort"
-	"strconv"
 	"strings"
 
 	"github.com/moby/buildkit/solver/errdefs"
@@ -23,12 +22,13 @@ import (
 // mostOfName bounds the bytes of a vertex' name in a message.
 const mostOfName = 200
 
-// A Vertex is a line of `llbm show`, with the entry that it is.
+// A Vertex is an entry that the result depends on.
 type Vertex struct {
 	Op     *pb.Op
-	Sent   *pb.Op // the op as the client sent it: the same one, unless it was rewritten
-	Row    int    // of the definition as the client sent it
-	Inputs []int  // the vertices that the op's inputs name
+	Sent   *pb.Op        // the op as the client sent it: the same one, unless it was rewritten
+	Entry  digest.Digest // of the op's bytes
+	Row    int           // of the definition as the client sent it
+	Inputs []int         // the vertices that the op's inputs name
 	// Whole is the vertex itself, or the last part of the op of which it is a part; before it are parts with some actions.
 	Whole, Before int
 	// Digest, Needs and Name are what clients know of the vertex: of the entry as the client sent it.
@@ -50,10 +50,11 @@ type Graph struct {
 // Entries returns the bytes of a definition that llbm reads.
 func Entries(def *pb.Definition) ([]byte, error) { return (&pb.Definition{Def: def.Def}).Marshal() }
 
-// rows are the entries of a definition, each with the first row of its digest.
+// rows are the entries of a definition, with the first row of each digest.
 type rows struct {
-	ops   []*pb.Op
-	first map[digest.Digest]int
+	ops     []*pb.Op
+	digests []digest.Digest
+	first   map[digest.Digest]int
 }
 
 func rowsOf(def *pb.Definition) (*rows, bool, error) {
@@ -65,17 +66,13 @@ func rowsOf(def *pb.Definition) (*rows, bool, error) {
 		}
 		again, err := op.Marshal()
 		canonical = canonical && err == nil && bytes.Equal(again, entry)
-		if d := digest.FromBytes(entry); !has(r.first, d) {
+		d := digest.FromBytes(entry)
+		if _, ok := r.first[d]; !ok {
 			r.first[d] = k
 		}
-		r.ops = append(r.ops, op)
+		r.ops, r.digests = append(r.ops, op), append(r.digests, d)
 	}
 	return r, canonical, nil
-}
-
-func has(first map[digest.Digest]int, d digest.Digest) bool {
-	_, ok := first[d]
-	return ok
 }
 
 // inputs returns the rows that the inputs of a row name.
@@ -125,7 +122,7 @@ func Load(def, sent *pb.Definition, parts ...int) (*Graph, error) {
 	}
 	g, from := &Graph{Canonical: canonical, sent: sent}, r.originsOf(parts)
 	for _, k := range order {
-		v := g.vertex(r.ops[k], def.Def[k], from.rows[k])
+		v := g.vertex(r.ops[k], r.digests[k], def.Def[k], from.rows[k])
 		v.Whole, v.Before = number[from.rows[k]], from.before[k]
 		inputs, err := r.inputs(k)
 		if err != nil {
@@ -146,10 +143,10 @@ func Load(def, sent *pb.Definition, parts ...int) (*Graph, error) {
 }
 
 // vertex returns the vertex of an op, which was made of a row of the definition that was sent, without its inputs.
-func (g *Graph) vertex(op *pb.Op, entry []byte, row int) Vertex {
-	v := Vertex{Op: op, Sent: op, Row: row, Digest: digest.FromBytes(g.sent.Def[row])}
-	if !bytes.Equal(g.sent.Def[row], entry) {
-		v.Sent = sentOp(g.sent.Def[row], op)
+func (g *Graph) vertex(op *pb.Op, named digest.Digest, entry []byte, row int) Vertex {
+	v := Vertex{Op: op, Sent: op, Entry: named, Row: row, Digest: named}
+	if before := g.sent.Def[row]; !bytes.Equal(before, entry) {
+		v.Sent, v.Digest = sentOp(before, op), digest.FromBytes(before)
 	}
 	metadata := g.sent.Metadata[v.Digest]
 	v.Name, v.Group = Describe(metadata, v.Sent), metadata.ProgressGroup
@@ -241,29 +238,6 @@ func (r *rows) reached() (map[int][]int, error) {
 		found[k] = slices.Compact(inputs)
 	}
 	return found, nil
-}
-
-// Check compares the graph with the text that llbm shows of it.
-func (g *Graph) Check(shown string) error {
-	lines := strings.Split(strings.TrimSuffix(shown, "\n"), "\n")
-	if len(lines) != len(g.Vertices)+1 {
-		return fmt.Errorf("llbm shows %d vertices, not %d", len(lines)-1, len(g.Vertices))
-	}
-	for i, v := range g.Vertices {
-		words := strings.Fields(lines[i])
-		if len(words) < 8 || words[0] != strconv.Itoa(i) || len(v.Inputs) > 0 && len(words)-7 != len(v.Inputs) {
-			return fmt.Errorf("llbm shows another vertex: %q", lines[i])
-		}
-		for j, in := range v.Inputs {
-			if want := fmt.Sprintf("%d.%d", in, v.Op.Inputs[j].Index); words[7+j] != want {
-				return fmt.Errorf("llbm shows another input than %s: %q", want, lines[i])
-			}
-		}
-	}
-	if last, want := lines[len(lines)-1], fmt.Sprintf("result %d.%d", g.Result, g.Output); last != want {
-		return fmt.Errorf("llbm shows another result than %s: %q", want, last)
-	}
-	return nil
 }
 
 // NameOf returns the client's name for an entry: its description, or the command of a Dockerfile.

@@ -6,8 +6,8 @@ import (
 	"strings"
 )
 
-// All lines of llbm that are more than a tree's are parsed in this file: those of a record and of a session's `status`
-// (docs/FORMATS.md), and those of faults (docs/FAULTS.md).
+// All lines of llbm that are more than a tree's are parsed in this file: those of a record, of a session's `status`, of a graph and of
+// a plan (docs/FORMATS.md), and those of faults (docs/FAULTS.md).
 
 // Kinds of events.
 const (
@@ -112,4 +112,89 @@ func parseFault(line string) (number, second int, ok bool) {
 		return 0, -1, false
 	}
 	return n[0], -1, true
+}
+
+// A Place is an output of a vertex, `V.I`.
+type Place struct{ Vertex, Output int }
+
+// A Vertex is what llbm says of one of a graph: its entry, and the outputs that its inputs name.
+type Vertex struct {
+	Digest string
+	Inputs []Place
+}
+
+// A Graph has llbm's numbers of the vertices of a definition: one is its place in the list.
+type Graph struct {
+	Vertices []Vertex
+	Result   Place
+}
+
+// add reads a line of the look `graph`: `V KIND steps S outputs O inputs LIST` or `result V.I`.
+func (g *Graph) add(line string) error {
+	if text, ok := strings.CutPrefix(line, "result "); ok {
+		place, ok := parsePlace(text)
+		if ok && place.Vertex < len(g.Vertices) {
+			g.Result = place
+			return nil
+		}
+	}
+	before, list, _ := strings.Cut(line, " inputs ")
+	if n, ok := numbers(before, "# .."); !ok || n[0] != len(g.Vertices) || list == "" {
+		return fmt.Errorf("llbm: %.80q is no line of a graph", line)
+	}
+	one := Vertex{}
+	for _, text := range strings.Fields(strings.TrimPrefix(list, "-")) {
+		place, ok := parsePlace(text)
+		if !ok || place.Vertex >= len(g.Vertices) {
+			return fmt.Errorf("llbm: %.80q is no line of a graph", line)
+		}
+		one.Inputs = append(one.Inputs, place)
+	}
+	g.Vertices = append(g.Vertices, one)
+	return nil
+}
+
+func parsePlace(text string) (Place, bool) {
+	n, ok := numbers(strings.Replace(text, ".", " ", 1), "# #")
+	if !ok {
+		return Place{}, false
+	}
+	return Place{n[0], n[1]}, true
+}
+
+// name reads a line of the look `digests`, `V DIGEST`, of a vertex.
+func (g *Graph) name(number int, line string) error {
+	n, ok := numbers(line, "# ..")
+	if !ok || n[0] != number || number >= len(g.Vertices) {
+		return fmt.Errorf("llbm: %.80q is no line of digests", line)
+	}
+	_, g.Vertices[number].Digest, _ = strings.Cut(line, " ")
+	return nil
+}
+
+// A Plan says how contents have to be given that llbm hands on.
+type Plan struct {
+	ByValue map[string]bool // the entries, by digest, that read contents which a token must not stand for
+	Marks   bool            // whether some entry writes the byte 255
+}
+
+// parsePlan reads a plan: `V DIGEST reads WAY cause WHY marks LIST` for each vertex, and `marks yes` or `marks no`.
+func parsePlan(text string) (*Plan, error) {
+	plan := &Plan{ByValue: map[string]bool{}}
+	lines := strings.Split(strings.TrimSuffix(text, "\n"), "\n")
+	last := len(lines) - 1
+	for number, line := range lines[:last] {
+		words := strings.Split(line, " ")
+		if len(words) < 8 || words[0] != strconv.Itoa(number) || words[2] != "reads" || words[3] != "value" && words[3] != "token" {
+			return nil, fmt.Errorf("llbm: %.80q is no line of a plan", line)
+		}
+		if words[3] == "value" {
+			plan.ByValue[words[1]] = true
+		}
+	}
+	plan.Marks = lines[last] == "marks yes"
+	if !plan.Marks && lines[last] != "marks no" {
+		return nil, fmt.Errorf("llbm: %.80q is no end of a plan", lines[last])
+	}
+	return plan, nil
 }

@@ -2,6 +2,7 @@ package machine
 
 import (
 	"reflect"
+	"strings"
 	"testing"
 )
 
@@ -14,8 +15,8 @@ func TestEventsAreRead(t *testing.T) {
 		"9 step 0 -> acted 0":        {Kind: Step},
 		"9 step 0 -> fault 0 21":     {Kind: Step},
 		"9 step 0 -> a -> b":         {Kind: Step},
-		"14 settle 0 -> 2 failed":    {Kind: Settle, Vertex: 2, Failed: true},
-		"15 settle 1 -> 12 done":     {Kind: Settle, Worker: 1, Vertex: 12},
+		"14 settle 0 -> 2 failed":    {Number: 14, Kind: Settle, Vertex: 2, Failed: true},
+		"15 settle 1 -> 12 done":     {Number: 15, Kind: Settle, Worker: 1, Vertex: 12},
 	} {
 		want.Line = line
 		if got, err := parseEvent(line); err != nil || !reflect.DeepEqual(got, want) {
@@ -59,6 +60,55 @@ func TestFaultsAreRead(t *testing.T) {
 	for _, line := range []string{"", "fault", "fault x", "fault -1", "a fault 1", "faults 1"} {
 		if number, second, ok := parseFault(line); ok {
 			t.Errorf("%q: %d %d", line, number, second)
+		}
+	}
+}
+
+func TestGraphsAreRead(t *testing.T) {
+	read := func(text string) (*Graph, error) {
+		g := &Graph{}
+		for _, line := range strings.Split(text, "\n") {
+			if err := g.add(line); err != nil {
+				return nil, err
+			}
+		}
+		return g, nil
+	}
+	g, err := read("0 source steps 1 outputs 1 inputs -\n1 exec steps 2 outputs 2 inputs 0.0 0.0\n2 merge steps 1 outputs 1 inputs 1.1\nresult 2.0")
+	want := &Graph{[]Vertex{{}, {Inputs: []Place{{0, 0}, {0, 0}}}, {Inputs: []Place{{1, 1}}}}, Place{2, 0}}
+	if err != nil || !reflect.DeepEqual(g, want) {
+		t.Errorf("%+v %v", g, err)
+	}
+	if g.name(0, "0 sha256:a") != nil || g.name(2, "2 sha256:c") != nil || g.Vertices[0].Digest != "sha256:a" || g.Vertices[2].Digest != "sha256:c" {
+		t.Error(g)
+	}
+	for _, line := range []string{"", "0 sha256:a", "3 sha256:d", "fault 173 1"} {
+		if g.name(1, line) == nil {
+			t.Errorf("%q", line)
+		}
+	}
+	for _, text := range []string{
+		"", "result 0.0", "1 source steps 1 outputs 1 inputs -", "0 merge steps 1 outputs 1 inputs 0.0", "0 source steps 1 outputs 1 inputs", "fault 173 1",
+		"0 source steps 1 outputs 1 inputs -\nresult 0", "0 source steps 1 outputs 1 inputs -\nresult 1.0", "0 source steps 1 outputs 1 inputs -\n1 merge steps 1 inputs 0",
+	} {
+		if g, err := read(text); err == nil {
+			t.Errorf("%q: %+v", text, g)
+		}
+	}
+}
+
+func TestPlansAreRead(t *testing.T) {
+	const lines = "0 sha256:a reads value cause - marks -\n1 sha256:b reads value cause digest marks -\n2 sha256:c reads token cause - marks 0 2\n"
+	plan, err := parsePlan(lines + "marks yes\n")
+	if err != nil || !plan.Marks || !reflect.DeepEqual(plan.ByValue, map[string]bool{"sha256:a": true, "sha256:b": true}) {
+		t.Errorf("%+v %v", plan, err)
+	}
+	if plan, err := parsePlan("0 sha256:a reads token cause - marks -\nmarks no\n"); err != nil || plan.Marks || len(plan.ByValue) != 0 {
+		t.Errorf("%+v %v", plan, err)
+	}
+	for _, text := range []string{"", lines, "marks maybe\n", "1 sha256:a reads token cause - marks -\nmarks no\n", "0 sha256:a reads what cause - marks -\nmarks no\n"} {
+		if plan, err := parsePlan(text); err == nil {
+			t.Errorf("%q: %+v", text, plan)
 		}
 	}
 }

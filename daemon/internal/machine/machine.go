@@ -226,10 +226,20 @@ func outOfMemory(messages string, err error) bool {
 	return strings.Contains(messages, "hard rss limit exhausted") || errors.As(err, &exit) && exit.ExitCode() == 3
 }
 
-// Show returns the text of a definition's graph, or the definition's first fault.
-func (p *Program) Show(ctx context.Context, definition []byte) (string, error) {
+// Plan returns how the contents of a definition's sources have to be given, or the definition's first fault.
+func (p *Program) Plan(ctx context.Context, definition []byte) (*Plan, error) {
+	text, err := p.Show(ctx, definition, "--plan")
+	if err != nil {
+		return nil, err
+	}
+	return parsePlan(text)
+}
+
+// Show returns what the program shows of a definition: the text of its graph, or what an option asks for. If the definition is refused,
+// the error is its first fault.
+func (p *Program) Show(ctx context.Context, definition []byte, options ...string) (string, error) {
 	var out bytes.Buffer
-	run, err := p.start(ctx, bytes.NewReader(definition), nil, nil, "show")
+	run, err := p.start(ctx, bytes.NewReader(definition), nil, nil, append([]string{"show"}, options...)...)
 	if err != nil {
 		return "", err
 	}

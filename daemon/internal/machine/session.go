@@ -41,7 +41,7 @@ type Run struct {
 	out         io.ReadCloser
 	lines       *bufio.Reader
 	outstanding int
-	events      int // how many were done
+	events      int  // how many were done
 	aside       *int // how many bytes may still be read aside, while that is done
 }
 
@@ -146,6 +146,27 @@ func (r *Run) broken(err error) error {
 		return ended
 	}
 	return fmt.Errorf("llbm: the session ended early: %w", err)
+}
+
+// Graph returns the graph of the definition, as the program has read it. A definition that it refuses is an error.
+func (r *Run) Graph() (*Graph, error) {
+	if err := r.settle(); err != nil {
+		return nil, err
+	}
+	const none = -1
+	g, named := &Graph{Result: Place{Vertex: none}}, 0
+	r.ask("graph\ndigests\n")
+	if err := r.reply(func(line []byte) error { return g.add(string(line)) }); err != nil {
+		return nil, err
+	}
+	err := r.reply(func(line []byte) error {
+		named++
+		return g.name(named-1, string(line))
+	})
+	if err == nil && (named != len(g.Vertices) || g.Result.Vertex == none) {
+		err = fmt.Errorf("llbm: its graph has %d vertices, %d digests and the result %d", len(g.Vertices), named, g.Result.Vertex)
+	}
+	return g, err
 }
 
 // Next does the next event, and returns its line, or false if there is none. Some events are asked for in advance.

@@ -14,47 +14,56 @@ import (
 	"google.golang.org/grpc/status"
 )
 
-// stub is a program for one definition, a file in a directory. It shows it once `step` runs, and does not end by itself.
+// stub is a program for one definition, whose entry has a digest. It reads no definition but that of a session, and does not end by
+// itself.
 const stub = `#!/bin/sh
 case $1 in
 --version) echo llbm 1.0 ;;
-show)
-	for try in $(seq 600); do
-		[ -e "${0%/*}/runs" ] && break
-		sleep 0.1
-	done
-	[ -e "${0%/*}/runs" ] || exit 1
-	echo 0 file steps 1 outputs 1 inputs -
-	echo result 0.0 ;;
 step)
-	: > "${0%/*}/runs"
 	event=0
 	while read command vertex output; do
-		if [ "$command" = tree ]; then
-			printf 'd 0755 0 0 /\nf 0644 0 0 6869 /a\n\n'
-			continue
-		fi
-		event=$((event + 1))
-		case $event in
-		1) echo '1 claim 0 0 -> file 1' ;;
-		2) echo '2 step 0 -> acted 0' ;;
-		3) echo '3 settle 0 -> 0 done' ;;
-		*) echo end ;;
+		case $command in
+		graph) printf '0 file steps 1 outputs 1 inputs -\nresult 0.0\n' ;;
+		digests) echo 0 DIGEST ;;
+		tree) printf 'd 0755 0 0 /\nf 0644 0 0 6869 /a\n' ;;
+		next)
+			event=$((event + 1))
+			case $event in
+			1) echo '1 claim 0 0 -> file 1' ;;
+			2) echo '2 step 0 -> acted 0' ;;
+			3) echo '3 settle 0 -> 0 done' ;;
+			*) echo end ;;
+			esac ;;
 		esac
 		echo
 	done
 	exec sleep 600 ;;
 esac
+exit 1
 `
 
-func TestADefinitionIsShownWhileItRunsAndNobodyWaitsForTheEnd(t *testing.T) {
+// stubbed solves a definition by the stub, which names a vertex of it.
+func stubbed(t *testing.T, state llb.State, named digest.Digest) (string, error) {
+	t.Helper()
 	path := filepath.Join(t.TempDir(), "llbm")
-	if err := os.WriteFile(path, []byte(stub), 0o700); err != nil {
+	if err := os.WriteFile(path, []byte(strings.Replace(stub, "DIGEST", named.String(), 1)), 0o700); err != nil {
 		t.Fatal(err)
 	}
-	d := started(t, func(o *Options) { o.Program, o.AtOnce = path, 2 })
-	got, err := d.solved(t, llb.Scratch().File(llb.Mkfile("/a", 0o644, []byte("hi"))), client.SolveOpt{})
+	d := started(t, func(o *Options) { o.Program, o.AtOnce = path, 1 })
+	return d.solved(t, state, client.SolveOpt{})
+}
+
+func TestADefinitionIsReadByItsSessionAloneAndNobodyWaitsForTheEnd(t *testing.T) {
+	state := llb.Scratch().File(llb.Mkfile("/a", 0o644, []byte("hi")))
+	got, err := stubbed(t, state, digest.FromBytes(marshal(t, state).Def[0]))
 	if err != nil || !strings.Contains(got, `0:0 a "hi"`) {
+		t.Errorf("%s %v", got, err)
+	}
+}
+
+func TestAnotherGraphThanTheClientsIsRefused(t *testing.T) {
+	state := llb.Scratch().File(llb.Mkfile("/a", 0o644, []byte("hi")))
+	if got, err := stubbed(t, state, digest.FromString("another")); err == nil || !strings.Contains(err.Error(), "llbm has another vertex 0") {
 		t.Errorf("%s %v", got, err)
 	}
 }

@@ -232,18 +232,18 @@ func (c *comparing) close() {
 
 // end compares what is left, once llbm has done all events that it does, with the executions' outputs. The session is stopped if
 // this takes too long, or reads too much.
-func (c *comparing) end(run *machine.Run, g *graph.Graph) {
+func (c *comparing) end(session *session) {
 	late := make(chan struct{})
 	timer := time.AfterFunc(patience, func() {
 		close(late)
 		c.cancel()
-		run.Stop()
+		session.run.Stop()
 	})
 	defer timer.Stop()
 	for {
 		select {
 		case question := <-c.asked:
-			if err := c.answer(run, g, question); err != nil {
+			if err := c.answer(session, question); err != nil {
 				c.cancel()
 				<-c.done
 				c.why = err.Error()
@@ -276,19 +276,19 @@ func (c *comparing) conclude() {
 }
 
 // answer tells the child what an execution made.
-func (c *comparing) answer(run *machine.Run, g *graph.Graph, question *comparison.Question) error {
+func (c *comparing) answer(session *session, question *comparison.Question) error {
 	reply := &comparison.Reply{Vertex: question.Vertex, Outputs: []string{}}
-	v, ok := g.Find(question.Row)
+	v, ok := session.graph.Find(question.Row)
 	if !ok {
 		return fmt.Errorf("there is no vertex of entry %d", question.Row)
 	}
 	c.close() // the child has read them
-	for index := range rules.Outputs(g.Vertices[v].Op.GetExec()) {
+	for index := range rules.Outputs(session.graph.Vertices[v].Op.GetExec()) {
 		path, err := c.file("output", nil)
 		if err != nil {
 			return err
 		}
-		size, err := run.Aside(v, index, c.left, c.files[len(c.files)-1])
+		size, err := session.aside(v, index, c.left, c.files[len(c.files)-1])
 		if err != nil {
 			return err
 		}

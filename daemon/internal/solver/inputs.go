@@ -17,7 +17,6 @@ import (
 	"llbm/daemon/internal/contents"
 	"llbm/daemon/internal/graph"
 	"llbm/daemon/internal/machine"
-	"llbm/daemon/internal/plan"
 	"llbm/daemon/internal/rules"
 	"llbm/daemon/internal/sources"
 )
@@ -254,17 +253,17 @@ func (t *texts) close() {
 	}
 }
 
-// texts writes the texts of all sources: by reference, or by value where the plan needs the contents themselves.
-func (in *inputs) texts(g *graph.Graph) (texts, error) {
-	p := plan.Of(g.Vertices)
+// texts writes the texts of all sources: by reference, or by value where llbm has to have the contents themselves.
+func (in *inputs) texts(r *reading, g *graph.Graph) (texts, error) {
+	if err := r.wait(); err != nil {
+		return texts{}, err
+	}
 	in.wanted = wantedOf(g)
-	if !p.All && g.Canonical {
+	if g.Canonical && !r.isMarked() {
 		table := contents.NewTable()
 		written, err := in.write(func(one *input, to io.Writer) error {
-			for _, v := range one.vertices {
-				if p.Vertices[v] {
-					return writeValue(one, to, table)
-				}
+			if slices.ContainsFunc(one.vertices, func(v int) bool { return r.isByValue(&g.Vertices[v]) }) {
+				return writeValue(one, to, table)
 			}
 			return one.manifest.WriteByReference(to, table, in.note)
 		})

@@ -72,13 +72,7 @@ func (in *inputs) hasLinks() bool {
 	return false
 }
 
-// within returns a definition without what llbm does not take and the rewriting takes away, and whether there was any of it.
-func within(def *pb.Definition) (*pb.Definition, bool, error) {
-	isBeyond := false
-	made, err := graph.Rewrite(def, func(_ int, op *pb.Op) (bool, error) {
-		dropped := rules.Within(op)
-		isBeyond = isBeyond || dropped
-		return dropped, nil
-	})
-	return made, isBeyond, err
+// within returns a definition without what llbm does not take and the rewriting takes away.
+func within(def *pb.Definition) (*pb.Definition, error) {
+	return graph.Rewrite(def, func(_ int, op *pb.Op) (bool, error) { return rules.Within(op), nil })
 }

@@ -5,7 +5,6 @@ import (
 
 	"github.com/moby/buildkit/solver/pb"
 	"llbm/daemon/internal/graph"
-	"llbm/daemon/internal/machine"
 	"llbm/daemon/internal/results"
 	"llbm/daemon/internal/rules"
 	"llbm/daemon/internal/tree"
@@ -91,8 +90,8 @@ func baseOf(op *pb.FileOp, inputs, output int) int64 {
 }
 
 // layers returns the layers that BuildKit makes of a result. If they do not make the result, a warning says so, and there are none.
-func (s *Solver) layers(run *machine.Run, sent *pb.Definition, p *progress, t tree.Tree) ([]results.Layer, error) {
-	g, err := graph.Load(sent, sent)
+func (s *Solver) layers(run *session, p *progress, t tree.Tree) ([]results.Layer, error) {
+	g, err := graph.Load(p.sent, p.sent)
 	if err != nil {
 		return nil, nil // what was sent can't be read by itself
 	}
@@ -131,14 +130,14 @@ func (s *Solver) layers(run *machine.Run, sent *pb.Definition, p *progress, t tr
 }
 
 // treeAt returns the tree at a place once the run has ended, or the empty one where the definition that ran has not the vertex.
-func (s *Solver) treeAt(run *machine.Run, p *progress, seen map[place]tree.Tree, at place) (tree.Tree, error) {
+func (s *Solver) treeAt(run *session, p *progress, seen map[place]tree.Tree, at place) (tree.Tree, error) {
 	if t, ok := seen[at]; ok {
 		return t, nil
 	}
 	t := tree.Empty()
 	if v, ok := p.g.Find(at.row); ok {
 		var err error
-		if t, err = run.Tree(v, at.output); err != nil {
+		if t, err = run.tree(v, at.output); err != nil {
 			return nil, err
 		}
 	}

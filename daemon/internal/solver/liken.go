@@ -30,17 +30,17 @@ func (s *Solver) rewrites(g *graph.Graph, p *progress) bool {
 // liken returns the definition that is run, with its graph. If the comparison rewrote it, that is what it made by the trees of the
 // sources. If it could not, it is rewritten as far as it does not depend on trees.
 func (s *Solver) liken(
-	checks *checks, c *comparing, def, sent *pb.Definition, g *graph.Graph, p *progress,
+	ctx context.Context, c *comparing, def, sent *pb.Definition, g *graph.Graph, p *progress,
 ) (*pb.Definition, *graph.Graph, error) {
 	if s.Literal || !g.Canonical {
 		return def, g, nil
 	}
-	made, rows, parts, err := c.definition(checks.ctx, def)
-	if err != nil || made == def && !checks.isBeyond {
+	made, rows, parts, err := c.definition(ctx, def)
+	if err != nil || made == def {
 		return def, g, err
 	}
-	if g, err = checks.load(made, sent, parts...); err != nil {
-		return nil, nil, err
+	if g, err = graph.Read(made, sent, parts...); err != nil {
+		return nil, nil, status.Errorf(codes.Internal, "%v", err)
 	}
 	p.change(g)
 	p.rows = rows

@@ -13,8 +13,8 @@ import (
 	"llbm/daemon/internal/graph"
 	"llbm/daemon/internal/machine"
 	"llbm/daemon/internal/messages"
-	"llbm/daemon/internal/plan"
 	"llbm/daemon/internal/rewriting"
+	"llbm/daemon/internal/standins"
 )
 
 // often is how often a transfer's progress is shown.
@@ -109,7 +109,7 @@ func (p *progress) event(e machine.Event) (int, bool) {
 
 // command shows a command that ran, with its status if it is not 0.
 func (p *progress) command(v int, ran *machine.Ran) {
-	calls := plan.Calls(p.g.Vertices[v].Op)
+	calls := standins.Calls(p.g.Vertices[v].Op.GetExec())
 	if ran.Command >= len(calls) {
 		return
 	}

@@ -73,9 +73,8 @@ func (s *Solver) Lazily(b *builds.Build, id string, def *pb.Definition, policies
 	return results.Lazily(id, def, func() (*results.Result, error) { return s.Solve(b.Context, b, def, policies) })
 }
 
-// Solve runs a definition of a build. What the result holds is given up when the build ends.
-//
-// llbm shows each definition while it is worked on. A refusal ends the work, and nothing is returned before llbm has shown all.
+// Solve runs a definition of a build. What the result holds is given up when the build ends. Of a definition that llbm refuses its
+// refusal is the error, whatever else is wrong.
 func (s *Solver) Solve(ctx context.Context, b *builds.Build, sent *pb.Definition, policies []*spb.Policy) (*results.Result, error) {
 	if IsEmpty(sent) {
 		return &results.Result{Tree: tree.Empty(), Def: sent}, nil
@@ -96,17 +95,13 @@ func (s *Solver) Solve(ctx context.Context, b *builds.Build, sent *pb.Definition
 		return nil, err
 	}
 	defer from.images.close()
-	c := s.checks(ctx)
-	result, err := s.work(c, b, def, sent, from)
-	if refused := c.wait(); refused != nil {
-		err = refused
-	}
-	if result != nil {
-		b.OnEnd(result.Contents.Close)
-	}
+	r := s.reading(ctx, sent)
+	defer r.cancel()
+	result, err := s.work(r, b, def, from)
 	if err != nil {
-		return nil, err
+		return nil, r.ended(err)
 	}
+	b.OnEnd(result.Contents.Close)
 	result.Def = sent
 	return result, nil
 }
@@ -118,39 +113,40 @@ type replaced struct {
 }
 
 // work gathers the sources of a definition, rewrites it if it is to be run as BuildKit would, and runs it.
-func (s *Solver) work(c *checks, b *builds.Build, def, sent *pb.Definition, from *replaced) (*results.Result, error) {
-	g, err := c.loadWithin(def, sent)
+func (s *Solver) work(r *reading, b *builds.Build, def *pb.Definition, from *replaced) (*results.Result, error) {
+	g, err := r.load(def)
 	if err != nil {
 		return nil, err
 	}
 	b.AddSteps(len(g.Vertices))
 	p := newProgress(b, g)
-	s.note(sent, g, p)
+	p.sent = r.sent
+	s.note(r.sent, g, p)
 	p.show(from.standIns)
 	if !s.Literal {
 		if err := refuse(g); err != nil {
 			return nil, err
 		}
 	}
-	in, err := s.gather(c.ctx, b, g, p, from.images)
+	in, err := s.gather(r.ctx, b, g, p, from.images)
 	if err != nil {
 		return nil, err
 	}
 	defer in.close()
-	if def, g, err = in.named(def, sent, g, p); err != nil {
+	if def, g, err = in.named(def, r.sent, g, p); err != nil {
 		return nil, err
 	}
-	return s.onTexts(c, b, def, sent, g, in, p)
+	return s.onTexts(r, b, def, g, in, p)
 }
 
 // onTexts runs a definition on the texts of its sources, and returns the result with its contents.
-func (s *Solver) onTexts(c *checks, b *builds.Build, def, sent *pb.Definition, g *graph.Graph, in *inputs, p *progress) (*results.Result, error) {
-	texts, err := in.texts(g)
+func (s *Solver) onTexts(r *reading, b *builds.Build, def *pb.Definition, g *graph.Graph, in *inputs, p *progress) (*results.Result, error) {
+	texts, err := in.texts(r, g)
 	defer texts.close()
 	if err != nil {
 		return nil, err
 	}
-	result, err := s.run(c, b, def, sent, g, in, texts, p)
+	result, err := s.run(r, b, def, g, in, texts, p)
 	if err != nil {
 		texts.table.Close()
 		return nil, err
@@ -161,23 +157,19 @@ func (s *Solver) onTexts(c *checks, b *builds.Build, def, sent *pb.Definition, g
 
 // run runs a definition in a session of llbm, and returns the result's tree. What BuildKit would make is compared beside it.
 func (s *Solver) run(
-	checks *checks, b *builds.Build, def, sent *pb.Definition, g *graph.Graph, in *inputs, texts texts, p *progress,
+	r *reading, b *builds.Build, def *pb.Definition, g *graph.Graph, in *inputs, texts texts, p *progress,
 ) (*results.Result, error) {
-	c := s.compare(checks.ctx, def, g, in, texts, s.rewrites(g, p), p)
+	c := s.compare(r.ctx, def, g, in, texts, s.rewrites(g, p), p)
 	defer c.stop()
-	def, g, err := s.liken(checks, c, def, sent, g, p)
+	def, g, err := s.liken(r.ctx, c, def, r.sent, g, p)
 	if err != nil {
 		return nil, err
 	}
-	p.sent = sent
-	result, record, err := s.session(checks.ctx, b, g, def, in.given(g, texts.sources), p, c)
+	result, record, err := s.session(r, b, def, g, in.given(g, texts.sources), p, c)
 	if s.Kept != nil {
 		s.keep(b, def, record, in, err)
 	}
-	if err != nil {
-		return nil, err
-	}
-	return result, nil
+	return result, err
 }
 
 // entriesOf returns a file with what llbm reads of a definition.
@@ -197,19 +189,23 @@ func entriesOf(def *pb.Definition) (*os.File, error) {
 	return file, nil
 }
 
-// session does the events that llbm chooses, up to the end or to the first vertex that fails. The record is returned if it
-// is kept.
+// session runs a definition in a session. The record is returned if it is kept.
 func (s *Solver) session(
-	ctx context.Context, b *builds.Build, g *graph.Graph, def *pb.Definition, texts []machine.Source, p *progress, c *comparing,
+	r *reading, b *builds.Build, def *pb.Definition, g *graph.Graph, texts []machine.Source, p *progress, c *comparing,
 ) (*results.Result, []byte, error) {
-	run, end, err := s.openSession(ctx, b, def, texts)
+	one, end, err := s.open(r, b, def, g, texts)
 	if err != nil {
 		return nil, nil, err
 	}
 	defer end()
+	return s.events(one, p, c)
+}
+
+// events does the events that llbm chooses, up to the end or to the first vertex that fails.
+func (s *Solver) events(one *session, p *progress, c *comparing) (*results.Result, []byte, error) {
 	var record bytes.Buffer
 	for {
-		event, more, err := run.Next()
+		event, more, err := one.next()
 		if err != nil {
 			p.stopped(err)
 			return nil, record.Bytes(), err
@@ -221,17 +217,17 @@ func (s *Solver) session(
 			record.WriteString(event.Line + "\n")
 		}
 		if v, failed := p.event(event); failed {
-			err := p.failed(v, s.failure(run, p, v, event))
-			c.end(run, g)
+			err := p.failed(v, s.failure(one, p, v, event))
+			c.end(one)
 			if c.followed != nil {
 				err = c.followed
 			}
 			return nil, record.Bytes(), err
 		}
 	}
-	result, err := s.result(run, g, p)
+	result, err := s.result(one, p)
 	if err == nil {
-		c.end(run, g)
+		c.end(one)
 		if err = c.followed; err == nil {
 			err = c.refusal
 		}
@@ -239,39 +235,14 @@ func (s *Solver) session(
 	return result, record.Bytes(), err
 }
 
-// result returns the result of a run that has ended, with the layers of BuildKit if they are asked for.
-func (s *Solver) result(run *machine.Run, g *graph.Graph, p *progress) (*results.Result, error) {
-	t, err := run.Tree(g.Result, g.Output)
+// result returns the result of a session that has ended, with the layers of BuildKit if they are asked for.
+func (s *Solver) result(one *session, p *progress) (*results.Result, error) {
+	t, err := one.result()
 	if err != nil || !p.b.Layers {
 		return &results.Result{Tree: t}, err
 	}
-	layers, err := s.layers(run, p.sent, p, t)
+	layers, err := s.layers(one, p, t)
 	return &results.Result{Tree: t, Layers: layers}, err
-}
-
-// openSession begins a session once one more process of the program may run. The caller has to end it by the function that it returns.
-func (s *Solver) openSession(ctx context.Context, b *builds.Build, def *pb.Definition, texts []machine.Source) (*machine.Run, func(), error) {
-	file, err := entriesOf(def)
-	if err != nil {
-		return nil, nil, err
-	}
-	defer file.Close()
-	leave, err := s.slot(ctx)
-	if err != nil {
-		return nil, nil, err
-	}
-	run, err := s.Program.Step(ctx, file, texts, s.Workers, &b.Written)
-	if err != nil {
-		leave()
-		return nil, nil, err
-	}
-	// Nobody waits for the end of a process that has said all.
-	return run, func() {
-		go func() {
-			run.Stop()
-			leave()
-		}()
-	}, nil
 }
 
 // keep keeps a definition, its run and its sources. A source that is too long for a text by value has tokens.

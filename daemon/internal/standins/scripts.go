@@ -5,6 +5,8 @@ import (
 	"regexp"
 	"slices"
 	"strings"
+
+	"github.com/moby/buildkit/solver/pb"
 )
 
 // Applets are the names of llbm's commands, in the order of docs/FORMATS.md.
@@ -46,14 +48,33 @@ type Fault struct {
 	Place  int
 }
 
+// text returns the text of a script, if words are a shell's with one.
+func text(args []string) (string, bool) {
+	if len(args) == 3 && args[0] == "/bin/sh" && args[1] == "-c" {
+		return args[2], true
+	}
+	return "", false
+}
+
+// Calls returns the calls of an execution's script, each with its words.
+func Calls(exec *pb.ExecOp) [][]string {
+	if exec.GetMeta() == nil {
+		return nil
+	}
+	if text, ok := text(exec.Meta.Args); ok {
+		return callsIn(text)
+	}
+	return [][]string{exec.Meta.Args}
+}
+
 // FaultOf returns the first fault of an execution's words, or nil if they are a script of llbm.
 func FaultOf(args []string) *Fault {
 	calls := [][]string{args}
-	if len(args) == 3 && args[0] == "/bin/sh" && args[1] == "-c" {
-		if place := badPlace(args[2]); place >= 0 {
+	if text, ok := text(args); ok {
+		if place := badPlace(text); place >= 0 {
 			return &Fault{Number: 73, Place: place}
 		}
-		calls = callsIn(args[2])
+		calls = callsIn(text)
 	}
 	for i, call := range calls {
 		name := ""
@@ -101,10 +122,12 @@ func badPlace(text string) int {
 // callsIn returns the calls of a text.
 func callsIn(text string) [][]string {
 	calls := [][]string{nil}
-	for _, word := range strings.Fields(text) {
-		if slices.Contains(separates, word) {
+	for _, word := range strings.Split(text, " ") {
+		switch {
+		case word == "":
+		case slices.Contains(separates, word):
 			calls = append(calls, nil)
-		} else {
+		default:
 			calls[len(calls)-1] = append(calls[len(calls)-1], word)
 		}
 	}

@@ -4,6 +4,7 @@ import (
 	"context"
 	"os"
 	"path/filepath"
+	"reflect"
 	"strings"
 	"testing"
 
@@ -72,4 +73,18 @@ func definition(t *testing.T, args []string) []byte {
 		t.Fatal(err)
 	}
 	return data
+}
+
+func TestCallsAreWordsBetweenSeparators(t *testing.T) {
+	of := func(args ...string) [][]string { return Calls(&pb.ExecOp{Meta: &pb.Meta{Args: args}}) }
+	want := [][]string{{"mkdir", "-p", "a"}, {"write", "a/b", "x"}, {"false"}, {"true"}}
+	if got := of("/bin/sh", "-c", " mkdir  -p a && write a/b x ; false || true "); !reflect.DeepEqual(got, want) {
+		t.Error(got)
+	}
+	if got := of("write", "/a", "b && c"); !reflect.DeepEqual(got, [][]string{{"write", "/a", "b && c"}}) {
+		t.Error(got)
+	}
+	if got := Calls(&pb.ExecOp{}); got != nil {
+		t.Error(got)
+	}
 }
