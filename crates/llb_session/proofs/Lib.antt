@@ -8,3 +8,4 @@ pub mod ConversationEnds
 pub mod GoLines
 pub mod ConsecutiveTexts
 pub mod GraphLines
+pub mod MountsNow
