@@ -14,10 +14,12 @@ without its root, or a failure.
 
 Out: on standard output a line for each definition that ends otherwise without a warning that names a rule, or otherwise
 than the model says (not counting those with an execution), and for each Dockerfile that ends otherwise at all, but for
-those that llbmd refuses by a link, with the seed that makes it; then the counts. --keep FOLDER stores such definitions,
-Dockerfiles and their trees. With --start the last line is `N passed, M failed, K skipped`; if the packages are not
-there, or the daemon can't be built, can't be run here or does not copy and merge, since the host forbids mounts for
-example, or llbmd is not there, a line says so, and that is all: one skipped.
+those that llbmd refuses by a link, with the seed that makes it; then the counts, among them how many Dockerfiles ended
+well on both, and how many failed on both, by BuildKit's reason. What fails on both shows little: if fewer than a third
+of the Dockerfiles end well on both, a line says so, and counts as a failure. --keep FOLDER stores the cases that have a
+line, and their trees. With --start the last line is `N passed, M failed, K skipped`; if the packages are not there, or
+the daemon can't be built, can't be run here or does not copy and merge, since the host forbids mounts for example, or
+llbmd is not there, a line says so, and that is all: one skipped.
 
 Exit status: 0 there was none, or all is skipped; 1 there was one; 2 the command line is refused, or the daemon does not
 answer; 3 a read or a write failed.
@@ -30,6 +32,7 @@ import contextlib
 import itertools
 import os
 import pathlib
+import re
 import shutil
 import subprocess
 import sys
@@ -61,6 +64,11 @@ NAMED = ("rule", "other")
 AT_ONCE = 4
 # What a refusal of llbmd has that names a link.
 LINKED = "which llbm does not follow"
+WELL = "Dockerfiles that end well on both"
+# One Dockerfile of so many has to end well on both; of the random ones about half do.
+ONE_OF = 3
+# What BuildKit's reasons name, which differs from one Dockerfile to the next.
+NAMED_THERE = re.compile(r'"[^"]*"|/\S*|\b[0-9a-z]{25}::[0-9a-z]{25}|\d+')
 
 Lines = list[bytes] | None
 
@@ -158,6 +166,7 @@ class Comparison:
         if there.tree is not None and here.tree is None and LINKED in here.said:
             return Verdict(["Dockerfiles", "Dockerfiles that are refused by a link"], [])
         verdict = self.verdict(case.name, there, here, "Dockerfiles")
+        verdict.counts.extend(ended(there, here))
         if lines_of(there.tree) == lines_of(here.tree) or verdict.lines:
             return verdict
         return verdict._replace(lines=[f"{case.name}: ends otherwise: {', '.join(sorted(self.named(here)))}"])
@@ -196,6 +205,22 @@ class Comparison:
         return Verdict(counts, lines)
 
 
+def ended(there: Ran, here: Ran) -> list[str]:
+    """Returns what is counted of a Dockerfile that ended well on both, or that failed on both."""
+    if (there.tree is None) != (here.tree is None):
+        return []
+    return [WELL if there.tree is not None else f"Dockerfiles that fail on both: {NAMED_THERE.sub('..', there.said)}"]
+
+
+def has_too_few(counts: collections.Counter[str]) -> bool:
+    """Returns whether too few Dockerfiles ended well on both to show anything, and prints it."""
+    all_of, well = counts["Dockerfiles"], counts[WELL]
+    if well * ONE_OF >= all_of:
+        return False
+    print(f"of {all_of:,} Dockerfiles {well:,} ended well on both: too few to show that the daemons agree", flush=True)
+    return True
+
+
 def keep(folder: str | None, case: Case) -> None:
     """Stores a case and its trees in a new folder, if a folder is given."""
     if folder is None:
@@ -221,12 +246,12 @@ def verdicts(one: Comparison, options: argparse.Namespace) -> Iterator[tuple[Cas
 def compare_all(theirs: Daemon, ours: Daemon, options: argparse.Namespace) -> tuple[int, int]:
     """Compares all cases, prints what was found, and returns how many had none, and how many had something."""
     counts: collections.Counter[str] = collections.Counter()
-    cases, wrong = 0, 0
+    cases, found = 0, 0
     try:
         for case, verdict in verdicts(Comparison(theirs, ours), options):
             counts.update(verdict.counts)
             cases += not verdict.counts[0].startswith("left out")
-            wrong += bool(verdict.lines)
+            found += bool(verdict.lines)
             for line in verdict.lines:
                 print(common.printable(line), flush=True)
             if verdict.lines:
@@ -235,7 +260,7 @@ def compare_all(theirs: Daemon, ours: Daemon, options: argparse.Namespace) -> tu
         raise Refused(f"a daemon died: {fault}") from fault
     for what in sorted(counts):
         print(f"{what}: {counts[what]:,}")
-    return cases - wrong, wrong
+    return cases - found, found + has_too_few(counts)
 
 
 @contextlib.contextmanager

@@ -8,6 +8,7 @@ import re
 import subprocess
 import tarfile
 import tempfile
+import time
 from collections.abc import Callable
 from typing import NamedTuple
 
@@ -26,6 +27,8 @@ WARNED = re.compile(r"^#\d+ WARN: .*: ([A-Z]\w+(?:, [A-Z]\w+)*)(?:, and \d+ more
 FRONTEND = "dockerfile.v0"
 # In these trees a symbolic link is a file whose content begins so; then comes its target, in hexadecimal.
 LINK = b"link-"
+# Times in nanoseconds, none of them of a whole second: BuildKit's merges compare contents of such times.
+MOMENTS = itertools.count(time.time_ns() | 1, 2)
 
 
 class DaemonLost(Exception):
@@ -51,7 +54,12 @@ def link_to(target: str) -> Entry:
 
 
 def write_tree(tree: Tree, place: bytes) -> None:
-    """Writes a tree at a path where nothing is; it needs the right to change owners."""
+    """Writes a tree at a path where nothing is; it needs the right to change owners.
+
+    All that it writes has one time, which no other tree has: BuildKit keeps a source by the name of its directory, and
+    a file of the same size and time is not read again.
+    """
+    moment = next(MOMENTS)
     for path in sorted(tree):
         at = b"/".join((place, *path))
         content = tree[path].content
@@ -67,6 +75,7 @@ def write_tree(tree: Tree, place: bytes) -> None:
             os.chown(at, tree[path].user, tree[path].group, follow_symlinks=False)
         if not (tree[path].content or b"").startswith(LINK):
             os.chmod(at, tree[path].mode)
+        os.utime(at, ns=(moment, moment), follow_symlinks=False)
 
 
 def tree_in(archive: str) -> Tree:
@@ -117,12 +126,10 @@ class Daemon:
         file: Tree = {(): maps.ROOT, (b"Dockerfile",): Entry(0o644, 0, 0, dockerfile.hex().encode("ascii"))}
 
         def words_of(places: dict[str, str]) -> tuple[bytes, list[str]]:
-            # What BuildKit keeps of a directory has its name, so each build has names of its own.
-            number = next(self.numbers)
-            keys = {f"{name}key": f"{name}-{os.getpid()}-{number}" for name in places}
-            named = {keys[f"{name}key"]: place for name, place in places.items()}
-            options = [word for key, value in keys.items() for word in ("--opt", f"{key}={value}")]
-            return b"", ["--frontend", FRONTEND, *options, *local_words(named)]
+            # The frontend takes another name for the directory of the Dockerfile; that of the context has one name.
+            name = f"dockerfile-{os.getpid()}-{next(self.numbers)}"
+            named = {"context": places["context"], name: places["dockerfile"]}
+            return b"", ["--frontend", FRONTEND, "--opt", f"dockerfilekey={name}", *local_words(named)]
 
         return self.again({"context": context, "dockerfile": file}, words_of)
 

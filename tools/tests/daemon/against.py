@@ -1,6 +1,7 @@
 """Tests of `against-buildkit` with daemons that the test plays, and with real ones where an address is given."""
 
 import argparse
+import collections
 import contextlib
 import io
 import os
@@ -75,15 +76,24 @@ class Verdicts(unittest.TestCase):
         return one.compare(case._replace(sources={"context": maps.empty()}, is_dockerfile=is_dockerfile))
 
     def test_what_ends_alike_has_no_line(self):
-        for ran in (runs.Ran(FILE), runs.Ran(None, "it failed")):
-            self.assertEqual(self.verdict(ran, ran, True), against_buildkit.Verdict(["Dockerfiles"], []))
+        alike = ["Dockerfiles", against_buildkit.WELL]
+        self.assertEqual(self.verdict(runs.Ran(FILE), runs.Ran(FILE), True), against_buildkit.Verdict(alike, []))
         counts, lines = self.verdict(runs.Ran(FILE), runs.Ran(FILE, "", frozenset({"MkfileOver", "Nothing"})), True)
-        self.assertEqual((counts, lines), (["Dockerfiles", "Dockerfiles that end alike, with a warning"], []))
+        alike.insert(1, "Dockerfiles that end alike, with a warning")
+        self.assertEqual((counts, lines), (alike, []))
+
+    def test_what_fails_on_both_is_counted_by_its_reason(self):
+        ref = "u1enl4q9gq8v2gf2sgr4i01bd::kme2mjw3k8v5lh2fpf1u5g8fh"
+        for said in (f'checksum of ref {ref}: "/a": not found', f'checksum of ref {ref[::-1]}: "/b/c": not found'):
+            counts, lines = self.verdict(runs.Ran(None, said), runs.Ran(None, "another reason"), True)
+            reason = "Dockerfiles that fail on both: checksum of ref ..: ..: not found"
+            self.assertEqual((counts, lines), (["Dockerfiles", reason], []))
 
     def test_a_difference_without_a_warning_has_a_line(self):
         for here, said in [(runs.Ran(OTHER), "another tree"), (runs.Ran(None, "why"), "why")]:
             counts, lines = self.verdict(runs.Ran(FILE), here, True)
-            self.assertEqual(counts[1:], ["Dockerfiles otherwise", "Dockerfiles otherwise without a warning"])
+            self.assertEqual(counts[1:3], ["Dockerfiles otherwise", "Dockerfiles otherwise without a warning"])
+            self.assertEqual(counts[3:], [against_buildkit.WELL] * (here.tree is not None))
             self.assertEqual(lines, [f"Mode: mkdir with mode 1777: ends otherwise without a warning: {said}"])
 
     def test_a_difference_with_a_warning_has_a_line_for_a_dockerfile_alone(self):
@@ -138,6 +148,21 @@ class Against(unittest.TestCase):
         # Beside the random ones there are the Dockerfiles of projects, the same ones each time.
         self.assertEqual(many["Dockerfiles"] - few["Dockerfiles"], COUNT)
         self.assertGreater(many["definitions"], few["definitions"])
+
+    def test_dockerfiles_that_all_fail_on_both_are_a_failure(self):
+        failed = Played(runs.Ran(None, "context: no access allowed to dir"))
+        with mock.patch.object(started_daemon, "check", lambda _: None):
+            status, lines = self.compared(failed, failed)
+        count = COUNT + len(project_dockerfiles.PROJECTS)
+        self.assertEqual(status, 1)
+        self.assertIn(f"of {count} Dockerfiles 0 ended well on both: too few to show that the daemons agree", lines)
+        self.assertIn(f"Dockerfiles that fail on both: context: no access allowed to dir: {count}", lines)
+
+    def test_a_third_of_the_dockerfiles_has_to_end_well(self):
+        for well, is_enough in [(2, False), (3, True), (9, True)]:
+            counts = collections.Counter({"Dockerfiles": 9, against_buildkit.WELL: well})
+            self.assertEqual(called(against_buildkit.has_too_few, counts)[0], not is_enough, well)
+        self.assertFalse(called(against_buildkit.has_too_few, collections.Counter())[0])
 
     def test_those_with_a_finding_are_named_and_stored(self):
         with tempfile.TemporaryDirectory() as folder, mock.patch.object(started_daemon, "check", lambda _: None):
@@ -201,14 +226,30 @@ class Runs(unittest.TestCase):
         )
         self.assertEqual(runs.names_in(text), {"ContentsTarget", "ParentOwner", "MergeLayers"})
 
-    def test_each_dockerfile_has_directories_of_names_of_its_own(self):
+    def test_a_dockerfile_has_the_directories_that_its_frontend_asks_for(self):
         one, seen = runs.Daemon("buildctl", "unix:///none"), []
-        one.built = lambda data, words, archive: seen.append((data, words)) or runs.Ran(None)
+        one.built = lambda data, words, archive: seen.append(words) or runs.Ran(None)
         for _ in range(2):
             one.run_dockerfile(b"FROM scratch\n", maps.empty())
-        names = [re.findall(r"(?:context|dockerfile)-[0-9]+-[0-9]+", " ".join(words)) for _, words in seen]
-        self.assertEqual([len(set(found)) for found in names], [2, 2])
-        self.assertFalse(set(names[0]) & set(names[1]))
+        given = []
+        for words in seen:
+            options = dict(word.split("=") for flag, word in zip(words, words[1:]) if flag == "--opt")
+            local = dict(word.split("=") for flag, word in zip(words, words[1:]) if flag == "--local")
+            # The frontend reads the context by this name alone, whatever its option `contextkey` says.
+            self.assertEqual((set(options), set(local)), ({"dockerfilekey"}, {"context", options["dockerfilekey"]}))
+            given.append(options["dockerfilekey"])
+        self.assertNotEqual(*given)
+
+    def test_no_two_trees_have_files_of_one_time(self):
+        with tempfile.TemporaryDirectory() as folder:
+            times = []
+            for place in ("one", "two"):
+                runs.write_tree(FILE, os.fsencode(f"{folder}/{place}"))
+                found = {os.stat(f"{folder}/{place}{name}").st_mtime_ns for name in ("", "/f")}
+                self.assertEqual(len(found), 1)
+                times += found
+        self.assertNotEqual(*times)
+        self.assertTrue(all(time % 1_000_000_000 for time in times))
 
     def test_a_result_is_compared_without_its_root(self):
         tree = {(): maps.ROOT, (b"d",): maps.Entry(0o1750, 7, 8), (b"d", b"f"): maps.Entry(0o4755, 0, 9, b"6162")}
