@@ -2,6 +2,7 @@
 //! which of the vertex's actions write the byte 255.
 
 ghost use Rattle.std.specs.Prelude.{◌≡◌, ◌++◌, false, Ok, IfOk, string_bytes, slice_index_or};
+ghost use Rattle.std.specs.List.{flat_map, enumerate_from};
 ghost use Rattle.llb_loader.specs.Rules.{kind_actions};
 ghost use Rattle.llb_commands.specs.AssemblyParts.{EndsIn};
 ghost use Rattle.llb_commands.specs.GraphText.{Gives};
@@ -69,17 +70,25 @@ fn push_mark(line: &mut String, number: usize, action: &Action) -> Result<(), Ou
     Ok(())
 }
 
+// Appends the numbers of the actions that write the byte 255 to a line.
+fn push_numbers(line: &mut String, actions: &[Action]) -> Result<(), OutputFault>
+    ensures { Gives (λ _. string_bytes line.new) result
+        (Ok (string_bytes line.old ++ flat_map mark_text (enumerate_from 0 actions.now))) }
+{
+    for (number, action) in actions.iter().enumerate() {
+        push_mark(line, number, action)?;
+    }
+    Ok(())
+}
+
 // Appends the numbers of the actions that write the byte 255 to a line; a dash if there are none.
 fn push_marks(line: &mut String, actions: &[Action]) -> Result<(), OutputFault>
     ensures { Gives (λ _. string_bytes line.new) result (Ok (string_bytes line.old ++ marks_text actions.now)) }
 {
-    if !bodies_have_mark(actions) {
-        line.push_str(" -")?;
-        return Ok(());
+    if bodies_have_mark(actions) {
+        return push_numbers(line, actions);
     }
-    for (number, action) in actions.iter().enumerate() {
-        push_mark(line, number, action)?;
-    }
+    line.push_str(" -")?;
     Ok(())
 }
 

@@ -241,12 +241,12 @@ const SHOWN: &str =
     "0 file steps 1 outputs 1 inputs -\n1 file steps 1 outputs 1 inputs 0.0\nresult 1.0\n";
 
 const PLANNED: &str =
-    "0 sha256:e00d65597895790f7dc26dbf724a411bd83c8e15881ab3eea18ea75095782dab reads token cause - \
+    "0 sha256:17d299b0a332287e9d0f57a4a7f23e97dbf1203cd154f7157e30471c769cda1b reads token cause - \
     marks -\nmarks no\n";
 
 const MATCHED: &str =
-    "0 sha256:e00d65597895790f7dc26dbf724a411bd83c8e15881ab3eea18ea75095782dab matches 0 \
-    sha256:e00d65597895790f7dc26dbf724a411bd83c8e15881ab3eea18ea75095782dab\n";
+    "0 sha256:17d299b0a332287e9d0f57a4a7f23e97dbf1203cd154f7157e30471c769cda1b matches 0 \
+    sha256:17d299b0a332287e9d0f57a4a7f23e97dbf1203cd154f7157e30471c769cda1b\n";
 
 const A_MERGE: &str = "raw 320d0a0b08ffffffffffffffffff01520e0a05616d64363412056c696e75785a00";
 
