@@ -7,7 +7,6 @@ import (
 	"slices"
 	"strings"
 
-	"github.com/moby/buildkit/solver/pb"
 	"llbm/daemon/internal/graph"
 	"llbm/daemon/internal/rewriting"
 	"llbm/daemon/internal/rules"
@@ -37,7 +36,7 @@ func printRewritten(ctx context.Context, given []string, in io.Reader, out io.Wr
 	}
 	var trees rewriting.Trees
 	if len(given) > 0 {
-		if trees, err = treesOf(ctx, data, given); err != nil {
+		if trees, err = treesOf(ctx, given); err != nil {
 			return err
 		}
 	}
@@ -63,16 +62,13 @@ func printRewritten(ctx context.Context, given []string, in io.Reader, out io.Wr
 	return printLines(out, []definition{{new}})
 }
 
-// A localTrees has the trees of the local sources of a definition, by vertex.
-type localTrees struct {
-	sources []*pb.SourceOp
-	trees   map[string]*rules.Node
-}
+// A localTrees has the trees of local sources by name.
+type localTrees map[string]*rules.Node
 
 // Source returns the tree of a source as it is given, and as BuildKit's client sends it.
-func (l *localTrees) Source(ctx context.Context, v int) (here, there *rules.Node, err error) {
-	source := l.sources[v]
-	here = l.trees[strings.TrimPrefix(source.GetIdentifier(), local)]
+func (l localTrees) Source(ctx context.Context, v *graph.Vertex) (here, there *rules.Node, err error) {
+	source := v.Op.GetSource()
+	here = l[strings.TrimPrefix(source.GetIdentifier(), local)]
 	if here == nil {
 		return nil, nil, nil
 	}
@@ -85,21 +81,15 @@ func (l *localTrees) Source(ctx context.Context, v int) (here, there *rules.Node
 const local = "local://"
 
 // treesOf reads the trees that words NAME=FILE name.
-func treesOf(ctx context.Context, data []byte, given []string) (*localTrees, error) {
-	_, g, err := graph.ReadBytes(data)
-	if err != nil {
-		return nil, refused{err}
-	}
-	l := &localTrees{trees: map[string]*rules.Node{}}
-	for v := range g.Vertices {
-		l.sources = append(l.sources, g.Vertices[v].Op.GetSource())
-	}
+func treesOf(ctx context.Context, given []string) (localTrees, error) {
+	l := localTrees{}
 	for _, word := range given {
 		name, path, ok := strings.Cut(word, "=")
 		if !ok || name == "" {
 			return nil, refuse("%q is not NAME=FILE", word)
 		}
-		if l.trees[name], err = readTree(ctx, path); err != nil {
+		var err error
+		if l[name], err = readTree(ctx, path); err != nil {
 			return nil, err
 		}
 	}

@@ -190,13 +190,38 @@ func linesOf(m Message) []rules.Line {
 	return m.Step.Lines
 }
 
+// Vertices have the numbers of who asks, if the request has them.
+func TestVerticesHaveTheNumbersOfTheRequest(t *testing.T) {
+	d := &definition{}
+	first, second := d.add(t, source("s")), d.add(t, source("t"))
+	last := d.add(t, file(1, mkfile("/a", 0o755, "2")), second)
+	merged := d.add(t, &pb.Op{Op: &pb.Op_Merge{Merge: &pb.MergeOp{Inputs: []*pb.MergeInput{{Input: 0}, {Input: 1}}}}}, last, first)
+	text := written(t, "s", []byte("d 0755 0 0 /\nf 0604 0 0 31 /a\n"))
+	request := &Request{Sent: written(t, "sent", d.bytes(t, merged)), Sources: map[string]string{"s": text, "t": text}}
+	for _, one := range []struct {
+		numbered []int
+		want     string
+	}{{nil, "vertex 1 action 0: "}, {[]int{0, 1, 2, 3}, "vertex 2 action 0: "}} {
+		request.Numbered = one.numbered
+		found, err := compared(t, request)
+		endOf(t, found, err)
+		if got := lines(found); len(got) == 0 || !strings.HasPrefix(got[0], one.want) {
+			t.Errorf("%v: %q", one.numbered, got)
+		}
+	}
+	request.Numbered = []int{1, 2, 0}
+	if _, err := compared(t, request); err == nil {
+		t.Error("the result has no number")
+	}
+}
+
 // What is run is made by the trees of the sources, and then nothing differs.
 func TestWhatRunsIsMadeByTheTrees(t *testing.T) {
 	d := &definition{}
 	last := d.add(t, file(1, mkfile("/a", 0o755, "2")), d.add(t, source("s")))
 	request := &Request{
 		Sent: written(t, "sent", d.bytes(t, last)), Rewrite: true, Received: true,
-		Vertices: map[int]string{0: written(t, "s", []byte("d 0755 0 0 /\nf 0604 0 0 31 /a\n"))},
+		Rows: map[int]string{0: written(t, "s", []byte("d 0755 0 0 /\nf 0604 0 0 31 /a\n"))},
 	}
 	found, err := compared(t, request)
 	endOf(t, found, err)

@@ -18,10 +18,11 @@ import (
 // A Request says what is compared.
 type Request struct {
 	Sent     string            `json:"sent"`               // the file of the definition as it was sent
+	Numbered []int             `json:"numbered,omitempty"` // the rows of its vertices by llbm's numbers, if these are to be the numbers here
 	Run      string            `json:"run,omitempty"`      // that of the definition that runs; it is the same one if this is absent
 	Rewrite  bool              `json:"rewrite,omitempty"`  // whether what runs is to be made, by the trees of the sources
 	Sources  map[string]string `json:"sources,omitempty"`  // the files of sources' trees by their names
-	Vertices map[int]string    `json:"vertices,omitempty"` // the same by vertices of the definition as it was sent
+	Rows     map[int]string    `json:"rows,omitempty"`     // the same by rows of the definition as it was sent
 	Links    map[int][]string  `json:"links,omitempty"`    // files of such sources that have other names, which are hard links
 	// Times are those of files of such sources; of those that are not there no other file has the size and the time.
 	Times    map[int]map[string]rules.Time `json:"times,omitempty"`

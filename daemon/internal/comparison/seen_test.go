@@ -26,7 +26,7 @@ func rm(path string) *pb.FileAction {
 func said(t *testing.T, d *definition, result int) string {
 	t.Helper()
 	text := written(t, "s", []byte("d 0755 0 0 /\nf 0604 0 0 31 /a\nf 0604 0 0 31 /b\nd 0755 0 0 /d\n"))
-	request := &Request{Sent: written(t, "sent", d.bytes(t, result)), Received: true, Vertices: map[int]string{0: text}, Links: map[int][]string{0: {"a", "b"}}}
+	request := &Request{Sent: written(t, "sent", d.bytes(t, result)), Received: true, Rows: map[int]string{0: text}, Links: map[int][]string{0: {"a", "b"}}}
 	found, err := compared(t, request, &Reply{Vertex: 2, Outputs: []string{text}}) // of the execution, where there is one
 	endOf(t, found, err)
 	return strings.Join(lines(found), "\n")
@@ -137,7 +137,7 @@ func TestAFileOfTheSameSizeAndTimeIsSaidAtAMerge(t *testing.T) {
 		last := one.make(d, d.add(t, source("s")))
 		text := written(t, "s", []byte("d 0755 0 0 /\nf 0644 0 0 31 /a\nf 0644 0 0 32 /b\nf 0644 0 0 3333 /c\n"))
 		request := &Request{
-			Sent: written(t, "sent", d.bytes(t, last)), Received: true, Vertices: map[int]string{0: text}, Times: map[int]map[string]rules.Time{0: one.times},
+			Sent: written(t, "sent", d.bytes(t, last)), Received: true, Rows: map[int]string{0: text}, Times: map[int]map[string]rules.Time{0: one.times},
 		}
 		found, err := compared(t, request)
 		endOf(t, found, err)

@@ -70,14 +70,22 @@ func Serve(ctx context.Context, talk *Talk) error {
 	if err != nil {
 		return err
 	}
-	if s.sent, err = graph.Read(sent, sent); err != nil {
+	if s.request.Numbered == nil {
+		s.sent, err = graph.Read(sent, sent)
+	} else {
+		s.sent, err = graph.ReadNumbered(sent, s.request.Numbered)
+	}
+	if err != nil {
 		return Refused{err}
 	}
 	run, err := s.toRun(sent)
 	if err != nil {
 		return err
 	}
-	if s.run, err = graph.Read(run, sent); err != nil {
+	if s.run = s.sent; run != sent {
+		s.run, err = graph.Read(run, sent)
+	}
+	if err != nil {
 		return Refused{err}
 	}
 	s.linked = s.hasLinks()
@@ -371,11 +379,11 @@ func (s *session) doParts(v int, made *rules.Compared) error {
 func nameOf(op *pb.Op) string { return strings.TrimPrefix(op.GetSource().GetIdentifier(), local) }
 
 // fileOf returns the file of a source's tree.
-func (s *session) fileOf(v int) (string, error) {
-	if file, ok := s.request.Vertices[v]; ok {
+func (s *session) fileOf(v *graph.Vertex) (string, error) {
+	if file, ok := s.request.Rows[v.Row]; ok {
 		return file, nil
 	}
-	name := nameOf(s.sent.Vertices[v].Op)
+	name := nameOf(v.Op)
 	if file, ok := s.request.Sources[name]; ok {
 		return file, nil
 	}
@@ -383,7 +391,7 @@ func (s *session) fileOf(v int) (string, error) {
 }
 
 // tree returns the tree of a source.
-func (s *session) tree(v int) (*rules.Node, error) {
+func (s *session) tree(v *graph.Vertex) (*rules.Node, error) {
 	file, err := s.fileOf(v)
 	if err != nil {
 		return nil, err
@@ -391,7 +399,7 @@ func (s *session) tree(v int) (*rules.Node, error) {
 	if t, ok := s.trees[file]; ok {
 		return t, nil
 	}
-	t, err := s.read(file, nil, s.request.Links[v], s.request.Times[v])
+	t, err := s.read(file, nil, s.request.Links[v.Row], s.request.Times[v.Row])
 	s.trees[file] = t
 	return t, err
 }
@@ -414,12 +422,12 @@ func (s *session) read(file string, near *rules.Node, linked []string, times map
 }
 
 // Source returns the tree of a source, as llbm gets it and as BuildKit has it.
-func (s *session) Source(ctx context.Context, v int) (here, there *rules.Node, err error) {
+func (s *session) Source(ctx context.Context, v *graph.Vertex) (here, there *rules.Node, err error) {
 	t, err := s.tree(v)
 	if err != nil || s.request.Received {
 		return t, t, err
 	}
-	there, err = rules.Sent(ctx, s.sent.Vertices[v].Op.GetSource(), t, rules.All)
+	there, err = rules.Sent(ctx, v.Op.GetSource(), t, rules.All)
 	if err != nil {
 		return t, nil, nil
 	}
@@ -431,12 +439,13 @@ func (s *session) source(v int) (*rules.Compared, error) {
 	if !s.states[v].needed {
 		return rules.Same(rules.Empty()), nil
 	}
-	t, err := s.tree(v)
+	it := &s.sent.Vertices[v]
+	t, err := s.tree(it)
 	if err != nil {
 		return nil, err
 	}
 	if s.request.Received {
 		return rules.Same(t), nil
 	}
-	return rules.CompareSources(s.ctx, s.sent.Vertices[v].Op.GetSource(), t)
+	return rules.CompareSources(s.ctx, it.Op.GetSource(), t)
 }

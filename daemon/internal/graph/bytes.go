@@ -68,7 +68,7 @@ func RewriteBytes(data []byte, changes map[int]Change) (new []byte, linked []int
 	}
 	names := map[string]string{}
 	for k, entry := range def.Def {
-		if err := w.write(k); err != nil {
+		if err := w.to(k); err != nil {
 			return nil, nil, err
 		}
 		names[digest.FromBytes(entry).String()] = digest.FromBytes(w.entries[k]).String()

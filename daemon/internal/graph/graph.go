@@ -3,11 +3,9 @@ package graph
 
 import (
 	"bytes"
-	"container/heap"
 	"errors"
 	"fmt"
 	"slices"
-	"sort"
 	"strings"
 
 	"github.com/moby/buildkit/solver/errdefs"
@@ -38,7 +36,8 @@ type Vertex struct {
 	Group  *pb.ProgressGroup
 }
 
-// A Graph is numbered as llbm numbers it (docs/FORMATS.md, "Loading").
+// A Graph has each vertex after those that its inputs name. llbm has its own numbers of them, which only a graph that was read by
+// these (ReadNumbered) has too.
 type Graph struct {
 	Vertices       []Vertex
 	Result, Output int
@@ -91,6 +90,16 @@ func (r *rows) inputs(k int) ([]int, error) {
 // Read reads the graph of a definition that llbm may not have seen, and refuses one whose ops name what they have not.
 func Read(def, sent *pb.Definition, parts ...int) (*Graph, error) {
 	g, err := Load(def, sent, parts...)
+	return checked(g, err)
+}
+
+// ReadNumbered reads the graph of a definition of which llbm has read the same, by the rows of its vertices.
+func ReadNumbered(def *pb.Definition, numbered []int) (*Graph, error) {
+	return checked(load(def, def, nil, func(r *rows) ([]int, error) { return r.checked(numbered) }))
+}
+
+// checked refuses a graph whose ops name what they have not.
+func checked(g *Graph, err error) (*Graph, error) {
 	if err != nil {
 		return nil, err
 	}
@@ -105,6 +114,11 @@ func Read(def, sent *pb.Definition, parts ...int) (*Graph, error) {
 // Load reads the graph of a definition. The client sent the other definition, from which the first was rewritten row by row;
 // it may be the same. Further entries, before the last one, are parts of some rows.
 func Load(def, sent *pb.Definition, parts ...int) (*Graph, error) {
+	return load(def, sent, parts, (*rows).order)
+}
+
+// load reads a graph, whose vertices have an order.
+func load(def, sent *pb.Definition, parts []int, ordered func(*rows) ([]int, error)) (*Graph, error) {
 	r, canonical, err := rowsOf(def)
 	if err != nil {
 		return nil, err
@@ -112,7 +126,7 @@ func Load(def, sent *pb.Definition, parts ...int) (*Graph, error) {
 	if len(r.ops) == 0 || len(sent.Def) != len(r.ops)-len(parts) {
 		return nil, fmt.Errorf("%d entries, and %d before", len(r.ops), len(sent.Def))
 	}
-	order, err := r.order()
+	order, err := ordered(r)
 	if err != nil {
 		return nil, err
 	}
@@ -185,59 +199,47 @@ func (r *rows) result() (row, output int, err error) {
 	return row, int(first.Index), nil
 }
 
-// order returns the rows that the result depends on, in the order of their vertex numbers: the least row comes first of those whose
-// inputs have come.
+// order returns the rows that the result depends on, each after those that it names.
 func (r *rows) order() ([]int, error) {
-	before, err := r.reached()
-	if err != nil {
-		return nil, err
-	}
-	users, waits, ready := map[int][]int{}, map[int]int{}, &least{}
-	for k, inputs := range before {
-		for _, b := range inputs {
-			users[b] = append(users[b], k)
-		}
-		if waits[k] = len(inputs); len(inputs) == 0 {
-			heap.Push(ready, k)
-		}
-	}
-	var order []int
-	for ready.Len() > 0 {
-		k := heap.Pop(ready).(int)
-		order = append(order, k)
-		for _, user := range users[k] {
-			if waits[user]--; waits[user] == 0 {
-				heap.Push(ready, user)
-			}
-		}
-	}
-	if len(order) != len(before) {
-		return nil, fmt.Errorf("a cycle")
-	}
-	return order, nil
-}
-
-// reached returns the rows that the result depends on, each with the rows that its inputs name, once each.
-func (r *rows) reached() (map[int][]int, error) {
 	result, _, err := r.result()
 	if err != nil {
 		return nil, err
 	}
-	found, todo := map[int][]int{}, []int{result}
-	for len(todo) > 0 {
-		k := todo[len(todo)-1]
-		if todo = todo[:len(todo)-1]; found[k] != nil {
-			continue
+	var order []int
+	w := newWalk(r, func(k int) error {
+		_, err := r.inputs(k)
+		order = append(order, k)
+		return err
+	})
+	return order, w.to(result)
+}
+
+// checked returns the rows of vertices by llbm's numbers, if each of them is after those that it names, and the result is one.
+func (r *rows) checked(numbered []int) ([]int, error) {
+	result, _, err := r.result()
+	if err != nil {
+		return nil, err
+	}
+	seen := map[int]bool{}
+	for _, k := range numbered {
+		if k < 0 || k >= len(r.ops) || seen[k] {
+			return nil, fmt.Errorf("row %d is no vertex", k)
 		}
 		inputs, err := r.inputs(k)
 		if err != nil {
 			return nil, err
 		}
-		todo = append(todo, inputs...)
-		slices.Sort(inputs)
-		found[k] = slices.Compact(inputs)
+		for _, row := range inputs {
+			if !seen[row] {
+				return nil, fmt.Errorf("entry %d is numbered before entry %d, which it names", k, row)
+			}
+		}
+		seen[k] = true
 	}
-	return found, nil
+	if !seen[result] {
+		return nil, fmt.Errorf("entry %d, the result, is not numbered", result)
+	}
+	return numbered, nil
 }
 
 // NameOf returns the client's name for an entry: its description, or the command of a Dockerfile.
@@ -322,16 +324,4 @@ func WrapRow(sent *pb.Definition, err error, more func(*pb.Op) string) error {
 		err = status.Error(st.Code(), messages.Text(fmt.Sprintf("%s (%s)%s", st.Message(), name, more(op))))
 	}
 	return located(sent, d, errdefs.WrapVertex(err, d))
-}
-
-// least hands out the least of its numbers.
-type least struct{ sort.IntSlice }
-
-func (l *least) Push(k any) { l.IntSlice = append(l.IntSlice, k.(int)) }
-
-func (l *least) Pop() any {
-	last := len(l.IntSlice) - 1
-	k := l.IntSlice[last]
-	l.IntSlice = l.IntSlice[:last]
-	return k
 }

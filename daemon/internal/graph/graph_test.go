@@ -49,7 +49,7 @@ func diamond(t *testing.T) *pb.Definition {
 	return &b.def
 }
 
-func TestVerticesAreNumberedAsLlbmShowsThem(t *testing.T) {
+func TestEachVertexIsAfterThoseThatItNames(t *testing.T) {
 	def := diamond(t)
 	g, err := Read(def, def)
 	if err != nil || !g.Canonical || g.Result != 4 || g.Output != 0 {
@@ -62,6 +62,30 @@ func TestVerticesAreNumberedAsLlbmShowsThem(t *testing.T) {
 	}
 	if g.Vertices[0].Name != "local://a" || g.Vertices[4].Name != "merge" {
 		t.Errorf("%+v", g.Vertices)
+	}
+}
+
+func TestVerticesCanHaveTheNumbersOfLlbm(t *testing.T) {
+	def := diamond(t)
+	g, err := ReadNumbered(def, []int{2, 0, 4, 3, 5})
+	if err != nil || g.Result != 4 {
+		t.Fatalf("%+v %v", g, err)
+	}
+	for v, want := range []int{2, 0, 4, 3, 5} {
+		if g.Vertices[v].Row != want {
+			t.Errorf("vertex %d is row %d", v, g.Vertices[v].Row)
+		}
+	}
+	if in := g.Vertices[4].Inputs; in[0] != 3 || in[1] != 2 {
+		t.Error(in)
+	}
+	for name, numbered := range map[string][]int{
+		"none": {}, "without the result": {0, 2, 3, 4}, "before what it names": {0, 3, 2, 4, 5}, "twice": {0, 0, 2, 3, 4, 5}, "no row": {0, 2, 3, 4, 5, 7},
+		"below 0": {-1, 0, 2, 3, 4, 5},
+	} {
+		if g, err := ReadNumbered(def, numbered); err == nil {
+			t.Errorf("%s: %+v", name, g)
+		}
 	}
 }
 

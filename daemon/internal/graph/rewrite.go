@@ -1,7 +1,6 @@
 package graph
 
 import (
-	"fmt"
 	"maps"
 
 	"github.com/moby/buildkit/solver/pb"
@@ -38,7 +37,7 @@ func (w *rewriter) definition(def *pb.Definition) (*pb.Definition, error) {
 		out.Source = &pb.Source{Locations: maps.Clone(def.Source.Locations), Infos: def.Source.Infos}
 	}
 	for k, entry := range def.Def {
-		if err := w.write(k); err != nil {
+		if err := w.to(k); err != nil {
 			return nil, err
 		}
 		out.Def = append(out.Def, w.entries[k])
@@ -57,71 +56,29 @@ func moveNames(def *pb.Definition, old, new digest.Digest) {
 	}
 }
 
-type state int
-
-const (
-	unseen state = iota
-	open
-	written
-)
-
 type rewriter struct {
-	rows    *rows
+	*walk
 	old     [][]byte
 	encode  func(row int, op *pb.Op) ([]byte, error)
 	changed map[int]bool
 	entries [][]byte
-	state   []state
 }
 
 func newRewriter(r *rows, old [][]byte, encode func(row int, op *pb.Op) ([]byte, error)) *rewriter {
-	count := len(r.ops)
-	return &rewriter{r, old, encode, map[int]bool{}, make([][]byte, count), make([]state, count)}
+	w := &rewriter{old: old, encode: encode, changed: map[int]bool{}, entries: make([][]byte, len(r.ops))}
+	w.walk = newWalk(r, w.entry)
+	return w
 }
 
-// write makes the new entry of a row, after those of the rows that it names. The stack is explicit: chains are long.
-func (w *rewriter) write(k int) error {
-	stack := []int{k}
-	for len(stack) > 0 {
-		k := stack[len(stack)-1]
-		if w.state[k] == written {
-			stack = stack[:len(stack)-1]
-			continue
-		}
-		var missing []int
-		inputs := make([]int, len(w.rows.ops[k].Inputs))
-		for i, in := range w.rows.ops[k].Inputs {
-			row, ok := w.rows.first[in.Digest]
-			if inputs[i] = row; !ok {
-				inputs[i] = -1 // llbm refuses the definition, if the row counts
-			} else if w.state[row] != written {
-				missing = append(missing, row)
-			}
-		}
-		if len(missing) > 0 {
-			if w.state[k] == open {
-				return fmt.Errorf("a cycle at entry %d", k)
-			}
-			w.state[k] = open
-			stack = append(stack, missing...)
-			continue
-		}
-		if err := w.entry(k, inputs); err != nil {
-			return err
-		}
-		w.state[k] = written
-	}
-	return nil
-}
-
-func (w *rewriter) entry(k int, inputs []int) error {
+// entry makes the new entry of a row, after those of the rows that it names.
+func (w *rewriter) entry(k int) error {
 	changed := w.changed[k]
 	op := *w.rows.ops[k]
 	op.Inputs = nil
-	for i, in := range w.rows.ops[k].Inputs {
+	for _, in := range w.rows.ops[k].Inputs {
 		renamed := *in
-		if inputs[i] >= 0 {
-			renamed.Digest = digest.FromBytes(w.entries[inputs[i]])
+		if row, ok := w.rows.first[in.Digest]; ok { // else llbm refuses the definition, if the row counts
+			renamed.Digest = digest.FromBytes(w.entries[row])
 		}
 		changed = changed || renamed.Digest != in.Digest
 		op.Inputs = append(op.Inputs, &renamed)

@@ -15,8 +15,8 @@ import (
 
 // Trees has the trees that are known before anything runs.
 type Trees interface {
-	// Source returns the tree of a local source, by its vertex, as llbm gets it and as BuildKit has it; nil if it is not known.
-	Source(ctx context.Context, v int) (here, there *rules.Node, err error)
+	// Source returns the tree of a local source, as llbm gets it and as BuildKit has it; nil if it is not known.
+	Source(ctx context.Context, source *graph.Vertex) (here, there *rules.Node, err error)
 }
 
 // Rows are the entries that were rewritten, by their numbers. A row that is not there is as it was sent, but for the digests of
@@ -147,7 +147,7 @@ func (w *writer) source(ctx context.Context, v int) error {
 	if w.given == nil {
 		return nil
 	}
-	here, there, err := w.given.Source(ctx, v)
+	here, there, err := w.given.Source(ctx, it)
 	if err == nil && here != nil && there != nil {
 		ref := rules.Based(there)
 		w.states[v] = state{outputs: []trees{treesOf(here, ref, ref)}}

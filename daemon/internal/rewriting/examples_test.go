@@ -14,13 +14,12 @@ import (
 // sourceTrees has the trees of an example's sources, as they are and as BuildKit's client sends them.
 type sourceTrees struct {
 	t     *testing.T
-	graph *graph.Graph
 	texts map[string]string
 }
 
-func (s sourceTrees) Source(ctx context.Context, v int) (here, there *rules.Node, err error) {
+func (s sourceTrees) Source(ctx context.Context, v *graph.Vertex) (here, there *rules.Node, err error) {
 	s.t.Helper()
-	source := s.graph.Vertices[v].Op.GetSource()
+	source := v.Op.GetSource()
 	here, err = rules.Read(ctx, strings.NewReader(s.texts[strings.TrimPrefix(source.Identifier, "local://")]), nil)
 	if err != nil {
 		s.t.Fatal(err)
@@ -45,7 +44,7 @@ func result(t *testing.T, def *pb.Definition, texts map[string]string, like rule
 		op := g.Vertices[v].Op
 		switch {
 		case op.GetSource() != nil:
-			here, there, err := sourceTrees{t, g, texts}.Source(context.Background(), v)
+			here, there, err := sourceTrees{t, texts}.Source(context.Background(), &g.Vertices[v])
 			if err != nil {
 				t.Fatal(err)
 			}
@@ -76,15 +75,11 @@ func TestLeastExamplesEndAsInBuildKit(t *testing.T) {
 		if err := def.Unmarshal(one.Definition); err != nil {
 			t.Fatal(err)
 		}
-		g, err := graph.Read(def, def)
-		if err != nil {
-			t.Fatal(err)
-		}
 		want := result(t, def, one.Trees, rules.All)
 		for _, known := range []bool{false, true} {
 			var trees Trees
 			if known {
-				trees = sourceTrees{t, g, one.Trees}
+				trees = sourceTrees{t, one.Trees}
 			}
 			new, rows, err := Definition(context.Background(), def, trees)
 			if err != nil {

@@ -121,11 +121,10 @@ func isHosts(op *pb.FileOp, inputs []*rules.Node) bool {
 }
 
 // byTrees rewrites a file op by the trees of its inputs, and returns the actions that run, and whether it could.
-func byTrees(t *testing.T, given *pb.Op, inputs []*rules.Node) ([]*pb.FileAction, bool) {
+func byTrees(t *testing.T, sent *pb.Op, inputs []*rules.Node) ([]*pb.FileAction, bool) {
 	t.Helper()
-	def := ofSources(t, given)
-	one := treesOfSources(inputs)
-	new, rows, err := Definition(context.Background(), def, one)
+	def := ofSources(t, sent)
+	new, rows, err := Definition(context.Background(), def, given(inputs))
 	if err != nil {
 		t.Fatal(err)
 	}
@@ -134,7 +133,7 @@ func byTrees(t *testing.T, given *pb.Op, inputs []*rules.Node) ([]*pb.FileAction
 		t.Fatal(err)
 	}
 	_, isRewritten := rows[len(inputs)]
-	by := func(like rules.Rules) []*rules.Ref { return makes(given.GetFile(), inputs, like) }
+	by := func(like rules.Rules) []*rules.Ref { return makes(sent.GetFile(), inputs, like) }
 	return made.GetFile().GetActions(), isRewritten || areSameEnds(by(rules.None), by(rules.All))
 }
 
@@ -161,13 +160,6 @@ func ofSources(t *testing.T, given *pb.Op) *pb.Definition {
 		one.Inputs = inputs
 		return &one
 	})
-}
-
-// treesOfSources are the trees of local sources, in the order of their vertices.
-type treesOfSources []*rules.Node
-
-func (s treesOfSources) Source(_ context.Context, v int) (here, there *rules.Node, err error) {
-	return s[v], s[v], nil
 }
 
 func passwd(text string) *rules.Node {

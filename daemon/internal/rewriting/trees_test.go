@@ -51,17 +51,14 @@ func definition(t *testing.T, sources int, ops ...func(inputs []*pb.Input) *pb.O
 }
 
 // given has the trees of sources by their order.
-type given struct {
-	graph *graph.Graph
-	trees []*rules.Node
-}
+type given []*rules.Node
 
-func (g given) Source(_ context.Context, v int) (here, there *rules.Node, err error) {
+func (g given) Source(_ context.Context, v *graph.Vertex) (here, there *rules.Node, err error) {
 	number := 0
-	if _, err := fmt.Sscanf(g.graph.Vertices[v].Op.GetSource().Identifier, "local://s%d", &number); err != nil {
+	if _, err := fmt.Sscanf(v.Op.GetSource().Identifier, "local://s%d", &number); err != nil {
 		return nil, nil, err
 	}
-	return g.trees[number], g.trees[number], nil
+	return g[number], g[number], nil
 }
 
 // run does a definition of sources, file ops and merges by some rules, and returns the result, nil if it fails.
@@ -91,7 +88,7 @@ func do(t *testing.T, g *graph.Graph, v int, inputs []*rules.Ref, trees []*rules
 	op := g.Vertices[v].Op
 	switch {
 	case op.GetSource() != nil:
-		here, _, err := given{g, trees}.Source(context.Background(), v)
+		here, _, err := given(trees).Source(context.Background(), &g.Vertices[v])
 		return []*rules.Ref{rules.Based(here)}, err
 	case op.GetFile() != nil:
 		return rules.FileOp(context.Background(), op.GetFile(), inputs, like)
@@ -103,11 +100,7 @@ func do(t *testing.T, g *graph.Graph, v int, inputs []*rules.Ref, trees []*rules
 // rewritten returns a definition rewritten by its trees.
 func rewritten(t *testing.T, def *pb.Definition, trees []*rules.Node) (*pb.Definition, Rows) {
 	t.Helper()
-	g, err := graph.Read(def, def)
-	if err != nil {
-		t.Fatal(err)
-	}
-	new, rows, err := Definition(context.Background(), def, given{g, trees})
+	new, rows, err := Definition(context.Background(), def, given(trees))
 	if err != nil {
 		t.Fatal(err)
 	}

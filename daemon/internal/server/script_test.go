@@ -3,6 +3,7 @@ package server
 import (
 	"os"
 	"path/filepath"
+	"slices"
 	"strings"
 	"testing"
 
@@ -65,6 +66,29 @@ func TestAnotherGraphThanTheClientsIsRefused(t *testing.T) {
 	state := llb.Scratch().File(llb.Mkfile("/a", 0o644, []byte("hi")))
 	if got, err := stubbed(t, state, digest.FromString("another")); err == nil || !strings.Contains(err.Error(), "llbm has another vertex 0") {
 		t.Errorf("%s %v", got, err)
+	}
+}
+
+// An entry that comes first has the least number, whatever the result names first.
+func TestVerticesHaveTheNumbersOfTheSession(t *testing.T) {
+	d := started(t, nil)
+	base := llb.Scratch().File(llb.Mkfile("/base", 0o644, []byte("x")))
+	for path, want := range map[string]string{"/base": "", "/none": "llbm: failed 2 action 0 fault 21 NotFound"} {
+		removed := base.File(llb.Rm(path)).File(llb.Mkfile("/left", 0o644, []byte("y")))
+		def := marshal(t, llb.Merge([]llb.State{removed, base.File(llb.Mkfile("/right", 0o644, []byte("z")))}))
+		first := len(def.Def) - 3 // the file of the right input, which is the only one of its kind that no entry before the merge names
+		def.Def = slices.Insert(slices.Delete(slices.Clone(def.Def), first, first+1), 0, def.Def[first])
+		var archive buffer
+		_, err := d.Solve(t.Context(), def, client.SolveOpt{Exports: []client.ExportEntry{toTar("tar", &archive, nil)}}, nil)
+		if want != "" {
+			if err == nil || !strings.Contains(err.Error(), want) {
+				t.Errorf("%s: %v", path, err)
+			}
+			continue
+		}
+		if got := listed(t, archive.Bytes()); err != nil || !strings.Contains(got, `left "y"`) || !strings.Contains(got, `right "z"`) {
+			t.Errorf("%s: %s %v", path, got, err)
+		}
 	}
 }
 

@@ -119,14 +119,15 @@ func (s *Solver) begin(c *comparing, def *pb.Definition, in *inputs, texts texts
 		return err
 	}
 	c.talk = comparison.NewTalk(c.child, c.child.In)
-	request := &comparison.Request{Sent: file, Rewrite: rewrites, Received: true, Paths: mostDetails, Vertices: map[int]string{}, Links: map[int][]string{}}
+	request := &comparison.Request{Sent: file, Rewrite: rewrites, Received: true, Paths: mostDetails, Rows: map[int]string{}, Links: map[int][]string{}}
 	request.Times = timesOf(c.g, in)
 	request.Known = in.known
 	for i, one := range in.all {
 		for _, v := range one.vertices {
-			request.Vertices[v] = machine.PathOf(texts.sources[i].Text)
+			row := c.g.Vertices[v].Row
+			request.Rows[row] = machine.PathOf(texts.sources[i].Text)
 			if linked := slices.Concat(one.manifest.HardLinks()...); len(linked) > 0 {
-				request.Links[v] = linked
+				request.Links[row] = linked
 			}
 		}
 	}

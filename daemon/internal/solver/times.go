@@ -10,7 +10,7 @@ import (
 	"llbm/daemon/internal/rules"
 )
 
-// timesOf returns the files of the sources that a merge of BuildKit can take for others, by the vertex and the path: those of which
+// timesOf returns the files of the sources that a merge of BuildKit can take for others, by the row and the path: those of which
 // another file has the size and the time. If a copy sets a time, these are all files. A graph without a merge needs none.
 func timesOf(g *graph.Graph, in *inputs) map[int]map[string]rules.Time {
 	hasMerge, setsTime, count := false, false, map[rules.Time]int{}
@@ -40,7 +40,7 @@ func timesOf(g *graph.Graph, in *inputs) map[int]map[string]rules.Time {
 			}
 		}
 		for _, v := range source.vertices {
-			found[v] = times
+			found[g.Vertices[v].Row] = times
 		}
 	}
 	return found

@@ -97,7 +97,8 @@ class Likeness:
             self.count = 0
             self.lost.clear()
             self.ended.clear()
-            self.comparison = Comparison(self.data, self.sources, Executions(self.made))
+            executions = Executions(self.made, entries=[one.entry for one in self.graph.vertices])
+            self.comparison = Comparison(self.data, self.sources, executions)
             self.session.kept.callback(self.comparison.close)
         for event in self.session.record[self.count :]:
             if event.kind == "settle" and self.graph.vertices[event.vertex].op.exec:

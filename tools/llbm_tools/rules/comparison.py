@@ -49,10 +49,12 @@ class End(NamedTuple):
 
 
 class Executions(NamedTuple):
-    """What executions made here, and what they make of other inputs, which are in files, if that can be found out."""
+    """What executions made here, and what they make of other inputs, which are in files, if that can be found out; and
+    the entries of the vertices, by the numbers that vertices have here."""
 
     made: Callable[[int], Outputs]
     make: Callable[[int, list[str]], Outputs] | None = None
+    entries: list[int] | None = None
 
 
 def path_of(file: BinaryIO) -> str:
@@ -84,10 +86,11 @@ class Comparison:
         )  # fmt: skip
         self.closing.callback(self.stop)
         folder = {"folder": str(self.folder)} if tree or executions.make else {}
+        numbered = {"numbered": executions.entries} if executions.entries else {}
         self.send({
             "sent": path_of(definition), "sources": {name: path_of(file) for name, file in sources.items()},
-            "executes": executions.make is not None, **folder, "paths": MOST_LINES, "result": True, "tree": tree,
-            **({} if made is None else {"made": self.stored(made)}),
+            "executes": executions.make is not None, **folder, **numbered, "paths": MOST_LINES, "result": True,
+            "tree": tree, **({} if made is None else {"made": self.stored(made)}),
         })  # fmt: skip
 
     @functools.cached_property

@@ -56,7 +56,7 @@ class Compared:
         self.vertices = launched.graph.vertices
         entries = definition.entries_of(data)
         runner = Program(program_path, definition.graph_of(entries), entries)
-        executions = Executions(self.made, runner.run)
+        executions = Executions(self.made, runner.run, [one.entry for one in self.vertices])
         while launched.session.event("next"):
             pass
         self.comparison = Comparison(
