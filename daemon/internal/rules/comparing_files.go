@@ -228,7 +228,7 @@ func (f *sideBySide) causesOfFault(number int, here *step) []Rule {
 	if found := f.causesOf(number, on, here).ofFault(); len(found) > 0 {
 		return found
 	}
-	if fault, ok := failed(checkSelected(f.sent.Actions, f.inputsThere)); ok && fault.Action == number {
+	if fault, ok := failed(checkSelected(f.ctx, f.sent.Actions, f.inputsThere)); ok && fault.Action == number {
 		return []Rule{Selected}
 	}
 	if fault, ok := failed(checkSecondInputs(f.sent.Actions, len(f.inputsThere))); ok && fault.Action == number {
