@@ -63,14 +63,20 @@ func rowsOf(def *pb.Definition) (*rows, bool, error) {
 		if err := op.Unmarshal(entry); err != nil {
 			return nil, false, fmt.Errorf("entry %d: %w", k, err)
 		}
-		again, err := op.Marshal()
-		canonical = canonical && err == nil && bytes.Equal(again, entry)
+		is, err := isWritten(op, entry)
+		canonical = canonical && err == nil && is
 		if d := digest.FromBytes(entry); !has(r.first, d) {
 			r.first[d] = k
 		}
 		r.ops = append(r.ops, op)
 	}
 	return r, canonical, nil
+}
+
+// isWritten is whether an entry has the bytes that this package writes for its op.
+func isWritten(op *pb.Op, entry []byte) (bool, error) {
+	again, err := op.Marshal()
+	return bytes.Equal(again, entry), err
 }
 
 func has(first map[digest.Digest]int, d digest.Digest) bool {

@@ -2,6 +2,7 @@ package rules
 
 import (
 	"context"
+	"errors"
 	"testing"
 
 	"github.com/moby/buildkit/solver/pb"
@@ -71,6 +72,31 @@ func TestWhatACopySelectsIsHashedBeforeIt(t *testing.T) {
 		action.SecondaryInput = 0 // an input that an action works on is not hashed
 		if err := checkSelected(context.Background(), []*pb.FileAction{action}, []*Ref{Based(from)}); err != nil {
 			t.Errorf("%s: %v", is.what, err)
+		}
+	}
+}
+
+// An rm that does not allow that nothing is there looks for what a link leads to, as the kernel does.
+func TestAnRmLooksForTheTargetOfALink(t *testing.T) {
+	base := withLinks(
+		[2]string{"a", "/"}, [2]string{"a/f", "f"}, [2]string{"a/to", "-> f"}, [2]string{"a/up", "-> ../a/../a/to"}, [2]string{"b", "-> missing"},
+		[2]string{"c", "-> a/f/x"}, [2]string{"d", "-> a/f/"}, [2]string{"e", "-> /a/f"}, [2]string{"g", "-> ../f"}, [2]string{"h", "-> e"}, [2]string{"i", "-> i"},
+	)
+	for path, want := range map[string]string{
+		"/a/to": "", "/a/up": "", "/b": "fails", "/c": "", "/d": "", "/e": "host", "/g": "host", "/h": "host", "/i": "", "/a/gone": "fails",
+	} {
+		_, err := rm(context.Background(), &pb.FileActionRm{Path: path}, base, All)
+		got := ""
+		if errors.Is(err, ErrHost) {
+			got = "host"
+		} else if err != nil {
+			got = "fails"
+		}
+		if got != want {
+			t.Errorf("%s: %q, not %q: %v", path, got, want, err)
+		}
+		if _, err := rm(context.Background(), &pb.FileActionRm{Path: path, AllowNotFound: true}, base, All); err != nil {
+			t.Errorf("%s: %v", path, err)
 		}
 	}
 }
