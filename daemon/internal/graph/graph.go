@@ -63,8 +63,8 @@ func rowsOf(def *pb.Definition) (*rows, bool, error) {
 		if err := op.Unmarshal(entry); err != nil {
 			return nil, false, fmt.Errorf("entry %d: %w", k, err)
 		}
-		again, err := op.Marshal()
-		canonical = canonical && err == nil && bytes.Equal(again, entry)
+		is, err := isWritten(op, entry)
+		canonical = canonical && err == nil && is
 		d := digest.FromBytes(entry)
 		if _, ok := r.first[d]; !ok {
 			r.first[d] = k
@@ -72,6 +72,12 @@ func rowsOf(def *pb.Definition) (*rows, bool, error) {
 		r.ops, r.digests = append(r.ops, op), append(r.digests, d)
 	}
 	return r, canonical, nil
+}
+
+// isWritten is whether an entry has the bytes that this package writes for its op.
+func isWritten(op *pb.Op, entry []byte) (bool, error) {
+	again, err := op.Marshal()
+	return bytes.Equal(again, entry), err
 }
 
 // inputs returns the rows that the inputs of a row name.

@@ -8,9 +8,9 @@ import (
 )
 
 const (
-	// mostWalked is how many links are followed for a path, and mostOfKernel how many the kernel follows for one.
+	// mostWalked is how many links are followed for a path, and MostOfKernel how many the kernel follows for one.
 	mostWalked   = 255
-	mostOfKernel = 40
+	MostOfKernel = 40
 )
 
 // ErrTooMany is why a path is not resolved.
@@ -108,7 +108,7 @@ func (w *walker) place(at string) (string, error) {
 			now = next
 			continue
 		}
-		if count++; count > mostOfKernel {
+		if count++; count > MostOfKernel {
 			return "", ErrTooMany
 		}
 		if strings.HasPrefix(target, "/") {

@@ -89,7 +89,8 @@ func TestGraphsAreRead(t *testing.T) {
 	}
 	for _, text := range []string{
 		"", "result 0.0", "1 source steps 1 outputs 1 inputs -", "0 merge steps 1 outputs 1 inputs 0.0", "0 source steps 1 outputs 1 inputs", "fault 173 1",
-		"0 source steps 1 outputs 1 inputs -\nresult 0", "0 source steps 1 outputs 1 inputs -\nresult 1.0", "0 source steps 1 outputs 1 inputs -\n1 merge steps 1 inputs 0",
+		"0 source steps 1 outputs 1 inputs -\nresult 0", "0 source steps 1 outputs 1 inputs -\nresult 1.0",
+		"0 source steps 1 outputs 1 inputs -\n1 merge steps 1 inputs 0",
 	} {
 		if g, err := read(text); err == nil {
 			t.Errorf("%q: %+v", text, g)
@@ -106,7 +107,9 @@ func TestPlansAreRead(t *testing.T) {
 	if plan, err := parsePlan("0 sha256:a reads token cause - marks -\nmarks no\n"); err != nil || plan.Marks || len(plan.ByValue) != 0 {
 		t.Errorf("%+v %v", plan, err)
 	}
-	for _, text := range []string{"", lines, "marks maybe\n", "1 sha256:a reads token cause - marks -\nmarks no\n", "0 sha256:a reads what cause - marks -\nmarks no\n"} {
+	for _, text := range []string{
+		"", lines, "marks maybe\n", "1 sha256:a reads token cause - marks -\nmarks no\n", "0 sha256:a reads what cause - marks -\nmarks no\n",
+	} {
 		if plan, err := parsePlan(text); err == nil {
 			t.Errorf("%q: %+v", text, plan)
 		}

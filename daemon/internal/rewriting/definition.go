@@ -35,8 +35,8 @@ type writer struct {
 }
 
 // Definition rewrites a definition, as far as that is possible without trees, or with those that are given. A definition that
-// llbm refuses is an error. One with bytes that BuildKit's library would not write stays as it is, since its fields are not
-// all known. An op may have more actions than llbm takes: Divide makes several of it.
+// llbm refuses is an error. One with bytes that BuildKit's library would not write stays as it is, since its fields may not
+// all be known. An op may have more actions than llbm takes: Divide makes several of it.
 func Definition(ctx context.Context, def *pb.Definition, given Trees) (*pb.Definition, Rows, error) {
 	return rewrite(ctx, def, given, false)
 }

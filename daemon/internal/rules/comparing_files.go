@@ -2,6 +2,7 @@ package rules
 
 import (
 	"context"
+	"errors"
 
 	"github.com/moby/buildkit/solver/pb"
 	"llbm/daemon/internal/paths"
@@ -51,8 +52,8 @@ func compareFileOps(ctx context.Context, sent, run *pb.FileOp, from []int, there
 	if f.faultThere != nil {
 		c.Fails, c.Dies = f.faultThere.Error(), diesOf(sent, f.faultThere.Action)
 	}
-	if there == nil || here == nil {
-		return c, nil
+	if there == nil || here == nil || f.faultThere != nil && errors.Is(f.faultThere.Err, ErrHost) {
+		return c, nil // what BuildKit makes is not known
 	}
 	f.seen = leadingTo(sent.Actions, len(there), f.isSeen)
 	f.leads = leadingTo(sent.Actions, len(there), func(output int) bool { return ReadingOf(read, output) == Shown })
@@ -228,7 +229,7 @@ func (f *sideBySide) causesOfFault(number int, here *step) []Rule {
 	if found := f.causesOf(number, on, here).ofFault(); len(found) > 0 {
 		return found
 	}
-	if fault, ok := failed(checkSelected(f.sent.Actions, f.inputsThere)); ok && fault.Action == number {
+	if fault, ok := failed(checkSelected(f.ctx, f.sent.Actions, f.inputsThere)); ok && fault.Action == number {
 		return []Rule{Selected}
 	}
 	if fault, ok := failed(checkSecondInputs(f.sent.Actions, len(f.inputsThere))); ok && fault.Action == number {

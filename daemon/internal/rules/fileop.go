@@ -122,7 +122,7 @@ func Steps(ctx context.Context, op *pb.FileOp, inputs []*Ref, like Rules) (*Did,
 // outputs does the actions, and returns the outputs of the op.
 func (f *fileOp) outputs(ctx context.Context) ([]*Ref, error) {
 	if f.like.Has(Selected) {
-		if err := checkSelected(f.actions, f.inputs); err != nil {
+		if err := checkSelected(ctx, f.actions, f.inputs); err != nil {
 			return nil, err
 		}
 	}

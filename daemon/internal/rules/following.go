@@ -2,6 +2,8 @@ package rules
 
 import (
 	"path"
+	"slices"
+	"strings"
 
 	"llbm/daemon/internal/links"
 	"llbm/daemon/internal/paths"
@@ -78,8 +80,7 @@ func followSource(names []string, isFollowed bool, n *Node, like Rules) ([]strin
 	return paths.Names(to), err
 }
 
-// followParents returns where the paths of an rm lead. Of a link that must be there BuildKit looks for its target, and not within the
-// tree.
+// followParents returns where the paths of an rm lead. Of a link that must be there the kernel looks for its target.
 func followParents(found [][]string, n *Node, isSkipped bool, like Rules) ([][]string, error) {
 	var out [][]string
 	for _, names := range found {
@@ -88,11 +89,52 @@ func followParents(found [][]string, n *Node, isSkipped bool, like Rules) ([][]s
 			return nil, err
 		}
 		if like&Followed != 0 && !isSkipped && n.At(to).IsLink() {
-			return nil, ErrHost
+			if err := checkTarget(to, n); err != nil {
+				return nil, err
+			}
 		}
 		out = append(out, to)
 	}
 	return out, nil
+}
+
+// checkTarget fails if the kernel does not find what a link leads to. It does not know the root of the tree, so what it finds at an
+// absolute path, or above the root, depends on the host. That it finds a file in the way, or too many links, is no failure.
+func checkTarget(link []string, n *Node) error {
+	now, todo := []string{}, slices.Clone(link)
+	for count := 0; len(todo) > 0; {
+		name := todo[0]
+		todo = todo[1:]
+		switch name {
+		case "", ".":
+			continue
+		case "..":
+			if len(now) == 0 {
+				return ErrHost
+			}
+			now = now[:len(now)-1]
+			continue
+		}
+		next := below(now, name)
+		switch one := n.At(next); {
+		case one == nil:
+			return fails("%s is missing", shown(next))
+		case one.IsLink():
+			target := string(one.content.given.Target)
+			if path.IsAbs(target) {
+				return ErrHost
+			}
+			if count++; count > links.MostOfKernel {
+				return nil
+			}
+			todo = append(strings.Split(target, "/"), todo...)
+		case !one.dir && len(todo) > 0:
+			return nil
+		default:
+			now = next
+		}
+	}
+	return nil
 }
 
 // Follow returns where a path leads in a tree in BuildKit.

@@ -1,12 +1,6 @@
 package rules
 
-import (
-	"slices"
-	"strings"
-
-	"github.com/moby/buildkit/solver/pb"
-	"llbm/daemon/internal/paths"
-)
+import "github.com/moby/buildkit/solver/pb"
 
 // needs returns the actions that BuildKit does before an action: also that of the second input, whatever its kind.
 func needs(action *pb.FileAction, count int) []int {
@@ -98,105 +92,4 @@ func onLoops(actions []*pb.FileAction, count int) map[int]bool {
 		}
 	}
 	return found
-}
-
-// A selection is what copies select in an input of the op that no action works on.
-type selection struct {
-	index  int
-	follow bool
-}
-
-// A selected is a copy from such an input.
-type selected struct {
-	action int
-	text   string
-}
-
-// hashedCopies returns the copies from inputs of the op that no action works on.
-func hashedCopies(actions []*pb.FileAction, count int) []int {
-	worked := map[int]bool{}
-	for _, action := range actions {
-		worked[int(action.Input)] = true
-	}
-	var found []int
-	for number, action := range actions {
-		index := int(action.SecondaryInput)
-		if action.GetCopy() != nil && index >= 0 && index < count && !worked[index] {
-			found = append(found, number)
-		}
-	}
-	return found
-}
-
-// checkSelected fails by rule Selected: before a file op BuildKit hashes what its copies select in inputs that no action works
-// on. So what is missing there fails, and a text that is no pattern, even for an action that is not done.
-func checkSelected(actions []*pb.FileAction, inputs []*Ref) error {
-	var order []selection
-	plain := map[selection][]selected{}
-	for _, number := range hashedCopies(actions, len(inputs)) {
-		c, index := actions[number].GetCopy(), int(actions[number].SecondaryInput)
-		parts := paths.Names(c.Src)
-		wild := paths.Wild(parts)
-		if hasPatterns(c) {
-			continue
-		}
-		if !c.AllowWildcard || wild == len(parts) {
-			key := selection{index, c.FollowSymlink}
-			if plain[key] == nil {
-				order = append(order, key)
-			}
-			plain[key] = append(plain[key], selected{number, c.Src})
-		} else if inputs[index].tree.At(parts[:wild]) != nil && !paths.IsPattern(strings.Join(parts, "/")) {
-			return &ActionFails{number, fails("a text is no pattern")}
-		}
-	}
-	for number, action := range actions {
-		for _, one := range filesOfOwner(action) {
-			key := selection{int(one.index), true}
-			if key.index < 0 || key.index >= len(inputs) || isWorkedOn(actions, one.index) {
-				continue
-			}
-			if plain[key] == nil {
-				order = append(order, key)
-			}
-			plain[key] = append(plain[key], selected{number, shown(one.path)})
-		}
-	}
-	for _, key := range order {
-		if err := checkPlain(plain[key], key.follow, inputs[key.index].tree); err != nil {
-			return err
-		}
-	}
-	return nil
-}
-
-func isWorkedOn(actions []*pb.FileAction, index pb.InputIndex) bool {
-	return slices.ContainsFunc(actions, func(one *pb.FileAction) bool { return one.Input == index })
-}
-
-// checkPlain fails if a path is missing, unless the text of another one begins its text.
-func checkPlain(found []selected, isFollowed bool, t *Node) error {
-	texts := map[string]bool{}
-	for _, one := range found {
-		texts[one.text] = true
-	}
-	for _, one := range found {
-		if isBelowAny(one.text, texts) {
-			continue
-		}
-		if path, err := followSource(paths.Names(one.text), isFollowed, t, All); err != nil || t.At(path) == nil {
-			return &ActionFails{one.action, fails("%s is missing", one.text)}
-		}
-	}
-	return nil
-}
-
-// isBelowAny is whether a text has another one, and a slash after it, at its begin.
-func isBelowAny(text string, texts map[string]bool) bool {
-	for i := range text {
-		if text[i] == '/' && (texts[text[:i]] || i+1 < len(text) && texts[text[:i+1]]) {
-			return true
-		}
-	}
-	return false
 }

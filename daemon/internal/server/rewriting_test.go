@@ -1,16 +1,20 @@
 package server
 
 import (
+	"context"
 	"fmt"
 	"os"
 	"path/filepath"
+	"slices"
 	"strings"
 	"testing"
 	"time"
 
 	"github.com/moby/buildkit/client"
 	"github.com/moby/buildkit/client/llb"
+	digest "github.com/opencontainers/go-digest"
 	"llbm/daemon/internal/notes"
+	"llbm/daemon/internal/records"
 )
 
 // Each of these ends otherwise by llbm's own rules.
@@ -150,5 +154,29 @@ func TestAMergeThatCanHaveAnOldFileIsAWarning(t *testing.T) {
 		if err != nil || got != want {
 			t.Errorf("%s: %q, not %q: %v", from, got, want, err)
 		}
+	}
+}
+
+// Another library may write fields in another order than BuildKit's.
+func TestADefinitionOfAnotherLibraryEndsAsInBuildKit(t *testing.T) {
+	d := started(t, func(o *Options) { o.Strict = true })
+	file := llb.Scratch().File(llb.Mkfile("/a", 0o604, []byte("1")))
+	def := marshal(t, file.File(llb.Mkfile("/a", 0o755, []byte("2"))))
+	for k, entry := range def.Def {
+		fields := records.Of(entry)
+		slices.Reverse(fields)
+		def.Def[k] = records.Message(fields)
+		before, after := digest.FromBytes(entry).String(), digest.FromBytes(def.Def[k]).String()
+		for later := k + 1; later < len(def.Def); later++ {
+			def.Def[later] = []byte(strings.ReplaceAll(string(def.Def[later]), before, after))
+		}
+	}
+	var archive buffer
+	o := client.SolveOpt{Exports: []client.ExportEntry{toTar("tar", &archive, nil)}}
+	if _, err := d.Solve(context.Background(), def, o, nil); err != nil {
+		t.Fatal(err)
+	}
+	if got, want := listed(t, archive.Bytes()), "0604 0:0 a \"2\"\n"; got != want {
+		t.Errorf("%q, not %q", got, want)
 	}
 }

@@ -22,7 +22,7 @@ func (s *Solver) note(sent *pb.Definition, g *graph.Graph, p *progress) {
 // rewrites is whether ops are rewritten on which BuildKit and llbm do not agree.
 func (s *Solver) rewrites(g *graph.Graph, p *progress) bool {
 	if !s.Literal && !g.Canonical {
-		p.warn(g.Result, "the definition has bytes that BuildKit's library would not write, so it runs by the rules of llbm alone", nil)
+		p.warn(g.Result, "the definition has a field that BuildKit's library does not know, so it runs by the rules of llbm alone", nil)
 	}
 	return !s.Literal && g.Canonical
 }

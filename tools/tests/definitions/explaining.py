@@ -414,7 +414,7 @@ class Notes(Folder):
         for line in [
             *explaining.VERDICTS, "the results differ at 1 path", "    BuildKit: not compared: its text has 9 bytes",
             "WARN: not all was compared with what BuildKit would make: it takes more than 30s longer than the build",
-            "the definition has bytes that BuildKit's library would not write, so it runs by the rules of llbm alone",
+            "the definition has a field that BuildKit's library does not know, so it runs by the rules of llbm alone",
             "local source a b: 3 entries are left out, as llbm has only directories, files and links",
         ]:
             self.assertEqual(len(explaining.explained(line).texts), 1, line)
