@@ -30,21 +30,19 @@ export class Rows {
     this.ops = new Map();
     this.terminal = -1;
     this.sure = new Set();
-    this.isKnown = true;
     entries.forEach((entry, row) => this.add(row, entry));
   }
 
-  // Reads a row, unless it is equal to an earlier one.
+  // Reads a row. One that is equal to an earlier one is left out, but is a finding too if it is no op.
   add(row, entry) {
     const digest = this.digests[row];
     if (!this.named.has(digest)) this.named.set(digest, row);
     this.terminal = this.named.get(digest);
-    if (this.terminal !== row) {
-      if (areEqual(this.entries[this.terminal], entry)) return;
-      this.found.push(finding(FAULT.collision, row));
-    }
+    const isEqual = this.terminal !== row && areEqual(this.entries[this.terminal], entry);
+    if (this.terminal !== row && !isEqual) this.found.push(finding(FAULT.collision, row));
     try {
-      this.ops.set(row, readOp(entry));
+      const op = readOp(entry);
+      if (!isEqual) this.ops.set(row, op);
     } catch (fault) {
       if (!(fault instanceof Faulty)) throw fault;
       this.found.push(finding(FAULT.entry, row, String(fault.number)));
@@ -71,13 +69,12 @@ export class Rows {
     return links[0] ?? null;
   }
 
-  // Finds the rows that are certainly reached, and whether these are all.
+  // Finds the rows that are reached; one that is no op leads to no other.
   reach(start) {
     const left = [start];
     while (left.length) {
       const row = left.pop();
-      if (row === null || !this.ops.has(row)) this.isKnown = false;
-      else if (!this.sure.has(row)) {
+      if (this.ops.has(row) && !this.sure.has(row)) {
         this.sure.add(row);
         for (const named of this.links(row)) left.push(named);
       }
@@ -85,11 +82,10 @@ export class Rows {
   }
 
   rowsToCheck() {
-    const rows = this.isKnown ? [...this.sure] : [...this.ops.keys()].filter((row) => row !== this.terminal);
-    return rows.sort((a, b) => a - b);
+    return [...this.sure].sort((a, b) => a - b);
   }
 
-  /** Returns the rows that are reached from the result, or all if they are not known, and the terminal. */
+  /** Returns the rows that are reached from the result, and the terminal. */
   reached() {
     this.reach(this.start());
     return new Set([...this.rowsToCheck(), this.terminal]);

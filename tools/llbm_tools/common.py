@@ -34,6 +34,21 @@ def is_name(name: bytes) -> bool:
     return True
 
 
+def names_in(text: str) -> list[str] | None:
+    """Returns the names of a path from the root, or None if a text is no path."""
+    names: list[str] = []
+    for part in text.split("/"):
+        if part in ("", "."):
+            continue
+        if part == "..":
+            names = names[:-1]
+        elif not is_name(part.encode("utf-8")) or len(names) == MOST_NAMES:
+            return None
+        else:
+            names.append(part)
+    return names
+
+
 def printable(text: str) -> str:
     """Returns a text with non-printable characters escaped."""
     return "".join(c if c.isprintable() else c.encode("unicode_escape").decode() for c in text)
@@ -105,16 +120,26 @@ def is_unproved(program: str | os.PathLike[str]) -> bool:
     return False
 
 
-def not_llbm(program: str) -> str:
-    """Returns why a program can't be used as llbm: it does not start, or its version is not one of llbm; or nothing."""
+def not_llbm(program: str, is_named: bool = True) -> str:
+    """Returns why a program can't be used as llbm: it does not start, or its version is not one of llbm; or nothing.
+
+    If nobody named it, and it is not proved, standard error says so.
+    """
     try:
         answer = answer_of(program)
     except OSError as fault:
         return f"the program does not start: {fault.strerror}"
     if VERSION.search(answer.text):
+        if not is_named and NOT_PROVED in answer.text:
+            say_unproved(program)
         return ""
     is_other = answer.status in STATUSES
     return "this is not the program llbm" if is_other else f"the program does not start: {answer.ending()}"
+
+
+def say_unproved(program: str) -> None:
+    """Says on standard error that a program is not proved."""
+    say(f"the program is not proved: {os.path.relpath(program)}")
 
 
 def tool_named(name: str) -> str:
@@ -147,5 +172,5 @@ def program_named(word: str | None) -> str:
     """
     place = program_place(word)
     if program_given(word) is None and is_unproved(place):
-        say(f"the program is not proved: {os.path.relpath(place)}")
+        say_unproved(place)
     return place

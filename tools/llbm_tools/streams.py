@@ -8,7 +8,8 @@ import tempfile
 from collections.abc import Callable, Iterable, Iterator
 from typing import BinaryIO, cast
 
-from llbm_tools.common import discard_output, not_llbm, program_named, say
+from llbm_tools import paths
+from llbm_tools.common import discard_output, not_llbm, program_given, program_place, say
 from llbm_tools.os_errors import WRONGLY_NAMED, in_words, os_error_text
 
 REFUSED, FAILED, INTERRUPTED = 2, 3, 130
@@ -65,24 +66,40 @@ def exit_status(work: Callable[[], int | None]) -> int:
         return INTERRUPTED
 
 
-def why_not(named: str) -> str:
-    """Returns why what is named can't be used as the program; empty if it can."""
+def why_not(named: str, is_named: bool = True) -> str:
+    """Returns why what is named can't be used as the program; empty if it can. `is_named` says whether a person did."""
     found = shutil.which(named)
     if found is None:
         return "not a program" if os.path.exists(named) else "there is no such program"
-    return not_llbm(found)
+    return not_llbm(found, is_named)
 
 
 def program_at(word: str | None, others: str = "--llbm PROGRAM names another one") -> str:
     """Returns the path of the program: the given one, or else that of the repository or the installation.
 
-    What is not llbm, by its `--version`, is refused.
+    What is not llbm, by its `--version`, is refused. If nobody named it, and it is not proved, standard error says so.
     """
-    named = program_named(word)
-    cause = why_not(named)
+    named = program_place(word)
+    cause = why_not(named, program_given(word) is not None)
     if cause:
         raise Refused(f"{cause}: {named}; {others}")
     return os.path.abspath(shutil.which(named) or named)
+
+
+def check_program(place: str, others: str = "--llbm PROGRAM names another one") -> None:
+    """Refuses what is not the program llbm."""
+    if cause := why_not(place):
+        raise Refused(f"{cause}: {place}; {others}")
+
+
+def program_to_ask(word: str | None) -> str:
+    """Returns the path of the program, as `program_at` does, for a tool that checks by its answers what it is.
+
+    So one that a person named, and the one that `rt ci` leaves, are not started for that.
+    """
+    place = shutil.which(program_place(word))
+    is_known = program_given(word) is not None or place == str(paths.PROVED)
+    return os.path.abspath(place) if place and is_known else program_at(word)
 
 
 @contextlib.contextmanager

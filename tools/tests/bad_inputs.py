@@ -10,7 +10,7 @@ import subprocess
 import unittest
 
 from tests import base
-from tests.base import AS_NOBODY, IS_ROOT, ROOT, TOOLS, Folder, command, run, run_closed
+from tests.base import AS_NOBODY, IS_ROOT, ROOT, TOOLS, command, run, run_closed
 
 TOUR = ROOT / "examples" / "tour.definition"
 FIRST = ROOT / "examples" / "first-run.definition"
@@ -28,7 +28,7 @@ FILE, TEXT, ANY_TREE, FINDINGS, PROGRAM = "file", "text", "any tree", "findings"
 
 # Tools that read what they are given: for each input its kind, and the words with BAD in its place.
 TOOLS_WITH_INPUTS = {
-    "adopt": [(FILE, [BAD]), (FILE, [TOUR, "--rules", BAD])],
+    "adopt": [(FILE, [BAD]), (FILE, [TOUR, "--rules", BAD]), (PROGRAM, ["--llbm", BAD, FIRST])],
     "as-buildkit": [
         (FILE, ["--llbm", LLBM, BAD]), (ANY_TREE, ["--llbm", LLBM, TOUR, f"source={BAD}"]),
         (PROGRAM, ["--llbm", BAD, FIRST]),
@@ -45,21 +45,25 @@ TOOLS_WITH_INPUTS = {
     ],
     "diff-of-trees": [(ANY_TREE, [BAD, TREE]), (ANY_TREE, [TREE, BAD])],
     "dist": [(PROGRAM, ["--llbm", BAD, "-o", OUT])],
-    "dump": [(FILE, [BAD])],
-    "explain": [(FILE, ["--definition", BAD, "failed", "1", "command", "0", "status", "1"])],
+    "dump": [(FILE, [BAD]), (PROGRAM, ["--llbm", BAD, FIRST])],
+    "explain": [
+        (FILE, ["--definition", BAD, "failed", "1", "command", "0", "status", "1"]),
+        (PROGRAM, ["--llbm", BAD, "--definition", FIRST, "fault", "88", "0", "Source"]),
+    ],
     "explain-run": [
         (FILE, ["--llbm", LLBM, BAD]), (ANY_TREE, ["--llbm", LLBM, TOUR, f"source={BAD}"]),
         (PROGRAM, ["--llbm", BAD, FIRST]),
     ],
     "fuzz": [(PROGRAM, ["--llbm", BAD, "1"])],
-    "graph-of-show": [(FILE, ["--definition", BAD])],
+    "graph-of-show": [(FILE, ["--definition", BAD]), (PROGRAM, ["--llbm", BAD, FIRST])],
     "impact": [
         (FILE, [BAD, TOUR]), (FILE, [TOUR, BAD]),
         (ANY_TREE, [TOUR, TOUR, "--before", f"source={BAD}", "--after", f"source={TREE}"]),
+        (PROGRAM, ["--llbm", BAD, TOUR, TOUR]),
     ],
     "install": [(PROGRAM, ["--llbm", BAD, OUT])],
-    "json-of-show": [(FILE, ["--definition", BAD])],
-    "lint": [(FINDINGS, [BAD])],
+    "json-of-show": [(FILE, ["--definition", BAD]), (PROGRAM, ["--llbm", BAD, FIRST])],
+    "lint": [(FINDINGS, [BAD]), (PROGRAM, ["--llbm", BAD, FIRST])],
     "measure": [(PROGRAM, ["--llbm", BAD])],
     "measure-daemons": [(PROGRAM, ["--llbm", BAD])],
     "page-tests": [(PROGRAM, ["--llbm", BAD])],
@@ -94,7 +98,7 @@ PROGRESS = (b"reading ", b"left out: ", b"running ", b"nothing is written")
 CAUSES = {"cause", "fault", "in_words(fault)", "said[0]", "str(fault).lower()", "what"}
 
 
-class Table(Folder):
+class Table(base.WithProgram):
     """Each tool with each bad input."""
 
     def setUp(self):

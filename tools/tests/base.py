@@ -31,14 +31,17 @@ os.setuid(65534)
 sys.exit(tool.main())
 """
 
-# The begin of a fake program, in two languages: by its version it is llbm.
+# The begin of a fake program, in two languages: by its version it is llbm, and it plans as the program does.
 FAKE_SHELL = """#!/bin/sh
 [ "$*" = --version ] && { echo 'llbm 1.0, a fake' >&2; exit 2; }
+[ "$*" = 'show --plan' ] && exec "$LLBM" show --plan
 """
 FAKE_PYTHON = f"""#!{sys.executable}
-import sys
+import os, sys
 if sys.argv[1:] == ["--version"]:
     sys.exit("llbm 1.0, a fake")
+if sys.argv[1:] == ["show", "--plan"]:
+    os.execv(os.environ["LLBM"], sys.argv)
 """
 
 # How many seconds a program that a test waits for may take: more than ten times what any takes on a slow host. No test
@@ -157,6 +160,15 @@ class Folder(unittest.TestCase):
     def read(self, name=b"out", *words):
         """Runs the tool that makes a text of a directory."""
         return run("tree-of-directory", *words, self.place(name))
+
+
+class WithProgram(Folder):
+    """A test that needs the program, which all tools that it runs use too."""
+
+    def setUp(self):
+        if llbm is None:
+            self.skipTest("the program llbm is needed (--llbm PROGRAM)")
+        super().setUp()
 
 
 class WithPrograms(Folder):

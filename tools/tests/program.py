@@ -25,12 +25,10 @@ def narrow():
     resource.setrlimit(resource.RLIMIT_STACK, (STACK, hard))
 
 
-class WithProgram(Folder):
+class WithProgram(base.WithProgram):
     """The tools and the program read each other's texts."""
 
     def setUp(self):
-        if base.llbm is None:
-            raise unittest.SkipTest("the program llbm is needed (--llbm PROGRAM)")
         super().setUp()
         self.at = pathlib.Path(os.fsdecode(self.folder))
 

@@ -5,8 +5,8 @@ import os
 from collections.abc import Callable
 
 from llbm_tools import inputs
-from llbm_tools.building.by_value import Plan
 from llbm_tools.building.kept_builds import state_at
+from llbm_tools.building.plans import Plan
 from llbm_tools.building.requests import Named
 from llbm_tools.common import MOST_BYTES, say
 from llbm_tools.rules.filters import Paths

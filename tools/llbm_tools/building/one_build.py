@@ -4,7 +4,7 @@ import io
 import os
 import tempfile
 
-from llbm_tools.building import by_value, children, folders, replacing
+from llbm_tools.building import children, folders, plans, replacing
 from llbm_tools.building.children import held_back
 from llbm_tools.building.comparing import digests_of, kept_of, other_digests, recorders_of, resolved
 from llbm_tools.building.exchange import exchange
@@ -86,14 +86,14 @@ class Build:
         """Returns the path of the text of a source."""
         return os.path.join(self.texts, f"{number}.tree")
 
-    def read_all(self) -> None:
+    def read_all(self, llbm: str) -> None:
         """Writes the texts of all sources: by reference, unless the options or the graph need all by value."""
         names = [source.name for source in self.sources]
         for note in source_names.word_notes(self.request.data, names) if names else []:
             say(note)
         for note in notes.lines_of(self.request.data, self.request.filtered()):
             say(note)
-        plan = by_value.plan_of(self.request.data)
+        plan = plans.plan_of(self.request.data, llbm) if names and not self.options.by_value else None
         cause = ASKED if self.options.by_value else plan.all if plan else UNREADABLE
         if not cause and plan:
             cause = self.new_given().give(plan)
@@ -244,7 +244,7 @@ class Build:
         llbm = program_at(self.options.llbm)
         self.make_folders()
         self.store()
-        self.read_all()
+        self.read_all(llbm)
         result = self.run(llbm)
         made = self.new_build(result) if self.memory else None
         self.write(result, made)

@@ -15,6 +15,7 @@ class Messages:
     """What the messages of a program about a stored definition, with texts of local sources, are explained with."""
 
     def __init__(self, program: str, definition: str, sources: list[tuple[str, str]]) -> None:
+        self.program = program
         self.definition = definition
         self.names = [name for name, _ in sources]
         self.reasons = Reasons(program, definition, sources)
@@ -27,7 +28,8 @@ class Messages:
         for why in self.reasons.of_line(text):
             say(f"  {why}")
         with contextlib.suppress(faults.NoLine, faults.NoPage, OSError):
-            self.explainer = self.explainer or faults.Explainer(faults.read_page(), self.definition)
+            if self.explainer is None:
+                self.explainer = faults.Explainer(faults.read_page(), self.definition, lambda: self.program)
             for meaning in self.explainer.lines(text):
                 say(f"  {meaning}")
         if text.startswith(UNNAMED):

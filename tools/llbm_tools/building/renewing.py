@@ -4,7 +4,7 @@ It would get the texts that it got, with the same tokens, and print what it prin
 as it served the old ones is the law `board_serves_each_table` of crates/llb_laws: if tokens stand for contents by one
 table, the result with each token replaced by its content in any other table is that of a run on those contents. What
 the law asks was seen to by the last build, which was asked for the same (`Memory.load`) and gave by value what has to
-be so (`by_value`), and by `keeps_tokens`, which each file that is in another state has to pass before there is a
+be so (`plans`), and by `keeps_tokens`, which each file that is in another state has to pass before there is a
 renewal: each source is what it was but for contents that have tokens (`AreSpelled`).
 """
 

@@ -48,7 +48,7 @@ from llbm_tools.daemon import started_daemon
 from llbm_tools.daemon import daemon as daemons
 from llbm_tools.daemon.runs import MOST_SECONDS, Daemon, DaemonBusy, DaemonLost, Ran
 from llbm_tools.definitions import adopting
-from llbm_tools.llb import findings
+from llbm_tools.llb.findings import findings_of
 from llbm_tools.paths import ROOT
 from llbm_tools.rules import comparison as comparing
 from llbm_tools.rules import examples, notes, program
@@ -99,11 +99,11 @@ def lines_of(tree: Tree | None) -> Lines:
     return None if tree is None else maps.lines_of(tree)[1:]
 
 
-def stored_cases() -> Iterator[Case]:
+def stored_cases(llbm: str) -> Iterator[Case]:
     """Yields the definitions of examples/, adopted where that is needed; a source without a tree there is empty."""
     places = [*ROOT.glob("examples/*.definition"), *ROOT.glob("examples/*.llb")]
     for place in sorted([*places, *ROOT.glob("examples/from-buildkit/*/definition")]):
-        adopted = adopting.adopt(place.read_bytes(), ALL_OPTIONS)
+        adopted = adopting.adopt(place.read_bytes(), ALL_OPTIONS, llbm)
         trees = {one.stem: one for one in place.parent.glob("*.tree")}
         sources = {}
         for name, _ in adopted.sources:
@@ -124,12 +124,12 @@ def project_cases() -> Iterator[Case]:
         yield Case(f"project {name}", one.dockerfile, {"context": one.context}, True)
 
 
-def random_cases(count: int, seed: int) -> Iterator[Case]:
+def random_cases(count: int, seed: int, llbm: str) -> Iterator[Case]:
     """Yields random definitions of each kind that the program accepts, and random Dockerfiles."""
     for number, kind in itertools.product(range(count), random_definitions.KINDS):
         name = f"{kind} {seed} {number}"
         one = random_definitions.make(name, kind)
-        if not findings.findings_of(one.data):
+        if not findings_of(one.data, llbm):
             yield Case(name, one.data, one.sources)
     for number in range(count):
         name = f"dockerfile {seed} {number}"
@@ -235,9 +235,10 @@ def keep(folder: str | None, case: Case) -> None:
 def verdicts(one: Comparison, options: argparse.Namespace) -> Iterator[tuple[Case, Verdict]]:
     """Yields all cases with how they ended. The random ones, whose sources have names of their own, are run in
     parallel; sources of one name would share a transfer."""
-    for case in [*stored_cases(), *least_cases(), *project_cases()]:
+    llbm = program_at(options.llbm)
+    for case in [*stored_cases(llbm), *least_cases(), *project_cases()]:
         yield case, one.compare(case)
-    cases = random_cases(options.count, options.seed)
+    cases = random_cases(options.count, options.seed, llbm)
     with concurrent.futures.ThreadPoolExecutor(options.jobs) as pool:
         while some := list(itertools.islice(cases, AT_ONCE * options.jobs)):
             yield from zip(some, pool.map(one.compare, some))

@@ -7,7 +7,10 @@ from llbm_tools.sessions.session import Session
 MOST_LINES = 1_000
 
 EVENT = re.compile("claim [0-9]{1,9} [0-9]{1,9}|(?:step|settle|cancel) [0-9]{1,9}")
-LOOK = re.compile("tree [0-9]{1,9} [0-9]{1,9}|work [0-9]{1,9}(?: [0-9]{1,9})?|caches|cache [0-9]{1,9} [0-9]{1,9}|graph|digests")
+LOOK = re.compile(
+    "tree [0-9]{1,9} [0-9]{1,9}|work [0-9]{1,9}(?: [0-9]{1,9})?|caches|cache [0-9]{1,9} [0-9]{1,9}|"
+    "why [0-9]{1,9} [0-9]{1,9}|graph|digests"
+)
 
 HELP = """\
 Expressions, also for watches:
@@ -23,6 +26,7 @@ Commands that look, with the lines that llbm step prints:
   work W I          tree I of these
   caches            the keys of the caches
   cache K I         instance I of key K
+  why W K           why command K of what worker W runs fails on its trees
   graph             the graph, as llbm show prints it
   digests           the digest of each vertex
 Commands that add an event; the run stops after it:

@@ -26,6 +26,7 @@ from llbm_tools.llb import definition, given_definitions, names, no_definition, 
 from llbm_tools.llb.wire import Unreadable
 from llbm_tools.os_errors import os_error_text
 from llbm_tools.sessions.session import Refusal, Session, SessionFailed
+from llbm_tools.sessions.shows import Show
 from llbm_tools.streams import Refused, why_not
 from llbm_tools.trees.source_files import source_words
 from llbm_tools.trees.trees import checked_at
@@ -174,15 +175,14 @@ def unknown_arguments(arguments: Object) -> list[str]:
     return lines
 
 
-def start_session(command: list[str], workers: int, vertices: int, entries: faults.Entries) -> Session:
-    """Starts a session, and checks that it answers its first command."""
-    session = Session(command, workers, vertices)
+def start_session(command: list[str], workers: int, entries: faults.Entries) -> tuple[Session, Show, list[str]]:
+    """Starts a session, and returns it with its graph and the digests of the vertices."""
+    session = Session(command, workers)
     try:
-        session.status()
+        return session, session.graph(), session.digests()
     except (SessionFailed, Refusal) as fault:
         session.end()
         raise Refused(cause_of(session.error_lines(), str(fault), entries)) from fault
-    return session
 
 
 def check_texts(cause: str, words: list[str]) -> None:
@@ -206,10 +206,8 @@ def start(arguments: Object, folder: str, say: Say, program_argument: str) -> La
     program, workers, given = program_of(arguments, program_argument), workers_of(arguments), files_of(arguments)
     data, text = definition_of(program, arguments)
     entries = entries_of(data, argument(arguments, "definition", str, "") or "the definition")
-    named_entries = faults.Entries(data)
-    shown = output_of(program, "show", data, named_entries).decode("ascii", "backslashreplace")
-    named = names.names_of(data)
-    graph = places.graph_of(shown, text_of(program, data, text, entries), entries, [one.text for one in named])
+    named_entries = faults.Entries(data, lambda: program)
+    shown = text_of(program, data, text, entries)
     sources = sources_of(arguments)
     words, given_names = source_words(sources, folder, say), list(sources)
     for note in source_names.word_notes(data, given_names):
@@ -218,10 +216,15 @@ def start(arguments: Object, folder: str, say: Say, program_argument: str) -> La
     pathlib.Path(file).write_bytes(data)
     command = [program, "step", "--looks", "--ends", file, "--workers", str(workers), *words]
     try:
-        session = start_session(command, workers, len(graph.vertices), named_entries)
+        session, show, digests = start_session(command, workers, named_entries)
     except Refused as fault:
         check_texts(str(fault), words)
         raise Refused("; ".join([str(fault), *missing_sources(str(fault), data, given_names)])) from fault
+    try:
+        graph = places.graph_of(show, digests, shown, entries, [one.text for one in names.names_of(data)])
+    except Refused:
+        session.end()
+        raise
     path, place = argument(arguments, "definition", str, ""), argument(arguments, "text", str, "")
     origins = origins_of(data, given, os.path.dirname(os.path.abspath(path or place)))
     name, text_file = f"{os.path.basename(path)}.text", os.path.abspath(place) if place else None

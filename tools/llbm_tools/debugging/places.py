@@ -1,20 +1,13 @@
 """Finds the vertices of a graph in the text of its entries."""
 
-import re
 from typing import NamedTuple
 
 from llbm_tools.llb import definition
 from llbm_tools.llb.ops import Op
-from llbm_tools.llb.wire import Unreadable
+from llbm_tools.sessions import shows
 from llbm_tools.streams import Refused
 
 Lines = list[tuple[int, int]]
-
-NUMBER = r"(?:0|[1-9][0-9]*)"
-EDGE = rf"{NUMBER}\.{NUMBER}"
-VERTEX = re.compile(
-    rf"({NUMBER}) (source|file|merge|exec) steps ({NUMBER}) outputs ({NUMBER}) inputs (-|{EDGE}(?: {EDGE})*)"
-)
 
 
 class Vertex(NamedTuple):
@@ -80,28 +73,28 @@ def vertices_by_entry(entries: list[bytes], rows: list[int]) -> list[int | None]
     return [numbers.get(first.setdefault(entry, row)) for row, entry in enumerate(entries)]
 
 
-def vertex_of(line: str, row: int, entry: bytes, place: tuple[int, int], name: str) -> Vertex:
-    """Returns the vertex on a line of `llbm show`, given the row, the lines and the name of its entry."""
-    match = VERTEX.fullmatch(line)
-    if not match:
-        raise Refused(f"the program printed an unexpected line for a vertex: {line[:200]}")
-    _, kind, steps, outputs, inputs = match.groups()
-    named = [] if inputs == "-" else inputs.split(" ")
-    op = definition.op_of(row, entry)
-    return Vertex(kind, int(steps), int(outputs), named, row, entry, op, *place, name)
+def edge_text(edge: shows.Edge) -> str:
+    """Returns an output of a vertex as a text."""
+    return f"{edge[0]}.{edge[1]}"
 
 
-def graph_of(shown: str, text: Text, entries: list[bytes], names: list[str]) -> Graph:
-    """Returns the graph from the output of `llbm show`, the text of the entries, the entries, and their names."""
+def vertex_of(shown: shows.Vertex, row: int, entry: bytes, place: tuple[int, int], name: str) -> Vertex:
+    """Returns a vertex of a session's graph, given the row, the lines and the name of its entry."""
+    named = list(map(edge_text, shown.inputs))
+    return Vertex(shown.kind, shown.steps, shown.outputs, named, row, entry, definition.op_of(row, entry), *place, name)
+
+
+def graph_of(show: shows.Show, digests: list[str], text: Text, entries: list[bytes], names: list[str]) -> Graph:
+    """Returns the graph, given that of a session with the digests of its vertices, and the text of the entries, the
+    entries, and their names."""
     lines = text.lines
     if len(lines) != len(entries):
         raise Refused(f"the text has {len(lines)} entries, and the definition {len(entries)}")
-    try:
-        rows = definition.graph_of(entries).rows
-    except Unreadable as fault:
-        raise Refused(f"the definition: {fault}") from fault
-    *vertex_lines, last = shown.splitlines() or [""]
-    if len(vertex_lines) != len(rows) or not last.startswith("result "):
-        raise Refused(f"the program shows {len(vertex_lines)} vertices, and the definition has {len(rows)}")
-    vertices = [vertex_of(line, row, entries[row], lines[row], names[row]) for line, row in zip(vertex_lines, rows)]
-    return Graph(vertices, last.removeprefix("result "), text.text, lines, vertices_by_entry(entries, rows))
+    known: dict[str, int] = {}
+    for row, entry in enumerate(entries):
+        known.setdefault(definition.digest_of(entry), row)
+    if len(digests) != len(show.vertices) or not known.keys() >= set(digests):
+        raise Refused("the program shows another graph than that of the definition")
+    rows = [known[digest] for digest in digests]
+    vertices = [vertex_of(one, row, entries[row], lines[row], names[row]) for one, row in zip(show.vertices, rows)]
+    return Graph(vertices, edge_text(show.result), text.text, lines, vertices_by_entry(entries, rows))

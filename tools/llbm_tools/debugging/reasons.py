@@ -7,7 +7,7 @@ command is named.
 import re
 from typing import Protocol
 
-from llbm_tools.common import MOST_NAMES, is_name, printable
+from llbm_tools.common import names_in, printable
 from llbm_tools.debugging import looks
 from llbm_tools.debugging.trees import Node
 from llbm_tools.llb import definition
@@ -41,21 +41,6 @@ class Vertex(Protocol):
     @property
     def op(self) -> Op:
         """The op."""
-
-
-def names_in(text: str) -> Names | None:
-    """Reads a path from the root. None where it is no path."""
-    names: Names = []
-    for part in text.split("/"):
-        if part in ("", "."):
-            continue
-        if part == "..":
-            names = names[:-1]
-        elif not is_name(part.encode("utf-8")) or len(names) == MOST_NAMES:
-            return None
-        else:
-            names.append(part)
-    return names
 
 
 def path_text(names: Names) -> str:

@@ -36,16 +36,17 @@ from collections.abc import Iterator
 from llbm_tools import common, inputs
 from llbm_tools.command_line import Parser
 from llbm_tools.definitions import adopting, adoption_rules
-from llbm_tools.llb import findings, no_definition
+from llbm_tools.llb import no_definition
+from llbm_tools.llb.findings import Finding
 from llbm_tools.llb.wire import Unreadable
-from llbm_tools.streams import Refused, exit_status
+from llbm_tools.streams import Refused, exit_status, program_to_ask
 from llbm_tools.trees.source_files import source_of
 
 OPTIONS = {kind: f"--without-{kind}" for kind in adopting.DROPPED} | {adopting.RUN_NOTHING: "--run-nothing"}
 MENDS = {adopting.RUN_NOTHING: "or --rules replaces the words"}
 
 
-def settings_from(options: argparse.Namespace) -> adopting.Settings:
+def settings_from(options: argparse.Namespace, llbm: str) -> adopting.Settings:
     """Returns the changes that the command line asks for."""
     rules: list[adoption_rules.Rule] = []
     if options.rules is not None:
@@ -53,7 +54,7 @@ def settings_from(options: argparse.Namespace) -> adopting.Settings:
         if len(data) > common.MOST_BYTES:
             raise Refused(f"too long, over {common.MOST_BYTES:,} bytes: {inputs.shown(options.rules)}")
         try:
-            rules = adoption_rules.rules_in(data)
+            rules = adoption_rules.rules_in(data, llbm)
         except Refused as fault:
             raise Refused(f"{fault}: {inputs.shown(options.rules)}") from fault
     dropped = [kind for kind in adopting.DROPPED if options.all or getattr(options, f"without_{kind}")]
@@ -66,12 +67,12 @@ def settings_from(options: argparse.Namespace) -> adopting.Settings:
     return adopting.Settings(frozenset(dropped), tuple(rules), run_nothing, options.like_buildkit, trees)
 
 
-def shown(finding: findings.Finding) -> str:
+def shown(finding: Finding) -> str:
     """Returns what is left: its entry if it has one, and the program's name for it."""
     return f"entry {finding.row}: {finding.rest}" if finding.name() else f"fault {finding.words()}"
 
 
-def left_text(finding: findings.Finding) -> str:
+def left_text(finding: Finding) -> str:
     """Describes what cannot be adopted, with the option that mends it."""
     if not finding.name():
         return f"not adopted: {shown(finding)}"
@@ -80,12 +81,12 @@ def left_text(finding: findings.Finding) -> str:
     return f"entry {finding.row}: not adopted: {finding.rest}{hint}"
 
 
-def advice(data: bytes, settings: adopting.Settings, left: list[findings.Finding]) -> list[str]:
+def advice(data: bytes, settings: adopting.Settings, left: list[Finding], llbm: str) -> list[str]:
     """Returns a line with the options that are missing, and what would be left with them; none if no option helps."""
     kinds = adopting.missing_kinds(left, settings)
     if not kinds:
         return []
-    rest = adopting.adopt(data, adopting.with_kinds(settings, kinds)).left
+    rest = adopting.adopt(data, adopting.with_kinds(settings, kinds), llbm).left
     would = f"would leave {'; '.join(map(shown, rest))}" if rest else "would adopt all of it"
     return [f"{' '.join(OPTIONS[kind] for kind in kinds)} {would}"]
 
@@ -147,14 +148,15 @@ def adopt(options: argparse.Namespace) -> None:
     """Adopts the definition that the command line names, and writes it."""
     if options.rules is not None:
         inputs.check_inputs(options.definition, options.rules)
-    settings = settings_from(options)
+    llbm = program_to_ask(options.llbm)
+    settings = settings_from(options, llbm)
     data = inputs.data_at(options.definition)
     try:
-        adopted = adopting.adopt(data, settings)
+        adopted = adopting.adopt(data, settings, llbm)
     except Unreadable as fault:
         raise no_definition.refusal(fault, data, options.definition) from fault
     left = list(map(left_text, adopted.left))
-    left += advice(data, settings, adopted.left)
+    left += advice(data, settings, adopted.left, llbm)
     if left and not options.leave:
         raise Refused(*left, "nothing is written")
     write(options, adopted)
@@ -183,6 +185,7 @@ def parse_options() -> argparse.Namespace:
     add("--like-buildkit", action="store_true", help="rewrite what BuildKit takes otherwise")
     add("--all", action="store_true", help="all of the above except --run-nothing=all, --rules and --like-buildkit")
     add("--leave", action="store_true", help="leave what cannot be adopted as it is")
+    add("--llbm", metavar="PROGRAM", help="the program llbm, which says what it refuses")
     return parser.parse_args()
 
 

@@ -14,10 +14,12 @@ from typing import NamedTuple
 
 from llbm_tools.common import shortened
 from llbm_tools.definitions.adoption_rules import Rule, rule_for
-from llbm_tools.llb import definition, findings, names, op_reading, op_rules, script_faults, wire
+from llbm_tools.llb import definition, names, op_reading, reachable, wire
+from llbm_tools.llb.findings import Finding, findings_of
 from llbm_tools.llb.local_names import LocalNames, can_be_given, is_known
-from llbm_tools.llb.ops import ChownOpt, ExecOp, FileAction, Input, Mount, Op, fields_of
-from llbm_tools.llb.rewriting import changed, with_each, with_message, with_text, with_texts, without, written
+from llbm_tools.llb.ops import LOCAL, SECRET, ChownOpt, ExecOp, FileAction, Mount, Op, fields_of
+from llbm_tools.llb.ops import SSH as SSH_MOUNT
+from llbm_tools.llb.rewriting import changed, relinked, with_each, with_message, with_text, with_texts, without, written
 from llbm_tools.llb.wire import Faulty, Record
 from llbm_tools.rules import program, rewriting
 from llbm_tools.streams import Refused
@@ -70,7 +72,7 @@ class Adopted(NamedTuple):
     changes: list[tuple[int, str]]
     others: list[str]
     sources: list[tuple[str, str]]
-    left: list[findings.Finding]
+    left: list[Finding]
 
 
 def words_shown(words: Sequence[str]) -> str:
@@ -87,10 +89,12 @@ def name_of_secret(held: bytes) -> str:
 class Entry:
     """One entry while it is changed, with a description of each change."""
 
-    def __init__(self, settings: Settings, local: dict[str, str], name: str) -> None:
+    def __init__(self, settings: Settings, local: dict[str, str], name: str, is_refused: bool) -> None:
         self.settings = settings
         self.local = local
         self.name = name
+        # Whether the program refuses its words, if it is an execution.
+        self.is_refused = is_refused
         self.changes: list[str] = []
         self.used: Rule | None = None
 
@@ -101,8 +105,8 @@ class Entry:
     def changed_op(self, digest: str, entry: bytes, op: Op) -> bytes:
         """Returns the changed op; its inputs still have their old digests."""
         if op.source and digest in self.local:
-            self.changes.append(f"source {op.source.identifier} is {op_rules.LOCAL}{self.local[digest]}")
-            return self.member(entry, SOURCE, lambda held: with_text(held, 1, op_rules.LOCAL + self.local[digest]))
+            self.changes.append(f"source {op.source.identifier} is {LOCAL}{self.local[digest]}")
+            return self.member(entry, SOURCE, lambda held: with_text(held, 1, LOCAL + self.local[digest]))
         if op.exec:
             return self.member(entry, EXEC, functools.partial(self.execution, digest, op.exec))
         if op.file:
@@ -137,14 +141,13 @@ class Entry:
         self.used = rule_for(self.settings.rules, digest, self.name, old)
         if self.used:
             return self.used.words or old
-        is_refused = not old or script_faults.fault_of(old) is not None
         wanted = self.settings.run_nothing
-        return NOTHING if wanted is RunNothing.ALL or wanted is RunNothing.REFUSED and is_refused else old
+        return NOTHING if wanted is RunNothing.ALL or wanted is RunNothing.REFUSED and self.is_refused else old
 
     def mount(self, held: bytes) -> bytes | None:
         """Returns a mount, or None if it is dropped."""
         mount = op_reading.read(Mount, held)
-        for kind, number, shown in [(SECRETS, op_rules.SECRET, "secret"), (SSH, op_rules.SSH, "SSH")]:
+        for kind, number, shown in [(SECRETS, SECRET, "secret"), (SSH, SSH_MOUNT, "SSH")]:
             if self.drops(kind) and mount.mount_type == number:
                 self.changes.append(f"dropped: {shown} mount at {mount.dest}")
                 return None
@@ -184,20 +187,26 @@ class Entry:
         return records
 
 
+def refused_words(data: bytes, program: str) -> frozenset[int]:
+    """Returns the rows of the executions whose words the program refuses."""
+    named = (one for one in findings_of(data, program) if KIND_OF_FINDING.get(one.name()) == RUN_NOTHING)
+    return frozenset(one.row for one in named if one.row is not None)
+
+
 class Adoption:
     """A definition while it is adopted."""
 
-    def __init__(self, data: bytes, settings: Settings) -> None:
+    def __init__(self, data: bytes, settings: Settings, program: str) -> None:
         self.records = op_reading.read_definition(data)
         self.entries = op_reading.entries_in(self.records)
         self.digests = [definition.digest_of(entry) for entry in self.entries]
         self.names = [name.text for name in names.names_of(data)]
         self.settings = settings
-        found = findings.Rows(self.entries)
+        found = reachable.Rows(self.entries)
         self.rows = found.named
-        self.terminal = found.terminal
         self.ops = found.ops
         self.reached = found.reached()
+        self.refused = refused_words(data, program) if settings.run_nothing is RunNothing.REFUSED else frozenset()
         self.sources: list[tuple[str, str]] = []
         self.local: dict[str, str] = {}
         self.name_sources()
@@ -213,7 +222,7 @@ class Adoption:
         given = LocalNames(list(sources.values()))
         renamed: dict[str, str] = {}
         for row, identifier in sources.items():
-            name = identifier[len(op_rules.LOCAL) :] if identifier.startswith(op_rules.LOCAL) else None
+            name = identifier[len(LOCAL) :] if identifier.startswith(LOCAL) else None
             if is_known(identifier):
                 self.local[self.digests[row]] = name = given.new_name(identifier)
             elif name and not can_be_given(name):
@@ -229,20 +238,14 @@ class Adoption:
         named = {row: [self.rows.get(edge.digest) for edge in op.inputs] for row, op in ops.items()}
         return definition.order_of({row: [one for one in rows if one in ops] for row, rows in named.items()})
 
-    def input(self, held: bytes) -> bytes:
-        """Returns an input with the new digest of the entry that it names."""
-        digest = op_reading.read(Input, held).digest
-        new = self.new.get(digest, digest)
-        return held if new == digest else changed(held, lambda records: with_text(records, 1, new))
-
     def adopt_row(self, row: int) -> None:
         """Rewrites an entry, after the entries that its inputs name."""
         digest = self.digests[row]
-        one = Entry(self.settings, self.local, self.names[row])
+        one = Entry(self.settings, self.local, self.names[row], row in self.refused)
         entry = self.entries[row]
         if row in self.reached:
             entry = one.changed_op(digest, entry, self.ops[row])
-        linked = changed(entry, lambda records: with_each(records, 1, self.input))
+        linked = relinked(entry, self.new)
         if linked != entry:
             one.changes.append(LINKED)
         self.made[digest] = linked
@@ -295,9 +298,9 @@ def like_buildkit(data: bytes, settings: Settings, changes: dict[int, list[str]]
     return found.data, said
 
 
-def adopt(data: bytes, settings: Settings) -> Adopted:
-    """Returns the definition, adopted as far as possible."""
-    adoption = Adoption(data, settings)
+def adopt(data: bytes, settings: Settings, program: str) -> Adopted:
+    """Returns the definition, adopted as far as possible; the program says what it refuses in it, before and after."""
+    adoption = Adoption(data, settings, program)
     for row in adoption.order():
         adoption.adopt_row(row)
     result, others = adoption.result(), adoption.others()
@@ -305,7 +308,7 @@ def adopt(data: bytes, settings: Settings) -> Adopted:
         result, said = like_buildkit(result, settings, adoption.changes)
         others += said
     changes = [(row, text) for row in sorted(adoption.changes) for text in adoption.changes[row]]
-    return Adopted(result, changes, others, adoption.sources, findings.findings_of(result))
+    return Adopted(result, changes, others, adoption.sources, findings_of(result, program))
 
 
 def with_kinds(settings: Settings, kinds: list[str]) -> Settings:
@@ -314,7 +317,7 @@ def with_kinds(settings: Settings, kinds: list[str]) -> Settings:
     return settings._replace(dropped=settings.dropped | set(kinds) - {RUN_NOTHING}, run_nothing=run_nothing)
 
 
-def missing_kinds(left: list[findings.Finding], settings: Settings) -> list[str]:
+def missing_kinds(left: list[Finding], settings: Settings) -> list[str]:
     """Returns the kinds of changes that are not asked for and would mend some of what is left."""
     asked = {*settings.dropped, *([] if settings.run_nothing is RunNothing.NONE else [RUN_NOTHING])}
     kinds = {KIND_OF_FINDING.get(finding.name()) for finding in left}

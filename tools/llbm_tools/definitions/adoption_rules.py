@@ -19,7 +19,7 @@ import shlex
 from collections.abc import Sequence
 from typing import NamedTuple
 
-from llbm_tools.llb import script_faults
+from llbm_tools.llb import scripts
 from llbm_tools.streams import Refused
 
 ARROW = "=>"
@@ -63,20 +63,32 @@ def rule_of(number: int, line: str) -> Rule:
     wanted, new = tuple(rest[:place]), tuple(rest[place + 1 :])
     if len(wanted) != 1 and kind != "words":
         raise Refused(f"exactly one word goes between {kind} and {ARROW}: line {number}")
-    cause = script_faults.fault_of(new) if new else None
-    if cause:
-        raise Refused(f"the new words are not a script, fault {cause}: line {number}")
     return Rule(number, kind, wanted, new)
 
 
-def rules_in(data: bytes) -> list[Rule]:
-    """Returns the rules in a file."""
+def check_scripts(rules: list[Rule], program: str) -> None:
+    """Checks that the new words of each rule are a script."""
+    faults = scripts.faults_of((rule.words for rule in rules if rule.words), program)
+    for rule in rules:
+        if cause := faults.get(rule.words):
+            raise Refused(f"the new words are not a script, fault {cause}: line {rule.line}")
+
+
+def rules_in(data: bytes, program: str) -> list[Rule]:
+    """Returns the rules in a file; the program says whether their new words are scripts."""
     try:
         lines = data.decode("utf-8").split("\n")
     except UnicodeDecodeError as fault:
         raise Refused("not UTF-8") from fault
-    stripped = [(number, line.strip(" \t\r")) for number, line in enumerate(lines, 1)]
-    return [rule_of(number, line) for number, line in stripped if line and not line.startswith("#")]
+    rules: list[Rule] = []
+    try:
+        for number, line in enumerate((line.strip(" \t\r") for line in lines), 1):
+            if line and not line.startswith("#"):
+                rules.append(rule_of(number, line))
+    finally:
+        # What is wrong on a line above the one that is no rule is said first.
+        check_scripts(rules, program)
+    return rules
 
 
 def rule_for(rules: Sequence[Rule], digest: str, name: str, args: Sequence[str]) -> Rule | None:

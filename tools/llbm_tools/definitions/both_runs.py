@@ -13,7 +13,6 @@ from collections.abc import Iterable, Mapping
 from llbm_tools.common import say
 from llbm_tools.definitions import impacts
 from llbm_tools.definitions.impacts import Impact, Names, Vertex
-from llbm_tools.llb import op_reading, op_rules
 from llbm_tools.sessions.session import Refusal, Session, SessionFailed
 from llbm_tools.streams import Failed, Refused
 from llbm_tools.trees.source_files import source_words
@@ -31,27 +30,22 @@ def check_all_given(names: Names, places: Places, option: str) -> None:
         raise Refused(f"--run needs a tree for each local source, and {option} has none for: {', '.join(missing)}")
 
 
-def outputs_of(vertex: Vertex) -> int:
-    """Returns the number of outputs of a vertex that the program accepts."""
-    return op_rules.count_of(op_reading.read_op(vertex.entry)) or 0
-
-
 class Run:
     """A run of a definition, from its beginning to its end. It has to be closed."""
 
     def __init__(self, program: str, data: bytes, vertices: list[Vertex], places: Places) -> None:
-        self.vertices = vertices
         known = {vertex.source for vertex in vertices}
         with tempfile.TemporaryDirectory(prefix="llbm-impact-") as folder:
             file = os.path.join(folder, "definition")
             pathlib.Path(file).write_bytes(data)
             words = source_words({name: place for name, place in places.items() if name in known}, folder, say)
-            self.session = Session([program, "step", file, "--workers", "1", *words], 1, len(vertices))
+            self.session = Session([program, "step", file, "--looks", "--ends", "--workers", "1", *words], 1)
             # The program reads its files before it answers, so the folder can go after the first answer.
             try:
                 while self.session.event("next"):
                     pass
                 self.statuses = self.session.status()
+                self.outputs = [vertex.outputs for vertex in self.session.graph().vertices]
             except BaseException:
                 self.session.end()
                 raise
@@ -68,8 +62,8 @@ class Run:
 
     def made(self, vertex: int) -> Made:
         """Returns how a vertex ended, with the digests of its outputs."""
-        count = outputs_of(self.vertices[vertex])
-        return self.statuses[vertex], tuple(self.digest(vertex, output) for output in range(count))
+        digests = (self.digest(vertex, output) for output in range(self.outputs[vertex]))
+        return self.statuses[vertex], tuple(digests)
 
     def close(self) -> None:
         """Ends the session."""

@@ -29,7 +29,7 @@ from llbm_tools.definitions.queries import Links, chosen
 from llbm_tools.inputs import data_at
 from llbm_tools.llb import messages, names, whole_messages
 from llbm_tools.llb.wire import Unreadable
-from llbm_tools.streams import exit_status, write_output
+from llbm_tools.streams import exit_status, program_to_ask, write_output
 
 TERMINAL = "terminal"
 NO_PATH = 1
@@ -166,7 +166,8 @@ def lines_of(inspected: Inspected, metadata: dict[str, bytes]) -> Iterator[str]:
 def dump(options: argparse.Namespace) -> int:
     """Prints what is asked for, and returns the exit status."""
     data = data_at(options.definition)
-    inspected, metadata = inspection.inspected(data, options.definition), metadata_at(data)
+    inspected = inspection.inspected(data, options.definition, program_to_ask(options.llbm))
+    metadata = metadata_at(data)
     found = found_by(options, inspected)
     entries = inspected.entries if found is None else found
     if options.json:
@@ -191,6 +192,7 @@ def parser() -> argparse.ArgumentParser:
     )
     parser.add_argument("definition", nargs="?", metavar="DEFINITION", help="the definition (default: standard input)")
     parser.add_argument("--json", action="store_true", help="print an object for each entry, on a line of its own")
+    parser.add_argument("--llbm", metavar="PROGRAM", help="the program llbm, which says what it refuses")
     queries = parser.add_mutually_exclusive_group()
     queries.add_argument("--before", metavar="V", help="print the entries that V needs")
     queries.add_argument("--after", metavar="V", help="print the entries that need V")

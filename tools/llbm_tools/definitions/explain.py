@@ -7,10 +7,11 @@ refusal of llbmd as its clients show it (`WARN: ..`, `llbm: fault ..`); a name a
 `lint`. The page is docs/FAULTS.md beside the tools. --definition FILE names the definition that the lines come from.
 
 Out: a line for each fault, or for each field or rule, in the given line, with what it means, for a field or a rule also
-what BuildKit and llbm do, and what to do about it; then, with a definition, the
-entry that the line names by its row or its vertex: its digest, its kind, its name and its place in its source if the
-definition has them, what it does, and what else the program refuses in it. The definition may be any one, whether or
-not the program accepts it. Each line of standard input is repeated, with its explanation indented below it.
+what BuildKit and llbm do, and what to do about it; then, with a definition, the entry that the line names by its row or
+its vertex: its digest, its kind, its name and its place in its source if the definition has them, what it does, and
+what else the program refuses in it (--llbm PROGRAM, else that of the installation or repository). The definition may be
+any one, whether or not the program accepts it. Each line of standard input is repeated, with its explanation indented
+below it.
 
 Exit status: 0 every line is explained; 2 a line, the page or the command line is refused, or the definition can't be
 read or has no such entry: standard error names it, and all lines that can be are explained by the page; 3 a read or a
@@ -18,6 +19,7 @@ write failed.
 """
 
 import argparse
+import functools
 import sys
 from collections.abc import Iterable
 
@@ -25,7 +27,7 @@ from llbm_tools import common
 from llbm_tools.command_line import Parser
 from llbm_tools.definitions import faults
 from llbm_tools.inputs import check_inputs, shown, standard_input
-from llbm_tools.streams import REFUSED, exit_status
+from llbm_tools.streams import REFUSED, exit_status, program_to_ask
 
 
 def write(text: str) -> None:
@@ -36,9 +38,10 @@ def write(text: str) -> None:
 class Work:
     """Explains lines by the page and a definition; `status` is the exit status so far."""
 
-    def __init__(self, definition: str | None) -> None:
+    def __init__(self, definition: str | None, llbm: str | None) -> None:
         self.definition = definition
-        self.explainer = faults.Explainer(faults.read_page(), definition)
+        program = functools.cache(lambda: program_to_ask(llbm))
+        self.explainer = faults.Explainer(faults.read_page(), definition, program)
         self.said: set[str] = set()
         self.status = 0
 
@@ -75,7 +78,7 @@ def explain(options: argparse.Namespace) -> int:
     """Explains what the command line asks for, and returns the exit status."""
     if not options.word and options.definition is not None:
         check_inputs(None, options.definition)
-    work = Work(options.definition)
+    work = Work(options.definition, options.llbm)
     common.check_open(sys.stdout, "standard output")
     if options.word:
         work.explain(" ".join(options.word), "", "")
@@ -92,6 +95,7 @@ def parser() -> argparse.ArgumentParser:
     )
     parser.add_argument("word", nargs="*", metavar="WORD", help="the words of one line")
     parser.add_argument("--definition", metavar="FILE", help="the definition that the lines come from")
+    parser.add_argument("--llbm", metavar="PROGRAM", help="the program llbm, which says what else it refuses")
     return parser
 
 

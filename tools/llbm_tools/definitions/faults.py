@@ -5,16 +5,18 @@ that of failures.
 """
 
 import re
+from collections.abc import Callable
 from typing import NamedTuple
 
-from llbm_tools.common import MOST_NAMES, printable
+from llbm_tools.common import MOST_NAMES, names_in, printable
 from llbm_tools.inputs import data_at
-from llbm_tools.llb import definition, findings, names, op_reading, op_rules
+from llbm_tools.llb import definition, names, op_reading
+from llbm_tools.llb.findings import Finding, findings_of
 from llbm_tools.llb.ops import FileAction, Op
 from llbm_tools.llb.wire import Unreadable
 from llbm_tools.paths import ROOT
 from llbm_tools.rules import explaining, program
-from llbm_tools.streams import Refused
+from llbm_tools.streams import Refused, program_at
 
 PAGE = ROOT / "docs" / "FAULTS.md"
 # The head of each table of lines that are taken, and the fault of a line that is not.
@@ -360,9 +362,9 @@ def paths_of(action: FileAction) -> list[str]:
 
 def wrong_paths(op: Op, number: int) -> list[str]:
     """Names the first path of an action that is no path, or else the destination below which a path is too long."""
-    for action in op_rules.actions_of(op)[number : number + 1]:
+    for action in op.file.actions[number : number + 1] if op.file else ():
         for path in paths_of(action):
-            if op_rules.path_of(path) is None:
+            if names_in(path) is None:
                 return [f"not a path: {path!r}"]
         if action.copy:
             return [f"a path below {action.copy.dest!r} would have more than {MOST_NAMES} names"]
@@ -385,22 +387,28 @@ def done_by(op: Op, place: Place) -> list[str]:
     return [*commands, f"script: {definition.script_of(op)}"]
 
 
+def usual_program() -> str:
+    """Returns the program that tools run if none is named."""
+    return program_at(None)
+
+
 class Entries:
     """The entries of a definition that lines name by row or by vertex, with what the program refuses in each."""
 
-    def __init__(self, data: bytes) -> None:
+    def __init__(self, data: bytes, program: Callable[[], str] = usual_program) -> None:
         self.data = data
+        self.program = program
         self.entries = definition.entries_of(data)
         self.shown = [name.shown() for name in names.names_of(data)]
         self.rows: list[int] | None = None
-        self.found: list[findings.Finding] | None = None
+        self.found: list[Finding] | None = None
 
     def refused(self, row: int, place: Place) -> list[str]:
         """Returns a line for each finding in the entry of a row; none if a vertex is named, since it was accepted."""
         if place.vertex is not None:
             return []
         if self.found is None:
-            self.found = findings.findings_of(self.data)
+            self.found = findings_of(self.data, self.program())
         return [f"{ALSO}fault {finding.words()}" for finding in self.found if finding.row == row]
 
     def row_of(self, vertex: int) -> int:
@@ -433,10 +441,14 @@ class Entries:
 
 
 class Explainer:
-    """Explains lines by the page and, if a file is given, by the definition in it."""
+    """Explains lines by the page and, if a file is given, by the definition in it.
 
-    def __init__(self, page: Page, file: str | None = None) -> None:
+    `program` returns the program, which says what else is refused in an entry; it is called only for that.
+    """
+
+    def __init__(self, page: Page, file: str | None = None, program: Callable[[], str] = usual_program) -> None:
         self.page = page
+        self.program = program
         self.entries: Entries | None = None
         self.cause = ""
         if file is not None:
@@ -445,7 +457,7 @@ class Explainer:
     def take(self, data: bytes) -> None:
         """Reads a definition; if it is not one, stores why."""
         try:
-            self.entries = Entries(data)
+            self.entries = Entries(data, self.program)
         except Unreadable as fault:
             self.cause = str(fault)
 

@@ -32,7 +32,7 @@ from llbm_tools.llb import definition, names, no_definition
 from llbm_tools.llb.ops import Op
 from llbm_tools.llb.wire import Unreadable
 from llbm_tools.sessions.shows import Edge, Show, Vertex, show_of
-from llbm_tools.streams import Refused, exit_status
+from llbm_tools.streams import Refused, exit_status, program_to_ask
 
 COLORS = {
     "kept": "palegreen", "same": "palegreen", "fed": "gold", "changed": "gold", "new": "lightblue",
@@ -117,6 +117,7 @@ def parser() -> argparse.ArgumentParser:
     parser.add_argument("file", nargs="?", metavar="DEFINITION", help="a definition, accepted or not, to draw alone")
     parser.add_argument("--definition", metavar="FILE", help="the definition of the graph, for the labels")
     parser.add_argument("--impact", metavar="FILE", help="the output of impact --json, for the colors")
+    parser.add_argument("--llbm", metavar="PROGRAM", help="the program llbm, which says what it refuses in DEFINITION")
     return parser
 
 
@@ -125,7 +126,8 @@ def drawn(options: argparse.Namespace) -> str:
     if options.file is not None:
         if options.definition is not None or options.impact is not None:
             raise Refused("DEFINITION is drawn alone, without --definition and --impact")
-        return inspected_graph.digraph(inspection.inspected(data_at(options.file), options.file))
+        inspected = inspection.inspected(data_at(options.file), options.file, program_to_ask(options.llbm))
+        return inspected_graph.digraph(inspected)
     if options.definition is not None:
         check_inputs(None, options.definition)
         check_there(options.definition)

@@ -6,9 +6,9 @@ input), and which local sources have another tree for NEW than for OLD: the name
 that have a tree on one side only. PLACE is a directory, an archive (a path that is not a directory and ends in .tar,
 .tar.gz, .tgz, .tar.bz2, .tar.xz or .tar.zst), an image or the text of a tree. Directories and archives get the owner
 0:0, as `build` reads them, and what cannot be in a tree is named on standard error. A digest is the program's, the
-SHA-256 of the text. All other sources are taken to have the same trees for both. With --run both definitions are run by
-the program (--llbm PROGRAM, else that of the installation or repository), and each local source needs a tree for each
-definition that has it.
+SHA-256 of the text. All other sources are taken to have the same trees for both. The program (--llbm PROGRAM, else that
+of the installation or repository) finds the vertices that match (`show --matches`). With --run it also runs both
+definitions, and each local source needs a tree for each definition that has it.
 
 Out: on standard output a line for the result, and then one for each vertex of NEW, by number:
 
@@ -28,16 +28,17 @@ With --run a vertex that would be `fed` has one of two words in place of it, and
                               digest, with equal outputs
     V KIND changed by NAMES   it ended in another way, or with other outputs
 
-each vertex with its name and its place in its source after a tab, if NEW or OLD has them. Two vertices match if their
-ops are the same but for the digests of inputs, and their inputs match, one by one; two local sources, if their trees
-are the same, whatever their names are. So a source whose name changed is no change, if --before and --after have its
-tree under the old and the new name. A line of counts follows, with the number of vertices of OLD that NEW does not
-have, and a line for each of the words that occurs. The laws are those of the crate `llb_laws`. Their premise, that
-no two unequal entries have one digest, is checked. With --json the output is one object: `result`, with `vertex`,
-`output`, `impact` (a word, or `other`) and `old` (OLD's result); `vertices`, an array of objects with `number`, `kind`,
-`digest`, `name`, `impact` (the word), `old` (the vertex of OLD that matches or else has the digest, or null), `changed`
-(the changed sources at or before it) and `cached`; `counts` by word; `gone`, the vertices of OLD that NEW does not
-have; `changed`, all changed sources; and `laws`. `graph-of-show --impact FILE` colors a picture by such an object.
+each vertex with its name and its place in its source after a tab, if NEW or OLD has them. Two vertices match if the
+fields of their ops that llbm reads are the same but for the inputs, and their inputs match, one by one; two local
+sources, if their trees are the same, whatever their names are. So a source whose name changed is no change, if --before
+and --after have its tree under the old and the new name. A line of counts follows, with the number of vertices of OLD
+that NEW does not have, and a line for each of the words that occurs. The laws are those of the crate `llb_laws`. Their
+premise, that no two unequal entries have one digest, is checked. With --json the output is one object: `result`, with
+`vertex`, `output`, `impact` (a word, or `other`) and `old` (OLD's result); `vertices`, an array of objects with
+`number`, `kind`, `digest`, `name`, `impact` (the word), `old` (the vertex of OLD that matches or else has the digest,
+or null), `changed` (the changed sources at or before it) and `cached`; `counts` by word; `gone`, the vertices of OLD
+that NEW does not have; `changed`, all changed sources; and `laws`. `graph-of-show --impact FILE` colors a picture by
+such an object.
 
 Exit status: 0 the output is written; 2 the command line, a definition or a tree is refused, and nothing is written; 3 a
 read or a write failed; 130 interrupted.
@@ -45,7 +46,6 @@ read or a write failed; 130 interrupted.
 
 import argparse
 import collections
-import functools
 import io
 import json
 from typing import NamedTuple
@@ -55,7 +55,7 @@ from llbm_tools.command_line import Parser
 from llbm_tools.definitions import both_runs, impacts
 from llbm_tools.definitions.impacts import Comparison, Impact, Names, Result
 from llbm_tools.llb.given_definitions import definition_at
-from llbm_tools.streams import Refused, exit_status, program_at, write_output
+from llbm_tools.streams import Refused, exit_status, program_to_ask, write_output
 from llbm_tools.trees.digests import tree_digest
 
 
@@ -154,13 +154,13 @@ def compare(options: argparse.Namespace) -> None:
     """Prints what is known of each vertex of NEW."""
     before, after = dict(options.before), dict(options.after)
     inputs.check_inputs(options.old, options.new, *before.values(), *after.values())
-    program = functools.partial(program_at, options.llbm)
-    data = definition_at(options.old, program), definition_at(options.new, program)
-    comparison = Comparison(*data, (options.old, options.new))
+    program = program_to_ask(options.llbm)
+    data = definition_at(options.old, lambda: program), definition_at(options.new, lambda: program)
+    comparison = Comparison(*data, program, (options.old, options.new))
     found, changed = impacts_of(options, comparison)
     gone, result = comparison.gone(found), comparison.result(found)
     if options.run:
-        found, word = both_runs.compared(program(), comparison, data, (before, after), found)
+        found, word = both_runs.compared(program, comparison, data, (before, after), found)
         result = result._replace(word=word)
     laws = laws_of(options.run)
     text = json_of(found, gone, changed, result, laws) if options.json else lines_of(found, gone, result, laws)
@@ -196,7 +196,7 @@ def parse_options() -> argparse.Namespace:
             help=f"its tree for {side}: {place}",
         )
     parser.add_argument("--run", action="store_true", help="run both, and compare what vertices that are fed made")
-    parser.add_argument("--llbm", metavar="PROGRAM", help="the program llbm, for --run")
+    parser.add_argument("--llbm", metavar="PROGRAM", help="the program llbm")
     parser.add_argument("--json", action="store_true", help="print one object")
     return parser.parse_args()
 

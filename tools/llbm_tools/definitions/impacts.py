@@ -10,10 +10,12 @@ from collections.abc import Iterable, Iterator
 from typing import NamedTuple
 
 from llbm_tools import common
-from llbm_tools.definitions import matching
-from llbm_tools.definitions.matching import Part, Trees
-from llbm_tools.llb import definition, findings, names, op_reading, op_rules
-from llbm_tools.streams import Refused
+from llbm_tools.definitions.matched_vertices import NotAccepted, Words, matches_of, with_names
+from llbm_tools.llb import definition, names, op_reading
+from llbm_tools.llb.findings import findings_of
+from llbm_tools.llb.ops import CACHE, LOCAL
+from llbm_tools.llb.wire import Unreadable
+from llbm_tools.streams import Failed, Refused
 
 KEPT, NEW, FED, CACHED = "kept", "new", "fed", "cached"
 # Both definitions were run, and a vertex that changed sources feed made the same in both, or not.
@@ -34,25 +36,20 @@ BY_RUNS = {
 
 Names = frozenset[str]
 
-EMPTY: Trees = {}
+EMPTY: Words = {}
 
 
 class Vertex(NamedTuple):
-    """A vertex: its entry, its digest, its kind, and its inputs (vertices with outputs).
+    """A vertex: its digest, its kind, and its inputs (vertices with outputs).
 
     `source` is its name if it is a local source, `has_cache` whether it mounts a cache.
     """
 
-    entry: bytes
     digest: str
     kind: str
     inputs: list[tuple[int, int]]
     source: str | None
     has_cache: bool
-
-    def part(self) -> Part:
-        """Returns what the law of matching looks at."""
-        return Part(self.entry, self.inputs, self.source)
 
 
 class Result(NamedTuple):
@@ -82,27 +79,32 @@ class Impact(NamedTuple):
 def vertex_of(entry: bytes, inputs: list[tuple[int, int]]) -> Vertex:
     """Returns the vertex of an entry."""
     op = op_reading.read_op(entry)
-    source = op.source.identifier.removeprefix(op_rules.LOCAL) if op.source else None
-    has_cache = op_rules.has_mount(op, op_rules.CACHE)
-    return Vertex(entry, definition.digest_of(entry), op.kind or "no kind", inputs, source, has_cache)
+    is_local = op.source is not None and op.source.identifier.startswith(LOCAL)
+    source = op.source.identifier.removeprefix(LOCAL) if op.source and is_local else None
+    has_cache = op.exec is not None and any(mount.mount_type == CACHE for mount in op.exec.mounts)
+    return Vertex(definition.digest_of(entry), op.kind or "no kind", inputs, source, has_cache)
 
 
-def vertices_of(data: bytes, place: str) -> tuple[list[Vertex], tuple[int, int]]:
-    """Returns the vertices and the result of a definition that the program accepts."""
-    found = findings.findings_of(data)
-    if found:
-        lint = common.tool_named("lint")
-        raise Refused(f"the program does not accept it: {place}: fault {found[0].words()}; {lint} prints why")
-    entries = definition.entries_of(data)
-    graph = definition.graph_of(entries)
-    vertices = [vertex_of(entries[row], inputs) for row, inputs in zip(graph.rows, graph.inputs, strict=True)]
-    return vertices, graph.result
+class Read:
+    """A definition that the program accepts: its entries, the rows of its vertices, these, and its result."""
+
+    def __init__(self, data: bytes) -> None:
+        self.entries = definition.entries_of(data)
+        graph = definition.graph_of(self.entries)
+        self.rows, self.result = graph.rows, graph.result
+        held = zip(graph.rows, graph.inputs, strict=True)
+        self.vertices = [vertex_of(self.entries[row], inputs) for row, inputs in held]
+
+    def named(self, words: Words) -> tuple[bytes, list[str]]:
+        """Returns the definition with words in place of the names of local sources, and the digest of each vertex."""
+        data, digests = with_names(self.entries, self.rows, words)
+        return data, [digests[vertex.digest] for vertex in self.vertices]
 
 
-def check_digests(old: bytes, new: bytes) -> None:
+def check_digests(old: list[bytes], new: list[bytes]) -> None:
     """Checks that no two unequal entries have one digest."""
     entries: dict[str, bytes] = {}
-    for entry in [*definition.entries_of(old), *definition.entries_of(new)]:
+    for entry in [*old, *new]:
         digest = definition.digest_of(entry)
         if entries.setdefault(digest, entry) != entry:
             raise Refused(f"two unequal entries have the digest {digest}: no law holds")
@@ -150,7 +152,7 @@ def word_of(matched: int | None, digested: int | None, cached: bool) -> str:
     return FED if matched is None else KEPT
 
 
-def words_of(names: Names, side: str, changed: Names, digests: Trees) -> dict[str, str]:
+def words_of(names: Names, side: str, changed: Names, digests: Words) -> dict[str, str]:
     """Returns words for the trees of sources in one of the definitions: the digest if it is known, else the name.
 
     The trees of a changed source have another word in each definition.
@@ -161,18 +163,31 @@ def words_of(names: Names, side: str, changed: Names, digests: Trees) -> dict[st
 class Comparison:
     """Two definitions that the program accepts, without a collision of digests."""
 
-    def __init__(self, old: bytes, new: bytes, places: tuple[str, str] = ("OLD", "NEW")) -> None:
-        self.old, self.old_result = vertices_of(old, places[0])
-        self.new, self.new_result = vertices_of(new, places[1])
-        check_digests(old, new)
+    def __init__(self, old: bytes, new: bytes, program: str, places: tuple[str, str] = ("OLD", "NEW")) -> None:
+        self.data, self.places, self.program = (old, new), places, program
+        try:
+            self.read = Read(old), Read(new)
+        except Unreadable as fault:
+            raise self.refusal() from fault
+        self.old, self.new = (read.vertices for read in self.read)
+        self.old_result, self.new_result = (read.result for read in self.read)
+        check_digests(*(read.entries for read in self.read))
         self.names = {**names_by_digest(old), **names_by_digest(new)}
         self.numbers = {vertex.digest: number for number, vertex in enumerate(self.old)}
+
+    def refusal(self) -> Exception:
+        """Returns why the definitions can't be compared."""
+        lint = common.tool_named("lint")
+        for data, place in zip(self.data, self.places, strict=True):
+            if found := findings_of(data, self.program):
+                return Refused(f"the program does not accept it: {place}: fault {found[0].words()}; {lint} prints why")
+        return Failed("the definitions could not be compared")
 
     def sources(self) -> Names:
         """Returns the names of the local sources of both."""
         return sources_of(self.old) | sources_of(self.new)
 
-    def renamed(self, before: Trees, after: Trees) -> Names:
+    def renamed(self, before: Words, after: Words) -> Names:
         """Returns the names that are in one definition alone, and whose tree another source has in the other one."""
         old, new = sources_of(self.old), sources_of(self.new)
         return frozenset(
@@ -180,21 +195,31 @@ class Comparison:
             + [name for name in old - new if name in before and before[name] in after.values()]
         )
 
-    def impacts(self, changed: Names, before: Trees = EMPTY, after: Trees = EMPTY) -> Iterator[Impact]:
+    def matched(self, changed: Names, before: Words, after: Words) -> list[int | None]:
+        """Returns for each vertex of the newer definition the lowest one of the older one that matches it, or None."""
+        old, new = self.data
+        olds, news = ([vertex.digest for vertex in read.vertices] for read in self.read)
+        if changed or before or after:
+            (old, olds), (new, news) = (
+                read.named(words_of(sources_of(read.vertices), side, changed, digests))
+                for read, side, digests in zip(self.read, ("old", "new"), (before, after), strict=True)
+            )
+        try:
+            matches = matches_of(old, new, self.program)
+        except NotAccepted as fault:
+            raise self.refusal() from fault
+        numbers = {digest: number for number, digest in reversed(list(enumerate(olds)))}
+        return [numbers.get(matches.get(digest, "")) for digest in news]
+
+    def impacts(self, changed: Names, before: Words = EMPTY, after: Words = EMPTY) -> Iterator[Impact]:
         """Yields what is known of each vertex of the newer definition, if these sources have other trees.
 
         `before` and `after` have the digests of trees that are known, for the older and for the newer definition.
         """
-        old = matching.keys_of(
-            (vertex.part() for vertex in self.old), words_of(sources_of(self.old), "old", changed, before)
-        )
-        new = matching.keys_of(
-            (vertex.part() for vertex in self.new), words_of(sources_of(self.new), "new", changed, after)
-        )
-        numbers = {key: number for number, key in reversed(list(enumerate(old)))}
-        befores = zip(self.new, new, changed_before(self.new, changed), caches_before(self.new), strict=True)
-        for vertex, key, fed, cached in befores:
-            matched, digested = numbers.get(key), self.numbers.get(vertex.digest)
+        found = self.matched(changed, before, after)
+        befores = zip(self.new, found, changed_before(self.new, changed), caches_before(self.new), strict=True)
+        for vertex, matched, fed, cached in befores:
+            digested = self.numbers.get(vertex.digest)
             name = self.names.get(vertex.digest, "")
             word = word_of(matched, digested, cached)
             yield Impact(vertex, name, word, digested if matched is None else matched, fed, cached)

@@ -6,8 +6,8 @@ not read as an op still has its digest, its name, and the inputs that can be rea
 
 from typing import NamedTuple
 
-from llbm_tools.llb import definition, findings, names, no_definition, op_reading
-from llbm_tools.llb.findings import Finding
+from llbm_tools.llb import definition, names, no_definition, op_reading
+from llbm_tools.llb.findings import Finding, findings_of
 from llbm_tools.llb.names import Name
 from llbm_tools.llb.ops import Op
 from llbm_tools.llb.wire import Unreadable
@@ -73,15 +73,15 @@ def edges_of(op: Op | None, entry: bytes) -> list[tuple[str, int]]:
     return [(names.text_of(fields, 1), names.number_of(fields, 2)) for fields in inputs]
 
 
-def inspected(data: bytes, place: str | None) -> Inspected:
-    """Reads the definition of a place; raises Refused if the bytes are no definition."""
+def inspected(data: bytes, place: str | None, program: str) -> Inspected:
+    """Reads the definition of a place, in which the program finds faults; raises Refused if the bytes are none."""
     try:
         entries = definition.entries_of(data)
         named = names.names_of(data)
     except Unreadable as fault:
         raise no_definition.refusal(fault, data, place) from fault
     found: dict[int | None, list[Finding]] = {}
-    for finding in findings.findings_of(data):
+    for finding in findings_of(data, program):
         found.setdefault(finding.row, []).append(finding)
     rows: dict[str, int] = {}
     for name in named:

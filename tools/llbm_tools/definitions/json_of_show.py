@@ -28,12 +28,12 @@ from llbm_tools.definitions import inspection
 from llbm_tools.definitions.graph_of_show import check
 from llbm_tools.definitions.inspection import Entry
 from llbm_tools.inputs import check_inputs, check_there, data_at, input_lines
-from llbm_tools.llb import definition, names, no_definition, op_rules
+from llbm_tools.llb import definition, names, no_definition
 from llbm_tools.llb.names import Name
-from llbm_tools.llb.ops import Field, Message, Op, fields_of
+from llbm_tools.llb.ops import LOCAL, Field, Message, Op, fields_of
 from llbm_tools.llb.wire import Unreadable
 from llbm_tools.sessions.shows import Edge, Show, Vertex, show_of
-from llbm_tools.streams import Refused, exit_status, write_output
+from llbm_tools.streams import Refused, exit_status, program_to_ask, write_output
 
 Members = dict[str, object]
 
@@ -76,7 +76,7 @@ def message_object(message: Message) -> Members:
 def entry_object(entry: bytes, op: Op, name: Name, description: dict[str, str]) -> Members:
     """Returns the members that a vertex has from a definition."""
     identifier = op.source.identifier if op.source else ""
-    local = identifier.removeprefix(op_rules.LOCAL) if identifier.startswith(op_rules.LOCAL) else ""
+    local = identifier.removeprefix(LOCAL) if identifier.startswith(LOCAL) else ""
     texts = {"local": local, "name": name.text, "group": name.group, "place": name.place, "description": description}
     shown = {member: text for member, text in texts.items() if text}
     return {"row": name.row, "digest": definition.digest_of(entry), **shown, "op": message_object(op)}
@@ -110,10 +110,10 @@ def entry_in(entry: Entry, descriptions: dict[str, dict[str, str]]) -> Members:
     return {**members, **held, "refused": entry.refusals()}
 
 
-def json_of_any(file: str) -> str:
+def json_of_any(file: str, program: str) -> str:
     """Returns the object of any definition, with one line for each entry."""
     data = data_at(file)
-    inspected, descriptions = inspection.inspected(data, file), names.descriptions_of(data)
+    inspected, descriptions = inspection.inspected(data, file, program), names.descriptions_of(data)
     entries = ",\n".join(f"    {json.dumps(entry_in(one, descriptions))}" for one in inspected.below_terminal())
     result = json.dumps(inspected.result._asdict() if inspected.result else None)
     refused = [f"fault {finding.words()}" for finding in inspected.refused]
@@ -135,7 +135,7 @@ def converted(options: argparse.Namespace) -> str:
     if options.file is not None:
         if options.definition is not None:
             raise Refused("DEFINITION is converted alone, without --definition")
-        return json_of_any(options.file)
+        return json_of_any(options.file, program_to_ask(options.llbm))
     if options.definition is not None:
         check_inputs(None, options.definition)
         check_there(options.definition)
@@ -155,6 +155,7 @@ def parser() -> argparse.ArgumentParser:
     )
     parser.add_argument("file", nargs="?", metavar="DEFINITION", help="a definition, accepted or not, to convert alone")
     parser.add_argument("--definition", metavar="FILE", help="the definition of the graph: ops, names and metadata")
+    parser.add_argument("--llbm", metavar="PROGRAM", help="the program llbm, which says what it refuses in DEFINITION")
     return parser
 
 

@@ -4,11 +4,12 @@ In: a definition, on standard input or in the file DEFINITION.
 
 Out: on standard output a line for each finding, `fault NUMBER ..` in the words of the program, as `explain` reads them;
 then, after a tab, the name of the entry and its place in its source, if the definition has them. Characters that cannot
-be printed are escaped. The first line is the fault that the program prints. The others are sorted by entry, those
+be printed are escaped. The program finds them (`show --findings`): --llbm PROGRAM, else that of the installation or
+repository. The first line is the fault that each other command of it prints. The others are sorted by entry, those
 without an entry first, and within an entry by the number of the fault. Each feature of fault 88 and each rule of fault
-89 is checked in each entry that is reachable from the result. If an entry is not an op, or an input names no row, the
-reachable entries are not known, and all entries but the terminal are checked. Of an entry that is not an op only its
-first fault is printed. If the definition is a text, standard error says so.
+89 is checked in each entry that is reachable from the result; an entry that is not an op, and an input that names no
+row, lead to none. Of an entry that is not an op only its first fault is printed. If the definition is a text, standard
+error says so.
 
 After the findings there is a line `note ENTRY NAME` for each field of such an entry that is set, has an effect in
 BuildKit and none here; `action N`, `mount N` or the key of an attribute may follow the name. With --like-buildkit there
@@ -25,11 +26,11 @@ import sys
 
 from llbm_tools import common, inputs
 from llbm_tools.command_line import Parser
-from llbm_tools.llb import findings, names, no_definition
-from llbm_tools.llb.findings import Finding
+from llbm_tools.llb import names, no_definition
+from llbm_tools.llb.findings import Finding, findings_of
 from llbm_tools.llb.wire import Unreadable
 from llbm_tools.rules import notes, program
-from llbm_tools.streams import exit_status
+from llbm_tools.streams import exit_status, program_to_ask
 
 
 def names_in(data: bytes) -> list[str]:
@@ -49,9 +50,9 @@ def notes_of(data: bytes, found: list[Finding], is_like: bool) -> list[notes.Row
         return []
 
 
-def lines_of(data: bytes, is_like: bool) -> tuple[list[str], list[str]]:
+def lines_of(data: bytes, llbm: str, is_like: bool) -> tuple[list[str], list[str]]:
     """Returns a line for each finding, and one for each note; with `is_like` also for what can end otherwise."""
-    found = findings.findings_of(data)
+    found = findings_of(data, llbm)
     noted = notes_of(data, found, is_like)
     shown = names_in(data) if found or noted else []
 
@@ -72,13 +73,14 @@ def parse_options() -> argparse.Namespace:
     add("definition", nargs="?", metavar="DEFINITION", help="the definition (default: standard input)")
     add("--like-buildkit", action="store_true", help="also print what can end otherwise in BuildKit")
     add("--strict", action="store_true", help="end with status 1 if there are notes")
+    add("--llbm", metavar="PROGRAM", help="the program llbm, which finds the faults")
     return parser.parse_args()
 
 
 def lint(options: argparse.Namespace) -> int:
     """Prints the findings, and returns the exit status."""
-    data = inputs.data_at(options.definition)
-    faults, noted = lines_of(data, options.like_buildkit)
+    llbm, data = program_to_ask(options.llbm), inputs.data_at(options.definition)
+    faults, noted = lines_of(data, llbm, options.like_buildkit)
     if no_definition.is_text(data):
         common.say(no_definition.text_line(options.definition))
     common.check_open(sys.stdout, "standard output")

@@ -9,7 +9,7 @@ import random
 import re
 from typing import NamedTuple
 
-from llbm_tools.building import by_value
+from llbm_tools.building import plans
 from llbm_tools.definitions import faults
 from llbm_tools.fuzzing import changed, made, tokens
 from llbm_tools.fuzzing.checks import Broken, Graph, Rules, Session, caches_in, check_findings, need, tree_fault
@@ -81,7 +81,10 @@ class Case:
         ran = self.tried.runner.run(*words, given=given)
         self.runs.append(ran)
         self.tried.rules.check(ran)
-        check_findings(ran)
+        if words == ("show",):
+            listed = self.tried.runner.run("show", "--findings", given=given)
+            self.runs.append(listed)
+            check_findings(ran, listed)
         return ran
 
     def file(self, name: str, content: bytes) -> str:
@@ -245,7 +248,7 @@ class Case:
         """Checks that tokens in the place of contents, put back in the result, make the result of the contents."""
         data = self.made_definition()
         words = self.sources(data)
-        plan = by_value.plan_of(data)
+        plan = plans.plan_of(data, self.tried.runner.program)
         if plan is None or plan.all:
             return
         table, short = tokens.Contents(), []

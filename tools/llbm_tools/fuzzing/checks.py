@@ -8,7 +8,7 @@ import re
 from llbm_tools import common
 from llbm_tools.definitions import faults
 from llbm_tools.fuzzing.limited import Ran
-from llbm_tools.llb import definition, findings, messages, wire
+from llbm_tools.llb import definition, messages, wire
 from llbm_tools.llb.wire import Unreadable
 
 LAST_STATUS = 3
@@ -148,13 +148,13 @@ class Rules:
                 raise Broken(f"an unexpected answer of a session: {line[:60]!r}")
 
 
-def check_findings(ran: Ran) -> None:
-    """Checks that `lint` finds first what the program refuses a definition for, and nothing in one that it accepts."""
-    is_refused = ran.status == 2 and ran.words == ("show",)
-    is_accepted = ran.status in (0, 1) and ran.words[:1] in (("show",), ("run",))
-    if is_refused or is_accepted:
-        first = [f"fault {finding.words()}\n" for finding in findings.findings_of(ran.given)[:1]]
-        need("".join(first).encode() == (ran.err if is_refused else b""), "lint finds something else first")
+def check_findings(ran: Ran, listed: Ran) -> None:
+    """Checks that a definition is refused for the first fault that is listed, and accepted if there is none."""
+    if LAST_STATUS in (ran.status, listed.status):
+        return
+    need(listed.status == ran.status, f"show --findings with status {listed.status}")
+    need(listed.out.startswith(ran.err) and bool(listed.out) == bool(ran.err), "another fault is listed first")
+    need(not listed.err, "show --findings has lines on standard error")
 
 
 def caches_in(data: bytes) -> list[bytes] | None:

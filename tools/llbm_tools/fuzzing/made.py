@@ -5,6 +5,7 @@ All randomness comes from the generator that is passed in, so equal seeds make e
 
 import random
 
+from llbm_tools.fuzzing import applets
 from llbm_tools.llb import messages
 from llbm_tools.llb.messages import Givens, Message, made
 
@@ -32,11 +33,6 @@ MODES = [0, 420, 493, 448, 4095, 4096, 0o7777777, -1, 2147483647]
 IDS = ["k", "objects", ALPHA + " b"]
 NAMES = ["a", "b", "c", "x.c", "y.c", "d", "e", "-", ".h", ALPHA, "a-b", "A", "z z", "src", "\U00010000"]
 ENTRIES = ["LANG=C", "A=b", "", "=", ALPHA + "=1"]
-APPLETS = [
-    ("true",), ("false",), ("mkdir", "P"), ("mkdir", "-p", "P"), ("rm", "P"), ("write", "P", "W"), ("append", "P", "W"),
-    ("cp", "P", "P"), ("concat", "P", "P"), ("concat", "P", "P", "P"), ("chmod", "M", "P"), ("test", "-e", "P"),
-    ("test", "-f", "P"), ("test", "-d", "P"), ("listing", "P", "P"), ("envfile", "P"), ("sha256", "P", "P"),
-]
 
 
 def one_in(dice: random.Random, count: int) -> bool:
@@ -135,13 +131,13 @@ def file_op(dice: random.Random, inputs: tuple[Message, ...]) -> tuple[Message, 
 def call(dice: random.Random) -> list[str]:
     """Returns a call of an applet, now and then a wrong one."""
     words = []
-    for word in dice.choice(APPLETS):
-        if word == "P":
+    for word in dice.choice(applets.calls()):
+        if word == applets.PATH:
             at = dice.choice(["", "", "", "/in", "/tmp", "/cache"])
             word = (at + path(dice)).replace(" ", "") or "/"
-        elif word == "M":
+        elif word == applets.MODE:
             word = dice.choice(["0644", "7", "0777", "755", "4755", "0000"])
-        words.append(dice.choice(WORDS) if word == "W" else word)
+        words.append(dice.choice(WORDS) if word == applets.WORD else word)
     if one_in(dice, 60):
         words.insert(dice.randint(0, len(words)), dice.choice(STRANGE_WORDS + ["apk", "ls"]))
     if one_in(dice, 80):

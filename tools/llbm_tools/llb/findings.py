@@ -1,17 +1,17 @@
-"""Finds every fault in a definition that the program would print if it were the first one.
+"""The faults of a definition, which the program finds: `llbm show --findings` prints each that is at its own place."""
 
-The program prints the first fault, in the order of docs/FORMATS.md under Loading, and stops. This module also checks
-what comes after it, as far as possible: an entry that is not an op is skipped, each feature and each rule of an op is a
-separate finding, and the index of an input is checked if the outputs of the entry that it names can be numbered.
-"""
-
+from collections.abc import Iterator
 from typing import NamedTuple
 
-from llbm_tools.llb import definition, op_reading, op_rules
-from llbm_tools.llb.ops import Input, Op
-from llbm_tools.llb.wire import Faulty, Unreadable
+from llbm_tools.llb import definition
+from llbm_tools.llb.asking import ask
+from llbm_tools.streams import Failed
 
-DEFINITION, ENTRY, TOO_FEW, COLLISION, NO_RESULT, UNKNOWN, CYCLE, FEATURE, RULE, INDEX = range(81, 91)
+DEFINITION, ENTRY, FEATURE, RULE = 81, 82, 88, 89
+# The faults whose line has no row.
+ROWLESS = (DEFINITION, 83, 85, 87)
+# A rule with a text at its end, the first word of a call; only this text can have line ends.
+NO_APPLET = "Script 71 "
 
 
 class Finding(NamedTuple):
@@ -23,142 +23,46 @@ class Finding(NamedTuple):
 
     def words(self) -> str:
         """Returns the words of the program after `fault`."""
-        return " ".join([str(self.number), *([] if self.row is None else [str(self.row)]), *filter(None, [self.rest])])
+        row = [] if self.row is None else [str(self.row)]
+        return " ".join([str(self.number), *row, *([self.rest] if self.rest else [])])
 
     def name(self) -> str:
         """Returns the name of a feature or of a rule, or nothing."""
         return self.rest.partition(" ")[0] if self.number in (FEATURE, RULE) else ""
 
 
-class Rows:
-    """The rows of a definition by digest, and what is found in them."""
-
-    def __init__(self, entries: list[bytes]) -> None:
-        self.found: list[Finding] = []
-        self.named: dict[str, int] = {}
-        self.bytes: list[bytes] = []
-        self.ops: dict[int, Op] = {}
-        self.terminal = -1
-        self.sure: set[int] = set()
-        self.is_known = True
-        for row, entry in enumerate(entries):
-            self.add(row, entry)
-
-    def add(self, row: int, entry: bytes) -> None:
-        """Reads a row, unless it is equal to an earlier one."""
-        self.bytes.append(entry)
-        self.terminal = self.named.setdefault(definition.digest_of(entry), row)
-        if self.terminal != row:
-            if self.bytes[self.terminal] == entry:
-                return
-            self.found.append(Finding(COLLISION, row))
-        try:
-            self.ops[row] = op_reading.read_op(entry)
-        except Faulty as fault:
-            self.found.append(Finding(ENTRY, row, str(fault.number)))
-
-    def row_of(self, edge: Input) -> int | None:
-        """Returns the row that an input names, which is never the terminal, or None."""
-        row = self.named.get(edge.digest)
-        return None if row == self.terminal else row
-
-    def links(self, row: int) -> list[int | None]:
-        """Returns the rows that the inputs of a row name."""
-        return [self.row_of(edge) for edge in self.ops[row].inputs]
-
-    def start(self) -> int | None:
-        """Returns the row of the result, or None if it is not known."""
-        if self.terminal not in self.ops:
-            return None
-        links = self.links(self.terminal)[:1]
-        if not links:
-            self.found.append(Finding(NO_RESULT))
-        elif links == [None]:
-            self.found.append(Finding(UNKNOWN, self.terminal, "0"))
-        return links[0] if links else None
-
-    def reach(self, start: int | None) -> None:
-        """Finds the rows that are certainly reachable, and whether these are all."""
-        left = [start]
-        while left:
-            row = left.pop()
-            if row is None or row not in self.ops:
-                self.is_known = False
-            elif row not in self.sure:
-                self.sure.add(row)
-                left.extend(self.links(row))
-
-    def rows_to_check(self) -> list[int]:
-        """Returns the reachable rows, or all but the terminal if they are not known."""
-        return sorted(self.sure if self.is_known else self.ops.keys() - {self.terminal})
-
-    def reached(self) -> set[int]:
-        """Returns the rows that are reached from the result, or all if they are not known, and the terminal."""
-        self.reach(self.start())
-        return {*self.rows_to_check(), self.terminal}
-
-    def check_row(self, row: int) -> None:
-        """Checks a row: inputs that name no row, features and rules."""
-        op = self.ops[row]
-        unknown = [number for number, named in enumerate(self.links(row)) if named is None]
-        self.found += [Finding(UNKNOWN, row, str(number)) for number in unknown]
-        self.found += [Finding(FEATURE, row, name) for name in op_rules.features_of(op)]
-        self.found += [Finding(RULE, row, name) for name in op_rules.rules_of(op)]
-
-    def check_indexes(self, row: int, most: int | None = None) -> None:
-        """Checks the indexes of a row's inputs, or of its first ones."""
-        for number, edge in enumerate(self.ops[row].inputs[:most]):
-            named = self.row_of(edge)
-            count = op_rules.count_of(self.ops[named]) if named is not None and named in self.ops else None
-            if count is not None and not 0 <= edge.index < count:
-                self.found.append(Finding(INDEX, row, str(number)))
-
-    def check_for_cycle(self, rows: list[int]) -> None:
-        """Checks whether rows name one another in a cycle."""
-        links = {row: [named for named in self.links(row) if named in self.ops] for row in rows}
-        links = {row: [named for named in named_rows if named in links] for row, named_rows in links.items()}
-        try:
-            definition.order_of(links)
-        except Unreadable:
-            self.found.append(Finding(CYCLE))
-
-    def check(self) -> None:
-        """Checks all rows; there are at least two."""
-        self.reach(self.start())
-        rows = self.rows_to_check()
-        self.check_for_cycle(rows)
-        for row in rows:
-            self.check_row(row)
-            self.check_indexes(row)
-        if self.terminal in self.ops:
-            self.check_indexes(self.terminal, 1)
-
-    def rank(self, finding: Finding) -> tuple[int, bool, int]:
-        """Returns the sort key that puts the program's own fault first: number, then reachability, then row."""
-        row = self.terminal if finding.row is None else finding.row
-        return finding.number, finding.number >= UNKNOWN and row not in {*self.sure, self.terminal}, row
+def finding_of(line: str) -> Finding:
+    """Returns the finding on a line of the program."""
+    _, _, words = line.partition(" ")
+    number, _, rest = words.partition(" ")
+    if int(number) in ROWLESS:
+        return Finding(int(number), None, rest)
+    row, _, others = rest.partition(" ")
+    return Finding(int(number), int(row), others)
 
 
-def ordered(rows: Rows) -> list[Finding]:
-    """Returns the findings: the program's own fault first, then the others by row, those without a row first."""
-    if not rows.found:
-        return []
-    first = min(rows.found, key=rows.rank)
-    others = [finding for finding in rows.found if finding is not first]
-    return [first, *sorted(others, key=lambda finding: (-1 if finding.row is None else finding.row, finding.number))]
+def found_in(text: str, data: bytes) -> Iterator[Finding]:
+    """Yields the findings on the lines that the program prints for a definition."""
+    lines = iter(text.split("\n")[:-1])
+    entries = definition.entries_of(data) if NO_APPLET in text else []
+    for line in lines:
+        one = finding_of(line)
+        if one.row is not None and one.rest.startswith(NO_APPLET):
+            called = definition.args_of(definition.op_of(one.row, entries[one.row]))[0]
+            more = [next(lines) for _ in range(called.count("\n"))]
+            one = one._replace(rest="\n".join([one.rest, *more]))
+        yield one
 
 
-def findings_of(data: bytes) -> list[Finding]:
-    """Returns all findings of a definition, the program's own fault first; empty if the program accepts it."""
-    try:
-        entries = op_reading.entries_in(op_reading.read_definition(data))
-    except Faulty as fault:
-        return [Finding(DEFINITION, None, str(fault.number))]
-    rows = Rows(entries)
-    if any(finding.number == COLLISION for finding in rows.found):
-        return ordered(rows)
-    if len(rows.named) < 2:
-        rows.found.append(Finding(TOO_FEW))
-    else:
-        rows.check()
-    return ordered(rows)
+def findings_of(data: bytes, program: str) -> list[Finding]:
+    """Returns all faults of a definition, which the program finds; empty if it accepts the definition.
+
+    The first one is the fault that each other command of the program prints. The others are by row, those without a row
+    first, and those of a row by number.
+    """
+    answer = ask(program, "show", "--findings", given=data)
+    if answer.is_refused and not answer.text:
+        raise Failed("the program knows no show --findings")
+    found = list(found_in(answer.text, data))
+    others = sorted(found[1:], key=lambda one: (-1 if one.row is None else one.row, one.number))
+    return [*found[:1], *others]

@@ -2,7 +2,7 @@
 
 import re
 
-from llbm_tools.llb.op_rules import LOCAL
+from llbm_tools.llb.ops import LOCAL
 
 IMAGES = ("docker-image", "docker-image+blob", "oci-layout", "oci-layout+blob")
 SCHEMES = (*IMAGES, "git", "http", "https")

@@ -11,6 +11,9 @@ from typing import Any, ClassVar, NamedTuple, dataclass_transform
 WIDTHS = {"int64": 64, "int32": 32, "enum": 32, "uint32": 32}
 SIGNED = ("int64", "int32", "enum")
 NUMBERS = (*WIDTHS, "bool")
+# The begin of the identifier of a local source, and the types of mounts.
+LOCAL = "local://"
+BIND, SECRET, SSH, CACHE, TMPFS = range(5)
 DEFAULTS = {"string": "", "bytes": b"", "bool": False, **dict.fromkeys(WIDTHS, 0)}
 
 

@@ -1,10 +1,14 @@
 """Writes a message with some of its records changed; all others keep their bytes and their order."""
 
-from collections.abc import Callable, Sequence
+from collections.abc import Callable, Mapping, Sequence
 
 from llbm_tools.llb import wire
-from llbm_tools.llb.op_reading import counted, joined
+from llbm_tools.llb.op_reading import counted, joined, read
+from llbm_tools.llb.ops import Input
 from llbm_tools.llb.wire import LENGTH, VARINT, Record, record_of
+
+# The field of an op with its inputs, and that of an input with its digest.
+INPUTS, DIGEST = 1, 1
 
 
 def written(records: list[Record]) -> bytes:
@@ -71,6 +75,18 @@ def with_texts(records: list[Record], field: int, texts: Sequence[str]) -> list[
 def without(records: list[Record], field: int) -> list[Record]:
     """Removes all records of a field."""
     return [record for record in records if record.field != field]
+
+
+def relinked(entry: bytes, digests: Mapping[str, str]) -> bytes:
+    """Returns an entry whose inputs name new digests in place of the old ones that have one."""
+
+    def edge(held: bytes) -> bytes:
+        """Returns an input with the new digest of what it names."""
+        old = read(Input, held).digest
+        new = digests.get(old, old)
+        return held if new == old else changed(held, lambda records: with_text(records, DIGEST, new))
+
+    return changed(entry, lambda records: with_each(records, INPUTS, edge))
 
 
 def changed(data: bytes, change: Callable[[list[Record]], list[Record]]) -> bytes:

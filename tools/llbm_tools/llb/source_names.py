@@ -4,9 +4,9 @@ import os
 from typing import NamedTuple
 
 from llbm_tools.common import tool_named
-from llbm_tools.llb import definition, op_rules
+from llbm_tools.llb import definition
 from llbm_tools.llb.local_names import can_be_given
-from llbm_tools.llb.ops import Op
+from llbm_tools.llb.ops import LOCAL, Op
 from llbm_tools.llb.wire import Unreadable
 
 
@@ -29,7 +29,7 @@ def ops_of(data: bytes | None) -> list[Op]:
 def locals_of(ops: list[Op]) -> list[Local]:
     """Returns the local sources, by vertex."""
     named = [(vertex, op.source.identifier) for vertex, op in enumerate(ops) if op.source]
-    return [Local(vertex, name[len(op_rules.LOCAL) :]) for vertex, name in named if name.startswith(op_rules.LOCAL)]
+    return [Local(vertex, name[len(LOCAL) :]) for vertex, name in named if name.startswith(LOCAL)]
 
 
 def name_of(word: str) -> str:

@@ -2,7 +2,8 @@
 
 In: the sources in crates/. `tools/claims STATEMENT` prints every definition that a statement depends on, nearest first,
 each with its file and line, then the types of src/ that they name, and the number of lines in each file; STATEMENT is a
-column of the table in docs/CLAIMS.md: aim, load, assemble, disassemble, run, show, findings, plan, matches, asm, dis, step or program.
+column of the table in docs/CLAIMS.md: aim, load, assemble, disassemble, run, show, findings, plan, matches, asm, dis,
+step or program.
 `--first` prints the definitions that docs/CLAIMS.md has read first, in its order, each below its question. `--bodies`
 prints the wrong bodies that the prover refuses, each with its file and its function. `--write` writes the
 tables in docs/CLAIMS.md from the sources: for each statement the number of lines to read in each crate, and the number

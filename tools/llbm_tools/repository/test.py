@@ -60,7 +60,6 @@ MODULES = [
     "definitions.explaining",
     "building.building",
     "building.contents",
-    "building.value_rules",
     "building.rebuilding",
     "building.filtering",
     "building.leaving",
@@ -290,6 +289,9 @@ def test(options: argparse.Namespace) -> int:
     """Runs the tests with a program, if there is one, and returns the exit status."""
     word = options.llbm
     base.llbm = shutil.which(common.program_named(None)) if word is None else streams.program_at(word)
+    if base.llbm is not None:
+        # What is tested runs this program too, unless a test names another one.
+        os.environ["LLBM"] = base.llbm
     with tempfile.TemporaryDirectory(prefix="tools-test-cache-") as cache:
         # What copies of the tools keep compiled is removed with them.
         os.environ["LLBM_CACHE"] = str(paths.CACHE)

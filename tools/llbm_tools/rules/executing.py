@@ -2,9 +2,10 @@
 
 import subprocess
 
-from llbm_tools.llb import definition, messages, op_rules
+from llbm_tools.llb import definition, messages
 from llbm_tools.llb.definition import Graph
 from llbm_tools.llb.messages import made
+from llbm_tools.llb.ops import CACHE
 from llbm_tools.llb.rewriting import changed, placed
 from llbm_tools.llb.wire import record_of
 from llbm_tools.rules.comparison import Outputs, Tree
@@ -41,11 +42,13 @@ class Program:
     def run(self, vertex: int, files: list[str]) -> Outputs:
         """Returns the outputs of an execution on inputs in files, or None if its script fails."""
         op = definition.op_of(self.graph.rows[vertex], self.entries[self.graph.rows[vertex]])
-        if op_rules.has_mount(op, op_rules.CACHE):
+        mounts = op.exec.mounts if op.exec else ()
+        if any(mount.mount_type == CACHE for mount in mounts):
             cause = "mounts a cache, and its inputs differ in BuildKit: its outputs are unknown"
             raise NotKnown(f"vertex {vertex} {cause}")
         words = [f"{number}={file}" for number, file in enumerate(files)]
-        found = [self.output(vertex, output, words) for output in range(op_rules.count_of(op) or 0)]
+        outputs = sorted(mount.output for mount in mounts if mount.output >= 0)
+        found = [self.output(vertex, output, words) for output in outputs]
         return None if None in found else [one for one in found if one is not None]
 
     def output(self, vertex: int, output: int, words: list[str]) -> Tree | None:

@@ -2,8 +2,9 @@
 
 from typing import NamedTuple
 
-from llbm_tools.llb import definition, findings, names, op_rules
+from llbm_tools.llb import definition, findings, names
 from llbm_tools.llb.findings import Finding
+from llbm_tools.llb.ops import LOCAL
 from llbm_tools.llb.wire import Unreadable
 from llbm_tools.rules import program
 from llbm_tools.streams import Refused
@@ -38,8 +39,8 @@ class RowNote(NamedTuple):
 def local_name(entry: bytes) -> str | None:
     """Returns the name of the local source that an entry is, or None if it is another op."""
     source = definition.op_of(0, entry).source
-    local = source is not None and source.identifier.startswith(op_rules.LOCAL)
-    return source.identifier.removeprefix(op_rules.LOCAL) if source and local else None
+    local = source is not None and source.identifier.startswith(LOCAL)
+    return source.identifier.removeprefix(LOCAL) if source and local else None
 
 
 def lines_of(data: bytes, filtered: set[str]) -> list[str]:

@@ -1,7 +1,7 @@
 """Says in words why vertices of a run failed: the command with its words, or the action, and what was missing.
 
-The program prints only numbers. So the definition is run again, by one worker in a session, which is asked for the
-trees at each failure. A run that takes longer than a minute has no reasons.
+A run prints only numbers. So the definition is run again, by one worker in a session, which is asked at each failure
+why the command failed, or for the trees of the action. A run that takes longer than a minute has no reasons.
 """
 
 import contextlib
@@ -51,7 +51,7 @@ class Reasons:
     def run(self) -> None:
         """Runs the definition in a session, and finds why each vertex fails."""
         vertices = [Vertex(op) for op in source_names.ops_of(data_at(os.path.abspath(self.definition)))]
-        session = Session(self.command, 1, len(vertices))
+        session = Session(self.command, 1)
         timer = threading.Timer(MOST_SECONDS, session.child.kill)
         timer.start()
         try:

@@ -122,7 +122,7 @@ def explained(explainer: faults.Explainer, run: Run, line: str, reasons: Reasons
 
 def print_errors(program: str, run: Run, text: bytes) -> None:
     """Prints the program's lines on standard error, each with its explanation below it."""
-    explainer = faults.Explainer(faults.read_page())
+    explainer = faults.Explainer(faults.read_page(), program=lambda: program)
     data = data_of(run) if run.words.command in ("run", "show", "step") else None
     if data:
         explainer.take(data)

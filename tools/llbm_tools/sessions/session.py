@@ -1,7 +1,7 @@
 """A stepping session of the program, as in docs/FORMATS.md: sends commands, and reads each answer to its end.
 
-The program is run with `--ends`, so an empty line ends each answer. The commands `break`, `clear` and `go` are not used:
-without them a run can be paused between any two events, and breakpoints work backwards too.
+The program is run with `--looks` and `--ends`: an empty line ends each answer. The commands `break`, `clear` and `go`
+are not used: without them a run can be paused between any two events, and breakpoints work backwards too.
 """
 
 import contextlib
@@ -10,6 +10,9 @@ import subprocess
 import tempfile
 from collections.abc import Iterator
 from typing import BinaryIO, NamedTuple, cast
+
+from llbm_tools.sessions.shows import Show, show_of
+from llbm_tools.streams import Refused
 
 LINE = re.compile(r"([0-9]+) (claim|step|settle|cancel) ([0-9]+)(?: ([0-9]+))? -> (.+)")
 EVENT = re.compile(f"{LINE.pattern}|end")
@@ -75,8 +78,7 @@ def after(event: Event) -> Run | None:
 class Session:
     """The running program, its record so far, and what each worker runs."""
 
-    def __init__(self, command: list[str], workers: int, vertices: int) -> None:
-        self.vertices = vertices
+    def __init__(self, command: list[str], workers: int) -> None:
         self.record: list[Event] = []
         self.runs: list[Run | None] = [None] * workers
         self.words = tempfile.TemporaryFile()
@@ -164,8 +166,6 @@ class Session:
             if number != str(vertex):
                 raise self.broken(f"{number} {status}")
             statuses.append(status)
-        if len(statuses) != self.vertices:
-            raise self.broken(f"{len(statuses)} lines of `status`")
         return statuses
 
     @contextlib.contextmanager
@@ -196,6 +196,19 @@ class Session:
             raise self.broken(str(refusal)) from refusal
         if self.added(line) != event:
             raise self.broken(line)
+
+    def graph(self) -> Show:
+        """Returns the graph."""
+        text = "".join(line.decode("ascii", "backslashreplace") + "\n" for line in self.answer("graph"))
+        try:
+            return show_of(text)
+        except Refused as fault:
+            raise self.broken(str(fault)) from fault
+
+    def digests(self) -> list[str]:
+        """Returns the digest of each vertex's entry, by number."""
+        lines = (line.decode("ascii", "backslashreplace") for line in self.answer("digests"))
+        return [line.partition(" ")[2] for line in lines]
 
     def tree(self, vertex: int, output: int) -> list[bytes] | None:
         """Returns the lines of the tree of an output, or None if there is no such output."""

@@ -9,7 +9,7 @@ import stat
 import subprocess
 
 from tests import base
-from tests.base import Folder, command, run
+from tests.base import command, run
 from tests.trees.archives import entry, tar
 
 FAKE = f"""{base.FAKE_PYTHON}
@@ -41,7 +41,7 @@ time.sleep(600)
 """
 
 
-class Builds(Folder):
+class Builds(base.WithProgram):
     """Builds in the test's folder, with a fake program."""
 
     fake = FAKE

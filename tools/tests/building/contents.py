@@ -6,7 +6,7 @@ import pathlib
 import shutil
 import stat
 
-from llbm_tools.building import by_value, result_writing
+from llbm_tools.building import plans, result_writing
 from llbm_tools.trees import references
 from tests import base, program
 from tests.base import run
@@ -24,9 +24,9 @@ SKIPPED = ["/bin/sh", "-c", "true || sha256 a b"]
 MIXED = "41ff0000000142ff00000000ff00000000"
 
 
-def mkfile(data):
+def mkfile(data, output=0):
     """Returns a mkfile at /m with this content."""
-    return base.number(1, -1) + base.part(5, base.part(1, "/m") + base.part(3, data))
+    return base.number(1, -1) + base.number(3, output) + base.part(5, base.part(1, "/m") + base.part(3, data))
 
 
 def cached_exec(*args, on):
@@ -38,12 +38,12 @@ def cached_exec(*args, on):
     return base.inputs(on) + base.part(2, meta + root + cache)
 
 
-class Plans(base.Folder):
+class Plans(base.WithProgram):
     """Which sources are given by value."""
 
     def check_plan(self, entries, sources, cause=""):
         """Checks the sources that are given by value, and the cause for giving all of them."""
-        plan = by_value.plan_of(base.ending(*entries))
+        plan = plans.plan_of(base.ending(*entries), base.llbm)
         self.assertEqual((plan.sources, plan.all), (sources, cause))
 
     def test_sources_before_a_digest_are_given_by_value(self):
@@ -61,25 +61,26 @@ class Plans(base.Folder):
 
     def test_words_that_only_look_like_a_call_do_not_count(self):
         one = base.source("local://one")
-        for words in [("write", "/a", "sha256"), ("/bin/sh", "-c", "write /sha256 listing ; cp /sha256 /a"), ()]:
+        for words in [("write", "/a", "sha256"), ("/bin/sh", "-c", "write /sha256 listing ; cp /sha256 /a")]:
             self.check_plan([one, base.exec_op(*words, on=[one])], {})
 
     def test_the_byte_255_of_a_mkfile_is_a_cause_for_all(self):
         one = base.source("local://one")
-        made = base.file_op(mkfile(b"a"), mkfile(b"\xff"), on=[one])
+        made = base.file_op(mkfile(b"a", output=-1), mkfile(b"\xff"), on=[one])
         self.check_plan([one, made], {}, "action 1 of vertex 1 writes the byte 255")
         self.check_plan([one, base.file_op(mkfile(b"\xfe"), on=[one])], {})
 
     def test_caches_carry_contents_between_execs(self):
         one, two = base.source("local://one"), base.source("local://two")
         filling, digest = cached_exec("cp", "/a", "/c", on=one), cached_exec("sha256", "/c/a", "/b", on=two)
-        found = by_value.plan_of(base.ending(one, two, filling, digest, base.merge(filling, digest))).sources
-        self.assertEqual(set(found), {b"one", b"two"})
+        found = plans.plan_of(base.ending(one, two, filling, digest, base.merge(filling, digest)), base.llbm)
+        after = "vertex 3, an exec, calls sha256"
+        self.assertEqual(found.sources, {b"one": f"{after}, and vertex 2 mounts a cache", b"two": after})
         self.check_plan([one, filling], {})
 
-    def test_a_definition_that_cannot_be_read_has_no_plan(self):
-        self.assertIsNone(by_value.plan_of(b"\x0a"))
-        self.assertIsNone(by_value.plan_of(b""))
+    def test_a_definition_that_is_refused_has_no_plan(self):
+        self.assertIsNone(plans.plan_of(b"\x0a", base.llbm))
+        self.assertIsNone(plans.plan_of(base.ending(base.source("git://a")), base.llbm))
 
 
 class Pieces(base.Folder):

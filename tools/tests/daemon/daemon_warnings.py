@@ -4,7 +4,7 @@ import os
 import re
 
 from llbm_tools.daemon import random_definitions, runs
-from llbm_tools.llb import findings
+from llbm_tools.llb.findings import findings_of
 from llbm_tools.rules.examples import examples
 from llbm_tools.trees import maps
 from tests import base
@@ -56,5 +56,5 @@ class Warnings(WithDaemon):
 
     def test_random_definitions_end_as_in_buildkit_or_with_a_warning(self):
         made = [random_definitions.make(f"warnings {kind} {seed}", kind) for kind in KINDS for seed in SEEDS]
-        taken = [one for one in made if not findings.findings_of(one.data)]
+        taken = [one for one in made if not findings_of(one.data, base.llbm)]
         self.check((one.data, one.sources, compared(one.data, one.sources)[1]) for one in taken)

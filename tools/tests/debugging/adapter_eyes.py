@@ -178,12 +178,12 @@ class Changes(Eyes):
     def test_a_large_tree_is_not_compared(self):
         data = base.ending(base.exec_op("/bin/sh", "-c", "write /a 1"))
         place = self.file(b"definition", data)
-        shown = self.llbm("show", given=data).decode()
         text = self.llbm("dis", given=data).decode()
         entries = places.definition.entries_of(data)
-        graph = places.graph_of(shown, places.Text(text, places.lines_of(text)), entries, ["", ""])
-        session = Session([base.llbm, "step", "--looks", "--ends", place], 2, 1)
+        session = Session([base.llbm, "step", "--looks", "--ends", place], 2)
         self.addCleanup(session.end)
+        held = places.Text(text, places.lines_of(text))
+        graph = places.graph_of(session.graph(), session.digests(), held, entries, ["", ""])
         session.event("claim 0 0")
         session.event("step 0")
         most, looks.MOST_COMPARED = looks.MOST_COMPARED, 20

@@ -12,15 +12,16 @@ from tests import base
 from tests.base import Folder, command
 from tests.debugging import protocol
 
+SOURCE = base.source("local://src")
 FAKE = f"""{base.FAKE_PYTHON}
 import os, signal
 words = sys.argv[1:]
 given = sys.stdin.buffer.read() if words[0] != "step" else b""
-if words[0] == "show":
-    print("0 source steps 1 outputs 1 inputs -\\nresult 0.0")
-elif words[0] == "dis":
+if words[0] == "dis":
     print("op {{\\n}}\\nop {{\\n}}")
 else:
+    SHOWN = "0 source steps 1 outputs 1 inputs -\\nresult 0.0\\n"
+    DIGESTS = "0 {base.digest(SOURCE)}\\n"
     def send(text):
         sys.stdout.write(text)
         sys.stdout.flush()
@@ -29,27 +30,18 @@ else:
     exec(open(os.path.join(os.path.dirname(sys.argv[0]), "does")).read())
 """
 
-BEGINS = "receive()\nsend('0 ready\\n')\nreceive()\n"
+BEGINS = "receive()\nsend(SHOWN + '\\n')\nreceive()\nsend(DIGESTS + '\\n')\nreceive()\n"
 CRASHES = BEGINS + "sys.stderr.write('out of luck\\n')\nsys.exit(7)\n"
 KILLED = BEGINS + "os.kill(os.getpid(), signal.SIGKILL)\n"
-BABBLES = BEGINS + "send('1 claim 0 0 -> source 1\\n')\nreceive()\nsend('3 step 0 -> read\\n')\nreceive()\n"
+BABBLES = BEGINS + "send('1 claim 0 0 -> source 1\\n\\n')\nreceive()\nsend('3 step 0 -> read\\n\\n')\nreceive()\n"
 CUT = BEGINS + "send('1 claim 0 0 -> sou')\n"
 CLOSES = BEGINS + "os.close(1)\nreceive()\n"
 DONE = """
-receive()
-send('0 ready\\n')
-number = 1
-while True:
-    line = receive()
-    number += 1
-    if line == 'next': send('end\\n')
-    elif line == 'status': send('0 done\\n')
-    elif line == 'tree 0 0':
-        receive()
-        number += 1
+answers = {'graph': SHOWN, 'digests': DIGESTS, 'next': 'end\\n', 'status': '0 done\\n'}
+while line := receive():
+    if line == 'tree 0 0':
         send(open(os.path.join(os.path.dirname(sys.argv[0]), 'tree')).read())
-        send(f'fault 173 {number}\\n')
-    elif not line: sys.exit()
+    send(answers.get(line, '') + '\\n')
 """
 
 
@@ -192,7 +184,7 @@ class WithFake(WithAdapter):
 
     def setUp(self):
         super().setUp()
-        self.definition = os.fsdecode(self.file(b"definition", base.ending(base.source("local://src"))))
+        self.definition = os.fsdecode(self.file(b"definition", base.ending(SOURCE)))
         self.tree = os.fsdecode(self.file(b"src", b"d 0755 0 0 /\n"))
         self.program = self.at / "llbm"
         self.program.write_text(FAKE)
@@ -265,13 +257,14 @@ class Crashes(WithFake):
     def test_an_invalid_graph_is_refused(self):
         self.set_behavior(DONE)
         client = self.opened()
-        for shown, message in [
-            ("x", "the program shows 0 vertices, and the definition has 1"),
-            ("", "the program shows 0 vertices, and the definition has 1"),
-            ("0 source\\nresult 0.0", "the program printed an unexpected line for a vertex: 0 source"),
+        line = "the program printed an unexpected line: "
+        for before, after, message in [
+            ("result 0.0", "x", f"{line}neither V KIND steps S outputs O inputs LIST nor result V.I: line 2"),
+            ("result 0.0\\n", "", f"{line}there is no result: line 2"),
+            ("0 source", "1 source", f"{line}the number of the vertex is not 0: line 1"),
+            ("0 sha256:", "0 sha256:0", "the program shows another graph than that of the definition"),
         ]:
-            line = "0 source steps 1 outputs 1 inputs -\\nresult 0.0"
-            self.program.write_text(FAKE.replace(line, shown))
+            self.program.write_text(FAKE.replace(before, after))
             self.assertEqual(client.refused("launch", **self.given), message)
 
     def test_a_program_that_does_not_begin_is_refused(self):
@@ -279,7 +272,7 @@ class Crashes(WithFake):
         for does, message in [
             ("sys.exit(3)", "the program has ended with status 3"),
             ("sys.stderr.write('fault 122\\n')\nsys.exit(2)", "fault 122: 122: "),
-            ("send('x\\n')", "the program printed an unexpected line: x"),
+            ("send('x\\n\\n')", "the program printed an unexpected line: neither V KIND steps S"),
         ]:
             self.set_behavior(does)
             self.assertTrue(client.refused("launch", **self.given).startswith(message))

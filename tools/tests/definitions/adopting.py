@@ -11,7 +11,8 @@ import unittest
 
 from llbm_tools import paths
 from llbm_tools.definitions import adopting, adoption_rules
-from llbm_tools.llb import findings, local_names
+from llbm_tools.llb import local_names
+from llbm_tools.llb.findings import findings_of
 from llbm_tools.streams import Refused
 from tests import base
 from tests.base import Folder, number, part, run, run_closed, run_into
@@ -89,7 +90,7 @@ class LocalNames(unittest.TestCase):
         self.assertEqual([given.new_name(IMAGE) for _ in range(3)], ["alpine-2", "alpine-4", "alpine-5"])
 
 
-class Rules(unittest.TestCase):
+class Rules(base.WithProgram):
     """Files of rules."""
 
     def test_rules_are_parsed(self):
@@ -98,7 +99,7 @@ class Rules(unittest.TestCase):
             (3, "digest", ("sha256:0",), ("true",)), (4, "name", ("a b",), ("mkdir", "-p", "/a b")),
             (5, "words", ("x", "=> y"), ()), (6, "words", (), ("rm", "a")),
         ]
-        self.assertEqual(list(map(tuple, adoption_rules.rules_in(text.encode()))), rules)
+        self.assertEqual(list(map(tuple, adoption_rules.rules_in(text.encode(), base.llbm))), rules)
 
     def test_lines_that_are_not_rules_are_refused(self):
         one = "exactly one word goes between name and =>"
@@ -109,10 +110,10 @@ class Rules(unittest.TestCase):
             ("words a => /bin/sh -c 'rm'", "the new words are not a script, fault 72 0"),
         ]:
             with self.assertRaises(Refused) as caught:
-                adoption_rules.rules_in(f"\n{line}\n".encode())
+                adoption_rules.rules_in(f"\n{line}\n".encode(), base.llbm)
             self.assertEqual(str(caught.exception), f"{cause}: line 2")
         with self.assertRaises(Refused):
-            adoption_rules.rules_in(b"\xff")
+            adoption_rules.rules_in(b"\xff", base.llbm)
 
 
 def definition_in(text, name):
@@ -121,7 +122,7 @@ def definition_in(text, name):
     return bytes.fromhex("".join(re.findall("[0-9a-f]{2,}", literals)))
 
 
-class Adopt(Folder):
+class Adopt(base.WithProgram):
     """The tool `adopt`."""
 
     def setUp(self):
@@ -134,7 +135,7 @@ class Adopt(Folder):
         lines = "".join(f"{line}\n" for line in [*changes, *sources]).encode()
         self.assertEqual((done.returncode, done.stderr), (0, lines))
         self.assertEqual(done.stdout.hex(), wanted.hex())
-        self.assertEqual(findings.findings_of(done.stdout), [])
+        self.assertEqual(findings_of(done.stdout, base.llbm), [])
 
     def check_refused(self, given, messages, *words):
         """Checks that the definition is refused with these lines."""
@@ -257,9 +258,9 @@ class Adopt(Folder):
         bare = self.words(self.local)
         given, wanted = base.ending(self.local, bare), base.ending(self.local, self.words(self.local, "true"))
         lines = ["entry 1: runs true in place of ", "entry 2: its inputs have new digests"]
-        self.assertEqual([one.rest for one in findings.findings_of(given)], ["NoArgs"])
+        self.assertEqual([one.rest for one in findings_of(given, base.llbm)], ["NoArgs"])
         done = run("adopt", "--run-nothing", text=given)
-        self.assertEqual(findings.findings_of(done.stdout), findings.findings_of(wanted))
+        self.assertEqual(findings_of(done.stdout, base.llbm), findings_of(wanted, base.llbm))
         self.assertEqual(done.stderr.decode().splitlines()[:2], lines)
 
     def test_scripts_run_unless_all_executions_run_nothing(self):
@@ -325,10 +326,10 @@ class Adopt(Folder):
         shared = json.loads(SHARED.read_text("utf-8"))
         for text, want in shared["refused"].items():
             with self.assertRaises(Refused) as caught:
-                adoption_rules.rules_in(text.encode())
+                adoption_rules.rules_in(text.encode(), base.llbm)
             self.assertEqual(str(caught.exception), want)
         for text, args, made in shared["fits"]:
-            rule = adoption_rules.rule_for(adoption_rules.rules_in(text.encode()), "", "", args)
+            rule = adoption_rules.rule_for(adoption_rules.rules_in(text.encode(), base.llbm), "", "", args)
             self.assertEqual(None if rule is None else list(rule.words), made, text)
 
     def test_rules_replace_the_words_of_executions(self):
@@ -361,7 +362,7 @@ class Adopt(Folder):
         done = run("adopt", "--leave", text=given)
         self.assertEqual(done.returncode, 0)
         self.assertEqual(done.stderr.decode().splitlines()[-8:], [*messages, *indexes, f"alpine\t{IMAGE}"])
-        self.assertEqual([one.words() for one in findings.findings_of(done.stdout)][0], "88 1 DiffOp")
+        self.assertEqual([one.words() for one in findings_of(done.stdout, base.llbm)][0], "88 1 DiffOp")
 
     def test_faulty_definitions_are_refused(self):
         self.check_refused(b"\x0a", ["not a definition: the bytes end inside a record: standard input"])
@@ -401,7 +402,7 @@ class Adopt(Folder):
         self.assertFalse(os.path.exists(self.place(b"s")))
 
 
-class RandomDefinitions(Folder):
+class RandomDefinitions(base.WithProgram):
     """Random definitions, and the program."""
 
     def definitions(self):
@@ -413,9 +414,9 @@ class RandomDefinitions(Folder):
         settings = adopting.Settings(frozenset(adopting.DROPPED), (), adopting.RunNothing.ALL)
         taken = 0
         for data in self.definitions():
-            done = adopting.adopt(data, settings)
-            self.assertEqual(findings.findings_of(done.data), done.left)
-            again = adopting.adopt(done.data, settings)
+            done = adopting.adopt(data, settings, base.llbm)
+            self.assertEqual(findings_of(done.data, base.llbm), done.left)
+            again = adopting.adopt(done.data, settings, base.llbm)
             self.assertEqual((again.data, again.changes), (done.data, []))
             taken += not done.left
             names = {finding.rest.split(" ")[0] for finding in done.left}

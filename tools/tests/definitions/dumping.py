@@ -55,7 +55,7 @@ class WholeMessages(unittest.TestCase):
         self.check("Op", number(9, 5) + number(1, 7) + part(3, b"\xff"), {"Op": None, "unknown": unknown})
 
 
-class Dump(Folder):
+class Dump(base.WithProgram):
     """The tool, on definitions that the program refuses."""
 
     def dumped(self, data, *words):
@@ -138,7 +138,7 @@ class Dump(Folder):
         self.assertFalse(any("refused" in line for line in lines))
 
 
-class OthersOnRefused(Folder):
+class OthersOnRefused(base.WithProgram):
     """Other tools on definitions that the program refuses."""
 
     def test_a_graph_is_drawn_with_what_is_refused(self):

@@ -250,7 +250,7 @@ class Explain(Folder):
         self.check_run(run_closed(2, "explain", "fault", "7"), 2, b"")
 
 
-class ExplainWithDefinition(Folder):
+class ExplainWithDefinition(base.WithProgram):
     """Explanations of lines with the definition that they come from."""
 
     def setUp(self):

@@ -116,7 +116,7 @@ class StoredRuns(unittest.TestCase):
             self.assertEqual((done.returncode, done.stdout, done.stderr), (2, b"", f"fault 88 {row} Source\n".encode()))
 
 
-class Corpus(Folder):
+class Corpus(base.WithProgram):
     """The stored definitions through `lint`, `adopt` and `build`."""
 
     def adopted(self, name):

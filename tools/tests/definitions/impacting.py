@@ -12,8 +12,9 @@ import unittest
 from llbm_tools.definitions.impacts import Comparison
 from llbm_tools.fuzzing import changed as fuzz_changed
 from llbm_tools.fuzzing import made as fuzz_made
-from llbm_tools.llb import definition, messages, op_reading, op_rules, wire
+from llbm_tools.llb import definition, messages, op_reading, wire
 from llbm_tools.llb.findings import findings_of
+from llbm_tools.sessions.shows import show_of
 from llbm_tools.trees.digests import tree_digest
 from tests import base
 from tests.base import ROOT, Folder, run, run_closed, run_into
@@ -34,7 +35,7 @@ def with_cache(on):
     return base.inputs(on) + base.part(2, base.part(1, base.part(1, "true")) + mounts)
 
 
-class Pair(Folder):
+class Pair(base.WithProgram):
     """Two definitions: a file op on a source is on the left, and a merge of it with another source on top."""
 
     def setUp(self):
@@ -315,9 +316,8 @@ class Ran:
     def __init__(self, data, trees, folder, workers):
         self.folder = folder
         (folder / "definition").write_bytes(data)
-        entries = definition.entries_of(data)
-        rows = definition.graph_of(entries).rows
-        outputs = [op_rules.count_of(op_reading.read_op(entries[row])) for row in rows]
+        shown = subprocess.run([base.llbm, "show"], input=data, capture_output=True, timeout=base.GUARD).stdout
+        outputs = [vertex.outputs for vertex in show_of(shown.decode()).vertices]
         places = [f"{name}={self.file(number, text)}" for number, (name, text) in enumerate(sorted(trees.items()))]
         commands = ["go", "status"]
         commands += [f"tree {vertex} {index}" for vertex, count in enumerate(outputs) for index in range(count)]
@@ -352,19 +352,17 @@ def renamed(entry):
     return inputs + base.source(f"{op.source.identifier}-2")
 
 
-class Machine(Folder):
+class Machine(base.WithProgram):
     """What is called kept has ended alike in two runs of the program."""
 
     def setUp(self):
-        if base.llbm is None:
-            raise unittest.SkipTest("the program llbm is needed (--llbm PROGRAM)")
         super().setUp()
         self.at = pathlib.Path(os.fsdecode(self.folder))
         self.kept, self.failed, self.fed_apart = 0, 0, 0
 
     def compare(self, dice, old, new, pool):
         """Runs both definitions, some sources on other trees, and compares the vertices that are kept."""
-        comparison = Comparison(old, new)
+        comparison = Comparison(old, new, base.llbm)
         before = {name: dice.choice(pool) for name in sorted(comparison.sources())}
         after = {name: dice.choice([text, *dice.choices(pool, k=2)]) for name, text in before.items()}
         changed = frozenset(name for name, text in before.items() if after[name] != text)
@@ -382,11 +380,11 @@ class Machine(Folder):
         """Runs a definition, and the same with renamed sources, and compares all vertices without caches."""
         entries = definition.entries_of(old)
         new = messages.definition_of(messages.with_new_digests(entries, [renamed(entry) for entry in entries]))
-        before = {name: dice.choice(pool) for name in sorted(Comparison(old, old).sources())}
+        before = {name: dice.choice(pool) for name in sorted(Comparison(old, old, base.llbm).sources())}
         after = {f"{name}-2": text for name, text in before.items()}
         digests = [{name: hashlib.sha256(text).hexdigest() for name, text in one.items()} for one in (before, after)]
         first, second = Ran(old, before, self.at, 1), Ran(new, after, self.at, 2)
-        for number, impact in enumerate(Comparison(old, new).impacts(frozenset(), *digests)):
+        for number, impact in enumerate(Comparison(old, new, base.llbm).impacts(frozenset(), *digests)):
             self.assertEqual(impact.word, "cached" if impact.cached else "kept")
             if not impact.cached:
                 self.assertEqual(first.of(impact.old), second.of(number), (number, old, new, before))
@@ -396,14 +394,14 @@ class Machine(Folder):
         """Returns a random definition that the program accepts."""
         while True:
             data = messages.definition_of([messages.encoded(op) for op in fuzz_made.ops(dice)])
-            if not findings_of(data):
+            if not findings_of(data, base.llbm):
                 return data
 
     def changed(self, dice, data):
         """Returns a changed definition that the program accepts."""
         while True:
             new = fuzz_changed.changed_definition(dice, data)
-            if not findings_of(new):
+            if not findings_of(new, base.llbm):
                 return new
 
     def test_definitions_with_renamed_sources(self):
@@ -416,7 +414,7 @@ class Machine(Folder):
     def test_stored_definitions_and_changed_ones(self):
         dice = random.Random("stored")
         places = [*EXAMPLES.glob("*.definition"), *STORED.glob("*/definition")]
-        stored = [data for place in sorted(places) if not findings_of(data := place.read_bytes())]
+        stored = [data for place in sorted(places) if not findings_of(data := place.read_bytes(), base.llbm)]
         trees = [*EXAMPLES.glob("*.tree"), *EXAMPLES.glob("*/*.tree"), *STORED.glob("*/*.tree")]
         pool = [place.read_bytes() for place in sorted(trees)]
         self.assertEqual(len(stored), 7)

@@ -1,21 +1,22 @@
-"""Tests of `lint`, of its parsing of ops and scripts, and of its first finding compared with the program."""
+"""Tests of `lint`: of how the tools read ops, and of the faults that the program finds in definitions and scripts."""
 
+import os
 import random
 import re
-import shutil
 import subprocess
 import unittest
 from unittest import mock
 
 from llbm_tools.common import printable
-from llbm_tools.llb import definition, findings, op_reading, op_rules, script_faults, wire
+from llbm_tools.llb import definition, op_reading, scripts, wire
+from llbm_tools.llb.findings import FEATURE, RULE, findings_of
 from llbm_tools.llb.ops import MESSAGES, CacheOpt, Definition, Mount, Op, UserOpt, fields_of
 from llbm_tools.llb.wire import Faulty
 from tests import base
 from tests.base import ROOT, Folder, number, part, run, run_closed, run_into
 
 EXAMPLES = ROOT / "examples"
-RUNS = 300
+RUNS = 60
 
 
 def exec_of(*mounts, args=("true",), meta=b"", more=b"", on=()):
@@ -121,58 +122,66 @@ class Table(unittest.TestCase):
         self.assertEqual(known, fields_on_the_page() | inner)
 
 
-class Scripts(unittest.TestCase):
+class Scripts(base.WithProgram):
     """Words that are scripts, and words that are not."""
 
-    def check_shell_text(self, text, fault):
-        """Checks the fault of a text for the shell."""
-        self.assertEqual(script_faults.fault_of(["/bin/sh", "-c", text]), fault, text)
+    def check_faults(self, wanted):
+        """Checks the faults of some words, which are asked for at once."""
+        wanted = [(tuple(words), fault) for words, fault in wanted]
+        found = scripts.faults_of([words for words, _ in wanted], base.llbm)
+        self.assertEqual(found, {words: fault for words, fault in wanted if fault is not None})
 
     def test_texts_have_their_faults(self):
         alpha = "\N{GREEK SMALL LETTER ALPHA}"
-        for text, fault in [
+        self.check_faults((["/bin/sh", "-c", text], fault) for text, fault in [
             ("true", None), ("  true  ", None), ("true && false ; rm a || rm b", None), ("", "73 0"),
             ("  ", "73 2"), ("a; b", "73 1"), ("; true", "73 0"), ("true ;", "73 6"), ("true && ; true", "73 8"),
             ("true $x", "73 5"),
             (f"rm {alpha} !", "73 6"), (f"rm {alpha}", None), ("true\ttrue", "73 4"), ("rm 'a'", "73 3"),
             ("apk", "71 apk"), ("true && apk", "71 apk"), ("true && rm ; apk", "72 1"), ("rm ; apk", "72 0"),
             (f"{alpha} ; rm", f"71 {alpha}"), ("true true", "72 0"), ("true;", "73 4"), ("rm && rm &&& rm", "73 9"),
-        ]:
-            self.check_shell_text(text, fault)
+        ])
 
     def test_words_without_the_shell_have_their_faults(self):
-        for words, fault in [
+        self.check_faults([
             (["true"], None), (["rm", "a b;"], None), (["true", "&&", "true"], "72 0"), (["/bin/sh"], "71 /bin/sh"),
             (["/bin/sh", "-c"], "71 /bin/sh"), (["/bin/sh", "-x", "true"], "71 /bin/sh"), ([""], "71 "),
             (["/bin/sh", "-c", "true", "a"], "71 /bin/sh"), (["sh", "-c", "true"], "71 sh"),
-        ]:
-            self.assertEqual(script_faults.fault_of(words), fault, words)
+            (["a\nfault 88 0 Source\n"], "71 a\nfault 88 0 Source\n"), (["rm"] * 1_025, f"82 {5 + 5} 13"),
+        ])
+
+    def test_many_words_are_asked_for_in_few_definitions(self):
+        with mock.patch.object(scripts, "MOST", 10):
+            self.check_faults((["apk", str(number)], "71 apk") for number in range(21))
+            self.check_faults([])
 
     def test_each_applet_has_its_form(self):
-        for form in [
+        self.check_faults((form.split(" "), None) for form in [
             "true", "false", "mkdir a", "mkdir -p", "mkdir -p a", "rm a", "write a b", "append a b", "cp a b",
             "concat a b", "concat a b c", "chmod 0 a", "chmod 7777 a", "test -e a", "test -f a", "test -d a",
             "listing a b", "envfile a", "sha256 a b",
-        ]:
-            self.assertIsNone(script_faults.fault_of(form.split(" ")), form)
-        for form in [
+        ])
+        self.check_faults((form.split(" "), "72 0") for form in [
             "true a", "false a", "mkdir", "mkdir a b", "mkdir -p a b", "rm", "rm a b", "write a", "append a b c",
             "cp a", "concat", "concat a", "chmod 8 a", "chmod 07777 a", "chmod a", "chmod  a", "test a", "test -x a",
             "listing a", "envfile", "sha256 a",
-        ]:
-            self.assertEqual(script_faults.fault_of(form.split(" ")), "72 0", form)
+        ])
 
 
-class Ops(unittest.TestCase):
+class Ops(base.WithProgram):
     """Features and rules of one op."""
 
-    def check(self, wanted, call, *entries):
-        """Checks that each entry has exactly these names."""
-        for entry in entries:
-            self.assertEqual(call(op_reading.read_op(entry)), wanted, entry)
+    def check(self, number, cases):
+        """Checks that entries have exactly these names after this fault, beside a local source that they may be on."""
+        wanted = {entry: names for names, *entries in cases for entry in entries}
+        entries = list(dict.fromkeys([base.source("local://a"), *wanted]))
+        found = findings_of(base.ending(*entries, base.merge(*entries)), base.llbm)
+        for row, entry in enumerate(entries):
+            names = [one.rest for one in found if (one.number, one.row) == (number, row)]
+            self.assertEqual(names, wanted.get(entry, []), entry)
 
     def test_each_feature_is_found(self):
-        for wanted, *entries in [
+        self.check(FEATURE, [
             (["DiffOp"], part(7, b"")), (["BuildOp"], part(5, b"x")),
             (["Source"], base.source("docker-image://a"), base.source(""), base.source("local:/")),
             ([], base.source("local://"), base.source("local://a"), b"", base.exec_op("apk"), base.merge()),
@@ -188,12 +197,11 @@ class Ops(unittest.TestCase):
             ([], base.file_op(action(part(4, COPY + part(3, part(1, part(1, "a") + number(2, 1))))))),
             (["Unpack", "Patterns", "OwnerByName", "CopyField"],
              base.file_op(action(part(4, part(12, "") + BY_NAME + number(7, 1) + part(15, ""))))),
-        ]:
-            self.check(wanted, op_rules.features_of, *entries)
+        ])
 
     def test_each_rule_of_sources_file_ops_and_merges_is_found(self):
         one = base.source("local://a")
-        for wanted, *entries in [
+        self.check(RULE, [
             (["NoKind"], b"", base.inputs(one)), (["LocalName"], base.source("local://")),
             ([], base.source("local:///"), base.source("docker-image://"), part(5, b""), part(7, b"")),
             (["NoActions"], base.file_op(on=[one])), ([], base.file_op(MADE), base.file_op(MADE, on=[one])),
@@ -207,8 +215,7 @@ class Ops(unittest.TestCase):
             (["ActionInput", "ActionOutput"], base.file_op(action(part(6, b""), 5, 5))),
             ([], base.merge(one), part(6, b""), part(6, part(1, number(1, -1)))),
             (["MergeInput"], *(base.inputs(one) + part(6, part(1, number(1, given))) for given in (-2, 1))),
-        ]:
-            self.check(wanted, op_rules.rules_of, *entries)
+        ])
 
     def test_each_rule_of_execs_is_found(self):
         one = base.source("local://a")
@@ -216,7 +223,7 @@ class Ops(unittest.TestCase):
         shared = mount("/c", kind=3, more=cache)
         ways = [part(20, number(2, way)) for way in (-1, 3)]
         seeded = [mount(dest, kind=3, more=cache, given=given) for dest, given in [("/c", 0), ("/d", 1)]]
-        for wanted, *entries in [
+        self.check(RULE, [
             (["NoMeta", "NoMounts", "NoRoot"], part(2, b"")), (["NoMeta"], part(2, part(2, ROOT_MOUNT))),
             (["NoArgs"], exec_of(ROOT_MOUNT, args=())), (["NoMounts", "NoRoot"], exec_of()),
             (["NoRoot"], exec_of(mount("/a"))), ([], *(exec_of(mount(dest)) for dest in ("", "//", "/.", "/a/.."))),
@@ -240,19 +247,19 @@ class Ops(unittest.TestCase):
             (["CacheTwice"], exec_of(ROOT_MOUNT, *seeded, on=[one, one])),
             (["Script 71 apk"], exec_of(ROOT_MOUNT, args=["apk"])),
             (["Script 73 4"], exec_of(ROOT_MOUNT, args=["/bin/sh", "-c", "true;"])),
-        ]:
-            self.check(wanted, op_rules.rules_of, *entries)
+        ])
 
 
-class Findings(unittest.TestCase):
+class Findings(base.WithProgram):
     """All findings of a definition, and their order."""
 
     def setUp(self):
+        super().setUp()
         self.origin = base.source("local://src")
 
     def check_findings(self, data, *lines):
         """Checks the findings of a definition."""
-        self.assertEqual([finding.words() for finding in findings.findings_of(data)], list(lines))
+        self.assertEqual([finding.words() for finding in findings_of(data, base.llbm)], list(lines))
 
     def test_accepted_definitions_have_no_findings(self):
         self.check_findings(base.ending(self.origin))
@@ -270,9 +277,9 @@ class Findings(unittest.TestCase):
     def test_faults_of_the_terminal_are_found(self):
         wrong = base.source("git://a")
         self.check_findings(base.definition(self.origin, b""), "85")
-        self.check_findings(base.definition(wrong, self.origin), "85", "88 0 Source")
-        self.check_findings(base.definition(wrong, base.inputs(b"none")), "86 1 0", "88 0 Source")
-        self.check_findings(base.definition(wrong, b"\x0b"), "82 1 4", "88 0 Source")
+        self.check_findings(base.definition(wrong, self.origin), "85")
+        self.check_findings(base.definition(wrong, base.inputs(b"none")), "86 1 0")
+        self.check_findings(base.definition(wrong, b"\x0b"), "82 1 4")
         terminal = base.inputs(self.origin)
         self.check_findings(base.definition(terminal, self.origin, base.merge(terminal), terminal))
         self.check_findings(base.definition(self.origin, base.inputs((self.origin, 1))), "90 1 0")
@@ -301,27 +308,27 @@ class Findings(unittest.TestCase):
         self.check_findings(base.ending(part(7, b""), base.merge((part(7, b""), 4))), "88 0 DiffOp")
         self.check_findings(base.ending(twice, base.merge((twice, 4))), "89 0 ActionOutput")
 
-    def test_entries_that_are_not_ops_are_skipped(self):
+    def test_entries_that_are_not_ops_lead_nowhere(self):
         faulty, remote = b"\x0b", base.source("git://a")
         self.check_findings(base.definition(faulty, remote, self.origin, base.inputs(self.origin)), "82 0 4")
         reached = base.merge(faulty)
-        self.check_findings(base.ending(remote, faulty, faulty, reached), "82 1 4", "88 0 Source")
+        self.check_findings(base.ending(remote, faulty, faulty, reached), "82 1 4", "82 2 4")
         unknown = base.merge(b"none")
-        self.check_findings(base.ending(unknown, faulty, reached), "82 1 4", "86 0 0")
+        self.check_findings(base.ending(unknown, faulty, reached), "82 1 4")
+        self.check_findings(base.ending(remote, unknown, faulty, base.merge(remote, faulty)), "82 2 4", "88 0 Source")
 
-    def test_a_fault_of_a_reachable_row_comes_first(self):
+    def test_an_input_that_names_no_row_leads_nowhere(self):
         lost = base.merge(b"other")
-        self.check_findings(base.ending(lost, self.origin, base.merge(b"none", self.origin)), "86 2 0", "86 0 0")
+        self.check_findings(base.ending(lost, self.origin, base.merge(b"none", self.origin)), "86 2 0")
 
-    def test_cycles_and_collisions_are_found(self):
-        one, two, last = base.merge(b"a"), base.merge(b"b"), base.inputs(b"b")
-        named = {one: base.digest(b"b"), two: base.digest(b"a"), last: "last", self.origin: "last"}
-        with mock.patch.object(definition, "digest_of", named.__getitem__):
-            self.check_findings(base.definition(one, two, last), "87")
-            self.check_findings(base.definition(self.origin, last), "84 1")
+    def test_a_program_that_lists_no_findings_is_named(self):
+        fake = self.file(b"fake", base.FAKE_SHELL.encode() + b"echo fault 183 >&2\nexit 2\n")
+        os.chmod(fake, 0o755)
+        done = run("lint", "--llbm", fake, text=base.ending(self.origin))
+        self.check_run(done, 3, b"", b"the program knows no show --findings\n")
 
 
-class Lint(Folder):
+class Lint(base.WithProgram):
     """The tool `lint`."""
 
     def named(self, entry, name):
@@ -440,12 +447,8 @@ def with_entries_changed(chance, data, change=with_field_changed):
     return base.definition(*entries)
 
 
-class BesideTheProgram(unittest.TestCase):
+class BesideTheProgram(base.WithProgram):
     """The first finding is the program's fault, and there are none if the program accepts the definition."""
-
-    def setUp(self):
-        if not base.llbm or not shutil.which(base.llbm):
-            raise unittest.SkipTest("the program llbm is needed (--llbm PROGRAM)")
 
     def program(self, word, data):
         """Runs the program on these bytes."""
@@ -454,7 +457,7 @@ class BesideTheProgram(unittest.TestCase):
     def beside(self, data):
         """Returns whether the program accepts the definition, and checks that it prints the first finding if not."""
         done = self.program("show", data)
-        found = findings.findings_of(data)
+        found = findings_of(data, base.llbm)
         wanted = [f"fault {finding.words()}\n" for finding in found[:1]]
         self.assertEqual(done.stderr.decode(), "".join(wanted), data.hex())
         self.assertEqual(done.returncode, 2 if found else 0)

@@ -7,12 +7,12 @@ import re
 import unittest
 
 from llbm_tools.definitions import faults
+from llbm_tools.fuzzing import applets, checks
 from llbm_tools.fuzzing import changed as fuzz_changed
-from llbm_tools.fuzzing import checks
 from llbm_tools.fuzzing import made as fuzz_made
 from llbm_tools.fuzzing.checks import Broken, Rules, Session, tree_fault
 from llbm_tools.fuzzing.limited import Ran
-from llbm_tools.llb import definition, messages
+from llbm_tools.llb import definition, messages, scripts
 from llbm_tools.llb.messages import Raw, encoded, made
 from tests import base
 from tests.base import ROOT, Folder, run, run_closed
@@ -25,6 +25,23 @@ def first_op():
     mkfile = made("FileActionMkFile", path="/a", mode=420, data=b"hi", timestamp=-1)
     action = made("FileAction", input=-1, secondaryInput=-1, mkfile=mkfile)
     return made("Op", file=made("FileOp", actions=(action,)))
+
+
+class Applets(base.WithProgram):
+    """The calls of applets on the page of formats."""
+
+    def test_cells_have_calls(self):
+        for cell, calls in [
+            ("`true`, `false`", [("true",), ("false",)]), ("`chmod MODE P`", [("chmod", "MODE", "P")]),
+            ("`test -e P`, `-f P`", [("test", "-e", "P"), ("test", "-f", "P")]), ("`write P W`", [("write", "P", "W")]),
+            ("`concat OUT A ...`", [("concat", "P", "P"), ("concat", "P", "P", "P")]),
+        ]:
+            self.assertEqual(list(applets.calls_in(cell)), calls)
+
+    def test_all_calls_are_scripts(self):
+        words = {applets.PATH: "/a", applets.WORD: "b", applets.MODE: "0755"}
+        calls = [tuple(words.get(word, word) for word in call) for call in applets.calls()]
+        self.assertEqual((scripts.faults_of(calls, base.llbm), len({call[0] for call in calls})), ({}, 13))
 
 
 class Messages(unittest.TestCase):
@@ -130,20 +147,19 @@ class RunRules(unittest.TestCase):
             with self.assertRaisesRegex(Broken, cause):
                 rules.check(Ran(("run",), b"", status, out, err))
 
-    def test_the_findings_of_lint_are_the_faults_of_the_program(self):
-        known = base.ending(base.source("local://a"))
-        unknown = base.ending(base.merge(base.source("local://a")))
-        for words, given, status, err in [
-            (("show",), unknown, 2, b"fault 86 0 0\n"), (("show",), known, 0, b""), (("run",), known, 1, b"failed 0"),
-            (("run",), known, 2, b"fault 121 a\n"), (("show",), known, 3, b"fault 182\n"),
+    def test_the_first_fault_that_is_listed_is_the_one_that_is_printed(self):
+        two = b"fault 86 0 0\nfault 89 1 NoKind\n"
+        for status, err, listed_status, listed in [
+            (2, b"fault 86 0 0\n", 2, two), (0, b"", 0, b""), (3, b"fault 182\n", 0, b""), (0, b"", 3, b""),
         ]:
-            checks.check_findings(Ran(words, given, status, b"", err))
-        for words, given, status, err in [
-            (("show",), unknown, 2, b"fault 86 0 1\n"), (("show",), known, 2, b"fault 84 0\n"),
-            (("show",), unknown, 0, b""), (("run",), unknown, 0, b""),
+            checks.check_findings(Ran(("show",), b"", status, b"", err), Ran((), b"", listed_status, listed, b""))
+        for status, err, listed_status, listed, cause in [
+            (2, b"fault 89 1 NoKind\n", 2, two, "another fault"), (2, b"fault 86 0 0\n", 2, b"", "another fault"),
+            (0, b"", 2, two, "with status 2"), (2, b"fault 86 0 0\n", 0, b"", "with status 0"),
+            (0, b"", 0, two, "another"),
         ]:
-            with self.assertRaisesRegex(Broken, "lint"):
-                checks.check_findings(Ran(words, given, status, b"", err))
+            with self.assertRaisesRegex(Broken, cause):
+                checks.check_findings(Ran(("show",), b"", status, b"", err), Ran((), b"", listed_status, listed, b""))
 
     def test_a_consistent_session_passes(self):
         text = b"0 ready\n1 claim 0 0 -> file 1\n0 running 0\nback 0\n0 ready\nfault 172\n0 ready\n"

@@ -11,7 +11,8 @@ from unittest import mock
 
 from llbm_tools.definitions import adopting
 from llbm_tools.fuzzing import changed
-from llbm_tools.llb import findings, wire
+from llbm_tools.llb import wire
+from llbm_tools.llb.findings import findings_of
 from llbm_tools.page import assets, foreign
 from tests import base
 from tests.base import ROOT, Folder
@@ -54,7 +55,7 @@ def lines_of(found):
 def adoption_of(data):
     """Returns what `adopt --all` makes of a definition, or None if it refuses to read it."""
     try:
-        made = adopting.adopt(data, foreign.ALL)
+        made = adopting.adopt(data, foreign.ALL, base.llbm)
     except wire.Unreadable:
         return None
     told = [list(one) for one in made.sources]
@@ -113,7 +114,7 @@ class LikeTheTools(Folder):
         self.assertEqual((done.returncode, done.stderr), (0, b""))
         for data, line in zip(filter(None, definitions), done.stdout.splitlines(), strict=True):
             found, made = json.loads(line)
-            self.assertEqual(found, lines_of(findings.findings_of(data)))
+            self.assertEqual(found, lines_of(findings_of(data, base.llbm)))
             self.assertEqual(made, adoption_of(data))
 
     def test_the_examples(self):
@@ -121,7 +122,7 @@ class LikeTheTools(Folder):
 
     def test_random_definitions(self):
         made = changed_definitions()
-        self.assertGreater(sum(bool(findings.findings_of(data)) for data in made), CHANGED // 2)
+        self.assertGreater(sum(bool(findings_of(data, base.llbm)) for data in made), CHANGED // 2)
         self.check_all(made)
 
     def test_the_definitions_of_the_tests_of_adopt(self):

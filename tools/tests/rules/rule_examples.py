@@ -6,7 +6,7 @@ import subprocess
 import unittest
 
 from llbm_tools.definitions import adopting
-from llbm_tools.llb import findings
+from llbm_tools.llb.findings import findings_of
 from llbm_tools.rules import notes, program
 from llbm_tools.rules.comparison import of_trees
 from llbm_tools.rules.examples import ALWAYS, examples
@@ -25,7 +25,7 @@ def compared(data, sources):
 
 def names_of(data):
     """Returns the names of the notes of a definition."""
-    return {one.name for one in notes.notes_of(data, findings.findings_of(data), True)}
+    return {one.name for one in notes.notes_of(data, findings_of(data, base.llbm), True)}
 
 
 def names_of_rules():
@@ -83,7 +83,7 @@ class Examples(Folder):
     def adopted(self, one, *trees):
         """Adopts an example, and returns the end of a comparison and BuildKit's result."""
         settings = adopting.Settings(like_buildkit=True, trees=trees)
-        return compared(adopting.adopt(one.data, settings).data, one.sources)
+        return compared(adopting.adopt(one.data, settings, base.llbm).data, one.sources)
 
     def test_adoption_makes_both_agree_where_the_example_says_so(self):
         for one in examples():
