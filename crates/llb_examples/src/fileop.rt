@@ -34,7 +34,8 @@ fn a_text_leads_to_a_path_and_may_end_in_a_slash(rt: HostRuntime) {
     }
 }
 
-fn action_in(op: &Op) -> Option<&Action> {
+// Returns the first action of a file op.
+pub(crate) fn action_in(op: &Op) -> Option<&Action> {
     match &op.kind {
         Some(Kind::File(file)) => file.actions.as_slice().first(),
         _ => None,

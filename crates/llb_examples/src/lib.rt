@@ -18,6 +18,8 @@ mod checks;
 #[cfg(test)]
 mod conversations;
 #[cfg(test)]
+mod copies;
+#[cfg(test)]
 mod crew;
 #[cfg(test)]
 mod crowds;

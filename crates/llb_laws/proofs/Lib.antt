@@ -26,6 +26,9 @@ mod Entries
 mod Vertices
 mod EntryInclusion
 mod Matches
+mod TreesBelow
+mod CopiedPaths
+mod FileOpReads
 mod OpsOfOneKind
 mod MatchingMarks
 mod CopyMatchings

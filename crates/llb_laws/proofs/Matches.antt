@@ -39,7 +39,8 @@ module _ (b c : Build) (M : ℕ → ℕ → Type 0) where
   abbrev pub AlikeBelow : ℕ → Type 0
   AlikeBelow v = (j k : ℕ) → j < v → M j k → outcome b j ≡ outcome c k
 
-  edges_alike : (v : ℕ) → AlikeBelow v → (e f : Edge) → LeadsBelow b.graph.vertices v e → EdgesMatch b c M e f → output_at b e ≡ output_at c f
+  -- edges that match lead to the same tree, or both to none
+  pub edges_alike : (v : ℕ) → AlikeBelow v → (e f : Edge) → LeadsBelow b.graph.vertices v e → EdgesMatch b c M e f → output_at b e ≡ output_at c f
   edges_alike v below e f leads (inl same) = same
   edges_alike v below e f leads (inr pair) =
       let s = below e.vertex f.vertex leads.lower pair.0 in

@@ -13,6 +13,8 @@
 //! `graphs::matched_vertices_end_alike`, `graphs::renamed_sources_end_alike` and `graphs::kept_results_stand_in`: vertices that do the same on inputs that
 //! match have the same plain outcome, whatever their digests are. `graphs::part_has_same_result` and `graphs::rewritten_has_same_result`: the same of whole
 //! definitions.
+//! `copies::copies_alike`: a copy depends on the tree that it copies from only at and below what it copies. `copies::reads_end_alike`: so does the outcome of a
+//! file op, and of all that follows from it, also in two graphs. `copies::agree_below` and `copies::agree_for`: whether two trees are the same there.
 //! `graphs::parts_are_not_refused`: a part of a loaded definition that has what its result reaches is refused for no cause. `load_renamed`: whether a
 //! definition is another one with local sources renamed. `load_matched`: which vertices of two definitions do the same on inputs that match, and that no more
 //! do. `open_on_kept`: a board that goes on from outputs of an earlier board, which local sources replace. `run_twice`: two runs of one definition, of which
@@ -52,6 +54,7 @@
 
 mod comparing;
 pub mod contents;
+pub mod copies;
 mod fault;
 pub mod graphs;
 mod keeping;

@@ -15,7 +15,9 @@ Out: on standard output a line for the result, and then one for each vertex of N
     result V.I WORD       the result is this output: the word of its vertex, or `other, in OLD V.I` if OLD has a vertex
                           that matches it or has its digest, but another result
     V KIND kept           OLD has a vertex that matches it, and no cache mount is at or before it: its outcome is the
-                          same in both (matched_vertices_end_alike, matched_vertices_settle_alike)
+                          same in both (matched_vertices_end_alike, matched_vertices_settle_alike). So it is if OLD
+                          has a vertex with its digest, and the changed sources before it are only copied from, by file
+                          ops, and have the same in both trees at and below what is copied (reads_end_alike)
     V KIND fed by NAMES   OLD has a vertex with its digest, and these changed sources but no cache mount are at or
                           before it: its outcome can differ, and depends on no other sources (outcome_by_sources)
     V KIND cached         OLD has a vertex that matches it or has its digest, and a cache mount is at or before it: no
@@ -79,13 +81,14 @@ def check_sources(options: argparse.Namespace, known: Names) -> None:
 def impacts_of(options: argparse.Namespace, comparison: Comparison) -> tuple[list[Impact], Names]:
     """Returns what is known of each vertex of NEW, and which sources have another tree for NEW than for OLD."""
     check_sources(options, comparison.sources())
-    before, after = (
-        {name: tree_digest(place) for name, place in dict(given).items() if name not in options.changed}
+    older, newer = (
+        {name: place for name, place in given if name not in options.changed}
         for given in (options.before, options.after)
     )
+    before, after = ({name: tree_digest(place) for name, place in given.items()} for given in (older, newer))
     differ = {name for name in before.keys() | after.keys() if before.get(name) != after.get(name)}
     changed = frozenset(options.changed) | (differ - comparison.renamed(before, after))
-    return list(comparison.impacts(changed, before, after)), changed
+    return list(comparison.impacts(changed, before, after, (older, newer))), changed
 
 
 def word_of(impact: Impact) -> str:
