@@ -30,10 +30,13 @@ nothing new, not even temporary files, which are in TMPDIR and beside RESULT whi
 build leaves that is killed, the next one removes that has the same TMPDIR, and RESULT in the same directory. Nothing is
 on standard output before the archive is complete.
 
---keep FILE keeps what was read of each source, and the text of the result. If the definition, the options, the program
-and the sources are those of FILE, and the result is the one that was made then, nothing is done, and a line says so. If
-only contents of files have changed that are given by reference, these files are written into the result without a run;
-else the program runs, and the entries that differ are written. FILE is removed while the result changes. It is a new
+--keep FILE keeps what was read of each source, the text of the result, and the definition. If the definition, the
+options, the program and the sources are those of FILE, and the result is the one that was made then, nothing is done,
+and a line says so. Else there is a line `CACHED vertex V KIND` for each vertex that does the same as one of the last
+build on inputs that match, with no cache mount at or before it, and on sources that did not change: its outcome is what
+it was. If that is so of the result, nothing is done either. If only contents of files have changed that are given by
+reference, these files are written into the result without a run; else the program runs all vertices, and the entries
+that differ are written. FILE is removed while the result changes. It is a new
 file in a directory that exists, an empty one, or one that a build has kept; anything else is refused, and so is an
 input.
 
@@ -62,21 +65,17 @@ from llbm_tools.common import discard_output, say
 from llbm_tools.os_errors import os_error_text
 from llbm_tools.streams import FAILED, REFUSED, Failed, Refused
 from llbm_tools.trees import times
-from llbm_tools.trees.kept_sources import Structure
 
 if TYPE_CHECKING:
     from llbm_tools.building.one_build import Build
 
 
 def changes_since(memory: Memory, request: Request) -> Changes | None:
-    """Returns what has changed since the last build; None if all has to be done again."""
+    """Returns what has changed since the last build; None if nothing is kept of it."""
     if memory.last is None:
         return None
     hidden = frozenset((found.st_dev, found.st_ino) for found in request.hidden())
-    try:
-        return Changes(memory.last, request.sources, hidden, strict=request.options.strict)
-    except Structure:
-        return None
+    return Changes(memory.last, request.sources, hidden, strict=request.options.strict)
 
 
 class Work:
@@ -94,22 +93,33 @@ class Work:
             folders.remove_left(folders.RESULT, self.request.above)
         memory = Memory(self.request) if self.request.options.keep is not None else None
         changes = changes_since(memory, self.request) if memory else None
-        if memory and changes and not changes.numbers():
-            renewed = changes.renewed(memory.began)
-            say(f"nothing to do: {self.request.result} has this definition, these options and these sources")
-            if renewed:
-                memory.store(renewed)
+        if memory and changes and self.is_done(memory, changes):
             return
-        # What a build does not need it does not import.
-        if memory and changes and not self.request.ending:
-            from llbm_tools.building.renewing import renew
-
-            if renew(self.request, memory, changes):
-                return
         from llbm_tools.building.one_build import Build
 
         self.build = Build(self.request, memory)
         self.build.whole()
+
+    def is_done(self, memory: Memory, changes: Changes) -> bool:
+        """Returns whether nothing had to be run, since the last result serves, perhaps with other contents."""
+        if memory.is_same and changes.are_contents() and not changes.numbers():
+            renewed = changes.renewed(memory.began)
+            say(f"nothing to do: {self.request.result} has this definition, these options and these sources")
+            if renewed:
+                memory.store(renewed)
+            return True
+        # What a build does not need it does not import.
+        from llbm_tools.building import cached
+
+        if cached.say_cached(self.request, changes) and changes.are_contents():
+            say(f"nothing to do: {self.request.result} is what this definition makes of these sources")
+            memory.store(cached.taken(self.request, memory, changes))
+            return True
+        if not memory.is_same or not changes.are_contents() or self.request.ending:
+            return False
+        from llbm_tools.building.renewing import renew
+
+        return renew(self.request, memory, changes)
 
     def left(self) -> str:
         """Returns what a build leaves that does not end well."""
