@@ -20,6 +20,7 @@ import { OrdersView } from './orders_view.mjs';
 import { SearchView } from './search_view.mjs';
 import { shareView } from './share_view.mjs';
 import { loadTables } from './tables.mjs';
+import { listenToSplitters } from './splitters.mjs';
 import { TimeView } from './time_view.mjs';
 
 const MODULE = 'llbm.wasm';
@@ -394,6 +395,7 @@ class Page {
   }
 
   listen() {
+    listenToSplitters();
     const moves = {
       next: () => this.next(), back: () => this.move(() => this.session.back()), go: () => this.go(),
       step: () => this.step(), cancel: () => this.cancel(),
@@ -414,7 +416,9 @@ class Page {
       ArrowRight: moves.next, n: moves.next, ArrowLeft: moves.back, b: moves.back, g: moves.go, s: moves.step,
       c: moves.cancel, Home: moves.first, End: moves.last, Escape: moves.stop, f: () => this.fork(),
       o: () => this.openView.show(), a: moves.all, r: moves.shuffle,
-      '/': () => by('search').focus(),
+      '/': () => by('search').focus(), w: () => by('find').focus(),
+      '+': () => this.graph.window.zoom(1.25), '-': () => this.graph.window.zoom(0.8),
+      z: () => this.graph.window.fit(), Z: () => this.graph.window.setScale(1),
       h: () => this.showShare(), '?': () => by('keys-view').showModal(),
       v: () => (this.session || this.foreign) && this.select(this.selected ?? 0, true),
       digit: (n) => {

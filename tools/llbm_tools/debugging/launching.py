@@ -13,6 +13,7 @@ import shutil
 import subprocess
 import tempfile
 from collections.abc import Callable
+from concurrent import futures
 from typing import BinaryIO, NamedTuple
 
 from llbm_tools.common import program_named, shortened, tool_named
@@ -135,12 +136,10 @@ def definition_of(program: str, arguments: Object) -> tuple[bytes, bytes | None]
     return data, text
 
 
-def text_of(program: str, data: bytes, text: bytes | None, entries: list[bytes]) -> places.Text:
+def text_of(printed: bytes, is_given: bool, entries: list[bytes]) -> places.Text:
     """Returns the text of the entries with their lines: the one that is given, or that of the program, readable."""
-    if text is None:
-        return readable(output_of(program, "dis", data).decode("utf-8"), entries)
-    given = text.decode("utf-8")
-    return places.Text(given, places.lines_of(given))
+    text = printed.decode("utf-8")
+    return places.Text(text, places.lines_of(text)) if is_given else readable(text, entries)
 
 
 def sources_of(arguments: Object) -> dict[str, str]:
@@ -201,16 +200,12 @@ def missing_sources(cause: str, data: bytes, given: list[str]) -> list[str]:
     return source_names.missing_notes(data, given) if cause.startswith(UNNAMED) else []
 
 
-def start(arguments: Object, folder: str, say: Say, program_argument: str) -> Launched:
-    """Starts what a launch request asks for, with temporary files in a folder."""
-    program, workers, given = program_of(arguments, program_argument), workers_of(arguments), files_of(arguments)
-    data, text = definition_of(program, arguments)
-    entries = entries_of(data, argument(arguments, "definition", str, "") or "the definition")
-    named_entries = faults.Entries(data)
-    shown = output_of(program, "show", data, named_entries).decode("ascii", "backslashreplace")
-    named = names.names_of(data)
-    graph = places.graph_of(shown, text_of(program, data, text, entries), entries, [one.text for one in named])
-    sources = sources_of(arguments)
+def begun(arguments: Object, program: str, data: bytes, shown: str, folder: str, say: Say) -> tuple[Session, list[str]]:
+    """Starts the session of a launch, with temporary files in a folder; returns it and the words of its sources.
+
+    `shown` is the graph as the program shows it: a line for each vertex, and one for the result.
+    """
+    workers, sources = workers_of(arguments), sources_of(arguments)
     words, given_names = source_words(sources, folder, say), list(sources)
     for note in source_names.word_notes(data, given_names):
         say(note)
@@ -218,16 +213,35 @@ def start(arguments: Object, folder: str, say: Say, program_argument: str) -> La
     pathlib.Path(file).write_bytes(data)
     command = [program, "step", "--looks", file, "--workers", str(workers), *words]
     try:
-        session = start_session(command, workers, len(graph.vertices), named_entries)
+        return start_session(command, workers, len(shown.splitlines()) - 1, faults.Entries(data)), words
     except Refused as fault:
         check_texts(str(fault), words)
         raise Refused("; ".join([str(fault), *missing_sources(str(fault), data, given_names)])) from fault
+
+
+def start(arguments: Object, folder: str, say: Say, program_argument: str) -> Launched:
+    """Starts what a launch request asks for, with temporary files in a folder.
+
+    The program writes the text of the definition while it also shows the graph and begins the session.
+    """
+    program, _, given = program_of(arguments, program_argument), workers_of(arguments), files_of(arguments)
+    data, text = definition_of(program, arguments)
     path, place = argument(arguments, "definition", str, ""), argument(arguments, "text", str, "")
-    origins = origins_of(data, given, os.path.dirname(os.path.abspath(path or place)))
+    entries, named_entries = entries_of(data, path or "the definition"), faults.Entries(data)
+    with futures.ThreadPoolExecutor(1) as pool:
+        written = pool.submit(output_of, program, "dis", data) if text is None else None
+        shown = output_of(program, "show", data, named_entries).decode("ascii", "backslashreplace")
+        session, words = begun(arguments, program, data, shown, folder, say)
+        try:
+            lines = text_of(written.result() if written else text or b"", text is not None, entries)
+            graph = places.graph_of(shown, lines, entries, [one.text for one in names.names_of(data)])
+            origins = origins_of(data, given, os.path.dirname(os.path.abspath(path or place)))
+            named = (word.split("=", 1) for word in words)
+            trees = {source: session.kept.enter_context(open(tree, "rb")) for source, tree in named}
+        except BaseException:
+            session.end()
+            raise
     name, text_file = f"{os.path.basename(path)}.text", os.path.abspath(place) if place else None
-    trees = {}
-    for source, tree in (word.split("=", 1) for word in words):
-        trees[source] = session.kept.enter_context(open(tree, "rb"))
     return Launched(session, graph, named_entries, name, text_file, origins, trees)
 
 
