@@ -5,8 +5,9 @@
 
 import { BOX, boxesOfRow, rowsIn } from './layout.mjs';
 
-// Later ones are painted over earlier ones: what is seldom and matters is seen among thousands of others.
-const ORDER = ['unneeded', 'waiting', 'done', 'taken', 'blocked', 'ready', 'running', 'failed', 'refused'];
+const WORDS = ['unneeded', 'waiting', 'ready', 'done', 'taken', 'blocked', 'running', 'failed', 'refused'];
+// These are painted over all others.
+const LAST = new Set(['running', 'failed', 'refused']);
 const LEAST_TEXT = 13;
 const MOST_EDGES = 3000;
 
@@ -15,7 +16,7 @@ export function colorsOf(element) {
   const style = getComputedStyle(element);
   const color = (name) => style.getPropertyValue(`--${name}`).trim();
   const like = { unneeded: 'waiting', taken: 'done', refused: 'failed' };
-  const statuses = ORDER.map((word) => {
+  const statuses = WORDS.map((word) => {
     const name = like[word] ?? word;
     return [word, { edge: color(name), fill: color(`${name}-box`) }];
   });
@@ -27,14 +28,24 @@ export function viewOf({ left, top }, { width, height }, scaleX, scaleY = scaleX
   return { left, top, right: left + width / scaleX, bottom: top + height / scaleY, width, height, scaleX, scaleY };
 }
 
-// Rectangles by status. One that is at the same pixels as the one before is left out.
+// Rectangles by status, of a view that is `left` pixels from the left of the picture. One that is at the same pixels as
+// the one before is left out.
 class Rectangles {
   constructor() {
-    this.of = new Map(ORDER.map((word) => [word, []]));
+    this.of = new Map(WORDS.map((word) => [word, []]));
+    this.left = 0;
+    this.counts = new Map(WORDS.map((word) => [word, 0]));
   }
 
-  add(word, x, y, width, height) {
-    const list = this.of.get(word) ?? this.of.get('waiting');
+  // The words in the order in which they are painted: what is seldom is seen among thousands of others.
+  order() {
+    const rank = (word) => (LAST.has(word) ? WORDS.indexOf(word) : -this.counts.get(word));
+    return [...WORDS].sort((a, b) => rank(a) - rank(b));
+  }
+
+  add(word, count, x, y, width, height) {
+    const list = this.of.get(word);
+    this.counts.set(word, this.counts.get(word) + count);
     const last = list.at(-1);
     if (last && last.x === x && last.y === y && last.width === width) return;
     list.push({ x, y, width, height });
@@ -50,10 +61,11 @@ function addRow(found, placed, row, view, wordOf) {
   const top = Math.round((y - view.top) * view.scaleY);
   const height = Math.max(1, Math.round(BOX.height * view.scaleY));
   const put = (word, from, to) => {
-    const left = Math.round((placed.boxes[from].x - view.left) * view.scaleX);
+    const left = Math.round(found.left + (placed.boxes[from].x - view.left) * view.scaleX);
     const last = placed.boxes[to];
-    const right = Math.round((last.x + last.width - view.left) * view.scaleX);
-    found.add(word, left, top, Math.max(1, right - left), height);
+    const right = Math.round(found.left + (last.x + last.width - view.left) * view.scaleX);
+    const count = last.column - placed.boxes[from].column + 1;
+    found.add(word, count, left, top, Math.max(1, right - left), height);
   };
   let [from, to, word] = [vertices[0], vertices[0], wordOf(vertices[0])];
   for (const vertex of vertices.slice(1)) {
@@ -67,13 +79,8 @@ function addRow(found, placed, row, view, wordOf) {
   put(word, from, to);
 }
 
-/** Paints the boxes that a view touches. `wordOf` returns the word of a vertex's status. */
-export function paintBoxes(context, placed, view, colors, wordOf) {
-  const found = new Rectangles();
-  const [first, last] = rowsIn(placed, view);
-  for (let row = first; row <= last; row += 1) addRow(found, placed, row, view, wordOf);
-  const isSmall = BOX.height * view.scaleY < 4;
-  for (const word of ORDER) {
+function paint(context, found, colors, isSmall) {
+  for (const word of found.order()) {
     const { edge, fill } = colors.of[word];
     context.fillStyle = isSmall ? edge : fill;
     context.strokeStyle = edge;
@@ -82,6 +89,25 @@ export function paintBoxes(context, placed, view, colors, wordOf) {
       if (!isSmall) context.strokeRect(x + 0.5, y + 0.5, width - 1, height - 1);
     }
   }
+}
+
+/**
+ * Paints the boxes that views of one layout touch, each view at its place from the left. `wordOf` returns the word of a
+ * vertex's status.
+ */
+export function paintColumns(context, placed, columns, colors, wordOf) {
+  const found = new Rectangles();
+  for (const [left, view] of columns) {
+    found.left = left;
+    const [first, last] = rowsIn(placed, view);
+    for (let row = first; row <= last; row += 1) addRow(found, placed, row, view, wordOf);
+  }
+  paint(context, found, colors, BOX.height * columns[0][1].scaleY < 4);
+}
+
+/** Paints the boxes that a view touches. */
+export function paintBoxes(context, placed, view, colors, wordOf) {
+  paintColumns(context, placed, [[0, view]], colors, wordOf);
 }
 
 /** Paints the labels of the boxes that a view touches, where they can be read. */

@@ -6,6 +6,8 @@
 import { by } from './dom.mjs';
 
 const MOST = 2;
+// At this scale a box is not yet a pixel high. A graph that is still higher is seen as a whole in the overview alone.
+const LEAST = 0.013;
 const FACTOR = 1.25;
 // A fifth more or less for 100 pixels of a wheel.
 const BY_WHEEL = 1.2 ** (1 / 100);
@@ -47,13 +49,13 @@ export class GraphWindow {
     by('zoom').textContent = `${scale < 0.1 ? (100 * scale).toFixed(1) : Math.round(100 * scale)} %`;
   }
 
-  // The scale at which the whole layout is seen.
+  // The scale at which the whole layout is seen, if it is not too high for that.
   get whole() {
     const { clientWidth, clientHeight } = this.frame;
-    return Math.min(1, clientWidth / this.placed.width, clientHeight / this.placed.height);
+    return Math.min(1, Math.max(LEAST, Math.min(clientWidth / this.placed.width, clientHeight / this.placed.height)));
   }
 
-  /** Shows the whole layout. */
+  /** Shows the whole layout, or as much of it as can be. */
   fit() {
     this.setScale(this.whole);
   }

@@ -26,12 +26,13 @@ from llbm_tools.inputs import data_at, is_standard_input, opened_file
 from llbm_tools.llb import definition, given_definitions, names, no_definition, source_names
 from llbm_tools.llb.wire import Unreadable
 from llbm_tools.os_errors import os_error_text
+from llbm_tools.sessions import builds
 from llbm_tools.sessions.session import Refusal, Session, SessionFailed
 from llbm_tools.streams import Refused, why_not
 from llbm_tools.trees.source_files import source_words
 from llbm_tools.trees.trees import checked_at
 
-ARGUMENTS = ("definition", "text", "sources", "files", "workers", "stopOnEntry", "stopAtEnd", "noDebug", "llbm")
+ARGUMENTS = ("build", "definition", "text", "sources", "files", "workers", "stopOnEntry", "stopAtEnd", "noDebug", "llbm")
 EDITOR_ARGUMENTS = (
     "type", "request", "name", "presentation", "preLaunchTask", "postDebugTask", "internalConsoleOptions",
     "debugServer", "serverReadyAction", "suppressMultipleSessionWarning", "linux", "osx", "windows", "restart",
@@ -148,6 +149,24 @@ def sources_of(arguments: Object) -> dict[str, str]:
     return {name: of_kind(path, f"sources: {name}", str) for name, path in given.items()}
 
 
+def of_build(arguments: Object, say: Say) -> Object:
+    """Returns the arguments of a launch with the definition and the trees of the build that it names, if it does."""
+    place = argument(arguments, "build", str, "")
+    if not place:
+        return arguments
+    for name in ("definition", "text", "sources"):
+        if name in arguments:
+            raise Refused(f"build and {name} can't be given together")
+    build = builds.last_build(os.path.abspath(place))
+    kind = "text" if build.definition.endswith(".text") else "definition"
+    found = {name: build.place(file) for name, file in build.trees.items()}
+    given = {name: str(tree) for name, tree in found.items() if tree}
+    why = build.text(builds.ERROR).strip()
+    say(f"the build {build.name}" + (f", which failed: {why}" if why else ""))
+    rest = {name: value for name, value in arguments.items() if name != "build"}
+    return {**rest, kind: str(build.place(build.definition)), "sources": given}
+
+
 def workers_of(arguments: Object) -> int:
     """Returns the number of workers."""
     workers = argument(arguments, "workers", int, USUAL_WORKERS)
@@ -252,7 +271,7 @@ def launch(arguments: Object, say: Say, program_argument: str = "the argument ll
     """
     try:
         with tempfile.TemporaryDirectory(prefix="llbm-debug-") as folder:
-            return start(arguments, folder, say, program_argument)
+            return start(of_build(arguments, say), folder, say, program_argument)
     except OSError as fault:
         raise Refused(os_error_text(fault)) from fault
     except ValueError as fault:

@@ -161,8 +161,8 @@ class Browser:
     def key(self, key: str) -> None:
         """Presses a key and lets it go."""
         params: dict[str, Any] = {"key": key, "windowsVirtualKeyCode": KEYS.get(key, ord(key[0].upper()))}
-        if len(key) == 1:
-            params["text"] = key
+        if len(key) == 1 or key == "Enter":
+            params["text"] = "\r" if key == "Enter" else key
         self.send("Input.dispatchKeyEvent", {"type": "keyDown", **params})
         self.send("Input.dispatchKeyEvent", {"type": "keyUp", "key": key})
 

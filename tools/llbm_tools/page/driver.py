@@ -46,8 +46,8 @@ class Page:
         middle = sorted(times)[len(times) // 2]
         self.measured[what] = f"{min(times):.2f} {middle:.2f} {max(times):.2f}"
 
-    def load(self, fragment: str = "") -> None:
-        """Loads the page anew, and begins to keep what its sessions say."""
+    def load(self, fragment: str = "#open") -> None:
+        """Loads the page anew, with the view *Open* unless it is another link, and begins to keep what sessions say."""
         self.browser.faults.clear()
         self.browser.go(self.url + fragment, READY)
         same(self.run(READY), "yes", self.text("said") or "ready")

@@ -60,12 +60,14 @@ def frame(page: Page, name: str = "graph") -> tuple[float, float, float, float]:
     return left, top, width, height
 
 
+def type_in(page: Page, name: str, text: str) -> None:
+    """Puts a text into a field, as if it were typed."""
+    page.run(f"(e => {{ e.value = {text!r}; e.dispatchEvent(new Event('input')); }})(document.getElementById('{name}'))")
+
+
 def drag(page: Page, start: tuple[float, float], end: tuple[float, float]) -> None:
     """Presses the mouse at a place, and lets it go at another one."""
-    middle = ((start[0] + end[0]) / 2, (start[1] + end[1]) / 2)
     for kind, (x, y) in zip(MOUSE, (start, end, end)):
-        if kind == "mouseMoved":
-            page.browser.send("Input.dispatchMouseEvent", {"type": kind, "x": middle[0], "y": middle[1], "buttons": 1})
         given = {"type": kind, "x": x, "y": y, "button": "left", "buttons": 1, "clickCount": 1}
         page.browser.send("Input.dispatchMouseEvent", given)
 
@@ -139,9 +141,9 @@ def a_vertex_is_searched(page: Page) -> None:
     same(page.run("document.activeElement.id"), "find", "the focus after w")
     for text, count in (("file-29", "11 vertices"), ("mkfile /file-299", "1 vertex"), ("300", "1 vertex"),
                         ("ready", "300 vertices"), ("nothing of the kind", "0 vertices")):  # fmt: skip
-        page.run(f"find.value = {text!r}; find.dispatchEvent(new Event('input'))")
+        type_in(page, "find", text)
         page.browser.wait(f"document.getElementById('find-said').textContent === {count!r}")
-    page.run("find.value = 'file-29'; find.dispatchEvent(new Event('input'))")
+    type_in(page, "find", "file-29")
     for wanted in (29, 290):
         page.press("Enter")
         page.browser.wait(f"document.querySelector('.box.selected')?.dataset.vertex === '{wanted}'")
@@ -206,8 +208,9 @@ def the_largest_graph_as_a_whole(page: Page) -> None:
         drawing.append(float(page.run("document.getElementById('graph').dataset.drawing")))
     page.measure("painting 65,535 vertices as a whole", drawing)
     check(int(page.run(BOXES)) <= 1, "more than the selected box is in the page")
-    check(page.run(f"{COLOR}('done')") in page.run(f"{COLORS}('graph-far')"), "a vertex that is done is not seen")
-    page.run(f"find.value = '{MOST_VERTICES - 1}'; find.dispatchEvent(new Event('input'))")
+    for status, name in (("done", "graph-far"), ("waiting", "overview")):
+        check(page.run(f"{COLOR}('{status}')") in page.run(f"{COLORS}('{name}')"), f"no vertex that is {status} in {name}")
+    type_in(page, "find", str(MOST_VERTICES - 1))
     page.browser.wait("/^[0-9,]+ vert/.test(document.getElementById('find-said').textContent)")
     page.run("document.querySelector('#find-form button').click()")
     page.browser.wait("document.querySelector('.box.selected') !== null")

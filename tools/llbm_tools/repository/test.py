@@ -43,6 +43,7 @@ MODULES = [
     "debugging.adapter_runs",
     "debugging.adapter_steps",
     "debugging.adapter_eyes",
+    "debugging.adapter_stops",
     "debugging.adapter_breaks",
     "debugging.reasons",
     "debugging.prompting",
