@@ -26,7 +26,7 @@ class Inspecting(Holding):
         return {"threads": threads}
 
     def stack_trace(self, arguments: Object) -> Object:
-        """Returns the frames of a worker: where the vertex that it runs, or has just settled, comes from, and its op."""
+        """Returns the frames of a worker: where the vertex that it runs, or settled last, comes from, and its op."""
         worker = self.worker(arguments)
         first, most = argument(arguments, "startFrame", int, 0), argument(arguments, "levels", int, 0)
         vertex = self.views.vertex_of(worker)

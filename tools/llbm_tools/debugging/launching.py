@@ -13,7 +13,7 @@ import shutil
 import subprocess
 import tempfile
 from collections.abc import Callable
-from concurrent import futures
+from concurrent.futures import ThreadPoolExecutor
 from typing import BinaryIO, NamedTuple
 
 from llbm_tools.common import program_named, shortened, tool_named
@@ -32,7 +32,9 @@ from llbm_tools.streams import Refused, why_not
 from llbm_tools.trees.source_files import source_words
 from llbm_tools.trees.trees import checked_at
 
-ARGUMENTS = ("build", "definition", "text", "sources", "files", "workers", "stopOnEntry", "stopAtEnd", "noDebug", "llbm")
+ARGUMENTS = (
+    "build", "definition", "text", "sources", "files", "workers", "stopOnEntry", "stopAtEnd", "noDebug", "llbm",
+)
 EDITOR_ARGUMENTS = (
     "type", "request", "name", "presentation", "preLaunchTask", "postDebugTask", "internalConsoleOptions",
     "debugServer", "serverReadyAction", "suppressMultipleSessionWarning", "linux", "osx", "windows", "restart",
@@ -247,7 +249,7 @@ def start(arguments: Object, folder: str, say: Say, program_argument: str) -> La
     data, text = definition_of(program, arguments)
     path, place = argument(arguments, "definition", str, ""), argument(arguments, "text", str, "")
     entries, named_entries = entries_of(data, path or "the definition"), faults.Entries(data)
-    with futures.ThreadPoolExecutor(1) as pool:
+    with ThreadPoolExecutor(1) as pool:
         written = pool.submit(output_of, program, "dis", data) if text is None else None
         shown = output_of(program, "show", data, named_entries).decode("ascii", "backslashreplace")
         session, words = begun(arguments, program, data, shown, folder, say)

@@ -61,7 +61,8 @@ class Watching(Breaking):
             self.breakpoint_count += 1
             answer: Object = {"id": self.breakpoint_count, "verified": False}
             try:
-                answers.append(answer | self.watch(argument(one, "dataId", str), argument(one, "hitCondition", str, "")))
+                hits = argument(one, "hitCondition", str, "")
+                answers.append(answer | self.watch(argument(one, "dataId", str), hits))
             except NoBreakpoint as cause:
                 answers.append({**answer, "message": str(cause)})
         self.mover.stops_for = self.data_stop

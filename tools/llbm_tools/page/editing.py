@@ -11,7 +11,8 @@ TEXT = "document.getElementById('text').value"
 
 def write(page: Page, text: str) -> None:
     """Puts a text into the field beside the graph, and waits until the page has read it."""
-    page.run(f"(e => {{ e.focus(); e.value = {text!r}; e.dispatchEvent(new Event('input')); }})(document.getElementById('text'))")
+    put = f"e.focus(); e.value = {text!r}; e.dispatchEvent(new Event('input'));"
+    page.run(f"(e => {{ {put} }})(document.getElementById('text'))")
     page.browser.wait(EDITED)
     page.settle()
 
@@ -34,7 +35,7 @@ def the_page_opens_on_an_example_that_runs(page: Page) -> None:
     place = page.place()[0]
     page.click("next")
     same(page.place()[0], place + 1, "the place after a step")
-    page.browser.wait("location.hash.startsWith('#s=')")
+    page.browser.wait(f"document.body.dataset.kept === '{place + 1}'")
     page.load(str(page.run("location.hash")))
     same((page.place()[0], page.run(TEXT)), (place + 1, text), "the place and the text after a reload")
     same(page.browser.faults, [], "faults of the page's code")
@@ -85,8 +86,9 @@ def the_text_and_the_graph_go_together(page: Page) -> None:
     text = open_live(page)
     page.run("document.querySelector('[data-vertex=\"7\"] .vertex').click()")
     same(page.run("document.getElementById('text-mark').hidden"), False, "the mark is hidden")
-    inside = "(m => m.top >= 0 && m.bottom <= 0 + innerHeight)(document.getElementById('text-mark').getBoundingClientRect())"
-    check(page.run(inside), "the marked lines are not in sight")
+    inside = "(m => m.top >= 0 && m.bottom <= innerHeight)"
+    mark = "document.getElementById('text-mark').getBoundingClientRect()"
+    check(page.run(f"{inside}({mark})"), "the marked lines are not in sight")
     at = text.index("/out/tested")
     page.run(f"(e => {{ e.setSelectionRange({at}, {at}); e.click(); }})(document.getElementById('text'))")
     same(page.run("document.querySelector('.box.selected').dataset.vertex"), "5", "the vertex of the line")

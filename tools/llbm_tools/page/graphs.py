@@ -55,14 +55,16 @@ def open_text(page: Page, text: str) -> None:
 
 def frame(page: Page, name: str = "graph") -> tuple[float, float, float, float]:
     """Returns where an element is: its left, top, width and height."""
-    found = page.run(f"(r => [r.left, r.top, r.width, r.height])(document.getElementById('{name}').getBoundingClientRect())")
+    place = f"document.getElementById('{name}').getBoundingClientRect()"
+    found = page.run(f"(r => [r.left, r.top, r.width, r.height])({place})")
     left, top, width, height = (float(one) for one in found)
     return left, top, width, height
 
 
 def type_in(page: Page, name: str, text: str) -> None:
     """Puts a text into a field, as if it were typed."""
-    page.run(f"(e => {{ e.value = {text!r}; e.dispatchEvent(new Event('input')); }})(document.getElementById('{name}'))")
+    put = f"e.value = {text!r}; e.dispatchEvent(new Event('input'));"
+    page.run(f"(e => {{ {put} }})(document.getElementById('{name}'))")
 
 
 def drag(page: Page, start: tuple[float, float], end: tuple[float, float]) -> None:
@@ -89,7 +91,8 @@ def a_graph_gets_larger_and_smaller(page: Page) -> None:
     scale = float(page.run(SCALE))
     check(scale < FAR, f"the whole graph is shown at {scale}")
     same(page.run(BOXES), 0, "boxes in the page from afar")
-    sizes = page.run("(f => [f.scrollWidth - f.clientWidth, f.scrollHeight - f.clientHeight])(document.getElementById('graph'))")
+    over = "(f => [f.scrollWidth - f.clientWidth, f.scrollHeight - f.clientHeight])"
+    sizes = page.run(f"{over}(document.getElementById('graph'))")
     check(max(sizes) <= 1, f"parts of the whole graph are not seen: {sizes}")
     ready = page.run(f"{COLOR}('ready-box')")
     check(ready in page.run(f"{COLORS}('graph-far')"), "no box that is ready is painted")
@@ -124,7 +127,7 @@ def the_overview_moves_the_window(page: Page) -> None:
     open_text(page, wide_text())
     page.run(SHOWN)
     same(page.run("document.getElementById('overview').hidden"), False, "the overview is hidden")
-    check(page.run(f"{COLOR}('ready')") in page.run(f"{COLORS}('overview')"), "the overview has no vertex that is ready")
+    check(page.run(f"{COLOR}('ready')") in page.run(f"{COLORS}('overview')"), "no vertex is ready there")
     left, top, width, height = frame(page, "overview")
     at = (left + width / 2, top + height - 2)
     drag(page, at, at)
@@ -147,7 +150,7 @@ def a_vertex_is_searched(page: Page) -> None:
     for wanted in (29, 290):
         page.press("Enter")
         page.browser.wait(f"document.querySelector('.box.selected')?.dataset.vertex === '{wanted}'")
-    check(page.run("document.querySelector('.box.selected').className.includes('found')"), "what was found is not marked")
+    check(page.run("document.querySelector('.box.selected.found') !== null"), "what was found is not marked")
     same(page.run(SCALE), FULL, "the scale after a vertex was gone to")
     inside = "(b => (r => r.top >= b.top && r.bottom <= b.bottom && r.left >= b.left && r.right <= b.right)"
     inside += "(document.querySelector('.box.selected').getBoundingClientRect()))"
@@ -158,8 +161,8 @@ def a_vertex_is_searched(page: Page) -> None:
 
 def a_label_is_as_wide_as_there_is_room(page: Page) -> None:
     """Opens a chain of long paths: no label is cut, where there is room for it."""
-    text = "".join(file_on([number - 1] if number else [], f"/a-rather-long-name-of-a-file/{number}") for number in range(6))
-    open_text(page, text + "op {\n  inputs {\n    digest %5\n  }\n}\n")
+    named = [file_on([number - 1] if number else [], f"/a-rather-long-name-of-a-file/{number}") for number in range(6)]
+    open_text(page, "".join(named) + "op {\n  inputs {\n    digest %5\n  }\n}\n")
     cut = "[...document.querySelectorAll('.vertex-line')].filter(e => e.scrollWidth > e.clientWidth).length"
     same(page.run(cut), 0, "labels that are cut in a wide window")
     try:
@@ -195,7 +198,8 @@ def the_largest_graph_as_a_whole(page: Page) -> None:
     place = pathlib.Path(page.folder) / "whole.definition"
     words = [sys.executable, str(paths.ROOT / "tools" / "bigdef"), "pairs", str(MOST_VERTICES)]
     place.write_bytes(subprocess.run(words, check=True, capture_output=True).stdout)
-    page.run(GIVE % (place.name, place.name, "#definition-file", "document.getElementById('definition-said').textContent !== ''"))
+    known = "document.getElementById('definition-said').textContent !== ''"
+    page.run(GIVE % (place.name, place.name, "#definition-file", known))
     page.run(PRESS % "open-now")
     page.settle()
     page.run("document.getElementById('zoom-fit').click()")
@@ -209,7 +213,8 @@ def the_largest_graph_as_a_whole(page: Page) -> None:
     page.measure("painting 65,535 vertices as a whole", drawing)
     check(int(page.run(BOXES)) <= 1, "more than the selected box is in the page")
     for status, name in (("done", "graph-far"), ("waiting", "overview")):
-        check(page.run(f"{COLOR}('{status}')") in page.run(f"{COLORS}('{name}')"), f"no vertex that is {status} in {name}")
+        color, colors = page.run(f"{COLOR}('{status}')"), page.run(f"{COLORS}('{name}')")
+        check(color in colors, f"no vertex that is {status} is in {name}")
     type_in(page, "find", str(MOST_VERTICES - 1))
     page.browser.wait("/^[0-9,]+ vert/.test(document.getElementById('find-said').textContent)")
     page.run("document.querySelector('#find-form button').click()")

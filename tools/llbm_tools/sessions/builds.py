@@ -1,4 +1,4 @@
-"""Builds that the page and an editor can open: folders with a definition, trees of local sources, and a record of a run.
+"""Builds that page and editor open: folders with a definition, trees of local sources, and a record of a run.
 
 A build is a folder with `definition`, or `definition.text` with the text of its entries. `record` has the lines of a
 run's record, if it is there, and `error` why the build failed. The trees are those that `sources` names, a line

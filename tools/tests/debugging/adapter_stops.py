@@ -103,11 +103,12 @@ class Conditions(WithRun):
             self.assertEqual(conditions.condition_in(text)(failed, 9), holds, text)
 
     def test_what_is_no_condition(self):
+        known = f"where a value should be; names are {', '.join(conditions.NAMES)}"
         for text, message in [
-            ("vertex ==", "the condition has its end where a value should be; names are " + ", ".join(conditions.NAMES)),
+            ("vertex ==", f"the condition has its end {known}"),
             ("(vertex", "the condition lacks a )"), ("vertex 3", "the condition has '3' where it should end"),
             ("vertex = 3", "the condition can't be read at '= 3'"),
-            ("color", f"the condition has the name color where a value should be; names are {', '.join(conditions.NAMES)}"),
+            ("color", f"the condition has the name color {known}"),
         ]:
             with self.assertRaises(conditions.NoCondition) as caught:
                 conditions.condition_in(text)
