@@ -50,6 +50,8 @@ class Page {
     this.orders = new OrdersView(this.looker);
     this.share = shareView();
     this.kept = new KeptState();
+    /** @type {any} */
+    this.statuses = null;
     this.isLooking = false;
     this.isMoving = false;
     this.isStopped = false;
@@ -178,6 +180,9 @@ class Page {
   /**
    * Goes on by a generator of `makeMoves`, in slices, and shows where the session is then. `atEnd` is called with what
    * the generator returned. A move that is asked for meanwhile stops this one, and begins where it stopped.
+   *
+   * @param {() => Generator} makeMoves
+   * @param {(how: any) => unknown} atEnd
    */
   async travel(makeMoves, atEnd = () => {}) {
     if (!this.session) return;
@@ -267,7 +272,7 @@ class Page {
       this.time.update();
       this.orders.update();
       this.showVertex();
-      const focused = document.activeElement;
+      const focused = /** @type {HTMLButtonElement} */ (document.activeElement);
       by('back').disabled = by('first').disabled = !event;
       this.updateWorker();
       // A button that is disabled loses the focus, and the keys would begin at the top of the page.

@@ -306,7 +306,11 @@ export class OpenView {
   }
 }
 
-// The definition of an example and the trees of its sources.
+/**
+ * Returns the definition of an example and the trees of its sources.
+ *
+ * @returns {Promise<{ definition: Uint8Array, trees: [string, { text: string, from: string }][] }>}
+ */
 async function loadedExample(example) {
   const given = async (path) => {
     const response = await fetch(`examples/${path}`);
@@ -314,8 +318,11 @@ async function loadedExample(example) {
     return new Uint8Array(await response.arrayBuffer());
   };
   const definition = await given(example.definition);
-  const trees = await Promise.all(Object.entries(example.locals).map(async ([local, from]) => (
-    [local, { text: new TextDecoder().decode(await given(from)), from }])));
+  /** @type {[string, { text: string, from: string }][]} */
+  const trees = [];
+  for (const [local, from] of Object.entries(example.locals)) {
+    trees.push([local, { text: new TextDecoder().decode(await given(from)), from }]);
+  }
   return { definition, trees };
 }
 

@@ -39,6 +39,8 @@ class Page:
         self.folder = folder
         self.measured: dict[str, str] = {}
         self.noted: list[str] = []
+        # Parts of the faults that a test provokes.
+        self.awaited: list[str] = []
         self.given: module_cases.Case | None = None
 
     def measure(self, what: str, times: list[float]) -> None:
@@ -48,7 +50,6 @@ class Page:
 
     def load(self, fragment: str = "#open") -> None:
         """Loads the page anew, with the view *Open* unless it is another link, and begins to keep what sessions say."""
-        self.browser.faults.clear()
         self.browser.go(self.url + fragment, READY)
         same(self.run(READY), "yes", self.text("said") or "ready")
         self.run("addEventListener('keyup', () => { globalThis.released = true; }, true)")
