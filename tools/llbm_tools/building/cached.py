@@ -7,6 +7,7 @@ is one: then it is the result that was kept.
 """
 
 import contextlib
+from typing import NamedTuple
 
 from llbm_tools.building.kept_builds import Build
 from llbm_tools.building.kept_changes import Changes, Memory
@@ -20,6 +21,22 @@ from llbm_tools.trees.kept_sources import bytes_of
 MOST_OF_A_NAME = 100
 
 
+class Found(NamedTuple):
+    """The cached vertices of a build, by number, and whether the result is an output of one that the last result was."""
+
+    vertices: dict[int, Impact]
+    has_result: bool
+
+    def say(self) -> list[dict[str, object]]:
+        """Prints a line for each cached vertex, and returns an object for each."""
+        for number, impact in self.vertices.items():
+            say(line_of(number, impact))
+        return [
+            {"vertex": number, "kind": impact.vertex.kind, "name": impact.name}
+            for number, impact in self.vertices.items()
+        ]
+
+
 def line_of(number: int, impact: Impact) -> str:
     """Returns the line of a cached vertex."""
     name = shortened(impact.name, MOST_OF_A_NAME)
@@ -27,19 +44,14 @@ def line_of(number: int, impact: Impact) -> str:
     return f"{line}: {name}" if name else line
 
 
-def say_cached(request: Request, changes: Changes) -> bool:
-    """Prints a line for each cached vertex, and returns whether the result is an output of one that the last had.
-
-    Of a definition that the program does not accept nothing is printed: the program says why.
-    """
+def found_in(request: Request, changes: Changes) -> Found:
+    """Returns the cached vertices; none of a definition that the program does not accept, which says why itself."""
     with contextlib.suppress(Refused):
         comparison = Comparison(bytes_of(changes.last.definition), request.data)
         found = list(comparison.impacts(changes.names(request.sources)))
-        for number, impact in enumerate(found):
-            if impact.word == impacts.KEPT:
-                say(line_of(number, impact))
-        return comparison.result(found).word == impacts.KEPT
-    return False
+        kept = {number: impact for number, impact in enumerate(found) if impact.word == impacts.KEPT}
+        return Found(kept, comparison.result(found).word == impacts.KEPT)
+    return Found({}, False)
 
 
 def taken(request: Request, memory: Memory, changes: Changes) -> Build:

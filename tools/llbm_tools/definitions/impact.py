@@ -49,10 +49,9 @@ import argparse
 import collections
 import functools
 import io
-import json
 from typing import NamedTuple
 
-from llbm_tools import common, inputs
+from llbm_tools import common, inputs, objects
 from llbm_tools.command_line import Parser
 from llbm_tools.definitions import both_runs, impacts
 from llbm_tools.definitions.impacts import Comparison, Impact, Names, Result
@@ -144,13 +143,18 @@ def vertex_object(number: int, impact: Impact) -> dict[str, object]:
     return {**about, **why}
 
 
-def json_of(found: list[Impact], gone: list[int], changed: Names, result: Result, laws: dict[str, str]) -> str:
-    """Returns the object of the result and of all vertices, with one line for each."""
-    vertices = ",\n".join(f"    {json.dumps(vertex_object(*one))}" for one in enumerate(found))
-    shown = {"vertex": result.vertex, "output": result.output, "impact": result.word, "old": list(result.old)}
-    rest = {"counts": counts_of(found, laws), "gone": gone, "changed": sorted(changed), "laws": laws}
-    members = ",\n".join(f"  {json.dumps(name)}: {json.dumps(value)}" for name, value in rest.items())
-    return f'{{\n  "result": {json.dumps(shown)},\n  "vertices": [\n{vertices}\n  ],\n{members}\n}}\n'
+def members_of(
+    found: list[Impact], gone: list[int], changed: Names, result: Result, laws: dict[str, str]
+) -> dict[str, object]:
+    """Returns the members of the object of the result and of all vertices."""
+    return {
+        "result": {"vertex": result.vertex, "output": result.output, "impact": result.word, "old": list(result.old)},
+        "vertices": [vertex_object(*one) for one in enumerate(found)],
+        "counts": counts_of(found, laws),
+        "gone": gone,
+        "changed": sorted(changed),
+        "laws": laws,
+    }
 
 
 def compare(options: argparse.Namespace) -> None:
@@ -166,8 +170,11 @@ def compare(options: argparse.Namespace) -> None:
         found, word = both_runs.compared(program(), comparison, data, (before, after), found)
         result = result._replace(word=word)
     laws = laws_of(options.run)
-    text = json_of(found, gone, changed, result, laws) if options.json else lines_of(found, gone, result, laws)
-    write_output(io.BytesIO(text.encode("utf-8", "surrogateescape")), "the output")
+    if options.json:
+        objects.write(members_of(found, gone, changed, result, laws))
+        return
+    lines = lines_of(found, gone, result, laws)
+    write_output(io.BytesIO(lines.encode("utf-8", "surrogateescape")), "the output")
 
 
 def source_of(word: str) -> Source:

@@ -63,6 +63,7 @@ MODULES = [
     "building.contents",
     "building.value_rules",
     "building.rebuilding",
+    "building.caching",
     "building.filtering",
     "building.leaving",
     "bad_inputs",
