@@ -53,6 +53,7 @@ type session struct {
 	linked  bool        // whether contents may be symbolic links
 	broken  bool        // whether something breaks BuildKit's daemon
 	runs    bool        // whether there is an execution
+	held    []*Step     // what is said later, or not at all
 	why     string      // why BuildKit fails
 	files   int
 	layered bool // whether there is a merge, which needs layers
@@ -211,6 +212,9 @@ func (s *session) all() error {
 		v := heap.Pop(&s.ready).(int)
 		if s.sent.Vertices[v].Op.GetExec() != nil {
 			s.runs = true
+			if err := s.sayHeld(); err != nil {
+				return err
+			}
 			if _, err := s.static(v); err != nil {
 				return err
 			}
