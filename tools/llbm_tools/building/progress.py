@@ -49,11 +49,13 @@ class Session:
     def __init__(self, child: subprocess.Popen[bytes]) -> None:
         self.commands = cast(BinaryIO, child.stdin)
         self.answers = cast(BinaryIO, child.stdout)
+        self.lines = 0
 
     def ask(self, *commands: str) -> None:
         """Sends commands; if the session has ended, reading its answer reports that."""
         if self.commands.closed:
             return
+        self.lines += len(commands)
         try:
             self.commands.write("".join(f"{command}\n" for command in commands).encode())
             self.commands.flush()
@@ -71,6 +73,26 @@ class Session:
         if not line.endswith("\n"):
             raise Closed
         return line[:-1]
+
+    def tree(self, vertex: int, output: int) -> list[bytes] | None:
+        """Returns the lines of an output, or None if there is none. The answer to an empty line marks their end."""
+        self.ask(f"tree {vertex} {output}", "")
+        found: list[bytes] = []
+        while (line := self.answers.readline()) != b"fault 173 %d\n" % self.lines:
+            if not line.endswith(b"\n"):
+                raise Closed
+            found.append(line)
+        return None if found[:1] == [b"none\n"] or found[:1] and found[0].startswith(b"fault ") else found
+
+    def run(self) -> bool:
+        """Runs to the end, and returns whether no vertex has failed."""
+        self.ask("go")
+        failed = False
+        while (line := self.line()) != "end":
+            if not EVENT.fullmatch(line):
+                raise Unexpected(line)
+            failed = failed or line.endswith(" failed")
+        return not failed
 
     def last(self, *commands: str) -> BinaryIO:
         """Sends the last commands, and returns the stream of their answers."""
