@@ -56,9 +56,7 @@ export class OpenView {
   async loadBuilds() {
     const builds = await servedBuilds();
     by('builds').hidden = !builds.length;
-    const options = builds.map(({ name, error }) => (
-      make('option', { value: name, text: error ? `${name}: failed` : name })));
-    by('build').replaceChildren(make('option', { value: '', text: 'choose one' }), ...options);
+    by('build').replaceChildren(make('option', { value: '', text: 'choose one' }), ...buildOptions(builds));
   }
 
   /** Puts what a build has into the view, where it can't be opened as it is. */
@@ -324,6 +322,30 @@ async function loadedExample(example) {
     trees.push([local, { text: new TextDecoder().decode(await given(from)), from }]);
   }
   return { definition, trees };
+}
+
+// A menu of builds: the definitions of one build are a group, which has its name and when it was kept.
+function buildOptions(builds) {
+  const groups = new Map();
+  for (const build of builds) {
+    const cut = build.name.indexOf('/');
+    const group = cut < 0 ? '' : build.name.slice(0, cut);
+    groups.set(group, [...groups.get(group) ?? [], { ...build, part: build.name.slice(cut + 1) }]);
+  }
+  const option = ({ name, part, title, error, time }, isIn) => {
+    const words = [title ? `${part}: ${title}` : part, error ? 'failed' : '', isIn ? '' : timeOf(time)];
+    return make('option', { value: name, text: words.filter(Boolean).join(', ') });
+  };
+  return [...groups].flatMap(([group, all]) => {
+    if (group === '') return all.map((build) => option(build, false));
+    const label = [group, timeOf(all[0].time)].filter(Boolean).join(', ');
+    return [make('optgroup', { label }, ...all.map((build) => option(build, true)))];
+  });
+}
+
+function timeOf(seconds) {
+  const options = /** @type {Intl.DateTimeFormatOptions} */ ({ dateStyle: 'medium', timeStyle: 'short' });
+  return seconds ? new Date(seconds * 1000).toLocaleString(undefined, options) : '';
 }
 
 /** Returns whether a definition is refused for what is in its rows. */

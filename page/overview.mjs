@@ -6,11 +6,14 @@ import { paintColumns, viewOf } from './graph_paint.mjs';
 const SIDE = { width: 170, height: 120, least: 28 };
 // It is painted again at most so often, in milliseconds, since 65,535 vertices can change at each step.
 const PAUSE = 150;
+// The window is at least so many times as wide and as high, so that the overview does not cover what it is of.
+const LEAST_WINDOW = 2.5;
 
 /** The overview. `onPlace` is called with a place of the layout. */
 export class Overview {
   constructor(onPlace) {
     this.canvas = by('overview');
+    this.frame = by('graph');
     this.picture = document.createElement('canvas');
     this.waits = null;
     this.canvas.addEventListener('pointerdown', (event) => {
@@ -60,10 +63,17 @@ export class Overview {
     this.mark(seen, colors);
   }
 
-  /** Marks the part of the layout that is seen; there is no overview if that is all of it. */
+  // Returns whether the window is too small for an overview.
+  isCramped() {
+    const { clientWidth, clientHeight } = this.frame;
+    return clientWidth < LEAST_WINDOW * this.canvas.width || clientHeight < LEAST_WINDOW * this.canvas.height;
+  }
+
+  /** Marks the part of the layout that is seen; there is no overview if that is all of it, or in a small window. */
   mark({ left, top, right, bottom }, colors) {
     const { placed, part, scale } = this;
-    this.canvas.hidden = left <= 0 && top <= 0 && right >= placed.width && bottom >= placed.height;
+    const isAll = left <= 0 && top <= 0 && right >= placed.width && bottom >= placed.height;
+    this.canvas.hidden = isAll || this.isCramped();
     const context = this.canvas.getContext('2d');
     context.clearRect(0, 0, this.canvas.width, this.canvas.height);
     context.drawImage(this.picture, 0, 0);

@@ -46,6 +46,8 @@ for one in json.load(sys.stdin):
     header = tarfile.TarInfo(one["Name"].rstrip("/"))
     header.type = tarfile.DIRTYPE if one["Name"].endswith("/") else tarfile.REGTYPE
     header.mode, header.uid, header.gid, header.size, header.mtime = (one[key] for key in ("Mode", "Uid", "Gid", "Size", "Time"))
+    if one["Target"]:
+        header.type, header.linkname = tarfile.SYMTYPE, one["Target"]
     print(archive_writing.blocks_of(header).hex())
 `
 
@@ -205,6 +207,7 @@ func TestImagesAreThoseOfTheTools(t *testing.T) {
 type head struct {
 	Name                       string
 	Mode, Uid, Gid, Size, Time int64
+	Target                     string // of a symbolic link
 }
 
 // heads are headers of names and numbers about the bounds of their fields, with slashes where long names are cut off.
@@ -215,7 +218,7 @@ func heads() []head {
 	var all []head
 	for n := range 400 {
 		name := strings.Repeat("a", random.Intn(120)) + strings.Repeat("é", random.Intn(2)*random.Intn(60)) + "b"
-		one := head{name, int64(random.Intn(0o10000)), pick(), pick(), pick(), pick()}
+		one := head{name, int64(random.Intn(0o10000)), pick(), pick(), pick(), pick(), ""}
 		if n%2 == 0 {
 			one.Name, one.Size = name+"/", 0
 		}
@@ -223,7 +226,12 @@ func heads() []head {
 	}
 	for before := 96; before < 104; before++ {
 		name := strings.Repeat("d", before) + "/" + strings.Repeat("n", 255)
-		all = append(all, head{name, 0o644, 0, 0, 0, 0}, head{name + "/", 0o755, 0, 0, 0, 0})
+		all = append(all, head{name, 0o644, 0, 0, 0, 0, ""}, head{name + "/", 0o755, 0, 0, 0, 0, ""})
+		for _, end := range []string{"", "/", "//", "/t", "//t"} {
+			for _, name := range []string{"l", name} {
+				all = append(all, head{name, 0o777, 0, 0, 0, 0, strings.Repeat("t", before) + end})
+			}
+		}
 	}
 	return all
 }
@@ -236,6 +244,9 @@ func TestHeadersAreThoseOfTheTools(t *testing.T) {
 		h.Uid, h.Gid = int(one.Uid), int(one.Gid)
 		if strings.HasSuffix(one.Name, "/") {
 			h.Typeflag = tar.TypeDir
+		}
+		if h.Linkname = one.Target; one.Target != "" {
+			h.Typeflag = tar.TypeSymlink
 		}
 		var out bytes.Buffer
 		if err := tar.NewWriter(&out).WriteHeader(h); err != nil {

@@ -12,6 +12,11 @@ except those of texts. Of a directory only what the filters of its source select
 program llbm-rules applies them (tools/daemon builds it), and where it is not there such a source is refused. With
 --no-filters all of it is given. Where llbm-rules is there, standard error has the notes of `lint`.
 
+With --links, which needs llbm-rules, symbolic links of sources are taken and written as they are. Paths are followed
+where BuildKit follows them: for this the definition is rewritten by BuildKit's rules, and a line says each change. A
+build of which BuildKit would follow a link in a tree that is not known before the run is refused, by the path and the
+link. A line `BuildKit: ..` says what BuildKit would make otherwise. Without --links they are left out.
+
 The program gets a token in the place of each content, and the contents are copied into the result afterwards, so that a
 source can have any size; a file that changed meanwhile is refused. With --by-value the program gets the contents. So it
 does in any case those of sources at or before an exec that calls `sha256`, and all of them where a mkfile or such a
@@ -195,6 +200,7 @@ def parser() -> argparse.ArgumentParser:
     add("--strict", action="store_true", help="refuse a source if something of it is left out")
     add("--platform", metavar="OS/ARCH", help="the platform of sources that are images with several")
     add("--mtime", metavar="SECONDS", type=times.seconds_of, help="the time of the result's entries")
+    add("--links", action="store_true", help="take symbolic links, and follow them where BuildKit does")
     add("--no-filters", action="store_true", help="give all of each directory, whatever its source's filters leave out")
     add("--by-value", action="store_true", help="give the program the contents of all sources")
     add("--replace", action="store_true", help="put the result in the place of an old one")

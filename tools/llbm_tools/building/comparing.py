@@ -8,7 +8,7 @@ from llbm_tools.building.given_sources import Given
 from llbm_tools.building.kept_builds import Build, File, digest_of_file, state_at
 from llbm_tools.building.requests import Named
 from llbm_tools.streams import Refused
-from llbm_tools.trees import source_texts
+from llbm_tools.trees import links, source_texts
 from llbm_tools.trees.kept_sources import Hidden, Kept, Recorder
 from llbm_tools.trees.references import PIECE, Table, pieces_of, read_part
 
@@ -57,8 +57,8 @@ def resolved(content: bytes, digests: dict[int, bytes]) -> list[tuple[bool, byte
 
 
 def other_digests(table: Table) -> dict[int, str]:
-    """Returns the digests of the contents that are parts of archives, by their tokens."""
-    found: dict[int, str] = {}
+    """Returns the digests of the contents that are parts of archives, and of symbolic links, by their tokens."""
+    found = {number: hashlib.sha256(links.content_of(target)).hexdigest() for number, target in table.targets.items()}
     for number, holder in enumerate(table.holders):
         if holder < 0:
             digest = hashlib.sha256()

@@ -6,6 +6,7 @@ from typing import BinaryIO
 
 from llbm_tools.building.result_texts import Line, Part, lines_in
 from llbm_tools.streams import Failed
+from llbm_tools.trees import links
 from llbm_tools.trees.references import Below, Copier, Table
 from llbm_tools.trees.trees import Entry, finish
 
@@ -69,11 +70,16 @@ class Files:
         self.copier.close()
 
     def put(self, line: Line) -> None:
-        """Writes a file."""
+        """Writes a file, or a symbolic link."""
         parent, name = line.path.rsplit(b"/", 1)
+        content = binascii.unhexlify(line.content or b"")
+        target = self.copier.target(content)
+        if target is not None:
+            links.make(target, self.below.open(parent), name, entry_at(line), self.time)
+            return
         descriptor = os.open(name, NEW_FILE, 0o600, dir_fd=self.below.open(parent))
         try:
-            self.copier.copy(binascii.unhexlify(line.content or b""), descriptor)
+            self.copier.copy(content, descriptor)
             finish(descriptor, entry_at(line), self.time)
         finally:
             os.close(descriptor)

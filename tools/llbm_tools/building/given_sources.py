@@ -29,7 +29,9 @@ def stored_at(source: Named, number: int, folder: str) -> Named:
 
 
 class Given:
-    """The sources of a build, and the table of their contents."""
+    """The sources of a build, and the table of their contents. With links, these have tokens too, also in a source that
+    is given by value.
+    """
 
     def __init__(
         self,
@@ -39,22 +41,33 @@ class Given:
         reading: Reading,
         records: list[Recorder | None],
         selected: list[Paths | None],
+        has_links: bool,
     ) -> None:
         self.sources = sources
         self.text = text
         self.hidden = hidden
-        self.reading = reading
+        self.reading = reading._replace(contents=self.link if has_links else None)
         self.records = records
         self.selected = selected
         self.states = [state_at(source.place) for source in sources]
         self.table = Table()
         self.kept = contextlib.ExitStack()
         self.is_whole = True
+        self.no_tokens = ""
+        # The paths of files that have other names in their source, by the source's name.
+        self.hard_links: dict[str, list[bytes]] = {}
 
     def close(self) -> None:
         """Closes the files and directories of the sources."""
         self.kept.close()
         self.table.close()
+
+    def link(self, target: bytes) -> bytes:
+        """Returns the token of a symbolic link."""
+        if self.no_tokens:
+            line = f"a symbolic link to {os.fsdecode(target)} needs a token, and this build can't have any"
+            raise Refused(f"{line}: {self.no_tokens}")
+        return self.table.add_link(target)
 
     def give(self, plan: Plan) -> str:
         """Writes the texts of all sources. Returns why all have to be given by value, or nothing."""
@@ -71,6 +84,7 @@ class Given:
 
     def give_values(self, cause: str) -> None:
         """Writes the texts of all sources by value."""
+        self.no_tokens = cause
         for number, source in enumerate(self.sources):
             say(f"reading {source.name} from {source.shown}")
             self.read(number, cause, unmarked=False)
@@ -88,4 +102,5 @@ class Given:
             except TooLong as fault:
                 line = f"{source.name} is too long to be given by value, over {MOST_BYTES:,} bytes: {cause}"
                 raise Refused(line) from fault
+        self.hard_links[source.name] = reader.hard_links
         self.is_whole = self.is_whole and is_whole

@@ -3,6 +3,7 @@
 import io
 import os
 import tempfile
+from typing import TYPE_CHECKING
 
 from llbm_tools.building import children, folders, plans, replacing
 from llbm_tools.building.children import held_back
@@ -27,9 +28,14 @@ from llbm_tools.trees.kept_sources import bytes_of
 from llbm_tools.trees.references import Copier, Table
 from llbm_tools.trees.source_texts import Reading
 
+if TYPE_CHECKING:
+    from llbm_tools.building.following import Following
+
 ASKED = "--by-value asks for it"
 UNREADABLE = "the definition can't be read"
 CUT_OFF = "the archive is cut off"
+# The note of the fields by which links are followed; it has no meaning where they are.
+FOLLOWED = "FollowSymlink"
 
 
 class Build:
@@ -45,6 +51,7 @@ class Build:
         self.directory = ""
         self.program: Program | None = None
         self.given: Given | None = None
+        self.following: "Following | None" = None
         self.writer: DirectoryWriter | None = None
         self.has_tokens = False
 
@@ -74,8 +81,9 @@ class Build:
         for part in (self.program, self.writer):
             if part:
                 part.end()
-        if self.given:
-            self.given.close()
+        for one in (self.given, self.following):
+            if one:
+                one.close()
         for folder in (self.texts, self.directory):
             try:
                 children.remove(folder)
@@ -91,7 +99,8 @@ class Build:
         names = [source.name for source in self.sources]
         for note in source_names.word_notes(self.request.data, names) if names else []:
             say(note)
-        for note in notes.lines_of(self.request.data, self.request.filtered()):
+        heeded = FOLLOWED if self.options.links else ""
+        for note in notes.lines_of(self.request.data, self.request.filtered(), heeded):
             say(note)
         plan = plans.plan_of(self.request.data, llbm) if names and not self.options.by_value else None
         cause = ASKED if self.options.by_value else plan.all if plan else UNREADABLE
@@ -111,7 +120,8 @@ class Build:
             self.given.close()
         reading = Reading(strict=self.options.strict, platform=self.options.platform)
         records = recorders_of(self.memory.last, self.sources) if self.memory else [None] * len(self.sources)
-        self.given = Given(self.sources, self.text, self.hidden(), reading, records, self.request.selected)
+        selected, has_links = self.request.selected, self.options.links
+        self.given = Given(self.sources, self.text, self.hidden(), reading, records, selected, has_links)
         return self.given
 
     def table(self) -> Table | None:
@@ -123,9 +133,27 @@ class Build:
         say(f"running {shown(self.options.definition)}")
         texts = [(source.name, self.text(number)) for number, source in enumerate(self.sources)]
         definition = os.path.join(self.texts, "definition")
+        if self.options.links:
+            self.follow(texts, definition)
         self.program = Program(llbm, definition, texts, self.texts)
-        run = self.program.run_session if self.options.progress else self.program.run
-        return run(self.options.workers)
+        ran = self.following.finish if self.following and self.following.needs_outputs() else None
+        if ran or self.options.progress:
+            result = self.program.run_session(self.options.workers, is_shown=self.options.progress, ran=ran)
+        else:
+            result = self.program.run(self.options.workers)
+        if self.following:
+            self.following.say_differences()
+        return result
+
+    def follow(self, texts: list[tuple[str, str]], place: str) -> None:
+        """Stores the definition in which links are followed, in the place of the one that was given."""
+        # Most builds have no links, nor what follows them.
+        from llbm_tools.building.following import Following, Texts
+
+        assert self.given
+        self.following = Following(self.request.data, Texts(texts, self.given.table, self.given.hard_links))
+        with open(place, "wb") as file:
+            file.write(self.following.data)
 
     def write(self, result: str, made: LastBuild | None) -> None:
         """Writes the result from its text; if there is a last build, only what differs from its result."""

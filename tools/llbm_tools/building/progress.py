@@ -18,6 +18,7 @@ from llbm_tools.streams import Refused
 
 CLAIM = re.compile(r"[0-9]+ claim [0-9]+ ([0-9]+) -> (\w+) [0-9]+")
 SETTLE = re.compile(r"[0-9]+ settle [0-9]+ -> ([0-9]+) (done|failed)")
+EVENT = re.compile(r"[0-9]+ (?:claim|step|settle|cancel) .* -> .*")
 FAILURE = re.compile(r"([0-9]+) failed (.*)")
 
 
@@ -95,6 +96,20 @@ class Session:
             text.seek(0)
             text.truncate()
             raise
+
+    def tree(self, vertex: int, output: int) -> list[bytes] | None:
+        """Returns the lines of an output, or None if there is none."""
+        self.ask(f"tree {vertex} {output}")
+        found = list(self.lines())
+        return None if found[:1] == [b"none\n"] or found[:1] and found[0].startswith(b"fault ") else found
+
+    def run(self) -> bool:
+        """Runs to the end, and returns whether no vertex has failed."""
+        self.ask("go")
+        *events, end = self.answer() or [""]
+        for line in [*(line for line in events if not EVENT.fullmatch(line)), *([] if end == "end" else [end])]:
+            raise Unexpected(line)
+        return not any(line.endswith(" failed") for line in events)
 
     def settled(self) -> Iterator[Settled]:
         """Yields the vertices as they settle, up to the end; the session chooses the events."""

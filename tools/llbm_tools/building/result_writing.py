@@ -198,9 +198,11 @@ def write_archive(text: str, place: str, table: Table | None, time: int, most: i
 
 def write_member(line: Line, archive: BinaryIO, copier: Copier, time: int) -> None:
     """Writes an entry of an archive: its header, its content, and zeros up to the next block."""
-    header = header_of(entry_at(line), time)
     content = binascii.unhexlify(line.content or b"")
+    target = copier.target(content)
+    header = header_of(entry_at(line), time, target)
     header.size = copier.size(content)
     write_all(archive.fileno(), blocks_of(header))
-    copier.copy(content, archive.fileno())
+    if target is None:
+        copier.copy(content, archive.fileno())
     write_all(archive.fileno(), bytes(-header.size % BLOCK))

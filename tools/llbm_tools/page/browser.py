@@ -182,9 +182,14 @@ class Browser:
         scheme = {"name": "prefers-color-scheme", "value": "dark" if is_dark else "light"}
         self.send("Emulation.setEmulatedMedia", {"features": [scheme]})
 
-    def picture(self) -> bytes:
-        """Returns what is seen, as PNG."""
-        return base64.b64decode(self.send("Page.captureScreenshot", {"format": "png"})["data"])
+    def picture(self, of: str = "") -> bytes:
+        """Returns what is seen, or what is seen of an element, as PNG."""
+        params: dict[str, Any] = {"format": "png"}
+        if of:
+            place = self.run(f"(r => [r.x, r.y, r.width, r.height])(document.getElementById('{of}')"
+                             ".getBoundingClientRect())")  # fmt: skip
+            params["clip"] = {**dict(zip(("x", "y", "width", "height"), place)), "scale": 1}
+        return base64.b64decode(self.send("Page.captureScreenshot", params)["data"])
 
 
 @contextlib.contextmanager

@@ -5,7 +5,7 @@ In: the module that `tools/wasm` made, in --page FOLDER or out/page of the repos
 command on each example and sessions over it, and with --cases FOLDER the stored cases of a folder (`args`, `stdin`,
 `stdout`, `stderr`, `status` and the files of the words). In the browser the page is used as a person uses it, and each
 answer of its session is compared with that of `llbm step` to the same line. --pictures FOLDER writes pictures of its
-views there.
+views there, with --all-pictures those of start, failure, a wide graph and two orders, wide, narrow, light and dark.
 
 Out: on standard output a line for each test that failed, measured times, and at the end `N passed, M failed, K
 skipped`. A test in the browser that fails is tried once more, and a line says so. Where Node, a browser, or the page is
@@ -100,7 +100,8 @@ def browser_tests(options: argparse.Namespace, program: str, outcome: Outcome) -
             outcome.take(f"in the browser: {case.__name__}", result_in_browser(page, case))
         if options.pictures:
             options.pictures.mkdir(parents=True, exist_ok=True)
-            pictures.take_pictures(page, options.pictures)
+            take = pictures.take_all if options.all_pictures else pictures.take_pictures
+            take(page, options.pictures)
     for what, times in page.measured.items():
         print(f"{what}: {times} ms (least, middle, most)")
     for line in page.noted:
@@ -160,6 +161,7 @@ def parse_options() -> argparse.Namespace:
     parser.add_argument("--page", metavar="FOLDER", type=pathlib.Path, default=PLACE, help="default: out/page")
     parser.add_argument("--cases", metavar="FOLDER", type=pathlib.Path, help="a folder of stored cases")
     parser.add_argument("--pictures", metavar="FOLDER", type=pathlib.Path, help="where pictures are written")
+    parser.add_argument("--all-pictures", action="store_true", help="with --pictures: wide, narrow, light and dark")
     parser.add_argument("--only", metavar="NAME", nargs="+", help="the tests in the browser to run (default: all)")
     parser.add_argument("--only-browser", action="store_true", help="leave out the comparison in Node")
     return parser.parse_args()

@@ -1,20 +1,81 @@
-"""Pictures of the views of the page, for its docs."""
+"""Pictures of the views of the page: for its docs, and of all that a person looks at first in each size and color."""
 
 import pathlib
+from collections.abc import Callable
 
 from llbm_tools.page.driver import NARROW, WIDE, Page
+from llbm_tools.page.graphs import open_text, wide_text
 
 # Waits for the frames that show what changed last.
 SHOWN = "new Promise((done) => requestAnimationFrame(() => requestAnimationFrame(() => setTimeout(done, 150))))"
 
 
+# The window of the picture in README.
+FIRST = (1160, 780)
+
+
+def show_start(page: Page) -> None:
+    """Shows what the page opens without a link."""
+    page.load("")
+    page.settle()
+
+
+def show_failure(page: Page) -> None:
+    """Shows a vertex that failed."""
+    page.example("failure")
+    page.run("document.getElementById('break-fail').click()")
+    page.click("go")
+
+
+def show_wide_graph(page: Page) -> None:
+    """Shows 301 vertices as a whole, some of which are done."""
+    open_text(page, wide_text())
+    for _ in range(60):
+        page.click("all")
+    page.run("document.getElementById('zoom-fit').click()")
+
+
+def show_two_orders(page: Page) -> None:
+    """Shows two orders of one run side by side."""
+    page.load("")
+    page.settle()
+    page.click("go")
+    page.click("first")
+    page.click("shuffle")
+    page.choose("order", "0")
+    page.click("compare")
+    page.browser.wait("document.getElementById('orders-said').textContent.includes('Of the')")
+    page.run("document.getElementById('orders-said').scrollIntoView({ block: 'start' })")
+
+
+VIEWS: tuple[tuple[str, Callable[[Page], None]], ...] = (
+    ("start", show_start), ("failure", show_failure), ("wide-graph", show_wide_graph), ("two-orders", show_two_orders),
+)  # fmt: skip
+
+
+def take_all(page: Page, folder: pathlib.Path) -> None:
+    """Writes pictures of the page, wide and narrow, light and dark, into a folder."""
+    for size, width in (("wide", WIDE), ("narrow", NARROW)):
+        for colors in ("light", "dark"):
+            page.browser.size(*width, is_dark=colors == "dark")
+            for name, show in VIEWS:
+                show(page)
+                page.run(SHOWN)
+                (folder / f"{name}-{size}-{colors}.png").write_bytes(page.browser.picture())
+    page.browser.size(*WIDE)
+
+
 def take_pictures(page: Page, folder: pathlib.Path) -> None:
-    """Writes pictures of the views."""
+    """Writes pictures of the views, for the docs."""
 
     def keep(name: str) -> None:
         page.run(SHOWN)
         (folder / f"page-{name}.png").write_bytes(page.browser.picture())
 
+    page.browser.size(*FIRST)
+    show_start(page)
+    page.run(SHOWN)
+    (folder / "page-start.png").write_bytes(page.browser.picture("views"))
     page.browser.size(*WIDE)
     page.load()
     page.choose("example", "tour")

@@ -114,6 +114,8 @@ def builds_are_listed(page: Page) -> None:
             one.load("#build=nothing")
             check("can't be opened" in one.text("open-said"), one.text("open-said"))
             one.browser.wait("document.querySelectorAll('#build option').length === 3")
+            labels = one.run("[...document.querySelectorAll('#build optgroup')].map(group => group.label)")
+            check(len(labels) == 1 and labels[0].startswith("a-ref, ") and "20" in labels[0], f"the groups {labels}")
             one.run("globalThis.llbmTranscript = []")
             one.choose("build", "copies")
             one.browser.wait("location.hash === '#build=copies' && document.querySelectorAll('.box').length > 0")

@@ -64,6 +64,7 @@ MODULES = [
     "building.rebuilding",
     "building.caching",
     "building.filtering",
+    "building.linking",
     "building.leaving",
     "bad_inputs",
     "repository.repository",

@@ -64,13 +64,18 @@ def path_of(file: BinaryIO) -> str:
 
 class Comparison:
     """A comparison of a definition, given open files with its sources' trees by name, and the result if it is known.
-    Its lines are known step by step."""
+    Its lines are known step by step. `further` has members of the request; with `rewrite` the program says which
+    definition is to run, and `vertices` have its vertices by row."""
 
     def __init__(
         self, data: bytes, sources: Mapping[str, BinaryIO], executions: Executions, paths: int = MOST_PATHS,
-        tree: bool = False, made: Tree | None = None,
+        tree: bool = False, made: Tree | None = None, further: Answer | None = None,
     ) -> None:
         self.executions = executions
+        self.run: Answer | None = None
+        self.vertices: dict[int, int] = {}
+        # The vertices at which BuildKit would follow a symbolic link, with words that say which.
+        self.follows: list[tuple[int, str]] = []
         self.paths = paths
         self.closing = contextlib.ExitStack()
         self.steps: dict[int, StepLines] = {}
@@ -85,12 +90,12 @@ class Comparison:
             pass_fds=[file.fileno() for file in (definition, *sources.values())],
         )  # fmt: skip
         self.closing.callback(self.stop)
-        folder = {"folder": str(self.folder)} if tree or executions.make else {}
+        folder = {"folder": str(self.folder)} if tree or executions.make or further else {}
         numbered = {"numbered": executions.entries} if executions.entries else {}
         self.send({
             "sent": path_of(definition), "sources": {name: path_of(file) for name, file in sources.items()},
             "executes": executions.make is not None, **folder, **numbered, "paths": MOST_LINES, "result": True,
-            "tree": tree, **({} if made is None else {"made": self.stored(made)}),
+            "tree": tree, **({} if made is None else {"made": self.stored(made)}), **(further or {}),
         })  # fmt: skip
 
     @functools.cached_property
@@ -146,7 +151,11 @@ class Comparison:
 
     def take(self, message: Answer) -> None:
         """Takes a message."""
-        if step := message.get("step"):
+        if run := message.get("run"):
+            self.run = run
+        elif follows := message.get("follows"):
+            self.follows.append((follows["vertex"], follows["words"]))
+        elif step := message.get("step"):
             self.steps.setdefault(step["vertex"], {}).setdefault(step["action"], []).extend(self.lines_of(step))
         elif end := message.get("end"):
             tree = pathlib.Path(end["tree"]) if end.get("tree") else None
@@ -156,7 +165,7 @@ class Comparison:
 
     def reply(self, question: Answer) -> Answer | None:
         """Returns the reply to a question, or None if it is not known yet."""
-        vertex, inputs = question["vertex"], question.get("inputs")
+        vertex, inputs = self.vertices.get(question["row"], question["vertex"]), question.get("inputs")
         try:
             made = self.executions.make
             found = made(vertex, inputs) if made and inputs is not None else self.executions.made(vertex)

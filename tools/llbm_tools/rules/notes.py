@@ -43,10 +43,10 @@ def local_name(entry: bytes) -> str | None:
     return source.identifier.removeprefix(LOCAL) if source and local else None
 
 
-def lines_of(data: bytes, filtered: set[str]) -> list[str]:
+def lines_of(data: bytes, filtered: set[str], heeded: str = "") -> list[str]:
     """Returns a line for each field of a definition that has no effect in a run: none for the filters of the local
-    sources of some names, which are applied, and none at all where the program is not there, or where it can't read the
-    definition, since llbm says then what is wrong.
+    sources of some names, which are applied, none for a note that is heeded, and none at all where the program is not
+    there, or where it can't read the definition, since llbm says then what is wrong.
     """
     try:
         found = notes_of(data, [], False)
@@ -55,7 +55,7 @@ def lines_of(data: bytes, filtered: set[str]) -> list[str]:
         applied = {row for row, entry in enumerate(entries) if local_name(entry) in filtered}
     except (program.Missing, Refused, Unreadable):
         return []
-    left = [one for one in found if one.name not in FILTERS or one.row not in applied]
+    left = [one for one in found if one.name != heeded and (one.name not in FILTERS or one.row not in applied)]
     return [": ".join(filter(None, [f"note {one.words()}", shown[one.row]])) for one in left]
 
 

@@ -7,12 +7,15 @@ such folders, and its folder of all kept builds counts as all of them: each is c
 folder is read, also not by a link.
 """
 
+import functools
 import os
 import pathlib
 from collections.abc import Iterator
 from typing import NamedTuple
 from urllib.parse import quote
 
+from llbm_tools.llb import definition, names
+from llbm_tools.llb.wire import Unreadable
 from llbm_tools.streams import Refused
 
 KEPT = "llbmd-kept-builds"
@@ -22,6 +25,8 @@ TREE = ".tree"
 LAST = "last"
 # More than a page can use.
 MOST_BYTES = 1 << 28
+# The definition of a larger one is not read for its title.
+MOST_OF_A_TITLED = 1 << 20
 
 
 class Build(NamedTuple):
@@ -47,8 +52,29 @@ class Build(NamedTuple):
         """Returns what the page is told of the build."""
         return {
             "name": self.name, "isText": self.definition.endswith(".text"), "sources": list(self.trees),
-            "hasRecord": self.place(RECORD) is not None, "error": self.text(ERROR).strip(),
+            "hasRecord": self.place(RECORD) is not None, "error": self.text(ERROR).strip(), **self.title_and_time(),
         }  # fmt: skip
+
+    def title_and_time(self) -> dict[str, object]:
+        """Returns the name of the result in the definition's metadata, if it has one, and when the build was kept."""
+        place = self.place(self.definition)
+        if place is None:
+            return {"title": "", "time": 0}
+        known = place.stat()
+        return {"title": title_of(str(place), known.st_mtime_ns, known.st_size), "time": int(known.st_mtime)}
+
+
+@functools.lru_cache(1024)
+def title_of(place: str, _changed: int, size: int) -> str:
+    """Returns the name of the result of a definition of this time and size; empty if it has none, or is large."""
+    if size > MOST_OF_A_TITLED:
+        return ""
+    data = pathlib.Path(place).read_bytes()
+    try:
+        result = definition.graph_of(definition.entries_of(data)).result[0]
+        return names.names_of_vertices(names.names_of(data))[result].shown()
+    except (Unreadable, IndexError):
+        return ""
 
 
 def trees_named(folder: pathlib.Path) -> dict[str, str]:

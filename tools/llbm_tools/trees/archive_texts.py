@@ -1,5 +1,6 @@
 """Writes the tree text of entries that archives have, and names what cannot be in a tree."""
 
+import collections
 import tarfile
 from collections.abc import Iterator
 from typing import Protocol
@@ -7,6 +8,7 @@ from typing import Protocol
 from llbm_tools.images.archive_entries import Path, Placed
 from llbm_tools.images.archives import Member
 from llbm_tools.streams import Refused, temporary_file, write_output
+from llbm_tools.trees import links
 from llbm_tools.trees.leftout import ATTRIBUTE, DEVICE, LINK, NO_NAME, PIPE, Exclusion, LeftOut, exclusion_of_names
 from llbm_tools.trees.trees import MOST_OF_AN_OWNER, Owner, line_start, path_of, warn_of_length
 
@@ -44,13 +46,19 @@ class Writer(Protocol):
 
 
 class Text:
-    """The text of the entries of an archive, or of the layers of an image."""
+    """The text of the entries of an archive, or of the layers of an image. Without contents for them, symbolic links
+    are left out.
+    """
 
-    def __init__(self, given: Entries, output: Writer, owner: Owner | None, left_out: LeftOut) -> None:
+    def __init__(
+        self, given: Entries, output: Writer, owner: Owner | None, left_out: LeftOut,
+        contents: links.Contents | None = None,
+    ) -> None:
         self.given = given
         self.output = output
         self.owner = owner
         self.left_out = left_out
+        self.contents = contents
 
     def owner_of(self, member: Member | None) -> Owner:
         """Returns the owner of an entry, or of a directory without an entry."""
@@ -59,14 +67,29 @@ class Text:
     def exclusion_of(self, names: Path, member: Member) -> Exclusion | None:
         """Returns why an entry is left out, or None."""
         exclusion = exclusion_of_names(names) or NO_FILES.get(member.type)
-        if exclusion:
+        if exclusion and not (exclusion is LINK and self.target_of(member)):
             return exclusion
-        if not member.isdir() and not member.isreg():
+        if not member.isdir() and not member.isreg() and not exclusion:
             return OTHER
-        if member.isreg() and not names:
+        if not member.isdir() and not names:
             return NO_NAME
         fits = all(0 <= number <= MOST_OF_AN_OWNER for number in self.owner_of(member))
         return None if fits else NO_OWNER
+
+    def target_of(self, member: Member) -> bytes | None:
+        """Returns the target of the symbolic link that an entry is, if links are taken."""
+        if member.type != tarfile.SYMTYPE or not self.contents:
+            return None
+        target = member.linkname.encode("utf-8", "surrogateescape")
+        return target if links.is_target(target) else None
+
+    def hard_links(self) -> list[bytes]:
+        """Returns the paths of the files that have other names."""
+        names: dict[int, list[bytes]] = collections.defaultdict(list)
+        for path, placed in self.given.items():
+            if placed.member.isreg():
+                names[id(placed.member)].append(path_of(path))
+        return sorted(path for paths in names.values() if len(paths) > 1 for path in paths)
 
     def taken(self) -> Entries:
         """Returns the entries that belong in the tree; the others are named."""
@@ -110,8 +133,12 @@ class Text:
         member = placed.member if placed else None
         file = placed if placed and not placed.member.isdir() else None
         mode = member.mode & 0o7777 if member else MODE
+        target = self.target_of(member) if member else None
+        mode = mode if target is None else links.MODE
         self.output.write(line_start(b"f" if file else b"d", mode, self.owner_of(member)))
-        if file:
+        if target is not None and self.contents:
+            self.output.write(self.contents(target).hex().encode() + b" ")
+        elif file:
             self.content(file)
         self.output.write(path_of(names) + b"\n")
 
@@ -119,6 +146,8 @@ class Text:
         """Writes a file's content, and a space after it."""
         none = True
         for piece in placed.content():
+            if none and self.contents:
+                links.check_content(piece, placed.member.name)
             self.output.write(piece.hex().encode())
             none = False
         self.output.write(b"- " if none else b" ")
@@ -133,10 +162,10 @@ class Text:
                 self.left_out.add((*names, name), EARLIER)
 
 
-def write_text(given: Entries, owner: Owner | None, strict: bool) -> None:
+def write_text(given: Entries, owner: Owner | None, strict: bool, has_links: bool) -> None:
     """Writes the text of entries to standard output, once all of it is made."""
     with temporary_file("the text") as stored:
-        text = Text(given, stored, owner, LeftOut())
+        text = Text(given, stored, owner, LeftOut(), links.content_of if has_links else None)
         text.write()
         text.left_out.print_counts()
         if strict and text.left_out.counts:

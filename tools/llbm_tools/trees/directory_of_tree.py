@@ -7,7 +7,8 @@ Out: the directory with all entries of the text and their modes; the root's line
 only if the tool runs as root. With --mtime every entry has that time, else that of its writing. The whole text is
 checked before anything is written; its first faulty line is named on standard error with `line N` at its end, counted
 from 1, and nothing after it is read. The text is processed line by line with an unnamed temporary file (in TMPDIR), so
-the memory needed depends only on the longest line.
+the memory needed depends only on the longest line. With --links a file whose content `tree-of-directory --links` and
+the like write for a symbolic link becomes that link; no path leads through one, and it has no mode of its own.
 
 Exit status: 0 the directory is written; 2 the text, the directory or the command line is refused, and nothing is
 written; 3 a read or a write failed (named on standard error), and what was written remains; 130 interrupted, and what
@@ -23,7 +24,7 @@ from collections.abc import Iterable, Iterator
 from llbm_tools.command_line import Parser
 from llbm_tools.inputs import input_lines
 from llbm_tools.streams import Failed, Refused, exit_status, of_place, temporary_file
-from llbm_tools.trees import times
+from llbm_tools.trees import links, times
 from llbm_tools.trees.trees import Entry, Names, check_into, entry_of, finish
 
 OPENING = os.O_RDONLY | os.O_CLOEXEC | os.O_NOFOLLOW | os.O_DIRECTORY
@@ -60,17 +61,21 @@ def check_empty(descriptor: int, directory: bytes) -> None:
 class Writer:
     """Writes entries below a directory; holds the open directories, from the root down."""
 
-    def __init__(self, descriptor: int, root: Entry, time: int | None) -> None:
+    def __init__(self, descriptor: int, root: Entry, time: int | None, has_links: bool) -> None:
         self.open = [(descriptor, root)]
         self.time = time
+        self.has_links = has_links
 
     def put(self, entry: Entry) -> None:
         """Makes an entry in its parent; directories that are not above it are finished."""
         self.end(len(entry.names))
         parent = self.open[-1][0]
         with at(entry.names):
+            target = links.target_of(binascii.unhexlify(entry.content or b"")) if self.has_links else None
             if entry.content is None:
                 self.put_directory(parent, entry)
+            elif target is not None:
+                links.make(target, parent, entry.names[-1], entry, self.time)
             else:
                 self.put_file(parent, entry)
 
@@ -96,24 +101,24 @@ class Writer:
                 os.close(descriptor)
 
 
-def write(lines: Iterable[bytes], directory: bytes, time: int | None) -> None:
+def write(lines: Iterable[bytes], directory: bytes, time: int | None, has_links: bool) -> None:
     """Writes the directory of valid lines."""
     entries = map(entry_of, lines)
     os.umask(0o077)
     root = open_root(directory)
     check_empty(root, directory)
-    writer = Writer(root, next(entries), time)
+    writer = Writer(root, next(entries), time, has_links)
     for entry in entries:
         writer.put(entry)
     writer.end(0)
 
 
-def write_checked(directory: bytes, time: int | None) -> None:
+def write_checked(directory: bytes, time: int | None, has_links: bool) -> None:
     """Writes the directory of the text on standard input, once all of the text is checked."""
     with temporary_file("the text") as stored:
         check_into(stored, input_lines())
         stored.seek(0)
-        write(stored, directory, time)
+        write(stored, directory, time, has_links)
 
 
 def parse_options() -> argparse.Namespace:
@@ -121,10 +126,11 @@ def parse_options() -> argparse.Namespace:
     parser = Parser(description="Writes the tree text on standard input as a new directory.")
     parser.add_argument("directory", metavar="DIRECTORY", type=os.fsencode, help="the new directory")
     parser.add_argument("--mtime", metavar="SECONDS", type=times.seconds_of, help="the time of every entry, since 1970")
+    parser.add_argument("--links", action="store_true", help="make symbolic links of what tools with --links wrote")
     return parser.parse_args()
 
 
 def main() -> int:
     """Runs the tool, and returns its exit status."""
     options = parse_options()
-    return exit_status(lambda: write_checked(options.directory, options.mtime))
+    return exit_status(lambda: write_checked(options.directory, options.mtime, options.links))

@@ -22,7 +22,7 @@ SIZE = 144
 INODE, LENGTH, TIMES = 1, 6, (11, 12, 13, 14)
 MODE_OF_32_BITS = 6
 NO_LINKS = 0x100
-KIND, FILE = 0o170000, stat.S_IFREG
+KIND, FILES = 0o170000, (stat.S_IFREG, stat.S_IFLNK)
 
 State = tuple[int, ...]
 
@@ -30,7 +30,7 @@ State = tuple[int, ...]
 def state_of(found: os.stat_result) -> State:
     """Returns the state of an entry."""
     mode = found.st_mode
-    if not stat.S_ISREG(mode):
+    if mode & KIND not in FILES:
         return mode, *(0,) * (STATE - 1)
     modified, changed = divmod(found.st_mtime_ns, SECOND), divmod(found.st_ctime_ns, SECOND)
     return mode, found.st_size, *modified, *changed, found.st_ino
@@ -44,9 +44,9 @@ def words_of(data: bytes) -> "array.array[int]":
     states[::STATE] = modes
     for column, field in enumerate((LENGTH, *TIMES, INODE), 1):
         states[column::STATE] = words[field :: SIZE // BYTES]
-    if any(mode & KIND != FILE for mode in set(modes)):
+    if any(mode & KIND not in FILES for mode in set(modes)):
         for place, mode in enumerate(modes):
-            if mode & KIND != FILE:
+            if mode & KIND not in FILES:
                 states[STATE * place + 1 : STATE * (place + 1)] = array.array("q", bytes(BYTES * (STATE - 1)))
     return states
 

@@ -4,6 +4,7 @@ A directory is walked by open descriptors: an entry that is replaced during the 
 can't be in a tree is named on standard error and left out with everything below it.
 """
 
+import collections
 import errno
 import hashlib
 import os
@@ -14,6 +15,7 @@ from typing import BinaryIO, NamedTuple
 from llbm_tools.common import MOST_BYTES, MOST_NAMES, is_name
 from llbm_tools.os_errors import in_words
 from llbm_tools.streams import Failed, of_place
+from llbm_tools.trees import links
 from llbm_tools.trees.attributes import attributes_of, path_in
 from llbm_tools.trees.kept_sources import Directory, Recorder
 from llbm_tools.trees.leftout import ATTRIBUTE, DEVICE, LINK, NO_NAME, PIPE, TOO_DEEP, Exclusion, LeftOut
@@ -86,7 +88,7 @@ class Place(NamedTuple):
 
 class DirectoryText:
     """The text of a directory: with contents if it is one of values, else with the tokens of a table. Where some paths
-    are selected, all others are not looked at.
+    are selected, all others are not looked at. Without contents for them, symbolic links are left out.
     """
 
     def __init__(
@@ -99,6 +101,7 @@ class DirectoryText:
         record: Recorder | None = None,
         left_out: LeftOut | None = None,
         selected: frozenset[bytes] | None = None,
+        contents: links.Contents | None = None,
     ) -> None:
         self.text = text
         self.values = text if isinstance(text, Values) else None
@@ -109,6 +112,8 @@ class DirectoryText:
         self.record = record
         self.left_out = left_out or LeftOut()
         self.selected = selected
+        self.contents = contents
+        self.names: dict[tuple[int, int], list[bytes]] = collections.defaultdict(list)
         self.root = 0
         self.is_whole = True
         self.user = os.geteuid()
@@ -165,6 +170,8 @@ class DirectoryText:
             exclusion = self.exclusion_of(name, above.depth + 1, found)
             if exclusion:
                 self.left_out.add(path[1:].split(b"/"), exclusion)
+            elif stat.S_ISLNK(found.st_mode):
+                self.link(above, path, name, found)
             elif stat.S_ISREG(found.st_mode):
                 attributes = attributes_of(path_in(above.descriptor, name))
                 self.file(above, path, name, found)
@@ -189,10 +196,29 @@ class DirectoryText:
             return TOO_DEEP
         if self.itself and os.path.samestat(found, self.itself) and stat.S_ISREG(found.st_mode):
             return ITSELF
+        if stat.S_ISLNK(found.st_mode) and self.contents:
+            return None
         return NO_FILES.get(stat.S_IFMT(found.st_mode))
+
+    def hard_links(self) -> list[bytes]:
+        """Returns the paths of the files that have other names in the text."""
+        return sorted(path for paths in self.names.values() if len(paths) > 1 for path in paths)
+
+    def link(self, above: Place, path: bytes, name: bytes, found: os.stat_result) -> None:
+        """Writes the line of a symbolic link."""
+        assert self.contents
+        target = os.readlink(name, dir_fd=above.descriptor)
+        content = self.contents(target)
+        if above.kept:
+            above.kept.note(hashlib.sha256(target).digest(), None)
+        owner = self.owner or (found.st_uid, found.st_gid)
+        self.text.write(line_start(b"f", links.MODE, owner) + b"%b %b\n" % (content.hex().encode(), path))
+        self.leave_attributes(path, attributes_of(path_in(above.descriptor, name)))
 
     def file(self, above: Place, path: bytes, name: bytes, found: os.stat_result) -> None:
         """Writes the line of a file."""
+        if found.st_nlink > 1:
+            self.names[found.st_dev, found.st_ino].append(path)
         if self.values or not found.st_size:
             self.value(above, path, name)
             return
@@ -220,6 +246,8 @@ class DirectoryText:
             piece = content.read(PIECE)
             if piece and not self.values:
                 raise OSError(None, "it has a content, but its size is 0; give it with --by-value")
+            if self.contents:
+                links.check_content(piece, os.fsdecode(path))
             self.text.write(self.start(b"f", found) + (b"" if piece else b"-"))
             while piece and self.values:
                 digest.update(piece)

@@ -1,8 +1,8 @@
 """What a build keeps of the directories that it read, and what of it has changed since.
 
-Of each entry it keeps the name and the mode, of each file also the size, the times of change, the inode, the digest of
-its content, and the number of its token. A directory whose times of change are those that were kept, and older than the
-last reading, has the same names; its times mean nothing else.
+Of each entry it keeps the name and the mode, of each file and symbolic link also the size, the times of change, the
+inode, the digest of its content or target, and the number of its token. A directory whose times of change are those
+that were kept, and older than the last reading, has the same names; its times mean nothing else.
 """
 
 import array
@@ -296,6 +296,8 @@ def changed_directories(kept: Kept, root: int, hidden: Hidden, began: int) -> li
 
 def digest_at(directory: int, name: bytes, found: os.stat_result) -> bytes:
     """Returns the digest of a file of an open directory, which has to be in this state before and after."""
+    if stat.S_ISLNK(found.st_mode):
+        return hashlib.sha256(os.readlink(name, dir_fd=directory)).digest()
     digest = hashlib.sha256()
     descriptor = os.open(name, FILE, dir_fd=directory)
     try:
@@ -401,7 +403,7 @@ def changes_of(kept: Kept, place: str, began: int, hidden: Hidden, *, strict: bo
         others = changed_directories(kept, root, hidden, began)
         found = [one for number in others for one in changes_in(kept, root, number, hidden)]
         seen = {one.place for one in found}
-        young = [place for place in kept.young(began) if place not in seen]
+        young = [one for one in kept.young(began) if one not in seen and kept.digest(one) != NO_DIGEST]
         if strict:
             check_attributes(kept, root, began, [*seen, *young])
         return found + list(young_changes(kept, root, [one for one in young if kept.state(one)[1]]))

@@ -121,6 +121,8 @@ class Table:
         self.sizes = array.array("Q")
         self.modified = array.array("q")
         self.changed = array.array("q")
+        self.targets: dict[int, bytes] = {}
+        self.links: dict[bytes, int] = {}
 
     def __len__(self) -> int:
         return len(self.sizes)
@@ -172,6 +174,19 @@ class Table:
         copies.flush()
         return self.add_part(self.number_of_copies, start, copies.tell() - start)
 
+    def add_link(self, target: bytes) -> bytes:
+        """Returns the token of a symbolic link, which nothing reads; links to one target have one."""
+        if target not in self.links:
+            number = self.links[target] = self.add(0, b"", 0, 0, 0, 0)
+            self.targets[number] = target
+        return token(self.links[target])
+
+    def target(self, content: bytes) -> bytes | None:
+        """Returns the target of the symbolic link that a whole content is, or None."""
+        if len(content) != BYTES_OF_A_TOKEN or not content.startswith(MARK):
+            return None
+        return self.targets.get(int.from_bytes(content[1:], "big"))
+
     def close(self) -> None:
         """Closes the directories of the sources."""
         while self.roots:
@@ -181,6 +196,8 @@ class Table:
         """Returns the size of a content."""
         if number >= len(self.sizes):
             raise Refused("a content has a token that is none of a source")
+        if number in self.targets:
+            raise Refused(f"a symbolic link to {os.fsdecode(self.targets[number])} was read as a file")
         return self.sizes[number]
 
     def stamp(self, number: int) -> Stamp:
@@ -258,10 +275,16 @@ class Copier:
         for below in self.below:
             below.close()
 
+    def target(self, text: bytes) -> bytes | None:
+        """Returns the target of the symbolic link that a content is, or None."""
+        return self.table.target(text) if self.has_tokens else None
+
     def size(self, text: bytes) -> int:
-        """Returns the size of a content with tokens."""
+        """Returns the size of a content with tokens; a symbolic link has none."""
         if not self.has_tokens:
             return len(text)
+        if self.target(text) is not None:
+            return 0
         return sum(len(one) if isinstance(one, bytes) else self.table.size(one) for one in pieces_of(text))
 
     def copy(self, text: bytes, output: int) -> None:

@@ -15,7 +15,7 @@ from llbm_tools import common, inputs
 from llbm_tools.images import archives, packing, unpacking
 from llbm_tools.images.archive_entries import Placed, entries_of
 from llbm_tools.streams import Failed, Refused, temporary_file
-from llbm_tools.trees import archive_texts
+from llbm_tools.trees import archive_texts, links
 from llbm_tools.trees.directory_texts import DirectoryText, Text, Values
 from llbm_tools.trees.kept_sources import Recorder
 from llbm_tools.trees.leftout import LeftOut
@@ -30,7 +30,8 @@ TAR_MAGIC, TAR_PLACE = b"ustar", 257
 
 class Reading(NamedTuple):
     """How trees are read: the owner of all entries, or None for their own (a text keeps its own); whether what can't be
-    in a tree is refused; the platform of images; what prints lines; whether `left out: nothing` is not printed.
+    in a tree is refused; the platform of images; what prints lines; whether `left out: nothing` is not printed; what
+    the content of a symbolic link is, or None if links are left out.
     """
 
     owner: Owner | None = ROOT
@@ -38,6 +39,7 @@ class Reading(NamedTuple):
     platform: str | None = None
     say: Callable[[str], None] = common.say
     quiet: bool = False
+    contents: links.Contents | None = None
 
 
 def start_of(place: str) -> bytes:
@@ -64,7 +66,7 @@ class ArchiveText(archive_texts.Text):
     """The text of an archive or of an image: with contents if it is one of values, else with tokens."""
 
     def __init__(self, given: archive_texts.Entries, source: "Source", numbers: dict[int, int]) -> None:
-        super().__init__(given, source.text, source.reading.owner, source.left_out)
+        super().__init__(given, source.text, source.reading.owner, source.left_out, source.reading.contents)
         self.values = source.text if isinstance(source.text, Values) else None
         self.numbers = numbers
         self.table = source.table
@@ -100,6 +102,8 @@ class Source:
         self.kept = kept
         self.reading = reading
         self.left_out = LeftOut(reading.say)
+        # The paths of files that have other names in the source.
+        self.hard_links: list[bytes] = []
 
     def finish(self) -> None:
         """Prints what was left out, which is refused if the reading is strict, and a warning of a text too long."""
@@ -116,8 +120,10 @@ class Source:
         those that are not selected.
         """
         owner = self.reading.owner
-        walked = DirectoryText(self.text, self.table, owner, hidden, None, record, self.left_out, selected)
+        contents = self.reading.contents
+        walked = DirectoryText(self.text, self.table, owner, hidden, None, record, self.left_out, selected, contents)
         walked.walk(place)
+        self.hard_links = walked.hard_links()
         self.finish()
         return walked.is_whole
 
@@ -144,7 +150,9 @@ class Source:
 
     def write(self, entries: archive_texts.Entries, numbers: dict[int, int]) -> None:
         """Writes the text of the entries of an archive or an image."""
-        ArchiveText(entries, self, numbers).write()
+        text = ArchiveText(entries, self, numbers)
+        text.write()
+        self.hard_links = text.hard_links()
         self.finish()
 
     def read_text(self, place: str, shown: str) -> None:
@@ -154,9 +162,13 @@ class Source:
                 if entry.content is None:
                     self.text.write(line)
                     continue
-                self.text.write(line_start(b"f", entry.mode, (entry.user, entry.group)))
                 content = binascii.unhexlify(entry.content)
-                if isinstance(self.text, Values) and content:
+                target = links.target_of(content) if self.reading.contents else None
+                mode = entry.mode if target is None else links.MODE
+                self.text.write(line_start(b"f", mode, (entry.user, entry.group)))
+                if target is not None and self.reading.contents:
+                    self.text.write(self.reading.contents(target).hex().encode())
+                elif isinstance(self.text, Values) and content:
                     self.text.add(content, os.fsdecode(path_of(entry.names)))
                 else:
                     number = self.table.add_copy(iter([content])) if content else None

@@ -8,7 +8,8 @@ header of its own for a name of over 100 bytes. Entries are in path order, the r
 without a leading `/`. Each has the mode, the user and the group of its line, no user names, and the time of --mtime, or
 else of the environment variable SOURCE_DATE_EPOCH, or else 0. The archive is packed if the name of ARCHIVE ends in
 .tar.gz, .tgz, .tar.bz2, .tar.xz or .tar.zst, or as --pack says (gzip, bzip2, xz or zstd, the last by the program `zstd`
-if this Python cannot). ARCHIVE appears complete, at the end.
+if this Python cannot). ARCHIVE appears complete, at the end. With --links a file whose content `tree-of-tar --links`
+and the like write for a symbolic link is an entry of that link.
 
 Exit status: 0 the archive is written; 2 the text or the command line is refused, or ARCHIVE already exists; 3 a read or
 a write failed (named on standard error); 130 interrupted. If it is not 0, no ARCHIVE is made.
@@ -17,6 +18,7 @@ a write failed (named on standard error); 130 interrupted. If it is not 0, no AR
 import argparse
 import binascii
 import io
+import os
 import tarfile
 from typing import BinaryIO
 
@@ -24,23 +26,27 @@ from llbm_tools.command_line import Parser
 from llbm_tools.images import archive_writing, packing
 from llbm_tools.inputs import input_lines
 from llbm_tools.streams import exit_status, temporary_file, write_new_file, write_output
-from llbm_tools.trees import times
+from llbm_tools.trees import links, times
 from llbm_tools.trees.trees import Entry, check_into, entry_of
 
 
-def header_of(entry: Entry, time: int) -> tarfile.TarInfo:
-    """Returns an entry's header without its size."""
+def header_of(entry: Entry, time: int, target: bytes | None = None) -> tarfile.TarInfo:
+    """Returns an entry's header without its size; of a symbolic link with its target."""
     header = tarfile.TarInfo(b"/".join(entry.names).decode("utf-8") or ".")
     header.type = tarfile.DIRTYPE if entry.content is None else tarfile.REGTYPE
     header.mode, header.uid, header.gid, header.mtime = entry.mode, entry.user, entry.group, time
+    if target is not None:
+        header.type, header.mode, header.linkname = tarfile.SYMTYPE, links.MODE, os.fsdecode(target)
     return header
 
 
-def write(text: BinaryIO, output: BinaryIO, time: int) -> None:
+def write(text: BinaryIO, output: BinaryIO, time: int, has_links: bool = False) -> None:
     """Writes the archive of a valid tree text."""
     for entry in map(entry_of, text):
-        header = header_of(entry, time)
         content = binascii.unhexlify(entry.content or b"")
+        target = links.target_of(content) if has_links else None
+        header = header_of(entry, time, target)
+        content = content if target is None else b""
         header.size = len(content)
         archive_writing.add(output, header, io.BytesIO(content))
     output.write(archive_writing.END)
@@ -61,7 +67,7 @@ def write_checked(options: argparse.Namespace) -> None:
     with files[0] as text, files[1] as plain, files[2] as packed:
         check_into(text, input_lines())
         text.seek(0)
-        write(text, plain, time)
+        write(text, plain, time, options.links)
         archive = plain
         if form:
             packing.pack(form, plain, packed)
@@ -77,6 +83,7 @@ def parse_options() -> argparse.Namespace:
     parser = Parser(description="Writes the tree text on standard input as a tar archive.")
     parser.add_argument("archive", metavar="ARCHIVE", nargs="?", help="the new file (default: standard output)")
     parser.add_argument("--mtime", metavar="SECONDS", type=times.seconds_of, help="the time of every entry, since 1970")
+    parser.add_argument("--links", action="store_true", help="write symbolic links of what tools with --links wrote")
     parser.add_argument("--pack", metavar="FORM", choices=packing.NAMES, help=f"one of {', '.join(packing.NAMES)}")
     return parser.parse_args()
 

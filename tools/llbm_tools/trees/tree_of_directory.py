@@ -9,7 +9,8 @@ symbolic links, devices, pipes, sockets, names that are not UTF-8 or contain a c
 names, and the output file itself. Extended attributes are named, and their entries are written without them; only the
 label `security.selinux` is passed over, which a system puts on every file. The last line there counts what was left out
 by cause, or is `left out: nothing`. There is a warning for a text of more than 67,108,864 bytes, which the program
-refuses. With --strict the text is written only once all of the directory is read and nothing was left out.
+refuses. With --strict the text is written only once all of the directory is read and nothing was left out. With --links
+symbolic links are taken, as `tree-of-tar` takes them.
 
 Exit status: 0 the text is written; 1 something could not be read: it is named on standard error, and left out with
 everything below it; with --strict nothing is written; 2 the command line or the directory is refused, or, with
@@ -24,6 +25,7 @@ from typing import BinaryIO
 
 from llbm_tools.command_line import Parser
 from llbm_tools.streams import Failed, Refused, exit_status, temporary_file, write_output
+from llbm_tools.trees import links
 from llbm_tools.trees.directory_texts import DirectoryText, Values
 from llbm_tools.trees.trees import owner_word, warn_of_length
 
@@ -33,6 +35,7 @@ def parse_options() -> argparse.Namespace:
     parser = Parser(description="Writes the tree text of a directory to standard output.")
     parser.add_argument("directory", metavar="DIRECTORY", help="the directory")
     parser.add_argument("--owner", metavar="UID:GID", type=owner_word, help="the owner of every entry")
+    parser.add_argument("--links", action="store_true", help="take symbolic links")
     parser.add_argument("--strict", action="store_true", help="refuse a directory if something is left out")
     return parser.parse_args()
 
@@ -40,7 +43,8 @@ def parse_options() -> argparse.Namespace:
 def walked(options: argparse.Namespace, output: BinaryIO) -> DirectoryText:
     """Writes the text to a file, and returns what was found on the way."""
     values = Values(output, None)
-    walk = DirectoryText(values, owner=options.owner, itself=os.fstat(sys.stdout.fileno()))
+    contents = links.content_of if options.links else None
+    walk = DirectoryText(values, owner=options.owner, itself=os.fstat(sys.stdout.fileno()), contents=contents)
     walk.walk(options.directory)
     try:
         output.flush()

@@ -11,7 +11,7 @@ paths of parents are followed inside the image. Layers may be packed by gzip, bz
 of manifests, configurations and layers are checked, and the digests of unpacked layers.
 
 Out: the text, and on standard error which image is read and what cannot be in a tree, as with `tree-of-tar`; with
---strict that is refused.
+--strict that is refused. With --links symbolic links are taken, as `tree-of-tar` takes them.
 
 Exit status: 0 the text is written; 2 the command line or the image is refused, there is none or there are several, or,
 with --strict, something was left out: standard error says why, and nothing is written; 3 a read or a write failed; 130
@@ -33,7 +33,7 @@ def read_image(options: argparse.Namespace) -> None:
     is_input = is_standard_input(options.image)
     given = unpacking.files_in(standard_input()) if is_input else unpacking.files_at(options.image)
     with given as files, unpacking.tree_of(files, options.name, options.platform) as entries:
-        archive_texts.write_text(entries, options.owner, options.strict)
+        archive_texts.write_text(entries, options.owner, options.strict, options.links)
 
 
 def parse_options() -> argparse.Namespace:
@@ -43,6 +43,7 @@ def parse_options() -> argparse.Namespace:
     parser.add_argument("--name", metavar="NAME", help="the name of the image, where there are several")
     parser.add_argument("--platform", metavar="OS/ARCH", help="the platform of the image, where there are several")
     parser.add_argument("--owner", metavar="UID:GID", type=owner_word, help="the owner of every entry")
+    parser.add_argument("--links", action="store_true", help="take symbolic links")
     parser.add_argument("--strict", action="store_true", help="refuse an image if something is left out")
     return parser.parse_args()
 

@@ -12,7 +12,9 @@ hard links to no entry, devices, pipes, entries of other kinds, paths with `..` 
 contains a control character, paths of more than 128 names, and owners of 2^32 and more. Extended attributes are named,
 and their entries are written without them. An incremental archive of GNU tar lists what is in a directory; what has no
 entry, since an earlier archive has it, is named too. The last line there counts what was left out by cause, or is `left
-out: nothing`. There is a warning for a text of more than 67,108,864 bytes, which the program refuses.
+out: nothing`. There is a warning for a text of more than 67,108,864 bytes, which the program refuses. With --links a
+symbolic link is taken: a file of mode 0777 whose content is the byte 255, `-> ` and the target; a file whose content
+begins so and that is no link is refused.
 
 Exit status: 0 the text is written; 2 the command line or the archive is refused, or the archive does not exist, or,
 with --strict, something was left out: standard error says why, and nothing is written; 3 a read or a write failed; 130
@@ -35,7 +37,7 @@ def write_text(given: BinaryIO, options: argparse.Namespace) -> None:
     """Writes the text of an archive."""
     with temporary_file("the archive") as first, temporary_file("the archive") as second:
         archive = archives.open_archive(packing.open_unpacked(given, first, second))
-        archive_texts.write_text(entries_of(archive), options.owner, options.strict)
+        archive_texts.write_text(entries_of(archive), options.owner, options.strict, options.links)
 
 
 def read_archive(options: argparse.Namespace) -> None:
@@ -52,6 +54,7 @@ def parse_options() -> argparse.Namespace:
     parser = Parser(description="Writes the tree text of a tar archive to standard output.")
     parser.add_argument("archive", metavar="ARCHIVE", nargs="?", help="the archive (default: standard input)")
     parser.add_argument("--owner", metavar="UID:GID", type=owner_word, help="the owner of every entry")
+    parser.add_argument("--links", action="store_true", help="take symbolic links")
     parser.add_argument("--strict", action="store_true", help="refuse an archive if something is left out")
     return parser.parse_args()
 

@@ -122,10 +122,17 @@ class Served(WithBuilds):
         self.assertEqual((headers["Content-Type"], headers["X-Content-Type-Options"]), ("application/wasm", "nosniff"))
         self.assertNotIn("Access-Control-Allow-Origin", headers)
 
+    def test_a_build_has_the_name_of_its_result(self):
+        [build] = builds.builds_at(str(ROOT / "examples" / "from-buildkit" / "dockerfile"))
+        title = "[stage-1 1/1] COPY --from=build --chmod=0444 /src/out/all /all (Dockerfile:6)"
+        self.assertEqual(build.about()["title"], title)
+
     def test_builds_are_served(self):
         about = json.loads(self.below("builds.json"))
         self.assertEqual([one["name"] for one in about], ["ref/1", "ref/2", "plain"])
         self.assertEqual([one["error"] for one in about], ["", "it failed", ""])
+        self.assertEqual([one["title"] for one in about], ["", "", ""])
+        self.assertTrue(all(one["time"] > 0 for one in about))
         at = f"build/{quote('ref/2', safe='')}"
         self.assertEqual(self.below(f"{at}/definition"), b"the definition 2")
         self.assertEqual(self.below(f"{at}/record"), b"0 claim 0 0 -> claimed\n")
