@@ -18,8 +18,8 @@ use Rattle.llb_loader.specs.Graph.{Numbered, LeadsBelow, IsGraph}
 use Rattle.llb_loader.specs.Rules.{kind_mounts, mount_outputs}
 use Rattle.llb_events.specs.declared.fault.VertexFault.{VertexFault}
 use Rattle.llb_events.specs.declared.fault.VertexFault.TheVariants as fault
-use Rattle.llb_model.specs.Program.{Build, MicroStep, Act, Files, Work, Left, Program, base_in, fault_number, with_result, act_among, tried, micro_step, step_on}
-use Rattle.llb_model.specs.Program.{go_on, part, whole, steps_of, workspace_on, outputs_of}
+use Rattle.llb_model.specs.Program.{Build, MicroStep, Act, Files, Work, Left, Program, base_in, fault_number, with_result, act_among, tried, micro_step}
+use Rattle.llb_model.specs.Program.{step_on, go_on, part, whole, steps_of, workspace_on, outputs_of}
 use Rattle.llb_model.specs.Outcome.{Ended, ending, both, inputs_from, outcome_on, outcome}
 use Rattle.llb_model.proofs.Lists.{some_of, Each_of}
 use Rattle.llb_model.proofs.Outcomes.{plain, outcome_is, each_below}
