@@ -312,8 +312,8 @@ func located(def *pb.Definition, d digest.Digest, err error) error {
 }
 
 // WrapRow adds to a refusal of llbm which names a row, as `llbm: fault 88 k ..`, what the client knows of this row, and what a function
-// says of its op.
-func WrapRow(sent *pb.Definition, err error, more func(*pb.Op) string) error {
+// says of the line and the row's op.
+func WrapRow(sent *pb.Definition, err error, more func(line string, op *pb.Op) string) error {
 	var refusal *machine.Refusal
 	if !errors.As(err, &refusal) || refusal.Number < 82 || refusal.Number == 83 || refusal.Number > 90 {
 		return err
@@ -327,7 +327,7 @@ func WrapRow(sent *pb.Definition, err error, more func(*pb.Op) string) error {
 	op := &pb.Op{}
 	if op.Unmarshal(sent.Def[k]) == nil {
 		name := printable.Cut(printable.Of(Describe(sent.Metadata[d], op)), mostOfName)
-		err = status.Error(st.Code(), messages.Text(fmt.Sprintf("%s (%s)%s", st.Message(), name, more(op))))
+		err = status.Error(st.Code(), messages.Text(fmt.Sprintf("%s (%s)%s", st.Message(), name, more(strings.TrimPrefix(st.Message(), "llbm: "), op))))
 	}
 	return located(sent, d, errdefs.WrapVertex(err, d))
 }

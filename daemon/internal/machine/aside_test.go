@@ -89,7 +89,7 @@ func TestAProgramMayBeNamedFromHere(t *testing.T) {
 	if err != nil {
 		t.Fatal(err)
 	}
-	if _, err := program.Show(context.Background(), nil); err == nil || !strings.Contains(err.Error(), "fault ") {
+	if _, err := program.show(context.Background(), nil, 0); err == nil || !strings.Contains(err.Error(), "fault ") {
 		t.Error(err)
 	}
 }

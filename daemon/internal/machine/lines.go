@@ -114,6 +114,24 @@ func parseFault(line string) (number, second int, ok bool) {
 	return n[0], -1, true
 }
 
+// A ScriptFault is why the words of an execution are no script of llbm: the row of its entry, the fault's number, and what it has, which
+// is the word that is no command (71), the number of a call (72) or a place in the text (73).
+type ScriptFault struct {
+	Row, Number int
+	Has         string
+}
+
+// ParseScript reads a line of a fault, `fault 89 ROW Script NUMBER HAS`.
+func ParseScript(line string) (ScriptFault, bool) {
+	n, ok := numbers(line, "fault 89 # Script # ..")
+	if !ok {
+		return ScriptFault{}, false
+	}
+	const before = 5 // words
+	has := strings.SplitN(line, " ", before+1)[before:]
+	return ScriptFault{n[0], n[1], strings.Join(has, "")}, true
+}
+
 // A Place is an output of a vertex, `V.I`.
 type Place struct{ Vertex, Output int }
 
@@ -127,6 +145,7 @@ type Vertex struct {
 type Graph struct {
 	Vertices []Vertex
 	Result   Place
+	events   int // how many there are at most: a claim, the micro-steps and a settle of each vertex
 }
 
 // add reads a line of the look `graph`: `V KIND steps S outputs O inputs LIST` or `result V.I`.
@@ -139,9 +158,12 @@ func (g *Graph) add(line string) error {
 		}
 	}
 	before, list, _ := strings.Cut(line, " inputs ")
-	if n, ok := numbers(before, "# .."); !ok || n[0] != len(g.Vertices) || list == "" {
+	words := strings.SplitN(before, " ", 3) // the second one is the kind
+	n, ok := numbers(words[0]+" "+words[len(words)-1], "# steps # outputs #")
+	if !ok || n[0] != len(g.Vertices) || list == "" {
 		return fmt.Errorf("llbm: %.80q is no line of a graph", line)
 	}
+	g.events += n[1] + 2
 	one := Vertex{}
 	for _, text := range strings.Fields(strings.TrimPrefix(list, "-")) {
 		place, ok := parsePlace(text)

@@ -64,6 +64,22 @@ func TestFaultsAreRead(t *testing.T) {
 	}
 }
 
+func TestFaultsOfScriptsAreRead(t *testing.T) {
+	for line, want := range map[string]ScriptFault{
+		"fault 89 1 Script 71 go build": {1, 71, "go build"}, "fault 89 0 Script 72 3": {0, 72, "3"}, "fault 89 12 Script 71 ": {12, 71, ""},
+		"fault 89 1 Script 71": {1, 71, ""},
+	} {
+		if got, ok := ParseScript(line); !ok || got != want {
+			t.Errorf("%q: %+v %t", line, got, ok)
+		}
+	}
+	for _, line := range []string{"", "fault 89 1 Output", "fault 88 1 Script 71 go", "llbm: fault 89 1 Script 71 go", "fault 89 x Script 71 go"} {
+		if got, ok := ParseScript(line); ok {
+			t.Errorf("%q: %+v", line, got)
+		}
+	}
+}
+
 func TestGraphsAreRead(t *testing.T) {
 	read := func(text string) (*Graph, error) {
 		g := &Graph{}
@@ -75,7 +91,7 @@ func TestGraphsAreRead(t *testing.T) {
 		return g, nil
 	}
 	g, err := read("0 source steps 1 outputs 1 inputs -\n1 exec steps 2 outputs 2 inputs 0.0 0.0\n2 merge steps 1 outputs 1 inputs 1.1\nresult 2.0")
-	want := &Graph{[]Vertex{{}, {Inputs: []Place{{0, 0}, {0, 0}}}, {Inputs: []Place{{1, 1}}}}, Place{2, 0}}
+	want := &Graph{[]Vertex{{}, {Inputs: []Place{{0, 0}, {0, 0}}}, {Inputs: []Place{{1, 1}}}}, Place{2, 0}, 10}
 	if err != nil || !reflect.DeepEqual(g, want) {
 		t.Errorf("%+v %v", g, err)
 	}

@@ -97,6 +97,7 @@ type process struct {
 	timer    *time.Timer
 	program  *Program
 	written  *atomic.Int64
+	answer   int // an exit status that is no error if standard error is empty, or 0
 	once     sync.Once
 	err      error
 }
@@ -184,6 +185,9 @@ func (r *process) end() error {
 	if r.timer != nil {
 		r.timer.Stop()
 	}
+	if exit := (&exec.ExitError{}); errors.As(err, &exit) && exit.ExitCode() == r.answer && r.messages.String() == "" {
+		err = nil
+	}
 	if err != nil || r.ctx.Err() != nil {
 		err = r.program.ended(r.ctx, r.messages.String(), err)
 	}
@@ -228,21 +232,38 @@ func outOfMemory(messages string, err error) bool {
 
 // Plan returns how the contents of a definition's sources have to be given, or the definition's first fault.
 func (p *Program) Plan(ctx context.Context, definition []byte) (*Plan, error) {
-	text, err := p.Show(ctx, definition, "--plan")
+	text, err := p.show(ctx, definition, 0, "--plan")
 	if err != nil {
 		return nil, err
 	}
 	return parsePlan(text)
 }
 
-// Show returns what the program shows of a definition: the text of its graph, or what an option asks for. If the definition is refused,
-// the error is its first fault.
-func (p *Program) Show(ctx context.Context, definition []byte, options ...string) (string, error) {
+// Scripts returns the faults of the executions of a definition whose words are no scripts of llbm, whatever other faults it has.
+func (p *Program) Scripts(ctx context.Context, definition []byte) ([]ScriptFault, error) {
+	const hasFaults = 2
+	text, err := p.show(ctx, definition, hasFaults, "--findings")
+	if err != nil {
+		return nil, err
+	}
+	var found []ScriptFault
+	for _, line := range strings.Split(text, "\n") {
+		if one, ok := ParseScript(line); ok {
+			found = append(found, one)
+		}
+	}
+	return found, nil
+}
+
+// show returns what the program shows of a definition with options. If the definition is refused, with another status than that of an
+// answer, the error is its first fault.
+func (p *Program) show(ctx context.Context, definition []byte, answer int, options ...string) (string, error) {
 	var out bytes.Buffer
 	run, err := p.start(ctx, bytes.NewReader(definition), nil, nil, append([]string{"show"}, options...)...)
 	if err != nil {
 		return "", err
 	}
+	run.answer = answer
 	run.cmd.Stdout = writer(func(data []byte) (int, error) {
 		if err := run.count(len(data)); err != nil {
 			return 0, err

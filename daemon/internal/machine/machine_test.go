@@ -62,7 +62,7 @@ func TestAProgramThatEndsEarlySaysHow(t *testing.T) {
 		"echo oh >&2; kill -15 $$": "llbm: the program ended early (signal: terminated): oh",
 	} {
 		program := &Program{Path: script(t, text), Proved: true}
-		if _, err := program.Show(context.Background(), nil); status.Convert(err).Message() != want {
+		if _, err := program.show(context.Background(), nil, 0); status.Convert(err).Message() != want {
 			t.Errorf("%q: %v", text, err)
 		}
 	}

@@ -7,6 +7,7 @@ import (
 	"errors"
 	"fmt"
 	"io"
+	"math"
 	"os"
 	"strconv"
 	"strings"
@@ -41,6 +42,7 @@ type Run struct {
 	out         io.ReadCloser
 	lines       *bufio.Reader
 	outstanding int
+	left        int  // how many events may still be asked for
 	events      int  // how many were done
 	aside       *int // how many bytes may still be read aside, while that is done
 }
@@ -63,7 +65,7 @@ func (p *Program) Step(ctx context.Context, definition *os.File, sources []Sourc
 		return nil, err
 	}
 	process.written = written
-	r := &Run{process: process}
+	r := &Run{process: process, left: math.MaxInt}
 	if r.in, err = r.cmd.StdinPipe(); err != nil {
 		return nil, err
 	}
@@ -166,14 +168,19 @@ func (r *Run) Graph() (*Graph, error) {
 	if err == nil && (named != len(g.Vertices) || g.Result.Vertex == none) {
 		err = fmt.Errorf("llbm: its graph has %d vertices, %d digests and the result %d", len(g.Vertices), named, g.Result.Vertex)
 	}
+	r.left = g.events + 1 // and the end
 	return g, err
 }
 
 // Next does the next event, and returns its line, or false if there is none. Some events are asked for in advance.
 func (r *Run) Next() (Event, bool, error) {
 	if r.outstanding <= window/2 {
-		r.ask(strings.Repeat("next\n", window-r.outstanding))
-		r.outstanding = window
+		more := min(window-r.outstanding, r.left)
+		if r.outstanding == 0 {
+			more = max(more, 1)
+		}
+		r.ask(strings.Repeat("next\n", more))
+		r.outstanding, r.left = r.outstanding+more, r.left-more
 	}
 	var line string
 	if err := r.reply(func(found []byte) error { line = string(found); return nil }); err != nil {

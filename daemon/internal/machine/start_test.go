@@ -31,14 +31,14 @@ func TestAProgramIsFoundFromTheWorkingFolder(t *testing.T) {
 	if err != nil {
 		t.Fatal(err)
 	}
-	if text, err := program.Show(context.Background(), nil); err != nil || text != "llbm 1.0\n" {
+	if text, err := program.show(context.Background(), nil, 0); err != nil || text != "llbm 1.0\n" {
 		t.Errorf("%q %v", text, err)
 	}
 }
 
 func TestTheLastOutputMayBeReadLate(t *testing.T) {
 	program := &Program{Path: script(t, "(sleep 2; echo late) &"), Proved: true}
-	if text, err := program.Show(context.Background(), nil); err != nil || text != "late\n" {
+	if text, err := program.show(context.Background(), nil, 0); err != nil || text != "late\n" {
 		t.Errorf("%q %v", text, err)
 	}
 }
@@ -46,7 +46,7 @@ func TestTheLastOutputMayBeReadLate(t *testing.T) {
 func TestOutputPastItsBoundIsRefusedAfterItsEnd(t *testing.T) {
 	ctx := context.Background()
 	program := &Program{Path: script(t, "printf '%200d\\n%200d\\n' 1 2"), Proved: true, Limits: Limits{Output: 300}}
-	if text, err := program.Show(ctx, nil); !tooMuch(err) {
+	if text, err := program.show(ctx, nil, 0); !tooMuch(err) {
 		t.Errorf("%q %v", text, err)
 	}
 	run := stepped(t, program)

@@ -93,6 +93,9 @@ func New(ctx context.Context, o Options) (*Daemon, error) {
 	if err != nil {
 		return nil, err
 	}
+	if err := standins.Check(ctx, program, o.StandIns.Rules); err != nil {
+		return nil, fmt.Errorf("-rules: %w", err)
+	}
 	store, err := contents.New(o.Store, o.StoreBytes)
 	if err != nil {
 		return nil, err

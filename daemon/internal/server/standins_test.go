@@ -108,7 +108,7 @@ func TestExecutionsThatAreNoScriptsCanDoNothing(t *testing.T) {
 func TestARefusedExecutionSaysTheWordAndTheTwoOptions(t *testing.T) {
 	d := started(t, nil)
 	for script, want := range map[string]string{
-		"go build ./...":  `llbm: fault 89 1 Script 71 go (RUN): "go" is no command of llbm, which has true false mkdir rm write`,
+		"go build ./...":  `llbm: fault 89 1 Script 71 go (RUN): "go" is no command of llbm, which has those of docs/FORMATS.md`,
 		"chmod +x /a":     "llbm: fault 89 1 Script 72 0 (RUN): chmod of llbm does not take these words",
 		"mkdir /a; rm /b": `llbm: fault 89 1 Script 73 8 (RUN): a script of llbm does not have ';', which its byte 8 is`,
 	} {

@@ -103,7 +103,7 @@ func (r *reading) planned() (*machine.Plan, error) {
 	}
 	defer leave()
 	plan, err := r.solver.Program.Plan(r.ctx, entries)
-	return plan, graph.WrapRow(r.sent, err, r.solver.said)
+	return plan, graph.WrapRow(r.sent, err, said)
 }
 
 // wait waits until llbm has ended, if it was asked, and returns its refusal.
@@ -128,7 +128,7 @@ func (r *reading) refused(def *pb.Definition, err error) error {
 	if len(def.Def) != len(r.sent.Def) {
 		return err
 	}
-	return graph.WrapRow(r.sent, err, r.solver.said)
+	return graph.WrapRow(r.sent, err, said)
 }
 
 // ended returns why the work on a definition ended: by a refusal of llbm, if it refuses the definition, or else by the error.
@@ -150,7 +150,7 @@ var beyond = map[string]string{
 }
 
 // said returns what is wrong with an op that llbm refuses, where its line does not say it, and on a second line what can be done.
-func (s *Solver) said(op *pb.Op) string {
+func said(line string, op *pb.Op) string {
 	for _, action := range op.GetFile().GetActions() {
 		if advice := beyond[rules.Beyond(action)]; advice != "" {
 			return "\n" + advice
@@ -159,10 +159,8 @@ func (s *Solver) said(op *pb.Op) string {
 	if source := op.GetSource(); source != nil && !sources.IsLocal(source) {
 		return "\n" + sources.Instead(source.Identifier)
 	}
-	if args := op.GetExec().GetMeta().GetArgs(); op.GetExec() != nil {
-		if fault := standins.FaultOf(args); fault != nil {
-			return ": " + printable.Of(fault.Words(args)) + "\n" + standins.Advice
-		}
+	if fault, ok := machine.ParseScript(line); ok && op.GetExec() != nil {
+		return ": " + printable.Of(standins.Words(fault, op.GetExec())) + "\n" + standins.Advice
 	}
 	return ""
 }

@@ -35,7 +35,14 @@ func (s *Solver) standIn(ctx context.Context, b *builds.Build, def, sent *pb.Def
 	if len(rules) == 0 && !skips {
 		return def, nil, nil
 	}
-	made := map[int]standIn{}
+	isSkipped := map[digest.Digest]bool{}
+	if skips {
+		var err error
+		if isSkipped, err = s.noScripts(ctx, def); err != nil {
+			return nil, nil, err
+		}
+	}
+	before, made := def, map[int]standIn{}
 	def, err := graph.Rewrite(def, func(row int, op *pb.Op) (bool, error) {
 		exec := op.GetExec()
 		if exec.GetMeta() == nil {
@@ -47,7 +54,7 @@ func (s *Solver) standIn(ctx context.Context, b *builds.Build, def, sent *pb.Def
 		switch {
 		case one.rule != nil && len(one.rule.Words) > 0:
 			exec.Meta.Args = slices.Clone(one.rule.Words)
-		case one.rule == nil && skips && standins.FaultOf(exec.Meta.Args) != nil:
+		case one.rule == nil && isSkipped[digest.FromBytes(before.Def[row])]:
 			exec.Meta.Args = []string{"true"}
 		default:
 			return false, nil
@@ -57,6 +64,27 @@ func (s *Solver) standIn(ctx context.Context, b *builds.Build, def, sent *pb.Def
 		return true, nil
 	})
 	return def, made, err
+}
+
+// noScripts returns the entries of executions whose words are no scripts, by their digests.
+func (s *Solver) noScripts(ctx context.Context, def *pb.Definition) (map[digest.Digest]bool, error) {
+	entries, err := graph.Entries(def)
+	if err != nil {
+		return nil, err
+	}
+	leave, err := s.slot(ctx)
+	if err != nil {
+		return nil, err
+	}
+	defer leave()
+	faults, err := s.Program.Scripts(ctx, entries)
+	found := map[digest.Digest]bool{}
+	for _, fault := range faults {
+		if fault.Row < len(def.Def) {
+			found[digest.FromBytes(def.Def[fault.Row])] = true
+		}
+	}
+	return found, err
 }
 
 // bare leaves out of an execution what a stand-in has no use for and llbm has not, and returns what that is.
@@ -146,6 +174,20 @@ func (s *Solver) Ask(ctx context.Context, b *builds.Build, options map[string]st
 	return nil
 }
 
+// readRules reads rules of a client, whose new words have to be scripts.
+func (s *Solver) readRules(ctx context.Context, data []byte) ([]standins.Rule, error) {
+	rules, err := standins.Read(data)
+	if err != nil {
+		return nil, err
+	}
+	leave, err := s.slot(ctx)
+	if err != nil {
+		return nil, err
+	}
+	defer leave()
+	return rules, standins.Check(ctx, s.Program, rules)
+}
+
 // clientRules returns the rules that a client sends: of the files *.rules of a local source, in the order of their names.
 func (s *Solver) clientRules(ctx context.Context, b *builds.Build, name string) ([]standins.Rule, error) {
 	source := &pb.SourceOp{Identifier: sources.Scheme + name, Attrs: map[string]string{pb.AttrIncludePatterns: `["*.rules"]`}}
@@ -176,7 +218,7 @@ func (s *Solver) clientRules(ctx context.Context, b *builds.Build, name string) 
 		if _, err := entry.Content.ReadAt(data, 0); err != nil && len(data) > 0 {
 			return nil, err
 		}
-		read, err := standins.Read(data)
+		read, err := s.readRules(ctx, data)
 		if err != nil {
 			return nil, status.Errorf(codes.InvalidArgument, "the rules of local source %s: %s: %v", name, printable.Of(entry.Path), err)
 		}

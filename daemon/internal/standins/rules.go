@@ -32,7 +32,7 @@ type Set struct {
 	Skips bool
 }
 
-// Read reads the rules of a file.
+// Read reads the rules of a file. Whether their new words are scripts, Check finds out.
 func Read(data []byte) ([]Rule, error) {
 	if len(data) > MostBytes {
 		return nil, fmt.Errorf("more than %d bytes", MostBytes)
@@ -76,11 +76,6 @@ func ruleOf(line string) (Rule, error) {
 	rule := Rule{kind: kind, wanted: rest[:place], Words: rest[place+1:]}
 	if len(rule.wanted) != 1 && kind != "words" {
 		return Rule{}, fmt.Errorf("exactly one word goes between %s and %s", kind, arrow)
-	}
-	if len(rule.Words) > 0 {
-		if fault := FaultOf(rule.Words); fault != nil {
-			return Rule{}, fmt.Errorf("the new words are not a script, fault %s", fault)
-		}
 	}
 	return rule, nil
 }

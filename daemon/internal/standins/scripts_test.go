@@ -9,8 +9,6 @@ import (
 	"testing"
 
 	"github.com/moby/buildkit/solver/pb"
-	digest "github.com/opencontainers/go-digest"
-	"llbm/daemon/internal/graph"
 	"llbm/daemon/internal/machine"
 )
 
@@ -31,48 +29,41 @@ func program(t *testing.T) *machine.Program {
 	return found
 }
 
-// An execution has a fault here where llbm shows one, and the same.
-func TestScriptsAreThoseOfLlbm(t *testing.T) {
+func TestNewWordsAreScriptsOfLlbm(t *testing.T) {
 	llbm := program(t)
-	shell := func(text string) []string { return []string{"/bin/sh", "-c", text} }
-	for _, args := range [][]string{
-		{"true"}, {"true", "x"}, {"make", "all"}, {""}, {"/bin/sh", "x"}, {"mkdir", "-p", "/a b"}, {"mkdir", "a", "b"}, {"concat", "a"}, {"concat", "a", "b"},
-		{"chmod", "0755", "a"}, {"chmod", "888", "a"}, {"test", "-e", "a"}, {"test", "-x", "a"}, {"write", "a", "ü\n"}, {"rm"}, {"sha256", "a", "b"},
-		shell(""), shell(" "), shell("true"), shell(" true  && false "), shell("true;"), shell("true ; "), shell("&& true"), shell("true && && true"),
-		shell("write /a 'b'"), shell("write /a ü"), shell("true\n"), shell("true || go build"), shell("rm a b"), shell("true\tx"), shell("a\x00"), shell("ü ; rm"),
-	} {
-		want := ""
-		if fault := FaultOf(args); fault != nil {
-			want = "fault 89 0 Script " + fault.String()
+	for text, want := range read(t).Refused {
+		if rules, err := Read([]byte(text)); err == nil {
+			if err := Check(t.Context(), llbm, rules); err == nil || err.Error() != want {
+				t.Errorf("%q: %v, not %s", text, err, want)
+			}
 		}
-		_, err := llbm.Show(context.Background(), definition(t, args))
-		got := ""
-		if err != nil {
-			_, got, _ = strings.Cut(err.Error(), "llbm: ")
-		}
-		if got != want {
-			t.Errorf("%q: %q, and by llbm %q", args, want, got)
-		}
+	}
+	rules, err := Read([]byte("words a =>\nwords b => true\n\nwords b => true\nwords c => go build\nwords d => mkdir"))
+	if err != nil {
+		t.Fatal(err)
+	}
+	if err := Check(t.Context(), llbm, rules[:3]); err != nil {
+		t.Error(err)
+	}
+	if err := Check(t.Context(), llbm, rules); err == nil || err.Error() != "the new words are not a script, fault 71 go: line 5" {
+		t.Error(err)
+	}
+	if err := Check(t.Context(), llbm, rules[:1]); err != nil {
+		t.Error(err)
 	}
 }
 
-// definition returns a definition of one execution.
-func definition(t *testing.T, args []string) []byte {
-	t.Helper()
-	exec := &pb.ExecOp{Meta: &pb.Meta{Args: args, Cwd: "/"}, Mounts: []*pb.Mount{{Input: pb.Empty, Dest: "/"}}}
-	entry, err := (&pb.Op{Op: &pb.Op_Exec{Exec: exec}}).Marshal()
-	if err != nil {
-		t.Fatal(err)
+func TestAFaultOfAScriptIsSaidInWords(t *testing.T) {
+	exec := &pb.ExecOp{Meta: &pb.Meta{Args: []string{"/bin/sh", "-c", "true && mkdir ; true;"}}}
+	for has, want := range map[machine.ScriptFault]string{
+		{Number: 71, Has: "a b"}: `"a b" is no command of llbm`, {Number: 72, Has: "1"}: "mkdir of llbm does not take these words",
+		{Number: 73, Has: "20"}: "a script of llbm does not have ';', which its byte 20 is",
+		{Number: 73, Has: "21"}: "a script of llbm does not end where a command is missing", {Number: 72, Has: "x"}: "this is no script of llbm",
+	} {
+		if got := Words(has, exec); !strings.HasPrefix(got, want) {
+			t.Errorf("%+v: %s", has, got)
+		}
 	}
-	last, err := (&pb.Op{Inputs: []*pb.Input{{Digest: digest.FromBytes(entry)}}}).Marshal()
-	if err != nil {
-		t.Fatal(err)
-	}
-	data, err := graph.Entries(&pb.Definition{Def: [][]byte{entry, last}})
-	if err != nil {
-		t.Fatal(err)
-	}
-	return data
 }
 
 func TestCallsAreWordsBetweenSeparators(t *testing.T) {
