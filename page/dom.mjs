@@ -23,7 +23,11 @@ export function draw(tag, attributes = {}, ...children) {
   return filled(document.createElementNS(SVG, tag), attributes, children);
 }
 
-/** Returns the element of the page with an id. */
+/**
+ * Returns the element of the page with an id.
+ *
+ * @returns {any}
+ */
 export function by(id) {
   return document.getElementById(id);
 }

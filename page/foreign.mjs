@@ -65,11 +65,9 @@ export function foreignOf(definition) {
 
 /** Returns the statuses of the vertices of such a graph: refused, taken, or not needed for the result. */
 export function foreignStatuses({ graph, found, reached }) {
-  return {
-    of(vertex) {
-      const { row } = graph.vertices[vertex];
-      const word = found.has(row) ? 'refused' : reached.has(row) ? 'taken' : 'unneeded';
-      return { word, rest: '', worker: null };
-    },
+  const wordOf = (vertex) => {
+    const { row } = graph.vertices[vertex];
+    return found.has(row) ? 'refused' : reached.has(row) ? 'taken' : 'unneeded';
   };
+  return { wordOf, of: (vertex) => ({ word: wordOf(vertex), rest: '', worker: null }) };
 }

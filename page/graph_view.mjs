@@ -1,13 +1,26 @@
-/** The view *Graph*: vertices as boxes in layers. Only boxes and edges inside the window are in the page. */
+/**
+ * The view *Graph*: vertices as boxes in layers. Only boxes and edges inside the window are in the page; from afar they
+ * are painted, and none but the selected box is in the page.
+ */
 
 import { by, draw, make, oncePerFrame } from './dom.mjs';
-import { BOX, boxesIn, edgeWay, layout, neighbor } from './layout.mjs';
+import { colorsOf, paintBoxes, paintEdges, paintFound, paintLabels, viewOf } from './graph_paint.mjs';
+import { GraphWindow } from './graph_window.mjs';
+import { BOX, boxesIn, edgeWay, layout, neighbor, vertexAt } from './layout.mjs';
+import { Overview } from './overview.mjs';
+import { VertexSearch } from './vertex_search.mjs';
 
 const AROUND = 120;
 // Edges in one gap are so many pixels apart, on so many tracks.
 const SHIFT = 3;
 const SHIFTS = 5;
 const MOST_OF_A_LINE = 60;
+// Below this scale boxes are painted.
+const FAR = 0.45;
+// The labels of larger graphs are not measured.
+const MOST_MEASURED = 5000;
+// About as wide are a letter of a label, and what is beside it.
+const LETTER = { width: 6.8, beside: 40 };
 const MARKS = { none: '○', claim: '◐', settle: '●' };
 const BREAK_WORDS = { none: 'no breakpoint', claim: 'stops when it is claimed', settle: 'stops when it is settled' };
 const NEXT_BREAK = { none: 'claim', claim: 'settle', settle: 'none' };
@@ -20,18 +33,22 @@ function short(text) {
 export class GraphView {
   constructor(onSelect, onBreak) {
     this.frame = by('graph');
-    this.space = by('graph-space');
+    this.space = by('graph-layer');
     this.edges = by('graph-edges');
+    this.far = by('graph-far');
     this.onSelect = onSelect;
     this.onBreak = onBreak;
     this.shown = new Map();
+    this.found = new Set();
     this.refresh = oncePerFrame(() => {
       const start = performance.now();
       this.render();
       this.frame.dataset.drawing = (performance.now() - start).toFixed(2);
     });
-    this.frame.addEventListener('scroll', this.refresh, { passive: true });
-    new ResizeObserver(this.refresh).observe(this.frame);
+    this.window = new GraphWindow(this.refresh, (place) => this.press(place));
+    this.overview = new Overview((place) => this.window.center(place));
+    this.search = new VertexSearch((vertex) => this.go(vertex), (found) => this.mark(found));
+    matchMedia('(prefers-color-scheme: dark)').addEventListener('change', () => this.recolor());
   }
 
   /** Shows another graph. `entries` has what the definition says of each vertex, `notes` what BuildKit does. */
@@ -39,7 +56,9 @@ export class GraphView {
     this.graph = graph;
     this.entries = entries;
     this.notes = notes;
-    this.placed = layout(graph);
+    const isMeasured = graph.vertices.length <= MOST_MEASURED;
+    const room = this.frame.clientWidth;
+    this.placed = layout(graph, room, isMeasured ? (vertex) => this.wanted(vertex) : undefined);
     this.selected = null;
     this.statuses = null;
     this.breaks = { claim: new Set(), settle: new Set() };
@@ -50,19 +69,63 @@ export class GraphView {
     this.near = null;
     this.edgeWindow = '';
     this.edges.replaceChildren();
-    this.space.style.width = `${this.placed.width}px`;
-    this.space.style.height = `${this.placed.height}px`;
     this.edges.setAttribute('width', this.placed.width);
     this.edges.setAttribute('height', this.placed.height);
-    this.frame.scrollTo(Math.max(0, (this.placed.width - this.frame.clientWidth) / 2), 0);
+    this.colors = colorsOf(document.documentElement);
+    this.window.open(this.placed);
+    this.overview.open(this.placed);
+    this.search.open(graph, entries, (vertex) => this.wordOf(vertex));
     this.render();
+  }
+
+  // How wide the box of a vertex has to be so that its label is not cut.
+  wanted(vertex) {
+    return LETTER.beside + LETTER.width * Math.max(short(this.saidOf(vertex)).length, this.labelOf(vertex).length + 12);
+  }
+
+  saidOf(vertex) {
+    const entry = this.entries[vertex];
+    return entry?.name || entry?.line || '';
+  }
+
+  wordOf(vertex) {
+    return this.statuses?.wordOf(vertex) ?? 'waiting';
+  }
+
+  recolor() {
+    if (!this.graph) return;
+    this.colors = colorsOf(document.documentElement);
+    this.paintOverview();
+    this.refresh();
+  }
+
+  // Selects the vertex at a place that was pressed beside the boxes of the page: one that is painted.
+  press(place) {
+    const vertex = this.window.scale < FAR ? vertexAt(this.placed, place) : null;
+    if (vertex !== null) this.onSelect(vertex);
+  }
+
+  // Goes to a vertex, so near that it can be read.
+  go(vertex) {
+    if (this.window.scale < FAR) this.window.setScale(1);
+    this.onSelect(vertex);
+  }
+
+  mark(found) {
+    this.found = found;
+    this.refresh();
   }
 
   /** Shows the statuses of the vertices, and breakpoints. */
   update(statuses, breaks) {
     this.statuses = statuses;
     this.breaks = breaks;
+    this.paintOverview();
     this.refresh();
+  }
+
+  paintOverview() {
+    this.overview.later(this.colors, (vertex) => this.wordOf(vertex), () => this.window.seen());
   }
 
   /** Selects a vertex, and scrolls to it if it is not seen. */
@@ -75,20 +138,10 @@ export class GraphView {
   }
 
   reveal(vertex) {
-    const { x, y } = this.placed.boxes[vertex];
-    const { scrollLeft, scrollTop, clientWidth, clientHeight } = this.frame;
-    const isIn = x >= scrollLeft && x + BOX.width <= scrollLeft + clientWidth
-      && y >= scrollTop && y + BOX.height <= scrollTop + clientHeight;
-    if (isIn) return;
-    this.frame.scrollTo(x + BOX.width / 2 - clientWidth / 2, y + BOX.height / 2 - clientHeight / 2);
-  }
-
-  window() {
-    const { scrollLeft, scrollTop, clientWidth, clientHeight } = this.frame;
-    return {
-      left: scrollLeft - AROUND, right: scrollLeft + clientWidth + AROUND,
-      top: scrollTop - AROUND, bottom: scrollTop + clientHeight + AROUND,
-    };
+    const { x, y, width } = this.placed.boxes[vertex];
+    const { left, top, right, bottom } = this.window.seen();
+    if (x >= left && x + width <= right && y >= top && y + BOX.height <= bottom) return;
+    this.window.center({ x: x + width / 2, y: y + BOX.height / 2 });
   }
 
   // The edges with the window that each of them lies in.
@@ -105,8 +158,9 @@ export class GraphView {
   /** Draws what is inside the window. */
   render() {
     if (!this.graph) return;
-    const window = this.window();
-    const seen = new Set(boxesIn(this.placed, window));
+    const window = this.window.seen(AROUND);
+    const isFar = this.window.scale < FAR;
+    const seen = new Set(isFar ? [] : boxesIn(this.placed, window));
     if (this.selected !== null) seen.add(this.selected);
     for (const [vertex, box] of this.shown) {
       if (!seen.has(vertex)) {
@@ -121,7 +175,29 @@ export class GraphView {
       }
       this.dress(vertex);
     }
-    this.renderEdges(window);
+    this.far.hidden = !isFar;
+    if (isFar) this.paintFar();
+    else this.renderEdges(window);
+    this.edges.style.display = isFar ? 'none' : '';
+    this.overview.mark(this.window.seen(), this.colors);
+  }
+
+  // Paints what is seen from afar.
+  paintFar() {
+    const { clientWidth: width, clientHeight: height } = this.frame;
+    const ratio = devicePixelRatio;
+    Object.assign(this.far, { width: width * ratio, height: height * ratio });
+    Object.assign(this.far.style, { width: `${width}px`, height: `${height}px` });
+    const context = this.far.getContext('2d');
+    context.scale(ratio, ratio);
+    const view = viewOf(this.window.seen(), { width, height }, this.window.scale);
+    const isNear = ({ from, to }) => from === this.selected || to === this.selected;
+    const paintNear = paintEdges(context, this.spans, view, this.colors, isNear);
+    paintBoxes(context, this.placed, view, this.colors, (vertex) => this.wordOf(vertex));
+    paintLabels(context, this.placed, view, this.colors, (vertex) => this.labelOf(vertex));
+    paintNear();
+    const marked = this.selected === null ? this.found : new Set([...this.found, this.selected]);
+    paintFound(context, this.placed, view, this.colors, marked);
   }
 
   // Edges stay in the page while any part of the window that they lie in is seen. A step seldom moves the window.
@@ -166,9 +242,8 @@ export class GraphView {
   }
 
   box(vertex) {
-    const { x, y } = this.placed.boxes[vertex];
-    const entry = this.entries[vertex];
-    const said = entry?.name || entry?.line || '';
+    const { x, y, width } = this.placed.boxes[vertex];
+    const said = this.saidOf(vertex);
     const main = make(
       'button', { class: 'vertex', type: 'button', title: said, onclick: () => this.onSelect(vertex) },
       make('span', { class: 'vertex-name', text: this.labelOf(vertex) }), make('span', { class: 'vertex-status' }),
@@ -177,7 +252,8 @@ export class GraphView {
     main.addEventListener('keydown', (event) => this.key(event, vertex));
     // The graph has one stop for the Tab key, the selected vertex: the arrows go on, and `.` turns the breakpoint.
     const mark = make('button', { class: 'mark', type: 'button', tabindex: -1, onclick: () => this.turn(vertex) });
-    return make('div', { class: 'box', style: `left:${x}px;top:${y}px`, 'data-vertex': vertex }, main, mark);
+    const style = `left:${x}px;top:${y}px;width:${width}px`;
+    return make('div', { class: 'box', style, 'data-vertex': vertex }, main, mark);
   }
 
   // A vertex by its number, or a row of a definition that is refused by its own.
@@ -203,10 +279,12 @@ export class GraphView {
     const isResult = this.graph.result.startsWith(`${vertex}.`);
     const at = this.breakOf(vertex);
     const notes = this.notes?.of(vertex).length ?? 0;
-    const key = `${status.word} ${status.rest} ${at} ${this.selected === vertex} ${notes}`;
+    const isFound = this.found.has(vertex);
+    const key = `${status.word} ${status.rest} ${at} ${this.selected === vertex} ${notes} ${isFound}`;
     if (box.dataset.key === key) return;
     box.dataset.key = key;
-    box.className = `box ${status.word}${this.selected === vertex ? ' selected' : ''}${isResult ? ' result' : ''}`;
+    const marks = [['selected', this.selected === vertex], ['result', isResult], ['found', isFound]];
+    box.className = ['box', status.word, ...marks.filter(([, is]) => is).map(([name]) => name)].join(' ');
     const [main, mark] = box.children;
     box.querySelector('.vertex-name').textContent = `${this.labelOf(vertex)}${notes ? ' ≠' : ''}`;
     box.querySelector('.vertex-status').textContent = status.worker === null ? status.word : `worker ${status.worker}`;

@@ -50,7 +50,8 @@ export class KeptState {
 
 /** Returns what the storage of this tab has, if the page was reloaded; null else, or where it can't be read. */
 export async function reloaded() {
-  if (performance.getEntriesByType('navigation')[0]?.type !== 'reload') return null;
+  const [load] = /** @type {PerformanceNavigationTiming[]} */ (performance.getEntriesByType('navigation'));
+  if (load?.type !== 'reload') return null;
   try {
     return await givenBy(sessionStorage.getItem(NAME) ?? '');
   } catch {

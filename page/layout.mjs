@@ -1,9 +1,14 @@
-/** Where the boxes of a graph are: in layers, each vertex below all that it needs; a wide layer has several rows. */
+/**
+ * Where the boxes of a graph are: in layers, each vertex below all that it needs; a wide layer has several rows. The
+ * boxes of one row are as wide as its labels, if there is room.
+ */
 
-export const BOX = { width: 168, height: 54, across: 24, down: 46, margin: 24 };
+export const BOX = { width: 168, widest: 460, height: 54, across: 24, down: 46, margin: 24 };
 
 const SWEEPS = 6;
 const MOST_IN_ROW = 24;
+// Widths of boxes are multiples of this, so that the rows of a graph look alike.
+const PART = 36;
 // The most rows that an edge goes through one by one.
 const MOST_ROWS = 12;
 
@@ -43,42 +48,56 @@ function ordered(layers, above, below) {
   }
 }
 
-// The rows of layers, none of which has too many boxes.
-function rowsOf(layers) {
+// The rows of layers, none of which has too many boxes: a large graph is about as wide as it is high.
+function rowsOf(layers, vertices) {
+  const square = Math.round(Math.sqrt((vertices * (BOX.height + BOX.down)) / (BOX.width + BOX.across)));
+  const most = Math.max(MOST_IN_ROW, square);
   return layers.flatMap((layer) => {
-    const count = Math.ceil(layer.length / MOST_IN_ROW);
+    const count = Math.ceil(layer.length / most);
     const length = Math.ceil(layer.length / count);
     return Array.from({ length: count }, (_, i) => layer.slice(i * length, (i + 1) * length));
   });
 }
 
-/** Returns the rows of a graph, each box's place by vertex, and the size of the whole. */
-export function layout(graph) {
+// How wide the boxes of a row are: as its labels want, if the row then is not wider than there is room.
+function widthIn(vertices, room, wanted) {
+  const most = Math.min(BOX.widest, Math.floor((room + BOX.across) / vertices.length) - BOX.across);
+  if (most <= BOX.width) return BOX.width;
+  const need = vertices.reduce((width, vertex) => Math.max(width, wanted(vertex)), BOX.width);
+  return Math.min(most, BOX.width + Math.ceil((need - BOX.width) / PART) * PART);
+}
+
+/**
+ * Returns the rows of a graph, how wide the boxes of each are, each box's place by vertex, and the size of the whole.
+ * `room` is how wide the window is, `wanted` returns how wide the label of a vertex is.
+ */
+export function layout(graph, room = 0, wanted = () => BOX.width) {
   const layers = layersOf(graph.vertices);
   const above = graph.vertices.map(({ inputs }) => inputs.map(({ vertex }) => vertex));
   const below = usersOf(graph.vertices);
   ordered(layers, above, below);
-  const rows = rowsOf(layers);
-  const widest = rows.reduce((most, vertices) => Math.max(most, vertices.length), 1);
-  const step = BOX.width + BOX.across;
+  const rows = rowsOf(layers, graph.vertices.length);
+  const longest = rows.reduce((most, vertices) => Math.max(most, vertices.length), 1);
+  const most = Math.max(longest * (BOX.width + BOX.across) - BOX.across, room - 2 * BOX.margin);
+  const widths = rows.map((vertices) => widthIn(vertices, most, wanted));
+  const sizes = rows.map((vertices, row) => vertices.length * (widths[row] + BOX.across) - BOX.across);
+  const width = sizes.reduce((one, other) => Math.max(one, other), 0);
   const boxes = [];
   rows.forEach((vertices, row) => {
-    const indent = ((widest - vertices.length) * step) / 2;
+    const left = BOX.margin + (width - sizes[row]) / 2;
+    const y = BOX.margin + row * (BOX.height + BOX.down);
     vertices.forEach((vertex, column) => {
-      boxes[vertex] = {
-        x: Math.round(BOX.margin + indent + column * step), y: BOX.margin + row * (BOX.height + BOX.down), row, column,
-      };
+      const x = Math.round(left + column * (widths[row] + BOX.across));
+      boxes[vertex] = { x, y, width: widths[row], row, column };
     });
   });
-  return {
-    rows, boxes, below, width: 2 * BOX.margin + widest * step - BOX.across,
-    height: 2 * BOX.margin + rows.length * (BOX.height + BOX.down) - BOX.down,
-  };
+  const height = 2 * BOX.margin + rows.length * (BOX.height + BOX.down) - BOX.down;
+  return { rows, widths, boxes, below, width: width + 2 * BOX.margin, height };
 }
 
 // The middle of the gap of a row that is nearest to a place: between two boxes, or beside the first or the last one.
 function gapNear(placed, row, x) {
-  const step = BOX.width + BOX.across;
+  const step = placed.widths[row] + BOX.across;
   const vertices = placed.rows[row];
   const first = placed.boxes[vertices[0]].x - BOX.across / 2;
   return first + Math.min(vertices.length, Math.max(0, Math.round((x - first) / step))) * step;
@@ -96,8 +115,8 @@ function sideNear(placed, x) {
  */
 export function edgeWay(placed, from, to, shift = 0) {
   const [a, b] = [placed.boxes[from], placed.boxes[to]];
-  const start = { x: a.x + BOX.width / 2, y: a.y + BOX.height };
-  const end = { x: b.x + BOX.width / 2, y: b.y };
+  const start = { x: a.x + a.width / 2, y: a.y + BOX.height };
+  const end = { x: b.x + b.width / 2, y: b.y };
   const count = b.row - a.row;
   const topOf = (row) => BOX.margin + row * (BOX.height + BOX.down);
   const found = [start];
@@ -114,19 +133,41 @@ export function edgeWay(placed, from, to, shift = 0) {
   return [...found, end];
 }
 
+/** Returns the rows that a window of the layout touches: the first, and the last. */
+export function rowsIn(placed, window) {
+  const step = BOX.height + BOX.down;
+  return [
+    Math.max(0, Math.floor((window.top - BOX.margin - BOX.height) / step)),
+    Math.min(placed.rows.length - 1, Math.ceil((window.bottom - BOX.margin) / step)),
+  ];
+}
+
+/** Returns the vertices of a row whose boxes touch a window of the layout. */
+export function boxesOfRow(placed, row, window) {
+  const vertices = placed.rows[row];
+  const step = placed.widths[row] + BOX.across;
+  const start = placed.boxes[vertices[0]].x;
+  const first = Math.max(0, Math.floor((window.left - start) / step));
+  const last = Math.floor((window.right - start) / step);
+  return vertices.slice(first, Math.max(first, last + 1));
+}
+
 /** Returns the vertices whose boxes touch a window of the layout, found by rows. */
 export function boxesIn(placed, window) {
-  const step = BOX.height + BOX.down;
-  const first = Math.max(0, Math.floor((window.top - BOX.margin - BOX.height) / step));
-  const last = Math.min(placed.rows.length - 1, Math.ceil((window.bottom - BOX.margin) / step));
+  const [first, last] = rowsIn(placed, window);
   const found = [];
-  for (let row = first; row <= last; row += 1) {
-    for (const vertex of placed.rows[row]) {
-      const { x } = placed.boxes[vertex];
-      if (x + BOX.width >= window.left && x <= window.right) found.push(vertex);
-    }
-  }
+  for (let row = first; row <= last; row += 1) found.push(...boxesOfRow(placed, row, window));
   return found;
+}
+
+/** Returns the vertex whose box is at a place of the layout, or null. */
+export function vertexAt(placed, { x, y }) {
+  const row = Math.floor((y - BOX.margin) / (BOX.height + BOX.down));
+  if (row < 0 || row >= placed.rows.length) return null;
+  return boxesOfRow(placed, row, { left: x, right: x }).find((vertex) => {
+    const box = placed.boxes[vertex];
+    return x >= box.x && x <= box.x + box.width && y <= box.y + BOX.height;
+  }) ?? null;
 }
 
 /** Returns the vertex beside another one: an input of it (`up`), a user of it (`down`), or one of its row. */
@@ -136,6 +177,7 @@ export function neighbor(placed, graph, vertex, direction) {
   if (direction === 'left') return row[box.column - 1] ?? vertex;
   if (direction === 'right') return row[box.column + 1] ?? vertex;
   const joined = direction === 'up' ? graph.vertices[vertex].inputs.map((one) => one.vertex) : placed.below[vertex];
-  const far = (other) => Math.abs(placed.boxes[other].x - box.x) + Math.abs(placed.boxes[other].y - box.y);
+  const middle = ({ x, width }) => x + width / 2;
+  const far = (other) => Math.abs(middle(placed.boxes[other]) - middle(box)) + Math.abs(placed.boxes[other].y - box.y);
   return [...joined].sort((a, b) => far(a) - far(b))[0] ?? vertex;
 }

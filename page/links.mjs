@@ -7,7 +7,14 @@ import { canBeDrawn } from './open_view.mjs';
 import { assembled, refusalOf } from './session.mjs';
 import { givenBy } from './share.mjs';
 
-/** Opens what the link of the page carries; shows the view *Open* if it carries nothing that can be read. */
+const OPEN = '#open';
+// What a page without a link opens: an example in which each worker has done so many steps.
+const LIVE = { name: 'workers', steps: 5 };
+
+/**
+ * Opens what the link of the page carries, or an example that runs if it carries nothing; shows the view *Open* if it
+ * asks for that, or carries what can't be read.
+ */
 export async function openLink(page, machine) {
   page.say('');
   const name = buildNamedBy(location.hash);
@@ -16,9 +23,9 @@ export async function openLink(page, machine) {
     return;
   }
   try {
-    const given = await givenBy(location.hash) ?? await reloaded();
+    const given = location.hash === OPEN ? null : await givenBy(location.hash) ?? await reloaded();
     if (given) openGiven(page, machine, given);
-    else page.openView.show();
+    else if (location.hash === OPEN || !await openLive(page)) page.openView.show();
   } catch (fault) {
     const words = `The link is not readable: ${fault.message}. ${explained(fault.message)}`.trim();
     page.say(words);
@@ -31,7 +38,7 @@ export async function openLink(page, machine) {
 function openGiven(page, machine, given) {
   const definition = assembled(machine, given.text);
   if (canBeDrawn(refusalOf(machine, definition))) page.openForeign(definition);
-  else page.open({ ...given, definition });
+  else page.open({ ...given, definition, written: given.text });
 }
 
 async function openServed(page, machine, name) {
@@ -45,5 +52,17 @@ async function openServed(page, machine, name) {
     if (build) page.openView.takeBuild(build);
     page.openView.show();
     page.openView.showFault(new Error(words));
+  }
+}
+
+// Opens the example that runs; returns whether it is there and could be loaded.
+async function openLive(page) {
+  if (!page.openView.hasExample(LIVE.name)) return false;
+  try {
+    page.openLive(await page.openView.exampleGiven(LIVE.name), LIVE.steps);
+    return true;
+  } catch (fault) {
+    page.say(`The example that is shown first can't be opened: ${fault.message}`);
+    return false;
   }
 }

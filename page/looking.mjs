@@ -122,8 +122,9 @@ export class Looks {
 
   /** Returns how two orders of the run, given by their records, compare vertex by vertex. */
   orders(first, second) {
-    const sessions = [new Session(...this.given), new Session(...this.given)];
-    return compareOrders(sessions, [first, second].map((lines) => commandsOf(linesOf(lines))), this.entries);
+    const session = () => new Session(...this.given);
+    const commands = (lines) => commandsOf(linesOf(lines));
+    return compareOrders([session(), session()], [commands(first), commands(second)], this.entries);
   }
 
   /** Returns all lines that the sessions for looks were asked, with their answers. */

@@ -14,9 +14,9 @@ async function answered({ call, args }) {
   return looks[call](...args);
 }
 
-async function answer({ id, ...given }) {
+async function answer({ id, call, args }) {
   try {
-    postMessage({ id, value: await answered(given) });
+    postMessage({ id, value: await answered({ call, args }) });
   } catch (fault) {
     postMessage({ id, fault: fault.message });
   }

@@ -2,11 +2,12 @@
 
 import { ChangesView } from './changes_view.mjs';
 import { verticesOf } from './definition.mjs';
+import { DefinitionView } from './definition_view.mjs';
 import { by, make, oncePerFrame } from './dom.mjs';
 import { explained } from './faults.mjs';
 import { whyIdle } from './idle.mjs';
 import { foreignOf, foreignStatuses } from './foreign.mjs';
-import { detailsOf, showForeign } from './foreign_view.mjs';
+import { showForeign } from './foreign_view.mjs';
 import { GraphView } from './graph_view.mjs';
 import { KeptState } from './kept_state.mjs';
 import { listen } from './keyboard.mjs';
@@ -20,7 +21,9 @@ import { OrdersView } from './orders_view.mjs';
 import { SearchView } from './search_view.mjs';
 import { shareView } from './share_view.mjs';
 import { loadTables } from './tables.mjs';
+import { listenToSplitters } from './splitters.mjs';
 import { TimeView } from './time_view.mjs';
+import { foreignDetails, notesElement, vertexDetails } from './vertex_details.mjs';
 
 const MODULE = 'llbm.wasm';
 // The page goes on for so many milliseconds at once: then it shows how far it is, and what a person does is looked at.
@@ -34,6 +37,9 @@ class Page {
     this.selected = null;
     this.foreign = null;
     this.openView = new OpenView(machine, (given) => this.open(given), (definition) => this.openForeign(definition));
+    this.text = new DefinitionView(
+      machine, (definition, text) => this.edit(definition, text), (row) => this.selectRow(row),
+    );
     this.graph = new GraphView(
       (vertex, focus) => this.select(vertex, focus), (vertex, kind) => this.setBreak(vertex, kind),
     );
@@ -44,6 +50,8 @@ class Page {
     this.orders = new OrdersView(this.looker);
     this.share = shareView();
     this.kept = new KeptState();
+    /** @type {any} */
+    this.statuses = null;
     this.isLooking = false;
     this.isMoving = false;
     this.isStopped = false;
@@ -54,7 +62,7 @@ class Page {
   /** Opens a session. Throws where the machine refuses what is given. */
   open(given) {
     const session = new Session(this.machine, given.definition, given.locals, given.workers);
-    for (const line of given.lines ?? []) session.event(line);
+    (given.lines ?? []).every((line) => session.event(line));
     session.follow(given.record ?? []);
     session.setBreakAtFailures(by('break-fail').checked);
     this.stop();
@@ -63,7 +71,7 @@ class Page {
     this.given = given;
     this.entries = verticesOf(given.definition);
     this.selected = null;
-    by('views').className = '';
+    by('views').classList.remove('empty', 'foreign');
     by('to-share').disabled = false;
     const { vertices, result } = session.graph;
     const word = vertices.length === 1 ? 'vertex' : 'vertices';
@@ -78,6 +86,7 @@ class Page {
     this.isLooking = false;
     this.graph.open(session.graph, this.entries, this.notes);
     this.time.open(session, this.entries);
+    this.text.open(given.definition, given.written ?? null);
     this.changes.open(session, this.entries, this.notes);
     this.say('');
     this.update();
@@ -86,9 +95,22 @@ class Page {
   // What a link of the session carries, or null for a build of a server, which has a link of its own.
   carried() {
     if (!this.session || this.given.name) return null;
-    this.given.text ??= this.openView.textOf(this.given.definition);
-    const { text, locals, workers } = this.given;
-    return { text, locals, workers, lines: this.session.commands() };
+    if (!this.given.written) this.given.text ??= this.openView.textOf(this.given.definition);
+    const { text, written, locals, workers } = this.given;
+    return { text: written ?? text, locals, workers, lines: this.session.commands() };
+  }
+
+  // Opens what was written beside the graph, with the trees and as far along the record as before.
+  edit(definition, written) {
+    const { locals, workers } = this.given;
+    this.open({ definition, written, locals, workers, lines: this.session?.commands() });
+  }
+
+  /** Opens a session in which the workers have begun already: each did as many steps as are given. */
+  openLive(given, steps) {
+    this.open(given);
+    for (let n = 0; n < steps; n += 1) this.session.stepAll();
+    this.update();
   }
 
   keepLater() {
@@ -119,7 +141,9 @@ class Page {
     this.foreign = foreign;
     this.entries = foreign.entries;
     this.selected = null;
-    by('views').className = 'foreign';
+    by('views').classList.remove('empty');
+    by('views').classList.add('foreign');
+    this.given = { locals: this.openView.allTrees(), workers: Number(by('workers').value) };
     by('to-share').disabled = true;
     by('graph-size').textContent = `${foreign.graph.vertices.length} entries, inputs above`;
     by('vertex-details').replaceChildren();
@@ -127,6 +151,7 @@ class Page {
     this.notes = new VertexNotes(this.entries);
     this.graph.open(foreign.graph, this.entries, this.notes);
     this.graph.update(this.statuses, NO_BREAKS);
+    this.text.open(definition);
     showForeign(foreign, (vertex) => this.select(vertex, true), () => this.openView.takeAdopted(foreign.adoption));
     this.say('');
     document.body.dataset.looked = 'yes';
@@ -155,6 +180,9 @@ class Page {
   /**
    * Goes on by a generator of `makeMoves`, in slices, and shows where the session is then. `atEnd` is called with what
    * the generator returned. A move that is asked for meanwhile stops this one, and begins where it stopped.
+   *
+   * @param {() => Generator} makeMoves
+   * @param {(how: any) => unknown} atEnd
    */
   async travel(makeMoves, atEnd = () => {}) {
     if (!this.session) return;
@@ -244,7 +272,7 @@ class Page {
       this.time.update();
       this.orders.update();
       this.showVertex();
-      const focused = document.activeElement;
+      const focused = /** @type {HTMLButtonElement} */ (document.activeElement);
       by('back').disabled = by('first').disabled = !event;
       this.updateWorker();
       // A button that is disabled loses the focus, and the keys would begin at the top of the page.
@@ -293,36 +321,25 @@ class Page {
     this.showVertex();
   }
 
+  // Selects the vertex of a row of the definition, if it has one.
+  selectRow(row) {
+    const vertex = this.entries.findIndex((entry) => entry?.row === row);
+    if (vertex >= 0) this.select(vertex);
+  }
+
   showVertex() {
     const vertex = this.selected;
+    this.text.mark(vertex === null ? null : this.entries[vertex]?.row ?? null);
     if (vertex === null) {
       by('vertex-details').replaceChildren();
       return;
     }
-    const entry = this.entries[vertex];
-    const notes = this.notes.of(vertex).map(({ words }) => make('li', { text: words }));
-    const noted = make('ul', { class: 'notes', 'aria-label': 'what BuildKit does otherwise' }, ...notes);
-    if (this.foreign) {
-      const said = [...new Set([entry?.name, entry?.line])].filter(Boolean).join(': ');
-      const head = make('p', {}, make('strong', { text: this.graph.labelOf(vertex) }), ` ${said}`);
-      by('vertex-details').replaceChildren(head, ...detailsOf(this.foreign, vertex), noted);
-      return;
-    }
-    const { kind, steps, inputs } = this.session.graph.vertices[vertex];
-    const { word, rest } = this.statuses.of(vertex);
-    const edges = inputs.map((edge) => `${edge.vertex}.${edge.output}`).join(' ') || 'none';
-    const status = `${word} ${rest}`.trim();
-    const { outputs } = this.session.graph.vertices[vertex];
-    const trees = word === 'done' ? Array.from({ length: outputs }, (_, output) => make('button', {
-      type: 'button', text: `Tree ${vertex}.${output}`, onclick: () => this.changes.choose(vertex, output),
-    })) : [];
-    by('vertex-details').replaceChildren(
-      make('p', {}, make('strong', { text: `${vertex} ${kind}` }), ` ${status}, steps ${steps}, inputs ${edges}`),
-      ...(entry?.name ? [make('p', { text: entry.name })] : []),
-      ...(entry?.line ? [make('code', { text: entry.line })] : []),
-      ...(trees.length ? [make('p', {}, ...trees)] : []),
-      noted,
-    );
+    const notes = this.notes.of(vertex);
+    const words = this.foreign
+      ? foreignDetails(this.foreign, vertex, this.graph.labelOf(vertex))
+      : vertexDetails(this.session.graph.vertices[vertex], this.entries[vertex], this.statuses.of(vertex),
+        (output) => this.changes.choose(vertex, output));
+    by('vertex-details').replaceChildren(...words, notesElement(notes));
   }
 
   setBreak(vertex, kind) {
@@ -394,6 +411,7 @@ class Page {
   }
 
   listen() {
+    listenToSplitters();
     const moves = {
       next: () => this.next(), back: () => this.move(() => this.session.back()), go: () => this.go(),
       step: () => this.step(), cancel: () => this.cancel(),
@@ -414,7 +432,10 @@ class Page {
       ArrowRight: moves.next, n: moves.next, ArrowLeft: moves.back, b: moves.back, g: moves.go, s: moves.step,
       c: moves.cancel, Home: moves.first, End: moves.last, Escape: moves.stop, f: () => this.fork(),
       o: () => this.openView.show(), a: moves.all, r: moves.shuffle,
-      '/': () => by('search').focus(),
+      '/': () => by('search').focus(), w: () => by('find').focus(),
+      '+': () => this.graph.window.zoom(1.25), '-': () => this.graph.window.zoom(0.8),
+      e: () => this.text.toggle(),
+      z: () => this.graph.window.fit(), Z: () => this.graph.window.setScale(1),
       h: () => this.showShare(), '?': () => by('keys-view').showModal(),
       v: () => (this.session || this.foreign) && this.select(this.selected ?? 0, true),
       digit: (n) => {

@@ -25,7 +25,8 @@ function isSet(found, unset) {
 }
 
 // The index of each part of a message that has a field set; 0 if the field is in no part.
-function partsWith(data, row, [number, ...rest], members) {
+function partsWith(data, row, path, members) {
+  const [number, ...rest] = path;
   const found = recordsOf(data);
   if (Array.isArray(number)) {
     const inner = row.part === 'action' ? MEMBERS.action : MEMBERS.none;

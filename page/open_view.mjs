@@ -5,7 +5,7 @@ import { isText, rowInWords } from './definition.mjs';
 import { by, make } from './dom.mjs';
 import { explained } from './faults.mjs';
 import { definitionOf, treeOfFile } from './reading.mjs';
-import { disassembled, refusalOf } from './session.mjs';
+import { assembled, disassembled, refusalOf } from './session.mjs';
 import { treeOfFiles } from './sources.mjs';
 
 const EMPTY = 'd 0755 0 0 /\n';
@@ -92,10 +92,7 @@ export class OpenView {
     if (!example) return;
     by('open-now').disabled = true;
     try {
-      const given = async (path) => (await fetch(`examples/${path}`)).arrayBuffer();
-      const definition = new Uint8Array(await given(example.definition));
-      const trees = await Promise.all(Object.entries(example.locals).map(async ([local, from]) => (
-        [local, { text: new TextDecoder().decode(await given(from)), from }])));
+      const { definition, trees } = await loadedExample(example);
       this.trees = new Map(trees);
       by('workers').value = example.workers;
       this.take(definition, example.title);
@@ -106,6 +103,25 @@ export class OpenView {
     } finally {
       by('open-now').disabled = false;
     }
+  }
+
+  /** Returns whether the page has an example. */
+  hasExample(name) {
+    return this.examples.some((one) => one.name === name);
+  }
+
+  /** Returns what a session on an example is opened with. Throws if it can't be loaded. */
+  async exampleGiven(name) {
+    const example = this.examples.find((one) => one.name === name);
+    const { definition: bytes, trees } = await loadedExample(example);
+    const written = isText(bytes) ? new TextDecoder().decode(bytes) : null;
+    const definition = written === null ? bytes : assembled(this.machine, written);
+    return { definition, written, locals: trees.map(([local, { text }]) => [local, text]), workers: example.workers };
+  }
+
+  /** Returns the trees that the view has, by the names of local sources. */
+  allTrees() {
+    return [...this.trees].filter(([, { bad }]) => !bad).map(([local, { text }]) => [local, text]);
   }
 
   async takeFile(file) {
@@ -260,7 +276,10 @@ export class OpenView {
     try {
       const { definition, names } = await this.read();
       if (canBeDrawn(refusalOf(this.machine, definition))) this.onForeign(definition);
-      else this.onOpen({ definition, locals: this.givenTrees(names), workers: Number(by('workers').value) });
+      else {
+        const written = this.given ? null : by('definition').value;
+        this.onOpen({ definition, written, locals: this.givenTrees(names), workers: Number(by('workers').value) });
+      }
       this.dialog.close();
     } catch (fault) {
       this.showFault(fault);
@@ -285,6 +304,26 @@ export class OpenView {
   textOf(definition) {
     return disassembled(this.machine, definition);
   }
+}
+
+/**
+ * Returns the definition of an example and the trees of its sources.
+ *
+ * @returns {Promise<{ definition: Uint8Array, trees: [string, { text: string, from: string }][] }>}
+ */
+async function loadedExample(example) {
+  const given = async (path) => {
+    const response = await fetch(`examples/${path}`);
+    if (!response.ok) throw new Error(`${path}: ${response.status}`);
+    return new Uint8Array(await response.arrayBuffer());
+  };
+  const definition = await given(example.definition);
+  /** @type {[string, { text: string, from: string }][]} */
+  const trees = [];
+  for (const [local, from] of Object.entries(example.locals)) {
+    trees.push([local, { text: new TextDecoder().decode(await given(from)), from }]);
+  }
+  return { definition, trees };
 }
 
 /** Returns whether a definition is refused for what is in its rows. */

@@ -33,7 +33,7 @@ function byteLetters(text) {
 }
 
 function textOf(letters) {
-  return decoder.decode(Uint8Array.from(letters, (letter) => letter.charCodeAt(0)));
+  return decoder.decode(Uint8Array.from(letters, (letter) => String(letter).charCodeAt(0)));
 }
 
 function wordsIn(text) {

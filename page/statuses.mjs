@@ -4,6 +4,7 @@
  */
 
 const LINE = /^[0-9]+ ([a-z]+) ?(.*)$/;
+const SPACE = 32;
 
 /** Statuses by vertex. */
 export class Statuses {
@@ -27,6 +28,16 @@ export class Statuses {
     const line = start === undefined ? '' : this.text.slice(start, this.text.indexOf('\n', start));
     const [, word, rest] = LINE.exec(line) ?? ['', 'waiting', ''];
     return { word, rest, worker: word === 'running' ? Number(rest) : null };
+  }
+
+  /** Returns the word of a vertex's status. */
+  wordOf(vertex) {
+    const start = this.lines()[vertex];
+    if (start === undefined) return 'waiting';
+    const word = this.text.indexOf(' ', start) + 1;
+    let end = word;
+    for (let code = this.text.charCodeAt(end); code > SPACE; code = this.text.charCodeAt(end)) end += 1;
+    return this.text.slice(word, end);
   }
 
   /** Returns the vertices with a status of a word. */

@@ -68,7 +68,9 @@ function headerAt(bytes, at) {
 }
 
 function* membersOf(bytes) {
+  /** @type {Record<string, string>} */
   let shared = {};
+  /** @type {Record<string, string>} */
   let own = {};
   for (let at = 0; at + BLOCK <= bytes.length && !isZero(bytes, at);) {
     const header = headerAt(bytes, at);

@@ -80,6 +80,7 @@ function inPathOrder(a, b) {
  * file, its bytes. Directories that are not given, the root too, have the mode 0755 and the owner 0:0.
  */
 export function textOfEntries(entries) {
+  /** @type {Map<string, any>} */
   const all = new Map([['', { path: '', mode: 0o755, user: 0, group: 0 }]]);
   for (const entry of entries) {
     const names = entry.path.split('/');

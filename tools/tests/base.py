@@ -40,7 +40,7 @@ FAKE_PYTHON = f"""#!{sys.executable}
 import os, sys
 if sys.argv[1:] == ["--version"]:
     sys.exit("llbm 1.0, a fake")
-if sys.argv[1:] == ["show", "--plan"]:
+if sys.argv[1:2] == ["show"] and sys.argv[2:3] in (["--plan"], ["--matches"], ["--findings"]):
     os.execv(os.environ["LLBM"], sys.argv)
 """
 

@@ -66,11 +66,38 @@ func (s *session) outside(sent *pb.Definition) error {
 func (s *session) steps(v int, steps []rules.Step) error {
 	for _, one := range steps {
 		step := &Step{Vertex: v, Row: s.sent.Vertices[v].Row, Action: one.Action, Lines: s.chosen(one.Lines), More: one.More}
+		s.held = append(s.held, step)
+	}
+	if s.request.Received && !s.runs && len(s.held) < mostHeld {
+		return nil
+	}
+	return s.sayHeld()
+}
+
+// mostHeld is how many steps are held back at most.
+const mostHeld = 1000
+
+// sayHeld says the steps that were held back. Without an execution they are held back up to the end: if the build fails in both,
+// nobody sees what was made otherwise before.
+func (s *session) sayHeld() error {
+	for _, step := range s.held {
 		if err := s.talk.Write(Message{Step: step}); err != nil {
 			return err
 		}
 	}
+	s.held = nil
 	return nil
+}
+
+// failsInBoth is whether neither makes the result. Of an output without a root it is not known.
+func (s *session) failsInBoth() bool {
+	one := &s.states[s.sent.Result]
+	return len(one.there) == 0 && len(one.here) == 0 && !one.unknown && !s.broken && !slices.ContainsFunc(s.held, (*Step).isOfRoot)
+}
+
+// isOfRoot is whether a step removes a root.
+func (s *Step) isOfRoot() bool {
+	return slices.ContainsFunc(s.Lines, func(line rules.Line) bool { return slices.Contains(line.Notes, rules.RmRoot.String()) })
 }
 
 // chosen returns the first lines with the same rules. The first of these counts those that are left out.
@@ -97,6 +124,12 @@ const mostDiffering = 1000
 
 // end says whether the results agree, if this is asked for.
 func (s *session) end() error {
+	if s.failsInBoth() && s.request.Received {
+		s.held = nil
+	}
+	if err := s.sayHeld(); err != nil {
+		return err
+	}
 	end := &End{}
 	if !s.request.Result && !s.request.Tree {
 		return s.talk.Write(Message{End: end})

@@ -37,7 +37,7 @@ const (
 	links = "vertex 1 action 0: writes a file that has other names in its source: HardLinks"
 )
 
-// An action is only named if the result depends on what it makes.
+// An action is only named if the result depends on what it makes, and if there is one in one of both.
 func TestWhatNobodyReadsIsNotSaid(t *testing.T) {
 	for name, one := range map[string]struct {
 		make func(d *definition, s int) int
@@ -70,6 +70,12 @@ func TestWhatNobodyReadsIsNotSaid(t *testing.T) {
 		"an execution reads it": {func(d *definition, s int) int {
 			return d.add(t, fileOp(on(mkdir("/n"), 0, 0)), s, d.add(t, exec("true"), d.add(t, file(1, mkfile("/a", 0o755, "2")), s)))
 		}, mode + "\n" + links + "\nvertex 2 action -1: its inputs differ, so what it makes in BuildKit is not known: Execution"},
+		"the build fails in both": {func(d *definition, s int) int {
+			return d.add(t, file(1, rm("/missing")), d.add(t, file(1, mkfile("/a", 0o755, "2")), s))
+		}, ""},
+		"the build fails here alone": {func(d *definition, s int) int {
+			return d.add(t, file(1, mkdir("/b")), d.add(t, file(1, mkfile("/a", 0o755, "2")), s))
+		}, mode + "\n" + links + "\nvertex 2 action 0: does not fail (here: /b is a file): MkdirOver"},
 		"what it makes is removed": {func(d *definition, s int) int {
 			return d.add(t, file(1, mkfile("/a", 0o755, "2"), rm("/a")), s)
 		}, links},

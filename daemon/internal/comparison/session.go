@@ -53,6 +53,7 @@ type session struct {
 	linked  bool        // whether contents may be symbolic links
 	broken  bool        // whether something breaks BuildKit's daemon
 	runs    bool        // whether there is an execution
+	held    []*Step     // what is said later, or not at all
 	why     string      // why BuildKit fails
 	files   int
 	layered bool // whether there is a merge, which needs layers
@@ -219,6 +220,9 @@ func (s *session) all() error {
 		v := heap.Pop(&s.ready).(int)
 		if s.sent.Vertices[v].Op.GetExec() != nil {
 			s.runs = true
+			if err := s.sayHeld(); err != nil {
+				return err
+			}
 			if _, err := s.static(v); err != nil {
 				return err
 			}
@@ -326,9 +330,6 @@ func (s *session) made(v int, dies bool) (*rules.Compared, error) {
 	if dies {
 		there = nil
 	}
-	if err := s.follows(v, here); err != nil {
-		return nil, err
-	}
 	var run *pb.Op
 	var from []int
 	if r, ok := s.inRun[it.Row]; ok {
@@ -337,7 +338,18 @@ func (s *session) made(v int, dies bool) (*rules.Compared, error) {
 	if row := s.rows[it.Row]; row != nil {
 		from = row.Actions
 	}
-	return rules.Compare(s.ctx, it.Op, run, from, there, here, s.states[v].read)
+	made, err := rules.Compare(s.ctx, it.Op, run, from, there, here, s.states[v].read)
+	if err == nil && !endAlike(made) {
+		err = s.follows(v, here)
+	}
+	return made, err
+}
+
+// endAlike is whether both made the same: then it does not matter which links BuildKit followed.
+func endAlike(made *rules.Compared) bool {
+	return len(made.There) > 0 && slices.EqualFunc(made.There, made.Here, func(there *rules.Ref, here *rules.Node) bool {
+		return rules.EqualBelow(there.Tree(), here)
+	})
 }
 
 // replaced says which files a merge of BuildKit can have as they were before, as far as times are known.

@@ -235,3 +235,29 @@ func TestBuildKitsFileBackendMakesWhatItsRulesSay(t *testing.T) {
 	}
 	t.Logf("%d fail", fails)
 }
+
+// BuildKit looks for what is below a directory at the place that it is copied to, also where patterns take none of it.
+func TestBuildKitsFileBackendLooksBelowAFileForWhatIsNotTaken(t *testing.T) {
+	if os.Geteuid() != 0 {
+		t.Skip("only root can change owners")
+	}
+	before := syscall.Umask(0)
+	defer syscall.Umask(before)
+	file := rules.Of(tree.Tree{{Dir: true, Mode: 0o755}, {Path: "a", Mode: 0o644}})
+	empty := rules.Of(tree.Tree{{Dir: true, Mode: 0o755}, {Path: "a", Dir: true, Mode: 0o755}, {Path: "b", Mode: 0o644}})
+	full := rules.Of(tree.Tree{{Dir: true, Mode: 0o755}, {Path: "a", Dir: true, Mode: 0o755}, {Path: "a/f", Mode: 0o644}, {Path: "b", Mode: 0o644}})
+	for number, is := range []struct {
+		second           *rules.Node
+		include, exclude []string
+		fails            bool
+	}{
+		{empty, []string{"b"}, nil, false}, {full, []string{"b"}, nil, true}, {full, nil, []string{"a"}, true}, {full, []string{"missing"}, nil, true},
+		{empty, nil, []string{"a"}, false}, {empty, []string{"a"}, nil, true},
+	} {
+		action := copyOf(nil, nil, keptMode, nil)
+		action.GetCopy().DirCopyContents, action.GetCopy().IncludePatterns, action.GetCopy().ExcludePatterns = true, is.include, is.exclude
+		if failed := backendMakes(t, number, action, file, is.second); failed != is.fails {
+			t.Errorf("case %d: fails %v", number, failed)
+		}
+	}
+}

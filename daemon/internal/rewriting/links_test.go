@@ -110,6 +110,22 @@ func TestByItsTreesAnOpWithLinksAndPatternsBecomesOneThatLLBMTakes(t *testing.T)
 	t.Logf("%d are left, %d are rewritten", left, rewritten)
 }
 
+// What else is written is a warning; the name that is written ends as in BuildKit.
+func TestAFileWithOtherNamesKeepsItsMode(t *testing.T) {
+	text := strings.NewReader("d 0755 0 0 /\nf 4755 0 0 78 /a\nf 4755 0 0 78 /b\n")
+	base, err := rules.Reader{Linked: []string{"/a", "/b"}}.Read(context.Background(), text)
+	if err != nil {
+		t.Fatal(err)
+	}
+	inputs := []*rules.Node{base, rules.Empty()}
+	mkfile := &pb.FileActionMkFile{Path: "/a", Mode: 0o600, Data: []byte("y"), Timestamp: -1}
+	f, isDone := byTrees(t, op(&pb.FileAction{SecondaryInput: -1, Action: &pb.FileAction_Mkfile{Mkfile: mkfile}}), inputs)
+	here := made(t, &pb.FileOp{Actions: f}, inputs, rules.None)
+	if !isDone || len(here) != 1 || here[0].Tree().At([]string{"a"}).Mode() != 0o4755 {
+		t.Errorf("%v became %v", isDone, f)
+	}
+}
+
 func isHosts(op *pb.FileOp, inputs []*rules.Node) bool {
 	var refs []*rules.Ref
 	for _, one := range inputs {

@@ -176,7 +176,7 @@ func (f *sideBySide) action(number int) (Step, error) {
 			return s, err
 		}
 	}
-	if isThere && f.leads[number] && f.writesLinked(number, there.base) {
+	if isThere && f.faultThere == nil && f.leads[number] && f.writesLinked(number, there.base) {
 		s.Lines = append(s.Lines, Line{Words: "writes a file that has other names in its source", Notes: []string{HardLinks}})
 	}
 	return s, f.ctx.Err()

@@ -86,6 +86,9 @@ func (c *copier) filtered(f filtering) (*Node, bool, error) {
 		one, err := c.lay(f.path, f.source, f.old, f.from, f.in, false)
 		return one, true, err
 	}
+	if f.old != nil && !f.old.dir && !f.old.isLink() && f.from.below.Len() > 0 {
+		return nil, false, fails("%s is a file", shown(f.path)) // BuildKit looks below it also for what is not taken
+	}
 	one := c.directoryOf(f, isTaken)
 	during := one // one that the patterns do not take is made whole before what is below it
 	if isTaken {

@@ -98,7 +98,7 @@ func made(one, in entry, by owner, like Rules) entry {
 // the action has one; a change of the owner clears the set-id bits.
 func writtenOver(old entry, given *pb.ChownOpt, new entry, like Rules) entry {
 	one := old
-	one.content, one.time = new.content, new.time
+	one.content, one.time, one.linked = new.content, new.time, false // that it has other names was said of the action
 	if given != nil {
 		one.mode &^= setUser
 		if one.mode&groupExecutes != 0 {

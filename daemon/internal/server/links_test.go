@@ -68,6 +68,26 @@ func TestLinksAreCopiedMergedAndExportedAsTheyAre(t *testing.T) {
 	}
 }
 
+// The directory to which the link leads has the link alone, so llbm makes the same without following it.
+func TestALinkThatIsFollowedToWhatIsMadeAnywayIsNoReasonToRefuse(t *testing.T) {
+	d, root := started(t, nil), t.TempDir()
+	folder := filepath.Join(root, "c", "a")
+	if err := os.MkdirAll(folder, 0o755); err != nil {
+		t.Fatal(err)
+	}
+	if err := os.Symlink("/c/a", filepath.Join(folder, "c")); err != nil {
+		t.Fatal(err)
+	}
+	if err := os.Chmod(folder, 0o777|os.ModeSticky); err != nil {
+		t.Fatal(err)
+	}
+	followed := &llb.CopyInfo{FollowSymlinks: true, CopyDirContentsOnly: true, CreateDestPath: true}
+	got, err := d.solved(t, llb.Scratch().File(llb.Copy(llb.Local("context"), "/c/a/c", "/to/", followed)), fromFolder(root))
+	if want := "0755 0:0 to/ \"\"\n0777 0:0 to/c -> /c/a\n"; err != nil || got != want {
+		t.Errorf("%q, not %q: %v", got, want, err)
+	}
+}
+
 func TestALinkOfAResultIsInADirectoryAndInALayer(t *testing.T) {
 	d, root, to := started(t, nil), linked(t), t.TempDir()
 	o := fromFolder(root)

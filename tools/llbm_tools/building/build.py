@@ -30,17 +30,21 @@ nothing new, not even temporary files, which are in TMPDIR and beside RESULT whi
 build leaves that is killed, the next one removes that has the same TMPDIR, and RESULT in the same directory. Nothing is
 on standard output before the archive is complete.
 
---keep FILE keeps what was read of each source, and the text of the result. If the definition, the options, the program
-and the sources are those of FILE, and the result is the one that was made then, nothing is done, and a line says so. If
-only contents of files have changed that are given by reference, these files are written into the result without a run;
-else the program runs, and the entries that differ are written. FILE is removed while the result changes. It is a new
+--keep FILE keeps what was read of each source, the text of the result, and the definition. If the definition, the
+options, the program and the sources are those of FILE, and the result is the one that was made then, nothing is done,
+and a line says so. Else there is a line `CACHED vertex V KIND` for each vertex that does the same as one of the last
+build on inputs that match, with no cache mount at or before it, and on sources that did not change: its outcome is what
+it was. If that is so of the result, nothing is done either. If only contents of files have changed that are given by
+reference, these files are written into the result without a run; else the program runs all vertices, and the entries
+that differ are written. FILE is removed while the result changes. It is a new
 file in a directory that exists, an empty one, or one that a build has kept; anything else is refused, and so is an
 input.
 
 With --progress there is also a line for each vertex as it settles, `[n/m] vertex V KIND done`, or `failed`, followed by
 its name if the definition's metadata has one (`llb.customname`). The vertices then run one after another, in a session
 of `llbm step`, whatever the number of workers. Everything else is the same, except that executions which share a cache
-may see each other's writes in another order than with several workers.
+may see each other's writes in another order than with several workers. With --json standard output has one object at
+the end (docs/FORMATS.md, "Objects of tools"); RESULT is then no standard output.
 
 Exit status: that of the program. Before the program runs: 2 the command line is refused, DEFINITION, a source, the
 parent of RESULT or the program does not exist, a source is refused, RESULT already exists or can't be replaced or
@@ -60,23 +64,19 @@ from llbm_tools.building.requests import LARGEST, NOTHING, Ended, Request, sourc
 from llbm_tools.command_line import Parser
 from llbm_tools.common import discard_output, say
 from llbm_tools.os_errors import os_error_text
-from llbm_tools.streams import FAILED, REFUSED, Failed, Refused
+from llbm_tools.streams import FAILED, REFUSED, Failed, Refused, exit_status
 from llbm_tools.trees import times
-from llbm_tools.trees.kept_sources import Structure
 
 if TYPE_CHECKING:
     from llbm_tools.building.one_build import Build
 
 
 def changes_since(memory: Memory, request: Request) -> Changes | None:
-    """Returns what has changed since the last build; None if all has to be done again."""
+    """Returns what has changed since the last build; None if nothing is kept of it."""
     if memory.last is None:
         return None
     hidden = frozenset((found.st_dev, found.st_ino) for found in request.hidden())
-    try:
-        return Changes(memory.last, request.sources, hidden, strict=request.options.strict)
-    except Structure:
-        return None
+    return Changes(memory.last, request.sources, hidden, strict=request.options.strict)
 
 
 class Work:
@@ -85,6 +85,8 @@ class Work:
     def __init__(self, request: Request) -> None:
         self.request = request
         self.build: "Build | None" = None
+        self.cached: list[dict[str, object]] = []
+        self.end = NOTHING
 
     def do(self) -> None:
         """Does what is needed of the build."""
@@ -94,22 +96,43 @@ class Work:
             folders.remove_left(folders.RESULT, self.request.above)
         memory = Memory(self.request) if self.request.options.keep is not None else None
         changes = changes_since(memory, self.request) if memory else None
-        if memory and changes and not changes.numbers():
-            renewed = changes.renewed(memory.began)
-            say(f"nothing to do: {self.request.result} has this definition, these options and these sources")
-            if renewed:
-                memory.store(renewed)
+        if memory and changes and self.is_done(memory, changes):
             return
-        # What a build does not need it does not import.
-        if memory and changes and not self.request.ending:
-            from llbm_tools.building.renewing import renew
-
-            if renew(self.request, memory, changes):
-                return
         from llbm_tools.building.one_build import Build
 
         self.build = Build(self.request, memory)
+        self.end = NOTHING
         self.build.whole()
+        self.end = self.left()
+
+    def is_done(self, memory: Memory, changes: Changes) -> bool:
+        """Returns whether nothing had to be run, since the last result serves, perhaps with other contents."""
+        if memory.is_same and changes.are_contents() and not changes.numbers():
+            renewed = changes.renewed(memory.began)
+            self.say_end(f"nothing to do: {self.request.result} has this definition, these options and these sources")
+            if renewed:
+                memory.store(renewed)
+            return True
+        # What a build does not need it does not import.
+        from llbm_tools.building import cached
+
+        found = cached.found_in(self.request, changes)
+        self.cached = found.say()
+        if found.has_result and changes.are_contents():
+            self.say_end(f"nothing to do: {self.request.result} is what this definition makes of these sources")
+            memory.store(cached.taken(self.request, memory, changes))
+            return True
+        if not memory.is_same or not changes.are_contents() or self.request.ending:
+            return False
+        from llbm_tools.building.renewing import renew
+
+        self.end = f"{self.request.result} is up to date"
+        return renew(self.request, memory, changes)
+
+    def say_end(self, line: str) -> None:
+        """Prints how the build ended."""
+        self.end = line
+        say(line)
 
     def left(self) -> str:
         """Returns what a build leaves that does not end well."""
@@ -117,21 +140,34 @@ class Work:
 
     def status(self) -> int:
         """Does the build, prints why it failed, and returns the exit status."""
+        status = self.tried()
+        return exit_status(lambda: self.write_object(status)) if self.request.options.json else status
+
+    def write_object(self, status: int) -> int:
+        """Writes the object of the build, and returns the exit status."""
+        # Few builds print an object.
+        from llbm_tools import objects
+
+        objects.write({"result": self.request.result, "status": status, "end": self.end, "cached": self.cached})
+        return status
+
+    def tried(self) -> int:
+        """Does the build, prints why it failed, and returns the exit status."""
         try:
             self.do()
             return 0
         except Ended as cause:
-            say(str(cause))
+            self.say_end(str(cause))
             return cause.status
         except (Refused, Failed) as cause:
-            say(str(cause))
+            self.say_end(str(cause))
             if self.build and self.build.has_begun():
                 say(self.left())
             return REFUSED if isinstance(cause, Refused) else FAILED
         except BrokenPipeError:
             return FAILED
         except OSError as fault:
-            say(os_error_text(fault))
+            self.say_end(os_error_text(fault))
             return FAILED
 
     def clean(self) -> None:
@@ -164,6 +200,7 @@ def parser() -> argparse.ArgumentParser:
     add("--replace", action="store_true", help="put the result in the place of an old one")
     add("--config", metavar="FILE", help="the configuration of an image, in JSON")
     add("--keep", metavar="FILE", help="keep there what is read, so that the next build does only what is needed")
+    add("--json", action="store_true", help="print one object on standard output at the end")
     add("--largest", metavar="BYTES", type=bytes_of, default=LARGEST, help=f"the largest result ({LARGEST:,})")
     add("definition", metavar="DEFINITION", help="the file of the definition, or -")
     add("result", metavar="RESULT", help="the new directory, archive or image, or -")

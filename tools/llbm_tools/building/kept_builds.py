@@ -19,7 +19,7 @@ from llbm_tools.streams import Failed, Refused, write_and_rename
 from llbm_tools.trees.kept_sources import Kept, Part, Stored, bytes_of
 
 BEGIN = b"llbm-build kept "
-FORM = BEGIN + b"2\n"
+FORM = BEGIN + b"3\n"
 PARTS = 8
 PIECE = 1 << 20
 
@@ -53,8 +53,8 @@ class File(NamedTuple):
 
 class Build(NamedTuple):
     """What is kept of a build: what it was asked for, when it began to read, its sources, the state and the text of its
-    result, how many bytes its contents have, whether the text has tokens, and the digests of the contents that are no
-    files of a directory, by their tokens.
+    result, its definition, how many bytes the result's contents have, whether the text has tokens, and the digests of
+    the contents that are no files of a directory, by their tokens.
     """
 
     asked: dict[str, object]
@@ -62,6 +62,7 @@ class Build(NamedTuple):
     sources: list[Kept | File]
     result: State | None
     text: Part
+    definition: Part
     bytes: int
     has_tokens: bool
     others: dict[int, str]
@@ -94,11 +95,12 @@ def build_in(file: BinaryIO) -> Build | None:
             return None
         sources.append(Kept(one["mode"], one["latest"], parts))
     text = Stored(file, place, head["text"])
-    if place + head["text"] != os.fstat(file.fileno()).st_size:
+    definition = Stored(file, place + head["text"], head["definition"])
+    if definition.start + definition.length != os.fstat(file.fileno()).st_size:
         return None
     others = {int(number): digest for number, digest in head["others"].items()}
     size, has_tokens = head["bytes"], head["tokens"]
-    return Build(head["asked"], head["began"], sources, head["result"], text, size, has_tokens, others)
+    return Build(head["asked"], head["began"], sources, head["result"], text, definition, size, has_tokens, others)
 
 
 def head_of(build: Build, parts: list[list[bytes]]) -> bytes:
@@ -109,12 +111,12 @@ def head_of(build: Build, parts: list[list[bytes]]) -> bytes:
         if isinstance(one, File):
             sources.append({"state": one.state, "digest": one.digest})
         else:
-            lengths = [len(part) for part in next(given)]
-            sources.append({"mode": one.mode, "latest": one.latest, "parts": lengths})
+            sizes = [len(part) for part in next(given)]
+            sources.append({"mode": one.mode, "latest": one.latest, "parts": sizes})
     head = {"asked": build.asked, "began": build.began, "sources": sources, "result": build.result}
-    text = {"text": len(bytes_of(build.text)), "bytes": build.bytes}
-    rest = {"tokens": build.has_tokens, "others": build.others}
-    return json.dumps({**head, **text, **rest}).encode() + b"\n"
+    lengths = {name: len(bytes_of(part)) for name, part in (("text", build.text), ("definition", build.definition))}
+    rest = {"bytes": build.bytes, "tokens": build.has_tokens, "others": build.others}
+    return json.dumps({**head, **lengths, **rest}).encode() + b"\n"
 
 
 def pieces_of(build: Build) -> Iterator[bytes]:
@@ -123,7 +125,7 @@ def pieces_of(build: Build) -> Iterator[bytes]:
     yield FORM + head_of(build, parts)
     for part in parts:
         yield from part
-    yield bytes_of(build.text)
+    yield from (bytes_of(build.text), bytes_of(build.definition))
 
 
 def is_replaceable(place: str) -> bool:

@@ -236,8 +236,8 @@ class Build:
         checked = Checked(Copier(self.table()).size, self.options.largest)
         checked.read(io.BytesIO(data))
         others = other_digests(self.given.table) if self.has_tokens else {}
-        memory, size = self.memory, checked.bytes
-        return LastBuild(memory.asked, memory.began, sources, None, data, size, self.has_tokens, others)
+        memory, definition, size = self.memory, self.request.data, checked.bytes
+        return LastBuild(memory.asked, memory.began, sources, None, data, definition, size, self.has_tokens, others)
 
     def whole(self) -> None:
         """Does the whole build."""

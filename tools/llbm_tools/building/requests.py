@@ -73,6 +73,8 @@ class Request:
     def check(self) -> None:
         """Refuses at the start what would make the build fail at its end, and reads the definition."""
         inputs.check_inputs(*self.places())
+        if self.is_output and self.options.json:
+            raise Refused("--json needs a RESULT that is not standard output")
         self.check_keep()
         if self.is_output:
             check_open(sys.stdout, "standard output")
@@ -163,7 +165,7 @@ class Request:
     def asked(self) -> dict[str, object]:
         """Returns all that the result depends on, besides the trees of the sources."""
         program = shutil.which(program_place(self.options.llbm))
-        others = ("source", "keep", "replace", "llbm")
+        others = ("source", "keep", "replace", "llbm", "json")
         options = {name: value for name, value in vars(self.options).items() if name not in others}
         sources = [[source.name, source.shown, os.path.abspath(source.place)] for source in self.sources]
         return {

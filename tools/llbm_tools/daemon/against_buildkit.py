@@ -2,12 +2,12 @@
 
 In: a daemon at --address ADDRESS, and `buildctl` (--buildctl PROGRAM, else the one on PATH); this program writes the
 files of sources with their owners, so it runs as root, as the daemon does. With --start it builds the daemon and
-buildctl from Debian's packages in the cache folder, or --packages FOLDER, and runs the daemon, with a state of its own,
-until it ends. llbmd is --llbmd PROGRAM, or out/llbmd, with `llbm-rules` and `dockerfile-frontend` beside it, as
+buildctl from Debian's packages in the cache folder, or --packages FOLDER, and runs the daemon, with a state of its
+own, until it ends. llbmd is --llbmd PROGRAM, or out/llbmd, with `llbm-rules` and `dockerfile-frontend` beside it, as
 `tools/daemon --clients` leaves them; it runs --llbm PROGRAM, or that of the repository. The definitions are those of
 examples/, the least examples of the rules, and --count N random ones of each kind (plain, wild, of many layers, with
-filters); then there are Dockerfiles as projects have them and N random ones, without RUN. They depend only on --seed.
-Definitions that BuildKit's daemon dies of are left out.
+filters, with symbolic links and patterns); then there are Dockerfiles as projects have them and N random ones, without
+RUN. They depend only on --seed. Definitions that BuildKit's daemon dies of are left out.
 
 Each is built by both daemons on the same trees, with the owner 0:0, as BuildKit's client sends them. A result is a tree
 without its root, or a failure.
@@ -80,6 +80,7 @@ class Case(NamedTuple):
     data: bytes
     sources: dict[str, Tree]
     is_dockerfile: bool = False
+    is_modelled: bool = True
 
 
 class Verdict(NamedTuple):
@@ -125,12 +126,13 @@ def project_cases() -> Iterator[Case]:
 
 
 def random_cases(count: int, seed: int, llbm: str) -> Iterator[Case]:
-    """Yields random definitions of each kind that the program accepts, and random Dockerfiles."""
+    """Yields random definitions of each kind that the program, or the daemon, accepts, and random Dockerfiles."""
     for number, kind in itertools.product(range(count), random_definitions.KINDS):
         name = f"{kind} {seed} {number}"
         one = random_definitions.make(name, kind)
-        if not findings_of(one.data, llbm):
-            yield Case(name, one.data, one.sources)
+        is_linked = kind == random_definitions.LINKS
+        if is_linked or not findings_of(one.data, llbm):
+            yield Case(name, one.data, one.sources, is_modelled=not is_linked)
     for number in range(count):
         name = f"dockerfile {seed} {number}"
         file = random_dockerfiles.make(name)
@@ -163,9 +165,9 @@ class Comparison:
     def dockerfile(self, case: Case) -> Verdict:
         """Builds a Dockerfile by both."""
         there, here = (one.run_dockerfile(case.data, case.sources["context"]) for one in (self.theirs, self.ours))
-        if there.tree is not None and here.tree is None and LINKED in here.said:
-            return Verdict(["Dockerfiles", "Dockerfiles that are refused by a link"], [])
         verdict = self.verdict(case.name, there, here, "Dockerfiles")
+        if is_refused_by_link(there, here):
+            return verdict
         verdict.counts.extend(ended(there, here))
         if lines_of(there.tree) == lines_of(here.tree) or verdict.lines:
             return verdict
@@ -179,7 +181,7 @@ class Comparison:
         sources = {name: without_owners(tree) for name, tree in case.sources.items()}
         there, here = self.theirs.run(case.data, sources), self.ours.run(case.data, sources)
         verdict = self.verdict(case.name, there, here, "definitions")
-        if not NOT_MODELLED & {one.name for one in found}:
+        if case.is_modelled and not NOT_MODELLED & {one.name for one in found}:
             verdict.counts.append("definitions of the model")
             if modelled(case.data, sources) != lines_of(there.tree):
                 verdict.counts.append("definitions otherwise than the model")
@@ -192,6 +194,8 @@ class Comparison:
 
     def verdict(self, name: str, there: Ran, here: Ran, what: str) -> Verdict:
         """Returns how a build ended on both."""
+        if is_refused_by_link(there, here):
+            return Verdict([what, f"{what} that are refused by a link"], [])
         counts, lines = [what], []
         is_same, is_warned = lines_of(there.tree) == lines_of(here.tree), bool(self.named(here))
         if is_same and is_warned:
@@ -203,6 +207,11 @@ class Comparison:
             said = there.said or here.said or "another tree"
             lines.append(f"{name}: ends otherwise without a warning: {said}")
         return Verdict(counts, lines)
+
+
+def is_refused_by_link(there: Ran, here: Ran) -> bool:
+    """Returns whether llbmd refuses, by a symbolic link, what BuildKit builds."""
+    return there.tree is not None and here.tree is None and LINKED in here.said
 
 
 def ended(there: Ran, here: Ran) -> list[str]:

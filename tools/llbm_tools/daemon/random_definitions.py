@@ -1,19 +1,21 @@
 """Makes definitions at random that BuildKit and llbm may take differently, with the trees of their sources.
 
 The kinds: plain ones; wild ones, with odd names, modes, owners and numbers; those of many layers, with removals, merges
-of merges and several outputs; and plain ones with filters of their sources.
+of merges and several outputs; plain ones with filters of their sources; and those with symbolic links in their sources,
+and with copies that have patterns, which llbm takes only as the daemon rewrites them.
 """
 
 import posixpath
 import random
 from typing import NamedTuple
 
+from llbm_tools.daemon.runs import link_to
 from llbm_tools.llb import messages
 from llbm_tools.llb.messages import Message, made
 from llbm_tools.trees.maps import Entry, Path, Tree
 
-PLAIN, WILD, LAYERS, FILTERS = "plain", "wild", "layers", "filters"
-KINDS = (PLAIN, WILD, LAYERS, FILTERS)
+PLAIN, WILD, LAYERS, FILTERS, LINKS = "plain", "wild", "layers", "filters", "links"
+KINDS = (PLAIN, WILD, LAYERS, FILTERS, LINKS)
 NAMES = ["a", "b", "c", "d"]
 ODD_NAMES = ["a", "b", "ab", "f*", "a]", "\\a", "é", "€", "a b", ".h", "-x"]
 MODES = [0o644, 0o755, 0o700, 0o604]
@@ -22,6 +24,10 @@ GIVEN_MODES = [0o644, 0o755, 0o600, 0o777]
 ODD_GIVEN_MODES = [*GIVEN_MODES, 0, 0o1777, 0o4755, 0o2755, -1, -2, 0o10644, 0o177777]
 OWNERS = [0, 7, 1000]
 ODD_OWNERS = [0, 7, 1000, 4294967294, 4294967295]
+TARGETS = ["a", "b", "../a", "/a", "..", ".", "/", "a/b", "/b/c", "missing", "../../b", "/n"]
+# Fields of a copy that llbm has not: what patterns include, and what they exclude.
+COPY_PATTERNS = (12, 13)
+CHOSEN = ["a", "b", "*", "**", "a*", "*/b", "**/c", "[ab]", "!a", "b/**", "[a", "?"]
 PATTERNS = ["*", "?", "a*", "*b", "[a-c]", "[^a]"]
 ODD_PATTERNS = [
     *PATTERNS, "\\a", "\\*", "[a", "[]", "a\\", "[^b][^b]b", "*??", "[]-a]", "[\\]]", "f\\*", "*[^a]*", "d[/]a"
@@ -76,6 +82,8 @@ class Maker:
                 continue
             content = None if self.chance(0.5) and len(path) < 3 else self.content().hex().encode()
             tree[path] = Entry(self.random.choice(modes), *self.owner_of_entry(), content)
+            if self.kind == LINKS and content is not None and self.chance(0.4):
+                tree[path] = link_to(self.random.choice(TARGETS))
             if content is None:
                 below.append(path)
         return tree
@@ -152,9 +160,18 @@ class Maker:
             src += self.random.choice(["/", "/."])
         return "copy", made(
             "FileActionCopy", src=src, dest=self.dest(), owner=self.owner(), allowWildcard=wild,
-            mode=self.mode() if self.chance(0.3) else -1, timestamp=self.timestamp(), followSymlink=self.chance(0.2),
-            dirCopyContents=self.chance(0.4), createDestPath=self.chance(0.6), allowEmptyWildcard=self.chance(0.4),
-        )  # fmt: skip
+            mode=self.mode() if self.chance(0.3) else -1, timestamp=self.timestamp(),
+            followSymlink=self.chance(0.5 if self.kind == LINKS else 0.2), dirCopyContents=self.chance(0.4),
+            createDestPath=self.chance(0.6), allowEmptyWildcard=self.chance(0.4),
+        ) + self.copy_patterns()  # fmt: skip
+
+    def copy_patterns(self) -> Message:
+        """Returns fields of a copy with patterns, or none."""
+        if self.kind != LINKS or self.chance(0.7):
+            return []
+        count = [self.random.randrange(3) for _ in COPY_PATTERNS]
+        fields = [field for field, times in zip(COPY_PATTERNS, count) for _ in range(times)]
+        return [(field, self.random.choice(CHOSEN).encode()) for field in fields]
 
     def mkfile(self) -> tuple[str, Message]:
         """Returns an mkfile."""

@@ -9,6 +9,7 @@ import json
 import random
 from typing import NamedTuple
 
+from llbm_tools.daemon.random_definitions import TARGETS
 from llbm_tools.daemon.runs import link_to
 from llbm_tools.trees.maps import Entry, Path, Tree
 
@@ -23,7 +24,6 @@ DESTS = [
 ]  # fmt: skip
 ROOTS = [".", "./", "/", "*", "./*", "../"]
 OWNERS = ["7:8", "7", "0:0", "0", "1000:1000", "7:0", "app", "app:staff", "nobody", "7:staff"]
-TARGETS = ["a", "b", "../a", "/a", "..", ".", "/", "a/b", "/b/c", "missing", "../../b", "/n"]
 ACCOUNTS = {"/etc/passwd": "root:x:0:0::/:\napp:x:1000:1001::/:", "/etc/group": "root:x:0:\nstaff:x:50:"}
 GIVEN_MODES = ["0644", "755", "0700", "600", "4755", "1777", "0"]
 DIRECTORIES = ["/w", "/n/m", "sub", "/a", "..", "./x/../y", "/", "/b/"]

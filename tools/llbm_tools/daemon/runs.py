@@ -32,16 +32,16 @@ MOMENTS = itertools.count(time.time_ns() | 1, 2)
 
 
 class DaemonLost(Exception):
-    """The daemon does not answer; the message is the last line that buildctl printed."""
+    """The daemon does not answer; the message is the error that buildctl printed."""
 
 
 class DaemonBusy(Exception):
-    """The daemon or its client did not wait for the other; the message is the last line that buildctl printed."""
+    """The daemon or its client did not wait for the other; the message is the error that buildctl printed."""
 
 
 class Ran(NamedTuple):
-    """How a build ended: its tree, or None and the last line that buildctl printed, and the names at the ends of
-    warnings, among them those of rules."""
+    """How a build ended: its tree, or None and the error that buildctl printed, and the names at the ends of warnings,
+    among them those of rules."""
 
     tree: Tree | None
     said: str = ""
@@ -103,6 +103,13 @@ def names_in(text: str) -> frozenset[str]:
     return frozenset(name for names in WARNED.findall(text) for name in names.split(", "))
 
 
+def said_in(text: str) -> str:
+    """Returns the error that buildctl printed last, with the line of advice that may follow, or else its last line."""
+    lines = text.strip().splitlines()
+    start = max((place for place, line in enumerate(lines) if line.startswith("error: ")), default=len(lines) - 1)
+    return "; ".join(lines[max(start, 0) :])
+
+
 class Daemon:
     """A daemon at an address; each build has the options of `words`."""
 
@@ -158,12 +165,12 @@ class Daemon:
         text = done.stderr.decode("utf-8", "replace")
         if done.returncode == 0:
             return Ran(tree_in(archive), "", names_in(text))
-        last = text.strip().splitlines()[-1:]
-        if any(word in "".join(last) for word in LOST) and not self.answers():
-            raise DaemonLost("".join(last))
-        if any(word in "".join(last) for word in BUSY):
-            raise DaemonBusy("".join(last))
-        return Ran(None, "".join(last), names_in(text))
+        said = said_in(text)
+        if any(word in said for word in LOST) and not self.answers():
+            raise DaemonLost(said)
+        if any(word in said for word in BUSY):
+            raise DaemonBusy(said)
+        return Ran(None, said, names_in(text))
 
 
 def local_words(places: dict[str, str]) -> list[str]:

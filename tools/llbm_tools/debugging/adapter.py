@@ -7,14 +7,14 @@ waiting, so that the run can be paused between any two events.
 import functools
 from collections.abc import Callable
 
-from llbm_tools.debugging import console, launching
+from llbm_tools.debugging import completing, console, launching
 from llbm_tools.debugging.arguments import Object, argument
-from llbm_tools.debugging.breaking import Breaking
 from llbm_tools.debugging.capabilities import CAPABILITIES, FAILED
 from llbm_tools.debugging.holding import Held
 from llbm_tools.debugging.inspecting import Inspecting
 from llbm_tools.debugging.moving import Ended, Motion, Mover, Stop
 from llbm_tools.debugging.views import Views
+from llbm_tools.debugging.watching import Watching
 from llbm_tools.debugging.wire import Writer
 from llbm_tools.sessions.session import Event, Refusal, SessionFailed
 from llbm_tools.streams import Refused
@@ -31,14 +31,13 @@ WHY_NOT = {
 READY = (LAUNCHED, STOPPED, RUNNING)
 
 
-class Adapter(Inspecting, Breaking):
+class Adapter(Inspecting, Watching):
     """A debug adapter, from its first request to its last."""
 
     def __init__(self, writer: Writer) -> None:
         super().__init__(writer)
         self.state = NEW
         self.then: list[Callable[[], None]] = []
-        self.given: Object = {}
         self.stops_on_entry = self.stops_at_end = False
         self.stopped_at_end: int | None = None
         self.left = False
@@ -296,11 +295,19 @@ class Adapter(Inspecting, Breaking):
         self.go_back(arguments, self.mover.backwards)
 
     def evaluate_or_do(self, arguments: Object) -> Object:
-        """Evaluates an expression; in the console it may be a command of a session that adds an event."""
+        """Evaluates an expression; in the console it may be a command that adds an event, or one that is tried."""
         command = argument(arguments, "expression", str).strip()
-        if argument(arguments, "context", str, "") == "repl" and console.EVENT.fullmatch(command):
-            return self.do(command)
+        if argument(arguments, "context", str, "") == "repl":
+            if console.EVENT.fullmatch(command):
+                return self.do(command)
+            if command.split(" ")[0] == console.TRY:
+                return self.try_commands(arguments, command.removeprefix(console.TRY).strip())
         return self.evaluate(arguments)
+
+    def completions(self, arguments: Object) -> Object:
+        """Returns what can follow what was typed at the console."""
+        text, column = argument(arguments, "text", str), argument(arguments, "column", int)
+        return {"targets": completing.targets_of(self.views, text[: max(0, column - self.column(1))])}
 
     def do(self, command: str) -> Object:
         """Does a command that adds an event, and stops the run after it."""
@@ -327,6 +334,10 @@ REQUESTS: dict[str, tuple[Handler, tuple[str, ...]]] = {
     "setBreakpoints": (Adapter.set_breakpoints, READY),
     "setFunctionBreakpoints": (Adapter.set_function_breakpoints, READY),
     "setExceptionBreakpoints": (Adapter.set_exception_breakpoints, READY),
+    "breakpointLocations": (Adapter.breakpoint_locations, READY),
+    "dataBreakpointInfo": (Adapter.data_breakpoint_info, (STOPPED,)),
+    "setDataBreakpoints": (Adapter.set_data_breakpoints, READY),
+    "completions": (Adapter.completions, (STOPPED,)),
     "exceptionInfo": (Adapter.exception_info, (STOPPED,)),
     "continue": (Adapter.continue_run, (STOPPED,)),
     "next": (Adapter.step_over, (STOPPED,)),

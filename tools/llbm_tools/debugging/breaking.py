@@ -5,10 +5,11 @@ import re
 from llbm_tools.debugging import launching
 from llbm_tools.debugging.arguments import Object, argument, of_kind
 from llbm_tools.debugging.breakpoints import (
-    Breakpoint, NoBreakpoint, Wanted, made, vertices_at_line, vertices_named, vertices_of_rows, wanted_of,
+    Breakpoint, NoBreakpoint, Wanted, made, step_at, vertices_at_line, vertices_named, vertices_of_rows, wanted_of,
 )
 from llbm_tools.debugging.capabilities import FAILED
 from llbm_tools.debugging.holding import Holding
+from llbm_tools.debugging.positions import Span, spans_of
 from llbm_tools.debugging.wire import Writer
 from llbm_tools.sessions.session import Event, Refusal
 from llbm_tools.streams import Refused
@@ -74,7 +75,8 @@ class Breaking(Holding):
         if name != FUNCTIONS:
             answer |= {"line": wanted.place, "source": self.source_named(name)}
         try:
-            one = made(wanted, self.vertices(name, wanted))
+            vertices = self.vertices(name, wanted)
+            one = made(wanted, vertices, self.step(name, wanted, vertices))
         except NoBreakpoint as cause:
             return {**answer, "message": str(cause)}
         found.append(one)
@@ -106,6 +108,28 @@ class Breaking(Holding):
         if name == ENTRIES:
             return vertices_at_line(graph, line)
         return vertices_of_rows(graph, origins.rows_at(self.file_named(name), line))
+
+    def step(self, name: str, wanted: Wanted, vertices: list[int]) -> int:
+        """Returns the micro-step on the line of a breakpoint in the text of the entries; 0 elsewhere."""
+        if name != ENTRIES or isinstance(wanted.place, str):
+            return 0
+        column = wanted.column + 1 - self.column(1) if wanted.column else 0
+        return step_at(self.launched.graph, vertices[0], wanted.place + 1 - self.line(1), column)
+
+    def breakpoint_locations(self, arguments: Object) -> Object:
+        """Returns the places of a line of the text of the entries at which a run can stop: entries and micro-steps."""
+        graph, line = self.launched.graph, argument(arguments, "line", int) + 1 - self.line(1)
+        if not self.is_text(argument(arguments, "source", dict)) or graph.entry_at(line) is None:
+            return {"breakpoints": []}
+        vertex = graph.vertex_of[graph.entry_at(line) or 0]
+        spans = spans_of(graph, graph.vertices[vertex]) if vertex is not None else []
+        found = [span for span in spans if span.first == line] or ([Span(line, line)] if vertex is not None else [])
+        return {"breakpoints": [self.location(span) for span in found]}
+
+    def location(self, span: Span) -> Object:
+        """Returns a place of the text as a location of a breakpoint."""
+        ends = {"endColumn": self.column(span.end_column)} if span.end_column else {}
+        return {"line": self.line(span.first), "column": self.column(span.column), **ends}
 
     def set_exception_breakpoints(self, arguments: Object) -> None:
         """Sets whether the run stops after a vertex that fails."""

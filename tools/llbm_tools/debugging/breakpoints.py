@@ -1,19 +1,21 @@
 """Breakpoints: where they are, at which events they are met, and at which hits they stop.
 
 A breakpoint is on a line of the text of the entries, on a line of a file that the definition was made from, or on a
-function: a vertex by its name, its digest, its number, or the label of its entry.
+function: a vertex by its name, its digest, its number, or the label of its entry. One on a line of an action, of an
+input of a merge or of a command stops where that comes next.
 """
 
 import re
 from collections.abc import Callable
 from typing import NamedTuple
 
+from llbm_tools.debugging import conditions, positions
 from llbm_tools.debugging.arguments import argument, of_kind
 from llbm_tools.debugging.places import Graph
 from llbm_tools.llb import definition
+from llbm_tools.sessions.session import Event
 
-CLAIM, SETTLE = "claim", "settle"
-CONDITIONS = ("", CLAIM, SETTLE)
+CLAIM, STEP, SETTLE = "claim", "step", "settle"
 SHORTEST_DIGEST = 8
 
 HITS = re.compile(r"\s*(==|=|>=|>|<=|<|%|)\s*([0-9]{1,9})\s*")
@@ -24,9 +26,10 @@ Condition = Callable[[int], bool]
 
 
 class Breakpoint(NamedTuple):
-    """A breakpoint: its number, the vertices and the kind of the events that meet it, and at which hits it stops.
+    """A breakpoint: its number, the vertices of the events that meet it, what these are, and at which hits it stops.
 
-    One with a message does not stop: the message is printed.
+    They are claims, settles, or the events after which the micro-step of a number is next; or those for which a
+    condition holds. A breakpoint with a message does not stop: the message is printed.
     """
 
     number: int
@@ -34,17 +37,31 @@ class Breakpoint(NamedTuple):
     kind: str
     stops: Condition
     message: str = ""
+    step: int = 0
+    holds: conditions.Condition | None = None
 
-    def meets(self, kind: str, vertex: int) -> bool:
-        """Returns whether an event of this kind and vertex meets the breakpoint."""
-        return kind == self.kind and vertex in self.vertices
+    def meets(self, event: Event, number: int) -> bool:
+        """Returns whether an event, which has a number in the record, meets the breakpoint."""
+        if event.vertex not in self.vertices:
+            return False
+        if self.holds:
+            return self.holds(event, number)
+        if self.kind != STEP:
+            return event.kind == self.kind
+        return event.kind == STEP and not event.reply.startswith("fault ") and steps_after(event) == self.step
+
+
+def steps_after(event: Event) -> int:
+    """Returns how many micro-steps of its vertex are done after a micro-step."""
+    return event.before.steps + 1 if event.before else 1
 
 
 class Wanted(NamedTuple):
-    """A breakpoint that a client asks for, with its number, its place, and its conditions as texts."""
+    """A breakpoint that a client asks for, with its number, its place, its column, and its conditions as texts."""
 
     number: int
     place: int | str
+    column: int
     condition: str
     hits: str
     message: str
@@ -79,15 +96,30 @@ def wanted_of(given: object, number: int, kind: type[int] | type[str], name: str
     one = of_kind(given, "a breakpoint", dict)
     place: int | str = argument(one, name, int) if kind is int else argument(one, name, str)
     texts = [argument(one, text, str, "") for text in ("condition", "hitCondition", "logMessage")]
-    return Wanted(number, place, texts[0].strip(), texts[1], texts[2])
+    return Wanted(number, place, argument(one, "column", int, 0), texts[0].strip(), texts[1], texts[2])
 
 
-def made(wanted: Wanted, vertices: list[int]) -> Breakpoint:
-    """Returns the breakpoint on these vertices."""
-    if wanted.condition not in CONDITIONS:
-        raise NoBreakpoint("the condition is neither claim nor settle")
-    stops = condition_of(wanted.hits)
-    return Breakpoint(wanted.number, frozenset(vertices), wanted.condition or CLAIM, stops, wanted.message)
+def made(wanted: Wanted, vertices: list[int], step: int = 0) -> Breakpoint:
+    """Returns the breakpoint on these vertices, or where a micro-step of theirs is next."""
+    stops, found = condition_of(wanted.hits), frozenset(vertices)
+    if wanted.condition not in ("", CLAIM, SETTLE):
+        try:
+            holds = conditions.condition_in(wanted.condition)
+        except conditions.NoCondition as cause:
+            raise NoBreakpoint(f"{cause}, or it is claim or settle") from cause
+        return Breakpoint(wanted.number, found, "", stops, wanted.message, holds=holds)
+    kind = wanted.condition or (STEP if step else CLAIM)
+    return Breakpoint(wanted.number, found, kind, stops, wanted.message, step)
+
+
+def step_at(graph: Graph, vertex: int, line: int, column: int) -> int:
+    """Returns the micro-step of a vertex on a line, and in a column if that is not 0; 0 if it has none there."""
+    known = graph.vertices[vertex]
+    for step, span in enumerate(positions.spans_of(graph, known)):
+        is_in = not column or not span.end_column or span.column <= column < span.end_column
+        if (span.first, span.last) != (known.first, known.last) and span.first <= line <= span.last and is_in:
+            return step
+    return 0
 
 
 def vertex_of(graph: Graph, entry: int) -> int:

@@ -6,6 +6,7 @@ from llbm_tools.sessions.session import Session
 
 MOST_LINES = 1_000
 
+TRY = "try"
 EVENT = re.compile("claim [0-9]{1,9} [0-9]{1,9}|(?:step|settle|cancel) [0-9]{1,9}")
 LOOK = re.compile(
     "tree [0-9]{1,9} [0-9]{1,9}|work [0-9]{1,9}(?: [0-9]{1,9})?|caches|cache [0-9]{1,9} [0-9]{1,9}|"
@@ -33,7 +34,9 @@ Commands that add an event; the run stops after it:
   claim W V         worker W takes vertex V
   step W            worker W does its next micro-step
   settle W          worker W ends what it runs
-  cancel W          worker W gives up what it runs"""
+  cancel W          worker W gives up what it runs
+A command that changes nothing of the run:
+  try COMMAND       what COMMAND would do to the trees where the run is, as `try cp /a /b && rm /a`"""
 
 
 def looked(session: Session, command: str) -> str | None:

@@ -1,20 +1,23 @@
 """Lets an editor step through the run of a definition, by the Debug Adapter Protocol over `llbm step`.
 
-In: requests on standard input, each a JSON object after a header with its Content-Length. A launch names the
-`definition` (a file), or the `text` of its entries (a file with what `llbm dis` prints, or any text that `llbm asm`
-accepts), or both; `sources`, an object with a directory, a tar (both with owner 0:0) or a tree text for each local
-source by its name; `files`, an object with the paths of files that the definition was made from, by their names there;
-`workers`, 2 by default; `stopOnEntry`, to stop before the first event; `stopAtEnd`, to stop after the last one, true by
-default; and `llbm`, the program, else $LLBM, else that of the installation or the repository, else the one on PATH; one
-that is not proved, and that nobody named, is named on standard error.
+In: requests on standard input, each a JSON object after a header with its Content-Length. A launch names a `build` (a
+folder that llbmd keeps, of which the newest build is taken, or one of its builds); or else the `definition` (a file),
+or the `text` of its entries (a file with what `llbm dis` prints, or any text that `llbm asm` accepts), or both, with
+`sources`, an object with a directory, a tar (both with owner 0:0) or a tree text for each local source by its name;
+`files`, an object with the paths of files that the definition was made from, by their names there; `workers`, 2 by
+default; `stopOnEntry`, to stop before the first event; `stopAtEnd`, to stop after the last one, true by default; and
+`llbm`, the program, else $LLBM, else that of the installation or the repository, else the one on PATH; one that is not
+proved, and that nobody named, is named on standard error.
 
 Out: responses and events on standard output. Threads are the workers of the run; the source is the text of the entries,
 where a vertex is at the lines of its entry, and beside it the files that the definition was made from. A breakpoint on
-a line, or on a vertex by its name, stops after the claim of the vertex, with the condition `settle` after its settle;
-the exception filter `failed` stops after the settle of a vertex that failed. Scopes show the trees that a worker works
-on, caches, and what the last event changed. Each line of the record is an output event. A request that can't be granted
-gets a failure response with the cause in one line. When the run is over, or the client leaves, `exited` (with 1 if a
-vertex failed, else 0) and `terminated` are sent.
+a line of an action, an input or a command stops where that comes next; one elsewhere in an entry, or on a vertex by its
+name, after the claim of the vertex, with the condition `settle` after its settle, and with another condition after each
+event of it for which that holds. A data breakpoint stops where a path changes, and the exception filter `failed` after
+the settle of a vertex that failed. Scopes show the trees that a worker works on, caches, and what the last event
+changed. Each line of the record is an output event. A request that can't be granted gets a failure response with the
+cause in one line. When the run is over, or the client leaves, `exited` (with 1 if a vertex failed, else 0) and
+`terminated` are sent.
 
 Exit status: 0 the client has left, by `disconnect` or at the end of the input; 2 the input is not a message, or the
 command line is refused: standard error says why; 3 a read or a write failed; 130 or 143 interrupted or terminated.

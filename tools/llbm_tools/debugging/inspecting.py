@@ -26,11 +26,11 @@ class Inspecting(Holding):
         return {"threads": threads}
 
     def stack_trace(self, arguments: Object) -> Object:
-        """Returns the frames of a worker: the vertex that it runs, or has just settled, and where that comes from."""
+        """Returns the frames of a worker: where the vertex that it runs, or settled last, comes from, and its op."""
         worker = self.worker(arguments)
         first, most = argument(arguments, "startFrame", int, 0), argument(arguments, "levels", int, 0)
         vertex = self.views.vertex_of(worker)
-        frames = [] if vertex is None else [self.frame(worker, vertex), *self.file_frames(worker, vertex)]
+        frames = [] if vertex is None else [*self.file_frames(worker, vertex), self.frame(worker, vertex)]
         return {"stackFrames": frames[max(first, 0) :][: most if most > 0 else None], "totalFrames": len(frames)}
 
     def frame(self, worker: int, vertex: int) -> Object:

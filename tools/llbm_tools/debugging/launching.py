@@ -13,6 +13,7 @@ import shutil
 import subprocess
 import tempfile
 from collections.abc import Callable
+from concurrent.futures import ThreadPoolExecutor
 from typing import BinaryIO, NamedTuple
 
 from llbm_tools.common import program_named, shortened, tool_named
@@ -25,13 +26,16 @@ from llbm_tools.inputs import data_at, is_standard_input, opened_file
 from llbm_tools.llb import definition, given_definitions, names, no_definition, source_names
 from llbm_tools.llb.wire import Unreadable
 from llbm_tools.os_errors import os_error_text
+from llbm_tools.sessions import builds
 from llbm_tools.sessions.session import Refusal, Session, SessionFailed
 from llbm_tools.sessions.shows import Show
 from llbm_tools.streams import Refused, why_not
 from llbm_tools.trees.source_files import source_words
 from llbm_tools.trees.trees import checked_at
 
-ARGUMENTS = ("definition", "text", "sources", "files", "workers", "stopOnEntry", "stopAtEnd", "noDebug", "llbm")
+ARGUMENTS = (
+    "build", "definition", "text", "sources", "files", "workers", "stopOnEntry", "stopAtEnd", "noDebug", "llbm",
+)
 EDITOR_ARGUMENTS = (
     "type", "request", "name", "presentation", "preLaunchTask", "postDebugTask", "internalConsoleOptions",
     "debugServer", "serverReadyAction", "suppressMultipleSessionWarning", "linux", "osx", "windows", "restart",
@@ -136,18 +140,34 @@ def definition_of(program: str, arguments: Object) -> tuple[bytes, bytes | None]
     return data, text
 
 
-def text_of(program: str, data: bytes, text: bytes | None, entries: list[bytes]) -> places.Text:
+def text_of(printed: bytes, is_given: bool, entries: list[bytes]) -> places.Text:
     """Returns the text of the entries with their lines: the one that is given, or that of the program, readable."""
-    if text is None:
-        return readable(output_of(program, "dis", data).decode("utf-8"), entries)
-    given = text.decode("utf-8")
-    return places.Text(given, places.lines_of(given))
+    text = printed.decode("utf-8")
+    return places.Text(text, places.lines_of(text)) if is_given else readable(text, entries)
 
 
 def sources_of(arguments: Object) -> dict[str, str]:
     """Returns the paths of local sources by name."""
     given: Object = argument(arguments, "sources", dict, {})
     return {name: of_kind(path, f"sources: {name}", str) for name, path in given.items()}
+
+
+def of_build(arguments: Object, say: Say) -> Object:
+    """Returns the arguments of a launch with the definition and the trees of the build that it names, if it does."""
+    place = argument(arguments, "build", str, "")
+    if not place:
+        return arguments
+    for name in ("definition", "text", "sources"):
+        if name in arguments:
+            raise Refused(f"build and {name} can't be given together")
+    build = builds.last_build(os.path.abspath(place))
+    kind = "text" if build.definition.endswith(".text") else "definition"
+    found = {name: build.place(file) for name, file in build.trees.items()}
+    given = {name: str(tree) for name, tree in found.items() if tree}
+    why = build.text(builds.ERROR).strip()
+    say(f"the build {build.name}" + (f", which failed: {why}" if why else ""))
+    rest = {name: value for name, value in arguments.items() if name != "build"}
+    return {**rest, kind: str(build.place(build.definition)), "sources": given}
 
 
 def workers_of(arguments: Object) -> int:
@@ -201,14 +221,20 @@ def missing_sources(cause: str, data: bytes, given: list[str]) -> list[str]:
     return source_names.missing_notes(data, given) if cause.startswith(UNNAMED) else []
 
 
-def start(arguments: Object, folder: str, say: Say, program_argument: str) -> Launched:
-    """Starts what a launch request asks for, with temporary files in a folder."""
-    program, workers, given = program_of(arguments, program_argument), workers_of(arguments), files_of(arguments)
-    data, text = definition_of(program, arguments)
-    entries = entries_of(data, argument(arguments, "definition", str, "") or "the definition")
-    named_entries = faults.Entries(data, lambda: program)
-    shown = text_of(program, data, text, entries)
-    sources = sources_of(arguments)
+class Begun(NamedTuple):
+    """A session that has begun: its graph, the digests of the vertices, and the words of its sources."""
+
+    session: Session
+    show: Show
+    digests: list[str]
+    words: list[str]
+
+
+def begun(
+    arguments: Object, program: str, data: bytes, named_entries: faults.Entries, folder: str, say: Say
+) -> Begun:
+    """Starts the session of a launch, with temporary files in a folder."""
+    workers, sources = workers_of(arguments), sources_of(arguments)
     words, given_names = source_words(sources, folder, say), list(sources)
     for note in source_names.word_notes(data, given_names):
         say(note)
@@ -216,21 +242,34 @@ def start(arguments: Object, folder: str, say: Say, program_argument: str) -> La
     pathlib.Path(file).write_bytes(data)
     command = [program, "step", "--looks", "--ends", file, "--workers", str(workers), *words]
     try:
-        session, show, digests = start_session(command, workers, named_entries)
+        return Begun(*start_session(command, workers, named_entries), words)
     except Refused as fault:
         check_texts(str(fault), words)
         raise Refused("; ".join([str(fault), *missing_sources(str(fault), data, given_names)])) from fault
-    try:
-        graph = places.graph_of(show, digests, shown, entries, [one.text for one in names.names_of(data)])
-    except Refused:
-        session.end()
-        raise
+
+
+def start(arguments: Object, folder: str, say: Say, program_argument: str) -> Launched:
+    """Starts what a launch request asks for, with temporary files in a folder.
+
+    The program writes the text of the definition while it also begins the session.
+    """
+    program, _, given = program_of(arguments, program_argument), workers_of(arguments), files_of(arguments)
+    data, text = definition_of(program, arguments)
     path, place = argument(arguments, "definition", str, ""), argument(arguments, "text", str, "")
-    origins = origins_of(data, given, os.path.dirname(os.path.abspath(path or place)))
+    entries, named_entries = entries_of(data, path or "the definition"), faults.Entries(data, lambda: program)
+    with ThreadPoolExecutor(1) as pool:
+        written = pool.submit(output_of, program, "dis", data) if text is None else None
+        session, show, digests, words = begun(arguments, program, data, named_entries, folder, say)
+        try:
+            lines = text_of(written.result() if written else text or b"", text is not None, entries)
+            graph = places.graph_of(show, digests, lines, entries, [one.text for one in names.names_of(data)])
+            origins = origins_of(data, given, os.path.dirname(os.path.abspath(path or place)))
+            named = (word.split("=", 1) for word in words)
+            trees = {source: session.kept.enter_context(open(tree, "rb")) for source, tree in named}
+        except BaseException:
+            session.end()
+            raise
     name, text_file = f"{os.path.basename(path)}.text", os.path.abspath(place) if place else None
-    trees = {}
-    for source, tree in (word.split("=", 1) for word in words):
-        trees[source] = session.kept.enter_context(open(tree, "rb"))
     return Launched(session, graph, named_entries, name, text_file, origins, trees)
 
 
@@ -241,7 +280,7 @@ def launch(arguments: Object, say: Say, program_argument: str = "the argument ll
     """
     try:
         with tempfile.TemporaryDirectory(prefix="llbm-debug-") as folder:
-            return start(arguments, folder, say, program_argument)
+            return start(of_build(arguments, say), folder, say, program_argument)
     except OSError as fault:
         raise Refused(os_error_text(fault)) from fault
     except ValueError as fault:

@@ -49,9 +49,10 @@ class Mover:
 
         The hits are counted over the record, so they are the same forwards and backwards.
         """
-        if not one.meets(event.kind, event.vertex):
+        record = self.session.record
+        if not one.meets(event, len(record)):
             return False
-        return one.stops(sum(one.meets(each.kind, each.vertex) for each in self.session.record))
+        return one.stops(sum(one.meets(each, number) for number, each in enumerate(record, 1)))
 
     def met(self, event: Event) -> Stop | None:
         """Returns the stop after the last event of the record if it fails or hits breakpoints, or None."""

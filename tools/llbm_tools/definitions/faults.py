@@ -4,6 +4,7 @@ It reads the tables of the page: that of all faults, those of names after a numb
 that of failures.
 """
 
+import functools
 import re
 from collections.abc import Callable
 from typing import NamedTuple
@@ -399,9 +400,13 @@ class Entries:
         self.data = data
         self.program = program
         self.entries = definition.entries_of(data)
-        self.shown = [name.shown() for name in names.names_of(data)]
         self.rows: list[int] | None = None
         self.found: list[Finding] | None = None
+
+    @functools.cached_property
+    def shown(self) -> list[str]:
+        """The names of the entries, as they are shown, empty where an entry has none."""
+        return [name.shown() for name in names.names_of(self.data)]
 
     def refused(self, row: int, place: Place) -> list[str]:
         """Returns a line for each finding in the entry of a row; none if a vertex is named, since it was accepted."""

@@ -15,7 +15,9 @@ Out: on standard output a line for the result, and then one for each vertex of N
     result V.I WORD       the result is this output: the word of its vertex, or `other, in OLD V.I` if OLD has a vertex
                           that matches it or has its digest, but another result
     V KIND kept           OLD has a vertex that matches it, and no cache mount is at or before it: its outcome is the
-                          same in both (matched_vertices_end_alike, matched_vertices_settle_alike)
+                          same in both (matched_vertices_end_alike, matched_vertices_settle_alike). So it is if OLD
+                          has a vertex with its digest, and the changed sources before it are only copied from, by file
+                          ops, and have the same in both trees at and below what is copied (reads_end_alike)
     V KIND fed by NAMES   OLD has a vertex with its digest, and these changed sources but no cache mount are at or
                           before it: its outcome can differ, and depends on no other sources (outcome_by_sources)
     V KIND cached         OLD has a vertex that matches it or has its digest, and a cache mount is at or before it: no
@@ -47,10 +49,9 @@ read or a write failed; 130 interrupted.
 import argparse
 import collections
 import io
-import json
 from typing import NamedTuple
 
-from llbm_tools import common, inputs
+from llbm_tools import common, inputs, objects
 from llbm_tools.command_line import Parser
 from llbm_tools.definitions import both_runs, impacts
 from llbm_tools.definitions.impacts import Comparison, Impact, Names, Result
@@ -79,13 +80,14 @@ def check_sources(options: argparse.Namespace, known: Names) -> None:
 def impacts_of(options: argparse.Namespace, comparison: Comparison) -> tuple[list[Impact], Names]:
     """Returns what is known of each vertex of NEW, and which sources have another tree for NEW than for OLD."""
     check_sources(options, comparison.sources())
-    before, after = (
-        {name: tree_digest(place) for name, place in dict(given).items() if name not in options.changed}
+    older, newer = (
+        {name: place for name, place in given if name not in options.changed}
         for given in (options.before, options.after)
     )
+    before, after = ({name: tree_digest(place) for name, place in given.items()} for given in (older, newer))
     differ = {name for name in before.keys() | after.keys() if before.get(name) != after.get(name)}
     changed = frozenset(options.changed) | (differ - comparison.renamed(before, after))
-    return list(comparison.impacts(changed, before, after)), changed
+    return list(comparison.impacts(changed, before, after, (older, newer))), changed
 
 
 def word_of(impact: Impact) -> str:
@@ -141,13 +143,18 @@ def vertex_object(number: int, impact: Impact) -> dict[str, object]:
     return {**about, **why}
 
 
-def json_of(found: list[Impact], gone: list[int], changed: Names, result: Result, laws: dict[str, str]) -> str:
-    """Returns the object of the result and of all vertices, with one line for each."""
-    vertices = ",\n".join(f"    {json.dumps(vertex_object(*one))}" for one in enumerate(found))
-    shown = {"vertex": result.vertex, "output": result.output, "impact": result.word, "old": list(result.old)}
-    rest = {"counts": counts_of(found, laws), "gone": gone, "changed": sorted(changed), "laws": laws}
-    members = ",\n".join(f"  {json.dumps(name)}: {json.dumps(value)}" for name, value in rest.items())
-    return f'{{\n  "result": {json.dumps(shown)},\n  "vertices": [\n{vertices}\n  ],\n{members}\n}}\n'
+def members_of(
+    found: list[Impact], gone: list[int], changed: Names, result: Result, laws: dict[str, str]
+) -> dict[str, object]:
+    """Returns the members of the object of the result and of all vertices."""
+    return {
+        "result": {"vertex": result.vertex, "output": result.output, "impact": result.word, "old": list(result.old)},
+        "vertices": [vertex_object(*one) for one in enumerate(found)],
+        "counts": counts_of(found, laws),
+        "gone": gone,
+        "changed": sorted(changed),
+        "laws": laws,
+    }
 
 
 def compare(options: argparse.Namespace) -> None:
@@ -163,8 +170,11 @@ def compare(options: argparse.Namespace) -> None:
         found, word = both_runs.compared(program, comparison, data, (before, after), found)
         result = result._replace(word=word)
     laws = laws_of(options.run)
-    text = json_of(found, gone, changed, result, laws) if options.json else lines_of(found, gone, result, laws)
-    write_output(io.BytesIO(text.encode("utf-8", "surrogateescape")), "the output")
+    if options.json:
+        objects.write(members_of(found, gone, changed, result, laws))
+        return
+    lines = lines_of(found, gone, result, laws)
+    write_output(io.BytesIO(lines.encode("utf-8", "surrogateescape")), "the output")
 
 
 def source_of(word: str) -> Source:

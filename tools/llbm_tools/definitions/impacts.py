@@ -2,14 +2,18 @@
 
 Both definitions have to be ones that the program accepts. The laws are those of the crate `llb_laws`: vertices that
 do the same on inputs that match have one plain outcome, whatever their digests and the names of sources are, and an
-outcome depends on no other sources than those at or before the vertex. That no two unequal entries have one digest is
-checked here.
+outcome depends on no other sources than those at or before the vertex. Of a source that a file op only copies from, it
+depends only on what is at and below the paths that are copied. That no two unequal entries have one digest is checked
+here.
 """
 
-from collections.abc import Iterable, Iterator
+import collections
+from collections.abc import Iterable, Iterator, Mapping
 from typing import NamedTuple
 
 from llbm_tools import common
+from llbm_tools.definitions import copied_paths
+from llbm_tools.definitions.copied_paths import Agreement, Paths
 from llbm_tools.definitions.matched_vertices import NotAccepted, Words, matches_of, with_names
 from llbm_tools.llb import definition, names, op_reading
 from llbm_tools.llb.findings import findings_of
@@ -24,7 +28,8 @@ OTHER = "other"
 OTHER_RESULT = "OLD's result is an output of another vertex, or another output of this one; no law says anything"
 
 LAWS = {
-    KEPT: "its outcome is that of OLD's vertex that does the same on inputs that match (matched_vertices_end_alike)",
+    KEPT: "its outcome is that of OLD's vertex that does the same on inputs that match (matched_vertices_end_alike), or"
+    " is the same file op, and only copies from changed sources what is the same in both (reads_end_alike)",
     NEW: "OLD has no vertex that matches it or has its digest; no law says anything",
     FED: "its outcome depends on the sources before it alone, and these of them have changed (outcome_by_sources)",
     CACHED: "a cache mount is at or before it; no law says what it leaves in a run",
@@ -35,14 +40,18 @@ BY_RUNS = {
 }
 
 Names = frozenset[str]
+# The places of the trees of sources, for the older and for the newer definition.
+Places = tuple[Mapping[str, str], Mapping[str, str]]
 
 EMPTY: Words = {}
+NO_PLACES: Places = {}, {}
 
 
 class Vertex(NamedTuple):
     """A vertex: its digest, its kind, and its inputs (vertices with outputs).
 
-    `source` is its name if it is a local source, `has_cache` whether it mounts a cache.
+    `source` is its name if it is a local source, `has_cache` whether it mounts a cache. `copied` has for each input the
+    paths at and below which a file op copies from it, or None if the vertex may read all of it.
     """
 
     digest: str
@@ -50,6 +59,7 @@ class Vertex(NamedTuple):
     inputs: list[tuple[int, int]]
     source: str | None
     has_cache: bool
+    copied: list[Paths | None]
 
 
 class Result(NamedTuple):
@@ -82,7 +92,8 @@ def vertex_of(entry: bytes, inputs: list[tuple[int, int]]) -> Vertex:
     is_local = op.source is not None and op.source.identifier.startswith(LOCAL)
     source = op.source.identifier.removeprefix(LOCAL) if op.source and is_local else None
     has_cache = op.exec is not None and any(mount.mount_type == CACHE for mount in op.exec.mounts)
-    return Vertex(definition.digest_of(entry), op.kind or "no kind", inputs, source, has_cache)
+    copied = [copied_paths.copied_from(op, number) for number in range(len(inputs))]
+    return Vertex(definition.digest_of(entry), op.kind or "no kind", inputs, source, has_cache, copied)
 
 
 class Read:
@@ -143,13 +154,39 @@ def caches_before(vertices: list[Vertex]) -> list[bool]:
     return found
 
 
-def word_of(matched: int | None, digested: int | None, cached: bool) -> str:
+def copied_only(vertices: list[Vertex], changed: Names) -> Iterator[tuple[str, Paths]]:
+    """Yields the changed sources that a vertex only copies from, with the paths at and below which it does."""
+    for vertex in vertices:
+        for (number, _), paths in zip(vertex.inputs, vertex.copied, strict=True):
+            source = vertices[number].source
+            if paths is not None and source in changed and source is not None:
+                yield source, paths
+
+
+def unfed(vertices: list[Vertex], changed: Names, places: Places) -> list[bool]:
+    """Returns for each vertex whether it reads the same in both definitions, if the older one has all these vertices.
+
+    A changed source does not, and a vertex on one does if it only copies from it what is the same in both trees.
+    """
+    wanted: dict[str, set[copied_paths.Path]] = collections.defaultdict(set)
+    for source, paths in copied_only(vertices, changed):
+        wanted[source] |= paths
+    agreement = Agreement(places, wanted)
+    found: list[bool] = []
+    for vertex in vertices:
+        inputs = zip(vertex.inputs, vertex.copied, strict=True)
+        reads = (found[number] or agreement.covers(vertices[number].source, paths) for (number, _), paths in inputs)
+        found.append(vertex.source not in changed and all(reads))
+    return found
+
+
+def word_of(matched: int | None, digested: int | None, cached: bool, is_unfed: bool) -> str:
     """Returns the word for a vertex, given the vertices of the older definition that match it and have its digest."""
     if matched is None and digested is None:
         return NEW
     if cached:
         return CACHED
-    return FED if matched is None else KEPT
+    return FED if matched is None and not is_unfed else KEPT
 
 
 def words_of(names: Names, side: str, changed: Names, digests: Words) -> dict[str, str]:
@@ -211,17 +248,21 @@ class Comparison:
         numbers = {digest: number for number, digest in reversed(list(enumerate(olds)))}
         return [numbers.get(matches.get(digest, "")) for digest in news]
 
-    def impacts(self, changed: Names, before: Words = EMPTY, after: Words = EMPTY) -> Iterator[Impact]:
+    def impacts(
+        self, changed: Names, before: Words = EMPTY, after: Words = EMPTY, places: Places = NO_PLACES
+    ) -> Iterator[Impact]:
         """Yields what is known of each vertex of the newer definition, if these sources have other trees.
 
         `before` and `after` have the digests of trees that are known, for the older and for the newer definition.
+        `places` has where these trees are, if it may be asked in what they differ.
         """
         found = self.matched(changed, before, after)
-        befores = zip(self.new, found, changed_before(self.new, changed), caches_before(self.new), strict=True)
-        for vertex, matched, fed, cached in befores:
+        caches, reads = caches_before(self.new), unfed(self.new, changed, places)
+        befores = zip(self.new, found, changed_before(self.new, changed), caches, reads, strict=True)
+        for vertex, matched, fed, cached, is_unfed in befores:
             digested = self.numbers.get(vertex.digest)
             name = self.names.get(vertex.digest, "")
-            word = word_of(matched, digested, cached)
+            word = word_of(matched, digested, cached, is_unfed)
             yield Impact(vertex, name, word, digested if matched is None else matched, fed, cached)
 
     def result(self, found: list[Impact]) -> Result:

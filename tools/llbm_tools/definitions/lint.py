@@ -16,6 +16,7 @@ BuildKit and none here; `action N`, `mount N` or the key of an attribute may fol
 is also a note for each rule by which a vertex can end otherwise in BuildKit, if no fault was found, and for what
 BuildKit's daemon dies of. docs/BUILDKIT.md lists the names. --strict makes findings of notes. The program llbm-rules
 finds the notes (tools/daemon builds it); where it is not there, a line on standard error says that they are left out.
+--json prints one object in place of the lines (docs/FORMATS.md, "Objects of tools").
 
 Exit status: 0 the program accepts the definition, and nothing but notes is printed; 1 there are findings; 2 the command
 line is refused; 3 a read or a write failed.
@@ -24,7 +25,7 @@ line is refused; 3 a read or a write failed.
 import argparse
 import sys
 
-from llbm_tools import common, inputs
+from llbm_tools import common, inputs, objects
 from llbm_tools.command_line import Parser
 from llbm_tools.llb import names, no_definition
 from llbm_tools.llb.findings import Finding, findings_of
@@ -64,6 +65,24 @@ def lines_of(data: bytes, llbm: str, is_like: bool) -> tuple[list[str], list[str
     return faults, [line("note", one.words(), one.row) for one in noted]
 
 
+def finding_of(line: str) -> dict[str, str]:
+    """Returns the object of a line."""
+    words, _, name = line.partition("\t")
+    kind, _, rest = words.partition(" ")
+    return {"kind": kind, "words": rest, "name": name}
+
+
+def members_of(faults: list[str], noted: list[str]) -> dict[str, object]:
+    """Returns the members of the object of all findings and notes."""
+    found = [finding_of(line) for line in faults + noted]
+    return {"findings": found, "faults": len(faults), "notes": len(noted)}
+
+
+def text_of(faults: list[str], noted: list[str], *, is_json: bool) -> str:
+    """Returns what is printed."""
+    return objects.text_of(members_of(faults, noted)) if is_json else "".join(f"{one}\n" for one in faults + noted)
+
+
 def parse_options() -> argparse.Namespace:
     """Parses the command line."""
     parser = Parser(
@@ -73,6 +92,7 @@ def parse_options() -> argparse.Namespace:
     add("definition", nargs="?", metavar="DEFINITION", help="the definition (default: standard input)")
     add("--like-buildkit", action="store_true", help="also print what can end otherwise in BuildKit")
     add("--strict", action="store_true", help="end with status 1 if there are notes")
+    add("--json", action="store_true", help="print one object")
     add("--llbm", metavar="PROGRAM", help="the program llbm, which finds the faults")
     return parser.parse_args()
 
@@ -84,7 +104,7 @@ def lint(options: argparse.Namespace) -> int:
     if no_definition.is_text(data):
         common.say(no_definition.text_line(options.definition))
     common.check_open(sys.stdout, "standard output")
-    sys.stdout.buffer.write("".join(f"{line}\n" for line in faults + noted).encode("utf-8", "backslashreplace"))
+    sys.stdout.buffer.write(text_of(faults, noted, is_json=options.json).encode("utf-8", "backslashreplace"))
     sys.stdout.flush()
     return 1 if faults or (noted and options.strict) else 0
 

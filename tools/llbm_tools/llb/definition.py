@@ -3,6 +3,7 @@
 The messages and the numbering are those of docs/FORMATS.md. Most rules of the program are not checked.
 """
 
+import functools
 import hashlib
 import heapq
 import re
@@ -115,7 +116,13 @@ def order_of(links: dict[int, list[int]]) -> list[int]:
 
 def graph_of(entries: list[bytes]) -> Graph:
     """Returns the graph of the entries, numbered as the program does."""
-    rows = Rows(entries)
+    return kept_graph_of(tuple(entries))
+
+
+@functools.lru_cache(2)
+def kept_graph_of(entries: tuple[bytes, ...]) -> Graph:
+    """Returns the graph of the entries, which is kept while the next definition is read."""
+    rows = Rows(list(entries))
     start, index = rows.result()
     links = rows.reached(start)
     order = order_of(links)

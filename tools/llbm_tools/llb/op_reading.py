@@ -1,5 +1,6 @@
 """Parses the messages of a definition as the program does: all fields of docs/FORMATS.md, or the first fault."""
 
+import functools
 from collections.abc import Collection, Iterator, Sequence
 from typing import TypeVar
 
@@ -111,8 +112,9 @@ def read(message: type[OneMessage], data: bytes) -> OneMessage:
     return message(**found)
 
 
+@functools.lru_cache(MOST_ENTRIES)
 def read_op(entry: bytes) -> Op:
-    """Parses the op in an entry."""
+    """Parses the op in an entry. It is kept, since tools ask for the ops of a definition again and again."""
     if len(entry) > MOST_OF_AN_ENTRY:
         raise Faulty(f"an entry has at most {MOST_OF_AN_ENTRY:,} bytes")
     return read(Op, entry)

@@ -27,6 +27,7 @@ class Example(NamedTuple):
 
 
 MENU = (
+    Example("workers", "Three workers at once, and a locked cache"),
     Example("tour", "Tour: a source, a file op, and an exec with three mounts"),
     Example("first-run", "One file"),
     Example("copy", "Copy: a project with some of its files"),
@@ -55,7 +56,8 @@ def shown(example: Example) -> Shown:
         return Shown(EXAMPLES / f"{example.name}.text", {"source": tree} if tree.exists() else {}, 2)
     text = folder / "definition.text"
     given = {tree.stem: tree for tree in sorted(folder.glob("*.tree"))}
-    return Shown(text if text.exists() else folder / "definition", given, 2)
+    workers = 3 if example.name == "workers" else 2
+    return Shown(text if text.exists() else folder / "definition", given, workers)
 
 
 def example_files() -> Iterator[tuple[str, bytes]]:

@@ -91,7 +91,7 @@ class Browser:
         """Opens the page."""
         target = self.send("Target.createTarget", {"url": "about:blank"})["targetId"]
         self.session = self.send("Target.attachToTarget", {"targetId": target, "flatten": True})["sessionId"]
-        for domain in ("Page", "Runtime"):
+        for domain in ("Page", "Runtime", "Log"):
             self.send(f"{domain}.enable")
 
     def close(self) -> None:
@@ -112,9 +112,18 @@ class Browser:
             self.read += piece
         one, _, self.read = self.read.partition(b"\0")
         told: dict[str, Any] = json.loads(one)
-        if told.get("method") == "Runtime.exceptionThrown":
-            self.faults.append(str(told["params"]["exceptionDetails"].get("exception", {}).get("description")))
+        self.keep_fault(told.get("method", ""), told.get("params", {}))
         return told
+
+    def keep_fault(self, method: str, params: dict[str, Any]) -> None:
+        """Keeps what an event says of a fault of the page: an exception, a promise that was refused, or an error."""
+        if method == "Runtime.exceptionThrown":
+            details = params["exceptionDetails"]
+            self.faults.append(str(details.get("exception", {}).get("description") or details.get("text")))
+        elif method == "Runtime.consoleAPICalled" and params["type"] in ("error", "assert"):
+            self.faults.append(" ".join(str(one.get("value", one.get("description"))) for one in params["args"]))
+        elif method == "Log.entryAdded" and params["entry"]["level"] == "error":
+            self.faults.append(f"{params['entry']['text']} {params['entry'].get('url', '')}".strip())
 
     def send(self, method: str, params: dict[str, Any] | None = None) -> dict[str, Any]:
         """Sends a command, and returns its result."""
@@ -161,8 +170,8 @@ class Browser:
     def key(self, key: str) -> None:
         """Presses a key and lets it go."""
         params: dict[str, Any] = {"key": key, "windowsVirtualKeyCode": KEYS.get(key, ord(key[0].upper()))}
-        if len(key) == 1:
-            params["text"] = key
+        if len(key) == 1 or key == "Enter":
+            params["text"] = "\r" if key == "Enter" else key
         self.send("Input.dispatchKeyEvent", {"type": "keyDown", **params})
         self.send("Input.dispatchKeyEvent", {"type": "keyUp", "key": key})
 

@@ -6,7 +6,9 @@ Wanted values are written from the rules of the formats, and from examples/ and 
 import io
 import tarfile
 
-from llbm_tools.page import assets, contrast, foreign, glance, honesty, large, module_cases, orders, proof, served
+from llbm_tools.page import (
+    assets, contrast, editing, foreign, glance, graphs, honesty, large, module_cases, orders, proof, served,
+)
 from llbm_tools.page.driver import NARROW, WIDE, Page, check, same
 
 TOUR_RECORD = [
@@ -345,5 +347,6 @@ CASES = (
     the_start, the_tour_step_by_step, forth_and_back, another_way, a_failing_definition, a_definition_of_a_client,
     refused_files, a_source_without_a_tree, what_changed, caches_and_who_holds_them, sharing, the_keyboard,
     names_for_screen_readers, wide_and_narrow, a_trap, *honesty.CASES, contrast.contrast_of_all_texts,
-    *foreign.CASES, *served.CASES, *glance.CASES, *proof.CASES, *orders.CASES, *large.CASES,
+    *foreign.CASES, *served.CASES, *glance.CASES, *proof.CASES, *orders.CASES, *graphs.CASES, *editing.CASES,
+    *large.CASES,
 )  # fmt: skip

@@ -39,6 +39,8 @@ class Page:
         self.folder = folder
         self.measured: dict[str, str] = {}
         self.noted: list[str] = []
+        # Parts of the faults that a test provokes.
+        self.awaited: list[str] = []
         self.given: module_cases.Case | None = None
 
     def measure(self, what: str, times: list[float]) -> None:
@@ -46,9 +48,8 @@ class Page:
         middle = sorted(times)[len(times) // 2]
         self.measured[what] = f"{min(times):.2f} {middle:.2f} {max(times):.2f}"
 
-    def load(self, fragment: str = "") -> None:
-        """Loads the page anew, and begins to keep what its sessions say."""
-        self.browser.faults.clear()
+    def load(self, fragment: str = "#open") -> None:
+        """Loads the page anew, with the view *Open* unless it is another link, and begins to keep what sessions say."""
         self.browser.go(self.url + fragment, READY)
         same(self.run(READY), "yes", self.text("said") or "ready")
         self.run("addEventListener('keyup', () => { globalThis.released = true; }, true)")

@@ -21,7 +21,7 @@ def draw(page: Page, data: bytes) -> None:
     page.give_file("foreign.llb", data, "#definition-file")
     page.browser.wait("document.getElementById('definition-said').textContent.includes('Open draws it')")
     page.click("open-now")
-    page.browser.wait("document.getElementById('views').className === 'foreign'")
+    page.browser.wait("document.getElementById('views').classList.contains('foreign')")
 
 
 def what_is_refused_is_drawn(page: Page) -> None:

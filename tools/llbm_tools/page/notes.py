@@ -7,7 +7,7 @@ import sys
 import tempfile
 
 from llbm_tools import common, paths
-from llbm_tools.page.builds import Build
+from llbm_tools.sessions.builds import Build
 
 LINE = re.compile(r"vertex ([0-9]+)(?: action ([0-9]+))?: (.*)")
 MOST_SECONDS = 60

@@ -23,7 +23,8 @@ import threading
 
 from llbm_tools import common, paths
 from llbm_tools.command_line import Parser
-from llbm_tools.page import assets, builds, notes, server
+from llbm_tools.page import assets, notes, server
+from llbm_tools.sessions import builds
 from llbm_tools.streams import Failed, Refused, exit_status
 
 PLACE = paths.ROOT / "out" / "page"

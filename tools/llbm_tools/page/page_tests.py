@@ -26,7 +26,7 @@ from llbm_tools.command_line import Parser
 from llbm_tools.counts import Counts
 from llbm_tools.page import assets, browser, module_cases, pictures
 from llbm_tools.page import cases as page_cases
-from llbm_tools.page.driver import Page, Wrong
+from llbm_tools.page.driver import Page, Wrong, same
 from llbm_tools.streams import Failed, exit_status
 
 PLACE = module_cases.MODULE.parent
@@ -120,10 +120,19 @@ def result(work: Callable[[], None]) -> str:
 
 def result_in_browser(page: Page, case: Callable[[Page], None]) -> str:
     """Does a test in the browser, a second time if it fails, since it waits for pictures; returns what is wrong."""
-    wrong = result(lambda: case(page))
+
+    def work() -> None:
+        """Does the test, and wants no exception of the page's code and no error in its console that is not awaited."""
+        page.browser.faults.clear()
+        page.awaited.clear()
+        case(page)
+        found = [fault for fault in page.browser.faults if not any(one in fault for one in page.awaited)]
+        same(found, [], "faults of the page's code")
+
+    wrong = result(work)
     if wrong:
         print(common.printable(f"tried again: {case.__name__}: {wrong}")[:1000], flush=True)
-        wrong = result(lambda: case(page))
+        wrong = result(work)
     return wrong
 
 

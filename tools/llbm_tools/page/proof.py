@@ -29,6 +29,7 @@ def what_is_said_of_proof(page: Page) -> None:
     check(ready == "yes" and proof.startswith("Not proved: ") and "tools/wasm" in proof, proof)
     ready, proof, _ = shown_with(page, bare)
     check(ready == "yes" and "is not known" in proof, proof)
+    page.awaited.append("404 (Not Found)")
     ready, _, said = shown_with(page, None)
     check(ready == "no" and "llbm.wasm" in said and "tools/wasm --unproved makes one without proof" in said, said)
 

@@ -110,6 +110,7 @@ def builds_are_listed(page: Page) -> None:
         copy = pathlib.Path(folder, "copies")
         shutil.copytree(assets.EXAMPLES / "copy", copy)
         with served(page, pathlib.Path(folder), copy) as one:
+            page.awaited.append("404 (Not Found)")
             one.load("#build=nothing")
             check("can't be opened" in one.text("open-said"), one.text("open-said"))
             one.browser.wait("document.querySelectorAll('#build option').length === 3")

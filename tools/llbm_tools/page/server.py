@@ -19,8 +19,8 @@ from typing import BinaryIO
 from urllib.parse import unquote, urlsplit
 
 from llbm_tools.page import assets
-from llbm_tools.page import builds as page_builds
-from llbm_tools.page.builds import Build
+from llbm_tools.sessions import builds as page_builds
+from llbm_tools.sessions.builds import Build
 from llbm_tools.streams import Failed, Refused
 from llbm_tools.trees import source_texts
 

@@ -35,7 +35,7 @@ from llbm_tools.streams import exit_status
 LENDERS = {
     "llb_wire": None,
     "llb_model": None,
-    "llb_tree": {"llb_merge", "llb_treetext", "llb_fileop", "llb_applet"},
+    "llb_tree": {"llb_merge", "llb_treetext", "llb_fileop", "llb_applet", "llb_laws"},
     "llb_merge": {"llb_laws"},
     "llb_cache": {"llb_model", "llb_board"},
     "llb_ops": {"llb_asm", "llb_loader"},

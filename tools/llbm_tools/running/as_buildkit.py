@@ -10,7 +10,8 @@ line `note ..` names each field that has an effect in BuildKit and none here: wh
 last line says whether the results agree. Their roots are not compared. They differ if something breaks BuildKit's
 daemon: a line `vertex ..` or, for an entry that is no vertex, `entry ..` says what. With --tree the tree that BuildKit
 would make is printed instead, or on standard error why there is none. What an execution makes is taken from the run
-here: BuildKit runs a process instead, as a line of its vertex and the last line say.
+here: BuildKit runs a process instead, as a line of its vertex and the last line say. --json prints one object in place
+of the lines (docs/FORMATS.md, "Objects of tools").
 
 Exit status: 0 the results agree, or the tree is printed; 1 they differ, or there is no tree in BuildKit; 2 something is
 refused: standard error says what; 3 a read or a write failed, or the program ended by itself.
@@ -22,7 +23,7 @@ import sys
 import tempfile
 from collections.abc import Iterator
 
-from llbm_tools import common, inputs
+from llbm_tools import common, inputs, objects
 from llbm_tools.command_line import Parser
 from llbm_tools.debugging import launching
 from llbm_tools.llb import definition, names
@@ -93,6 +94,17 @@ class Compared:
             place = f"vertex {vertex}" if step == WHOLE else f"vertex {vertex} action {step}"
             yield from words if vertex == NO_VERTEX else (f"{place}: {one}" for one in words)
 
+    def differences(self) -> Iterator[dict[str, object]]:
+        """Yields the object of each line about a vertex, an action or an entry that is no vertex."""
+        for vertex, lines in sorted(self.comparison.steps.items()):
+            for step, words in sorted(lines.items()):
+                place = {"vertex": None if vertex == NO_VERTEX else vertex, "action": None if step == WHOLE else step}
+                yield from ({**place, "text": one} for one in words)
+
+    def members(self, end: End) -> dict[str, object]:
+        """Returns the members of the object of the comparison."""
+        return {"notes": self.notes(), "differences": list(self.differences()), "agree": end.agree, "end": end.words}
+
     def lines(self) -> Iterator[str]:
         """Yields all lines but the last one."""
         yield from self.notes()
@@ -128,6 +140,9 @@ def compare(options: argparse.Namespace) -> int:
         end = compared.run()
         if options.tree:
             return print_tree(end)
+        if options.json:
+            objects.write(compared.members(end))
+            return 0 if end.agree else 1
         text = "".join(f"{printable(line)}\n" for line in [*compared.lines(), end.words])
         sys.stdout.buffer.write(text.encode("utf-8", "backslashreplace"))
         sys.stdout.flush()
@@ -143,6 +158,7 @@ def parse_options() -> argparse.Namespace:
     add("definition", metavar="DEFINITION", help="the file of the definition, or -")
     add("source", nargs="*", type=source_of, metavar="NAME=PATH", help="a local source")
     add("--tree", action="store_true", help="print the tree that BuildKit would make")
+    add("--json", action="store_true", help="print one object")
     add("--llbm", metavar="PROGRAM", default="", help="the program llbm")
     add("--paths", metavar="N", type=explain_run.number_of, default=20, help="the most paths of a step")
     return parser.parse_args()

@@ -22,11 +22,11 @@ import argparse
 import concurrent.futures
 import functools
 import io
-import json
 import os
 import pathlib
 from xml.etree import ElementTree
 
+from llbm_tools import objects
 from llbm_tools.command_line import Parser
 from llbm_tools.common import printable
 from llbm_tools.running import stored_cases
@@ -55,11 +55,9 @@ def lines_of(found: list[Ended], is_updated: bool) -> str:
     return "".join(f"{printable(line)}\n" for line in lines)
 
 
-def json_of(found: list[Ended]) -> str:
-    """Returns the object of all cases."""
-    cases = ",\n".join(f"    {json.dumps(one._asdict())}" for one in found)
-    counts = "".join(f',\n  "{word}": {count}' for word, count in counts_of(found).items())
-    return f'{{\n  "cases": [\n{cases}\n  ]{counts}\n}}\n'
+def members_of(found: list[Ended]) -> dict[str, object]:
+    """Returns the members of the object of all cases."""
+    return {"cases": [one._asdict() for one in found], **counts_of(found)}
 
 
 def junit_of(found: list[Ended], name: str) -> bytes:
@@ -103,7 +101,7 @@ def check(options: argparse.Namespace) -> int:
     found = all_ended(options, folders)
     if options.junit:
         write_junit(found, options.folder, options.junit)
-    text = json_of(found) if options.json else lines_of(found, options.update)
+    text = objects.text_of(members_of(found)) if options.json else lines_of(found, options.update)
     write_output(io.BytesIO(text.encode("utf-8", "surrogateescape")), "the output")
     return int(any(one.outcome == FAILED for one in found))
 

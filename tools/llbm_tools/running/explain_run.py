@@ -11,18 +11,20 @@ line `BuildKit: ..` for each path that ends otherwise there, and for each field 
 those about entries that are no vertices come first. At most --paths N changes of one tree are shown for each step, 20
 by default; a line says how many more there are. The trees are those that a session of `llbm step` shows. With --summary
 a micro-step has one line, which counts the paths that it changed and the bytes by which their files grew; and each
-output of a vertex has a line with its numbers of directories, files and bytes.
+output of a vertex has a line with its numbers of directories, files and bytes. --json prints one object in place of
+the lines, once the run has ended (docs/FORMATS.md, "Objects of tools").
 
 Exit status: 0 the run is complete; 1 a vertex failed; 2 something is refused: standard error says what; 3 a read or a
 write failed, or the program ended by itself.
 """
 
 import argparse
+import re
 import sys
 import tempfile
 from collections.abc import Iterator
 
-from llbm_tools import common, inputs
+from llbm_tools import common, inputs, objects
 from llbm_tools.command_line import Parser
 from llbm_tools.debugging import launching
 from llbm_tools.debugging.described import changed_lines, otherwise_lines
@@ -35,6 +37,7 @@ from llbm_tools.trees.source_files import source_of
 
 MOST_OF_A_LINE = 200
 USUAL_PATHS = 20
+VERTEX = re.compile(r"vertex ([0-9]+) (.*)", re.DOTALL)
 
 
 def step_lines(happened: Happened, most: int) -> Iterator[str]:
@@ -93,21 +96,52 @@ def launched_by(options: argparse.Namespace) -> launching.Launched:
         return launching.launch(given, common.say, "--llbm PROGRAM")
 
 
+def write_line(text: str) -> None:
+    """Writes a line to standard output at once."""
+    sys.stdout.buffer.write(text.encode("utf-8") + b"\n")
+    sys.stdout.flush()
+
+
+def members_of(lines: Iterator[str], launched: launching.Launched) -> dict[str, object]:
+    """Runs to the end, and returns the members of the object of the run."""
+    outside: list[str] = []
+    vertices: list[dict[str, object]] = []
+    below = outside
+    for line in lines:
+        if found := VERTEX.fullmatch(line):
+            below = []
+            vertices.append({"vertex": int(found[1]), "title": found[2], "lines": below})
+        else:
+            below.append(line.removeprefix("  "))
+    return {
+        "vertices": vertices,
+        "outside": outside,
+        "complete": not is_failed(launched),
+        "events": len(launched.session.record),
+        "result": launched.graph.result,
+    }
+
+
+def is_failed(launched: launching.Launched) -> bool:
+    """Returns whether a vertex has failed."""
+    return any(event.fails() for event in launched.session.record)
+
+
 def explain(options: argparse.Namespace) -> int:
     """Runs the definition, prints the lines, and returns the exit status."""
     common.check_open(sys.stdout, "standard output")
     launched = launched_by(options)
     try:
-        for line in run_lines(launched, options):
-            text = common.shortened(common.printable(line), MOST_OF_A_LINE)
-            sys.stdout.buffer.write(text.encode("utf-8") + b"\n")
-            sys.stdout.flush()
-        failed = any(event.fails() for event in launched.session.record)
-        if not failed:
+        lines = run_lines(launched, options)
+        if options.json:
+            objects.write(members_of(lines, launched))
+            return int(is_failed(launched))
+        for line in lines:
+            write_line(common.shortened(common.printable(line), MOST_OF_A_LINE))
+        if not is_failed(launched):
             count, result = len(launched.session.record), launched.graph.result
-            sys.stdout.buffer.write(f"the run is complete after {count} events, with the result {result}\n".encode())
-            sys.stdout.flush()
-        return int(failed)
+            write_line(f"the run is complete after {count} events, with the result {result}")
+        return int(is_failed(launched))
     finally:
         launched.session.end()
 
@@ -127,6 +161,7 @@ def parse_options() -> argparse.Namespace:
     parser.add_argument("--llbm", metavar="PROGRAM", default="", help="the program llbm")
     parser.add_argument("--paths", metavar="N", type=number_of, default=USUAL_PATHS, help="the most paths of a step")
     parser.add_argument("--summary", action="store_true", help="print one line for each step, and sizes of outputs")
+    parser.add_argument("--json", action="store_true", help="print one object")
     return parser.parse_args()
 
 

@@ -13,7 +13,7 @@ that), the word that is refused and why, the file that could not be opened, the 
 local sources that have no tree; then what `explain` says of it, with the entry that it names. Names that no local
 source has or that are given twice are named there, or else after all lines of the program, which passes them over.
 Then follows, for a `run` that is not refused, a line `note ..` for each field that has no effect, as of `lint`, where
-llbm-rules is there.
+llbm-rules is there. Where standard input is a terminal, a line says what `step` reads, and which tool has a prompt.
 --help prints the help of this tool on standard output. Words that ask the program for a page of help or for its version
 print that page there too, without the fault; that of `step` also lists the commands of a session.
 
@@ -33,7 +33,7 @@ from collections.abc import Iterator
 from typing import BinaryIO, cast
 
 from llbm_tools.command_line import Parser
-from llbm_tools.common import MOST_BYTES, check_open, say
+from llbm_tools.common import MOST_BYTES, check_open, say, tool_named
 from llbm_tools.definitions import faults
 from llbm_tools.rules import notes
 from llbm_tools.running import given_trees, run_records
@@ -163,6 +163,8 @@ def run_program(program: str, words: list[str], folder: pathlib.Path | None, *, 
     read = read_words(words)
     if read.asks:
         return page_of(program, words, read.command)
+    if read.command == "step" and sys.stdin and sys.stdin.isatty():
+        say(f"llbm step reads a command on each line, as next, back, go or quit; {tool_named('debug')} has a prompt")
     with tempfile.TemporaryFile() as file:
         reads = not read.refused and read.command != "step"
         given = stored_input(cast(BinaryIO, file)) if reads else None

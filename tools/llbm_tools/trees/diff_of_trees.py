@@ -14,7 +14,8 @@ Out: on standard output a line for each path that differs, in path order, once b
 
 A path is removed if only FIRST has it, and added if only SECOND has it. The line of a changed path has only the
 properties that differ. KIND is `directory` or `file`. SIZE is the size of a file in bytes and DIGEST its `sha256:..`; a
-directory has no contents, which a changed kind shows as `none`.
+directory has no contents, which a changed kind shows as `none`. --json prints one object in place of the lines
+(docs/FORMATS.md, "Objects of tools").
 
 Exit status: 0 the trees are equal; 1 they differ; 2 the command line or a tree is refused, or a tree does not exist:
 standard error says why, and nothing is written; 3 a read or a write failed; 130 interrupted.
@@ -27,7 +28,7 @@ import io
 from collections.abc import Iterator
 from typing import BinaryIO
 
-from llbm_tools import inputs
+from llbm_tools import inputs, objects
 from llbm_tools.command_line import Parser
 from llbm_tools.streams import exit_status, write_output
 from llbm_tools.trees.source_texts import Reading, text_at
@@ -109,12 +110,40 @@ def difference_lines(first: Iterator[Entry], second: Iterator[Entry]) -> Iterato
             yield text.encode() + b" " + path_of(shown.names) + b"\n"
 
 
+def difference_objects(first: Iterator[Entry], second: Iterator[Entry]) -> Iterator[dict[str, object]]:
+    """Yields the object of each path at which two trees differ, in path order."""
+    for one, two in pairs_of(first, second):
+        shown = one or two
+        if one != two and shown:
+            path = path_of(shown.names).decode("utf-8", "surrogateescape")
+            before, after = (traits_of(entry) if entry else None for entry in (one, two))
+            yield {"path": path, "change": change_of(before, after), "before": before, "after": after}
+
+
+def change_of(before: Traits | None, after: Traits | None) -> str:
+    """Returns the word for what became of a path."""
+    return "added" if before is None else "removed" if after is None else "changed"
+
+
+def members_of(found: list[dict[str, object]]) -> dict[str, object]:
+    """Returns the members of the object of all differences."""
+    words = [one["change"] for one in found]
+    return {"differences": found, **{word: words.count(word) for word in ("removed", "added", "changed")}}
+
+
 def compare(options: argparse.Namespace) -> int:
     """Prints all differences, and returns the exit status."""
     inputs.check_inputs(options.first, options.second)
     lines, reading = io.BytesIO(), Reading(options.owner, options.strict, quiet=True)
     with text_at(options.first, reading) as first, text_at(options.second, reading) as second:
-        lines.writelines(difference_lines(entries_of(options.first, first), entries_of(options.second, second)))
+        both = entries_of(options.first, first), entries_of(options.second, second)
+        if options.json:
+            found = list(difference_objects(*both))
+        else:
+            lines.writelines(difference_lines(*both))
+    if options.json:
+        objects.write(members_of(found))
+        return DIFFERENT if found else EQUAL
     different = lines.tell() > 0
     write_output(lines, "the differences")
     return DIFFERENT if different else EQUAL
@@ -129,6 +158,7 @@ def parse_options() -> argparse.Namespace:
         "--owner", metavar="UID:GID", type=owner_word, help="the owner of every entry of a directory or an archive"
     )
     parser.add_argument("--strict", action="store_true", help="refuse a tree if something is left out")
+    parser.add_argument("--json", action="store_true", help="print one object")
     return parser.parse_args()
 
 

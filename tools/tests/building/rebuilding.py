@@ -21,8 +21,8 @@ sys.stdout.write(open(given[0][2]).read())
 SAME = b"nothing to do: out has this definition, these options and these sources\n"
 
 
-class Replacing(Builds):
-    """Results in the place of old ones, with a fake program."""
+class Rebuilds(Builds):
+    """Builds in the place of old results, with a fake program."""
 
     def setUp(self):
         super().setUp()
@@ -57,6 +57,10 @@ class Replacing(Builds):
         shutil.rmtree(self.at / "whole")
         (self.at / "runs").write_text("x" * (self.runs() - 1))
         self.check_nothing_is_left({"out", "kept", "runs"})
+
+
+class Replacing(Rebuilds):
+    """Results in the place of old ones."""
 
     def test_a_result_is_replaced_as_a_whole(self):
         self.assertEqual(self.build("definition", "out", "src=in").returncode, 0)
@@ -269,7 +273,7 @@ class Replacing(Builds):
     def test_a_file_that_is_kept_and_damaged_is_as_if_there_were_none(self):
         self.replace()
         whole = (self.at / "kept").read_bytes()
-        for damaged in [b"", b"x", whole[:-1], whole + b"x", whole.replace(b"kept 2", b"kept 1"), whole[:30]]:
+        for damaged in [b"", b"x", whole[:-1], whole + b"x", whole.replace(b"kept 3", b"kept 2"), whole[:30]]:
             (self.at / "kept").write_bytes(damaged)
             self.assertIsNone(kept_builds.load(str(self.at / "kept")), damaged[:40])
         self.check(self.replace(), "writing out", "out is written", runs=2)
@@ -343,10 +347,10 @@ class Parts(base.Folder):
         recorder.scan(os.open(self.place(b"in"), os.O_RDONLY), b"", frozenset())
         kept = recorder.kept()
         place = os.fsdecode(self.place(b"kept"))
-        kept_builds.store(place, kept_builds.Build({"a": 1}, 5, [kept], [1], b"text", 9, True, {7: "00"}))
+        kept_builds.store(place, kept_builds.Build({"a": 1}, 5, [kept], [1], b"text", b"def", 9, True, {7: "00"}))
         found = kept_builds.load(place)
-        found = found._replace(text=kept_sources.bytes_of(found.text))
-        wanted = kept_builds.Build({"a": 1}, 5, [], [1], b"text", 9, True, {7: "00"})
+        found = found._replace(**{name: kept_sources.bytes_of(getattr(found, name)) for name in ("text", "definition")})
+        wanted = kept_builds.Build({"a": 1}, 5, [], [1], b"text", b"def", 9, True, {7: "00"})
         self.assertEqual(found._replace(sources=[]), wanted)
         self.assertEqual(found.sources[0].parts(), kept.parts())
         self.assertEqual(found.sources[0].paths, [b"", b"/d"])

@@ -15,7 +15,7 @@ import unittest
 from unittest import mock
 
 from llbm_tools.daemon import (
-    against_buildkit, daemon, project_dockerfiles, random_dockerfiles, runs, started_daemon,
+    against_buildkit, daemon, project_dockerfiles, random_definitions, random_dockerfiles, runs, started_daemon,
 )  # fmt: skip
 from llbm_tools.rules import examples
 from llbm_tools.trees import maps
@@ -121,6 +121,16 @@ class Verdicts(unittest.TestCase):
             self.assertEqual(self.verdict(played, played), against_buildkit.Verdict([f"left out: {said}"], []))
 
 
+    def test_what_is_refused_by_a_link_is_counted_by_itself(self):
+        refused = runs.Ran(None, "error: llbm: /a leads through the link /a, which llbm does not follow; name the path")
+        for is_dockerfile, what in [(True, "Dockerfiles"), (False, "definitions")]:
+            one = against_buildkit.Comparison(Played(runs.Ran(FILE)), Played(refused))
+            case = next(against_buildkit.least_cases())._replace(is_dockerfile=is_dockerfile, is_modelled=False)
+            case = case._replace(sources={"context": maps.empty()})
+            counts = [what, f"{what} that are refused by a link"]
+            self.assertEqual(one.compare(case), against_buildkit.Verdict(counts, []))
+
+
 class Against(unittest.TestCase):
     """What the tool prints."""
 
@@ -219,6 +229,13 @@ class Runs(unittest.TestCase):
                 else:
                     self.assertEqual(one.built(b"", [], "result"), runs.Ran(None, "x"))
 
+    def test_what_is_said_is_the_error_with_its_advice(self):
+        for text, said in [
+            ("#1 x\nDockerfile:3\nerror: failed: a link\nname the path\n", "error: failed: a link; name the path"),
+            ("error: first\nerror: last", "error: last"), ("#1 x\nEOF", "EOF"), ("", ""),
+        ]:  # fmt: skip
+            self.assertEqual(runs.said_in(text), said)
+
     def test_warnings_have_names(self):
         text = (
             "#3 WARN: action 0: /a has mode 0755 (here 0700): ContentsTarget, ParentOwner, and 3 more\n"
@@ -275,6 +292,14 @@ class Dockerfiles(unittest.TestCase):
             self.assertTrue(any((one.content or b"").startswith(runs.LINK) for one in made.context.values()), name)
             parents = {path[:-1] for path in made.context if path}
             self.assertTrue(all(made.context[path].is_directory() for path in parents), name)
+
+    def test_definitions_with_links_have_links_and_patterns(self):
+        made = [random_definitions.make(f"test {number}", random_definitions.LINKS) for number in range(60)]
+        self.assertEqual(made[0], random_definitions.make("test 0", random_definitions.LINKS))
+        entries = [entry for one in made for tree in one.sources.values() for entry in tree.values()]
+        self.assertGreater(sum((entry.content or b"").startswith(runs.LINK) for entry in entries), 60)
+        patterns = re.compile(rb"[\x62\x6a][\x01-\x04][]!?*ab/c[]{1,4}")
+        self.assertGreater(sum(bool(patterns.search(one.data)) for one in made), 9)
 
     def test_a_seed_makes_one_dockerfile_without_run(self):
         for number in range(200):

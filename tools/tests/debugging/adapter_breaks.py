@@ -45,7 +45,7 @@ class OwnFile(WithRun):
         self.assertEqual([one["verified"] for one in (run, stage, copy)], [True, False, True])
         self.assertEqual(stage["message"], "no entry comes from this line")
         self.assertEqual(self.move(client)["hitBreakpointIds"], [run["id"]])
-        text, file = client.ask("stackTrace", threadId=1)["stackFrames"]
+        file, text = client.ask("stackTrace", threadId=1)["stackFrames"]
         self.assertEqual((file["source"], file["line"]), ({"name": "Dockerfile", "path": path}, 4))
         self.assertEqual(file["name"], "3 exec: [build 3/3] RUN mkdir -p out && concat out/all one two")
         self.assertEqual((text["source"]["sourceReference"], text["name"]), (1, f"{file['name']} (0 of 2 steps)"))
@@ -61,7 +61,7 @@ class OwnFile(WithRun):
         source = {"path": str(folder / "Dockerfile")}
         self.assertTrue(self.set_breakpoints(client, 3, source=source)[0]["verified"])
         self.move(client)
-        self.assertEqual(client.ask("stackTrace", threadId=1)["stackFrames"][1]["source"]["path"], source["path"])
+        self.assertEqual(client.ask("stackTrace", threadId=1)["stackFrames"][0]["source"]["path"], source["path"])
         other = self.set_breakpoints(client, 3, source={"path": str(folder / "Makefile")})
         message = "only definition.text, the text of the definition, can have breakpoints, and the files that it was " \
             "made from: Dockerfile"

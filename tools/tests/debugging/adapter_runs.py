@@ -7,7 +7,10 @@ import re
 import subprocess
 import tarfile
 import unittest
+import unittest.mock
 
+from llbm_tools.debugging import launching
+from llbm_tools.llb import op_reading, ops
 from tests import base
 from tests.base import ROOT, TOOLS, run
 from tests.debugging import protocol
@@ -114,6 +117,26 @@ class WithRun(WithAdapter):
             trees.append(response.get("message") or response["body"]["result"])
         frames = [client.ask("stackTrace", threadId=worker + 1) for worker in range(workers)]
         return looks, trees, client.ask("threads"), frames
+
+
+class Reading(WithRun):
+    """How often a launch reads the definition."""
+
+    def test_each_op_is_read_once(self):
+        reads, read = [], op_reading.read
+
+        def counted(message, data):
+            """Reads a message, and counts the ops."""
+            if message is ops.Op:
+                reads.append(data)
+            return read(message, data)
+
+        op_reading.read_op.cache_clear()
+        with unittest.mock.patch.object(op_reading, "read", counted):
+            launched = launching.launch({**self.execution, "llbm": base.llbm}, lambda _: None)
+        self.addCleanup(launched.session.end)
+        # Three vertices, and the terminal.
+        self.assertEqual((len(launched.graph.vertices), len(reads), len(set(reads))), (3, 4, 4))
 
 
 class WholeRuns(WithRun):

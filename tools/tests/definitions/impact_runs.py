@@ -11,8 +11,8 @@ LEFT = base.source("local://left")
 
 
 def taken(path, dest="/"):
-    """Returns a copy of what is at a path of its second input onto the empty tree."""
-    made = base.part(4, base.part(1, path) + base.part(2, dest) + base.number(4, -1))
+    """Returns a copy of what is at the paths of its second input that match a pattern onto the empty tree."""
+    made = base.part(4, base.part(1, path) + base.part(2, dest) + base.number(4, -1) + base.number(9, 1))
     return base.number(1, -1) + base.number(2, 0) + made
 
 
@@ -23,7 +23,7 @@ class Runs(Folder):
         if base.llbm is None:
             raise unittest.SkipTest("the program llbm is needed (--llbm PROGRAM)")
         super().setUp()
-        self.first, self.second = base.file_op(taken("/a"), on=[LEFT]), base.file_op(taken("/b"), on=[LEFT])
+        self.first, self.second = base.file_op(taken("/[a]"), on=[LEFT]), base.file_op(taken("/[b]"), on=[LEFT])
         self.data = base.ending(LEFT, self.first, self.second, base.merge(self.first, self.second))
         self.make(b"a/f", b"1")
         self.make(b"b/f", b"1")
@@ -74,7 +74,7 @@ class Runs(Folder):
         self.assertEqual(lines[:3], ["result 1.0 changed", "0 source changed by left", "1 file changed by left"])
 
     def test_the_same_failure_on_both_sides_is_no_change(self):
-        data = base.ending(LEFT, base.file_op(taken("/none"), on=[LEFT]))
+        data = base.ending(LEFT, base.file_op(taken("/[n]one"), on=[LEFT]))
         lines = self.lines(self.both(old=data, new=data))
         self.assertEqual(lines[:3], ["result 1.0 same", "0 source changed by left", "1 file same by left"])
 

@@ -34,6 +34,12 @@ def with_cache(on):
     return base.inputs(on) + base.part(2, base.part(1, base.part(1, "true")) + mounts)
 
 
+def copied(path, pattern=False, onto=-1, output=0):
+    """Returns a copy of what is at a path of the first input, or at what matches a pattern, onto the empty tree."""
+    made = base.part(1, path) + base.part(2, "/") + base.number(4, -1) + base.number(9, int(pattern))
+    return base.number(1, onto) + base.number(2, 0) + base.number(3, output) + base.part(4, made)
+
+
 class Pair(base.WithProgram):
     """Two definitions: a file op on a source is on the left, and a merge of it with another source on top."""
 
@@ -119,7 +125,8 @@ class Words(Pair):
 3 file new
 4 merge new
 5 vertices: 1 kept, 2 new, 2 fed, 0 cached; 2 of OLD gone
-kept: its outcome is that of OLD's vertex that does the same on inputs that match (matched_vertices_end_alike)
+kept: its outcome is that of OLD's vertex that does the same on inputs that match (matched_vertices_end_alike), or\
+ is the same file op, and only copies from changed sources what is the same in both (reads_end_alike)
 new: OLD has no vertex that matches it or has its digest; no law says anything
 fed: its outcome depends on the sources before it alone, and these of them have changed (outcome_by_sources)
 """
@@ -190,6 +197,77 @@ class Trees(Pair):
         self.check_refused("is not NAME=PLACE", "--before", "left")
 
 
+class Copies(Pair):
+    """A source of which file ops read only what they copy."""
+
+    SERVICES = "d 0755 0 0 /\nd 0755 0 0 /a\nf 0644 0 0 61 /a/f\nd 0755 0 0 /b\nf 0644 0 0 62 /b/f\nf 0644 0 0 - /c\n"
+
+    def trees(self, *pairs):
+        """Returns the options for the source `left`, whose tree for NEW has these words replaced."""
+        after = self.SERVICES
+        for old, new in pairs:
+            self.assertIn(old, after)
+            after = after.replace(old, new)
+        before, after = self.file(b"before", self.SERVICES.encode()), self.file(b"after", after.encode())
+        return ["--before", f"left={before.decode()}", "--after", f"left={after.decode()}"]
+
+    def op(self, *actions, on=None):
+        """Returns a file op on the source, or on other inputs."""
+        return base.file_op(*actions, on=on or [self.left])
+
+    def words_after(self, *pairs, upper):
+        """Returns the words of the vertices of a definition that has this vertex on the source."""
+        data = base.ending(self.left, upper)
+        return self.words_of(*self.trees(*pairs), old=data, new=data)
+
+    def test_a_copy_reads_only_what_is_at_and_below_its_path(self):
+        change = ("61 /a/f", "62 /a/f")
+        for path, word in [("/b", "kept"), ("/a", "fed by left"), ("/a/f", "fed by left"), ("/", "fed by left"),
+                           ("/c", "kept"), ("/none", "kept"), ("b/../a", "fed by left"), ("./b/", "kept")]:
+            self.assertEqual(self.words_after(change, upper=self.op(copied(path))), ["fed by left", word], path)
+
+    def test_names_modes_and_owners_count_as_contents_do(self):
+        for change in [("0644 0 0 61", "0600 0 0 61"), ("0755 0 0 /a", "0755 1 0 /a"), ("/a/f", "/a/g")]:
+            self.assertEqual(self.words_after(change, upper=self.op(copied("/a"))), ["fed by left"] * 2)
+            self.assertEqual(self.words_after(change, upper=self.op(copied("/b"))), ["fed by left", "kept"])
+
+    def test_of_a_pattern_the_names_before_the_first_wildcard_count(self):
+        change = ("61 /a/f", "62 /a/f")
+        for path, word in [("/b/*", "kept"), ("/a/*", "fed by left"), ("/*/f", "fed by left"), ("/b?", "fed by left"),
+                           ("/[b]", "fed by left"), ("/\\b", "fed by left"), ("/b", "kept")]:
+            words = self.words_after(change, upper=self.op(copied(path, pattern=True)))
+            self.assertEqual(words, ["fed by left", word], path)
+        self.assertEqual(self.words_after(change, upper=self.op(copied("/a*"))), ["fed by left", "kept"])
+
+    def test_all_copies_of_an_op_count_and_so_does_its_base(self):
+        change = ("61 /a/f", "62 /a/f")
+        for second, word in [("/a", "fed by left"), ("/c", "kept")]:
+            both = self.op(copied("/b", output=-1), copied(second, onto=1))
+            self.assertEqual(self.words_after(change, upper=both), ["fed by left", word])
+        for onto in [copied("/b", onto=0), base.mkdir("/d") + base.number(1, 0)]:
+            self.assertEqual(self.words_after(change, upper=self.op(onto)), ["fed by left"] * 2)
+        self.assertEqual(self.words_after(change, upper=self.op(base.mkdir("/d"))), ["fed by left", "kept"])
+
+    def test_what_is_on_a_kept_copy_is_kept(self):
+        first, second = self.op(copied("/a")), self.op(copied("/b"))
+        above = base.file_op(base.mkdir("/d") + base.number(1, 0), on=[second])
+        data = base.ending(self.left, first, second, above, base.merge(first, above))
+        words = self.words_of(*self.trees(("61 /a/f", "62 /a/f")), old=data, new=data)
+        self.assertEqual(words, ["fed by left", "fed by left", "kept", "kept", "fed by left"])
+
+    def test_a_copy_of_what_is_fed_is_fed(self):
+        lower = base.file_op(base.mkdir("/d") + base.number(1, 0), on=[self.left])
+        data = base.ending(self.left, lower, base.file_op(copied("/b"), on=[lower]))
+        words = self.words_of(*self.trees(("61 /a/f", "62 /a/f")), old=data, new=data)
+        self.assertEqual(words, ["fed by left"] * 3)
+
+    def test_without_both_trees_nothing_is_known(self):
+        data = base.ending(self.left, self.op(copied("/b")))
+        before, after = self.trees(("61", "62"))[:2], self.trees(("61", "62"))[2:]
+        for words in [before, after, ["--changed", "left"], [*before, *after, "--changed", "left"]]:
+            self.assertEqual(self.words_of(*words, old=data, new=data), ["fed by left"] * 2)
+
+
 class Renames(Pair):
     """Sources with other names, whose trees the tool compares."""
 
@@ -206,7 +284,7 @@ class Renames(Pair):
     def on(self, first, second):
         """Returns a definition with a file op on the first source, and a merge of it with the second."""
         left, right = base.source(f"local://{first}"), base.source(f"local://{second}")
-        lower = base.file_op(base.mkdir("/a"), on=[left])
+        lower = base.file_op(base.mkdir("/a") + base.number(1, 0), on=[left])
         return base.ending(left, lower, right, base.merge(lower, right))
 
     def test_a_source_with_another_name_and_the_same_tree_is_kept(self):

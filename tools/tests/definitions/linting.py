@@ -1,5 +1,6 @@
 """Tests of `lint`: of how the tools read ops, and of the faults that the program finds in definitions and scripts."""
 
+import json
 import os
 import random
 import re
@@ -349,6 +350,14 @@ class Lint(base.WithProgram):
         self.check_run(run("lint", self.file(b"definition", data)), 1, lines)
         self.check_run(run("lint", text=b"\x0a"), 1, b"fault 81 1\n")
         self.check_success(run("lint", text=base.ending(base.source("local://a"))))
+
+    def test_the_object_has_all_findings(self):
+        data = base.ending(base.source("git://a")) + self.named(base.source("git://a"), "the é")
+        found = {"kind": "fault", "words": "88 0 Source", "name": "the é"}
+        done = run("lint", "--json", text=data)
+        self.assertEqual((done.returncode, json.loads(done.stdout)), (1, {"findings": [found], "faults": 1, "notes": 0}))
+        done = run("lint", "--json", text=base.ending(base.source("local://a")))
+        self.assertEqual((done.returncode, json.loads(done.stdout)), (0, {"findings": [], "faults": 0, "notes": 0}))
 
     def test_explain_reads_the_lines(self):
         data = base.ending(part(7, b""), base.merge(part(7, b"")), exec_of(args=["/bin/sh", "-c", ";"]))

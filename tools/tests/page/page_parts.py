@@ -111,8 +111,8 @@ class Edges(Parts):
               ...Array.from({ length: 30 + dice(400) }, (_, number) => ({ number, inputs: [] }))] };
             const last = graph.vertices.length;
             graph.vertices.push({ number: last, inputs: graph.vertices.map(({ number }) => ({ vertex: number })) });
-            const placed = m.layout(graph);
-            const inside = (x, y) => placed.boxes.some((box) => x > box.x && x < box.x + m.BOX.width
+            const placed = m.layout(graph, 1400, (vertex) => 100 + (vertex * 37) % 400);
+            const inside = (x, y) => placed.boxes.some((box) => x > box.x && x < box.x + box.width
               && y > box.y && y < box.y + m.BOX.height);
             for (const { number, inputs } of graph.vertices) for (const { vertex } of inputs) {
               const way = m.edgeWay(placed, vertex, number, (edges % 5 - 2) * 3);
@@ -135,6 +135,38 @@ class Edges(Parts):
           return [edges > 3000, wrong.slice(0, 5)];
         })()"""
         self.assertEqual(self.node("layout.mjs", text), [True, []])
+
+
+class Boxes(Parts):
+    """Where boxes are, and how wide."""
+
+    def test_a_row_is_as_wide_as_its_labels_where_there_is_room(self):
+        text = """(() => {
+          const vertex = (number, inputs) => ({ number, inputs: inputs.map((one) => ({ vertex: one })) });
+          const wide = Array.from({ length: 5 }, (_, i) => i + 1);
+          const graph = { vertices: [vertex(0, []), ...wide.map((n) => vertex(n, [0])), vertex(6, wide)] };
+          const wanted = (number) => (number === 6 ? 900 : 300);
+          return [0, 1000].map((room) => m.layout(graph, room, wanted).widths);
+        })()"""
+        # Five boxes and their gaps take 936 pixels; a label wants 300, and boxes are 168 and multiples of 36 wide.
+        self.assertEqual(self.node("layout.mjs", text), [[312, 168, 460], [312, 171, 460]])
+
+    def test_a_large_graph_is_about_as_wide_as_it_is_high(self):
+        text = """(() => {
+          const placed = m.layout({ vertices: Array.from({ length: 65535 }, (_, number) => ({ number, inputs: [] })) });
+          return placed.width / placed.height;
+        })()"""
+        ratio = self.node("layout.mjs", text)
+        self.assertTrue(0.8 < ratio < 1.25, ratio)
+
+    def test_the_vertex_at_a_place(self):
+        text = """(() => {
+          const placed = m.layout({ vertices: [0, 1, 2].map((number) => ({ number, inputs: [] })) });
+          const { x, y, width } = placed.boxes[1];
+          const places = [[x + 1, y + 1], [x + width + 2, y + 1], [x + 1, y - 5], [x + 1, y + 500]];
+          return places.map(([left, top]) => m.vertexAt(placed, { x: left, y: top }));
+        })()"""
+        self.assertEqual(self.node("layout.mjs", text), [1, None, None, None])
 
 
 class Words(Parts):

@@ -10,7 +10,8 @@ import subprocess
 import sys
 from urllib.parse import quote
 
-from llbm_tools.page import builds, server
+from llbm_tools.page import server
+from llbm_tools.sessions import builds
 from tests import base
 from tests.base import ROOT, TOOLS, Folder, run
 

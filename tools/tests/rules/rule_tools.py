@@ -1,5 +1,6 @@
 """Tests of the tools that use BuildKit's rules: the options of `lint` and `adopt`, `as-buildkit`, and `explain-run`."""
 
+import json
 import os
 import unittest
 
@@ -214,6 +215,38 @@ class WithProgram(WithRules):
             else:
                 before = line.strip()
         return found
+
+
+class Objects(WithProgram):
+    """The objects of `as-buildkit` and `explain-run`."""
+
+    def members(self, tool, data, *words, status=0):
+        """Returns the object that a tool prints."""
+        return json.loads("\n".join(self.lines(tool, data, "--json", *words, status=status)))
+
+    def test_a_comparison_has_differences_and_the_verdict(self):
+        text = "fails: the second input depends on the action: SecondInput"
+        one = {"vertex": 0, "action": 0, "text": text}
+        end = "BuildKit fails, here is a result"
+        wanted = {"notes": [], "differences": [one], "agree": False, "end": end}
+        data = base.ending(base.file_op(base.mkdir("/a")))
+        self.assertEqual(self.members("as-buildkit", data, status=1), wanted)
+        self.assertEqual(self.lines("as-buildkit", data, status=1), [f"vertex 0 action 0: {text}", end])
+        data = base.ending(base.file_op(base.mkdir("/a") + base.number(2, -1)))
+        found = self.members("as-buildkit", data)
+        self.assertEqual((found["differences"], found["agree"]), ([], True))
+
+    def test_a_run_has_its_vertices_in_order(self):
+        first = base.file_op(base.mkdir("/a"))
+        found = self.members("explain-run", base.ending(first, base.merge(first, first)))
+        self.assertEqual([one["vertex"] for one in found["vertices"]], [0, 1])
+        self.assertEqual([one["lines"][-1] for one in found["vertices"]], ["done", "done"])
+        self.assertEqual((found["complete"], found["result"], found["outside"]), (True, "1.0", []))
+        self.assertEqual(found["vertices"][0]["lines"][0], "action 0: mkdir /a")
+        fails = base.file_op(base.rm("/none") + base.number(1, -1))
+        found = self.members("explain-run", base.ending(fails, base.merge(fails, fails)), status=1)
+        self.assertEqual([one["lines"][-1] for one in found["vertices"]][:1], ["failed"])
+        self.assertFalse(found["complete"])
 
 
 class Breaking(WithProgram):

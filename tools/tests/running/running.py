@@ -1,6 +1,7 @@
 """Tests of `run`: what it adds to the lines of the program. The programs are scripts that print what a test wants."""
 
 import os
+import pty
 import subprocess
 import unittest
 
@@ -73,6 +74,22 @@ class Run(Folder):
     def test_nothing_is_added_to_a_run_that_succeeds(self):
         done = run("run", "--llbm", self.program("", 0), "run", text=b"abc\xff")
         self.check_success(done, b"abc\xff")
+
+    def test_a_session_at_a_terminal_says_what_it_reads(self):
+        line = b"llbm step reads a command on each line, as next, back, go or quit; tools/debug has a prompt\n"
+        ends, terminal = pty.openpty()
+        try:
+            os.write(ends, b"\x04")
+            words = command("run", "--llbm", self.program("", 0), "step", "definition")
+            done = subprocess.run(words, stdin=terminal, capture_output=True, timeout=base.GUARD)
+            self.check_success(done, b"", line)
+            os.write(ends, b"\x04")
+            words = command("run", "--llbm", self.program("", 0), "run")
+            self.check_success(subprocess.run(words, stdin=terminal, capture_output=True, timeout=base.GUARD), b"")
+        finally:
+            os.close(ends)
+            os.close(terminal)
+        self.check_success(run("run", "--llbm", self.program("", 0), "step", "definition"), b"")
 
     def test_the_word_that_is_refused_is_named(self):
         self.assertEqual(self.added("fault 183", "show", "x")[0], "'x' is one word too many: show takes none")

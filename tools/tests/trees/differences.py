@@ -1,6 +1,7 @@
 """Tests of `diff-of-trees`."""
 
 import hashlib
+import json
 import os
 
 from tests.base import Folder, run, run_closed, run_into
@@ -53,6 +54,24 @@ class DiffOfTrees(Folder):
         ]:
             first, second = self.tree(b"first", f"{before} /x y"), self.tree(b"second", f"{after} /x y")
             self.check_lines(first, second, f"changed {line} /x y")
+
+    def test_the_object_has_both_entries_of_each_path(self):
+        first = self.tree(b"first", "f 0644 0 0 61 /a", "d 0755 0 0 /b")
+        second = self.tree(b"second", "f 0600 0 0 61 /a", "d 0755 0 0 /c")
+        done = run("diff-of-trees", "--json", first, second)
+        self.assertEqual((done.returncode, done.stderr), (1, b""))
+        file = {"kind": "file", "mode": "0644", "owner": "0:0", "contents": contents(b"a").removeprefix("contents ")}
+        directory = {"kind": "directory", "mode": "0755", "owner": "0:0", "contents": "none"}
+        self.assertEqual(json.loads(done.stdout), {
+            "differences": [
+                {"path": "/a", "change": "changed", "before": file, "after": {**file, "mode": "0600"}},
+                {"path": "/b", "change": "removed", "before": directory, "after": None},
+                {"path": "/c", "change": "added", "before": None, "after": directory},
+            ],
+            "removed": 1, "added": 1, "changed": 1,
+        })
+        none = {"differences": [], "removed": 0, "added": 0, "changed": 0}
+        self.assertEqual(json.loads(run("diff-of-trees", "--json", first, first).stdout), none)
 
     def test_the_root_is_compared(self):
         first, second = self.file(b"first", b"d 0755 0 0 /\n"), self.file(b"second", b"d 0711 0 9 /\n")

@@ -1,4 +1,4 @@
-"""Builds that the page can open by a link: folders with a definition, trees of local sources, and a record of a run.
+"""Builds that page and editor open: folders with a definition, trees of local sources, and a record of a run.
 
 A build is a folder with `definition`, or `definition.text` with the text of its entries. `record` has the lines of a
 run's record, if it is there, and `error` why the build failed. The trees are those that `sources` names, a line
@@ -104,6 +104,13 @@ def builds_at(place: str) -> list[Build]:
     if not found:
         raise Refused(f"no build: {place} has neither a definition nor builds that llbmd kept")
     return found
+
+
+def last_build(place: str) -> Build:
+    """Returns the last definition of the newest build at a place."""
+    found = builds_at(place)
+    newest = found[0].name.rpartition("/")[0]
+    return [one for one in found if one.name.rpartition("/")[0] == newest][-1]
 
 
 def all_builds(places: list[str]) -> dict[str, Build]:
