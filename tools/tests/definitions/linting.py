@@ -355,7 +355,8 @@ class Lint(base.WithProgram):
         data = base.ending(base.source("git://a")) + self.named(base.source("git://a"), "the é")
         found = {"kind": "fault", "words": "88 0 Source", "name": "the é"}
         done = run("lint", "--json", text=data)
-        self.assertEqual((done.returncode, json.loads(done.stdout)), (1, {"findings": [found], "faults": 1, "notes": 0}))
+        wanted = {"findings": [found], "faults": 1, "notes": 0}
+        self.assertEqual((done.returncode, json.loads(done.stdout)), (1, wanted))
         done = run("lint", "--json", text=base.ending(base.source("local://a")))
         self.assertEqual((done.returncode, json.loads(done.stdout)), (0, {"findings": [], "faults": 0, "notes": 0}))
 
