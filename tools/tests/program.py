@@ -6,12 +6,11 @@ import pathlib
 import re
 import resource
 import subprocess
-import unittest
 
 from llbm_tools.definitions import faults
 from llbm_tools.fuzzing import limited
 from tests import base
-from tests.base import ROOT, Folder, run
+from tests.base import ROOT, run
 
 EXAMPLES = ROOT / "examples"
 DEEPEST = 65_535

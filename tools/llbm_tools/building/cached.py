@@ -22,7 +22,7 @@ MOST_OF_A_NAME = 100
 
 
 class Found(NamedTuple):
-    """The cached vertices of a build, by number, and whether the result is an output of one that the last result was."""
+    """The cached vertices of a build, by number, and whether the result is an output of one that the last one was."""
 
     vertices: dict[int, Impact]
     has_result: bool

@@ -22,7 +22,7 @@ from llbm_tools.images import packing
 from llbm_tools.inputs import shown
 from llbm_tools.llb import source_names
 from llbm_tools.rules import notes
-from llbm_tools.streams import FAILED, REFUSED, program_at, write_output
+from llbm_tools.streams import FAILED, REFUSED, program_at, program_to_ask, write_output
 from llbm_tools.trees import times
 from llbm_tools.trees.kept_sources import bytes_of
 from llbm_tools.trees.references import Copier, Table
@@ -269,7 +269,8 @@ class Build:
 
     def whole(self) -> None:
         """Does the whole build."""
-        llbm = program_at(self.options.llbm)
+        asks = self.sources and not self.options.by_value
+        llbm = program_to_ask(self.options.llbm) if asks else program_at(self.options.llbm)
         self.make_folders()
         self.store()
         self.read_all(llbm)

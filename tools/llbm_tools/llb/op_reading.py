@@ -6,7 +6,7 @@ from typing import TypeVar
 
 from llbm_tools.common import MOST_BYTES
 from llbm_tools.llb.ops import NUMBERS, SIGNED, WIDTHS, Definition, Field, Message, Op, fields_of
-from llbm_tools.llb.wire import LENGTH, NOT_UTF8, OVER_LIMIT, VARINT, WRONG_WIRE_TYPE, Faulty, Record, records
+from llbm_tools.llb.wire import LENGTH, VARINT, Faulty, Record, records
 
 MOST_ENTRIES = 65_536
 MOST_OF_AN_ENTRY = 16_777_216
@@ -26,7 +26,7 @@ def checked_records(message: type[Message], data: bytes) -> Iterator[Record]:
     for record in records(data):
         field = fields.get(record.field)
         if field and record.form != form_of(field):
-            raise Faulty(WRONG_WIRE_TYPE, f"{field.name} has the wire type {record.form}")
+            raise Faulty(f"{field.name} has the wire type {record.form}")
         yield record
 
 
@@ -35,7 +35,7 @@ def text_in(field: Field, held: bytes) -> str:
     try:
         return held.decode("utf-8")
     except UnicodeDecodeError as fault:
-        raise Faulty(NOT_UTF8, f"{field.name} is not UTF-8") from fault
+        raise Faulty(f"{field.name} is not UTF-8") from fault
 
 
 def number_in(kind: str, held: int) -> int:
@@ -107,9 +107,8 @@ def read(message: type[OneMessage], data: bytes) -> OneMessage:
     for field in fields.values():
         values = found.get(field.attribute)
         if field.repeated and isinstance(values, tuple) and len(values) > MOST_OF_A_FIELD:
-            raise Faulty(OVER_LIMIT, f"{field.name} has more than {MOST_OF_A_FIELD:,} values")
+            raise Faulty(f"{field.name} has more than {MOST_OF_A_FIELD:,} values")
     found["kind"] = fields[last].name if last else None
-    found["extra"] = b"".join([record.text for record in given if record.field not in fields])
     return message(**found)
 
 
@@ -117,20 +116,20 @@ def read(message: type[OneMessage], data: bytes) -> OneMessage:
 def read_op(entry: bytes) -> Op:
     """Parses the op in an entry. It is kept, since tools ask for the ops of a definition again and again."""
     if len(entry) > MOST_OF_AN_ENTRY:
-        raise Faulty(OVER_LIMIT, f"an entry has at most {MOST_OF_AN_ENTRY:,} bytes")
+        raise Faulty(f"an entry has at most {MOST_OF_AN_ENTRY:,} bytes")
     return read(Op, entry)
 
 
 def read_definition(data: bytes) -> list[Record]:
     """Parses a definition into records."""
     if len(data) > MOST_BYTES:
-        raise Faulty(OVER_LIMIT, f"a definition has at most {MOST_BYTES:,} bytes")
+        raise Faulty(f"a definition has at most {MOST_BYTES:,} bytes")
     found = list(checked_records(Definition, data))
     entries = entries_in(found)
     if len(entries) > MOST_ENTRIES:
-        raise Faulty(OVER_LIMIT, f"a definition has at most {MOST_ENTRIES:,} entries")
+        raise Faulty(f"a definition has at most {MOST_ENTRIES:,} entries")
     if any(len(entry) > MOST_OF_AN_ENTRY for entry in entries):
-        raise Faulty(OVER_LIMIT, f"an entry has at most {MOST_OF_AN_ENTRY:,} bytes")
+        raise Faulty(f"an entry has at most {MOST_OF_AN_ENTRY:,} bytes")
     return found
 
 

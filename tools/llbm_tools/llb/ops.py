@@ -1,7 +1,7 @@
 """The messages of a definition, as records with typed fields: the table of docs/FORMATS.md.
 
 A class is a message and has its name. A field has a number, a kind and, if it differs, the name that it has in a text
-of entries. `kind` is the name of the member of a oneof that is set, `extra` has the records of unknown fields, and an
+of entries. `kind` is the name of the member of a oneof that is set, records of unknown fields are left out, and an
 absent field has its default. Messages are values: two of one class are equal if their fields are. They are not made by
 `dataclasses`, whose code for these classes would take most of the time that a tool needs to start.
 """
@@ -54,9 +54,8 @@ class Message:
     """What all messages have."""
 
     kind: str | None = None
-    extra: bytes = b""
     FIELDS: ClassVar[dict[int, Field]] = {}
-    DEFAULTS: ClassVar[dict[str, object]] = {"kind": None, "extra": b""}
+    DEFAULTS: ClassVar[dict[str, object]] = {"kind": None}
 
     def __init_subclass__(cls) -> None:
         declared = [(name, field) for name, field in vars(cls).items() if isinstance(field, Field)]

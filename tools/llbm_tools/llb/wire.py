@@ -12,20 +12,13 @@ WIDTHS = {EIGHT: 8, FOUR: 4}
 MOST_FIELDS = 536_870_911
 MOST_OF_A_NUMBER = 1 << 64
 
-TRUNCATED, LONG_VARINT, BAD_FIELD, BAD_WIRE_TYPE = 1, 2, 3, 4
-WRONG_WIRE_TYPE, NOT_UTF8, OVER_LIMIT = 11, 12, 13
-
 
 class Unreadable(Exception):
     """The bytes are not a definition or not an op, or the entries are not a graph; the message says why."""
 
 
 class Faulty(Unreadable):
-    """The bytes are not such a message; the number is that of the first fault."""
-
-    def __init__(self, number: int, text: str) -> None:
-        super().__init__(text)
-        self.number = number
+    """The bytes are not such a message; the message says what its first fault is."""
 
 
 class Record(NamedTuple):
@@ -52,11 +45,11 @@ def varint_at(data: bytes, place: int) -> tuple[int, int]:
     number = 0
     for count, byte in enumerate(data[place : place + 10]):
         if count == 9 and byte > 1:
-            raise Faulty(LONG_VARINT, "a number has more than 64 bits")
+            raise Faulty("a number has more than 64 bits")
         number |= (byte & 127) << 7 * count
         if byte < 128:
             return number, place + count + 1
-    raise Faulty(TRUNCATED, "the bytes end inside a record")
+    raise Faulty("the bytes end inside a record")
 
 
 def record_at(data: bytes, place: int) -> tuple[Record, int]:
@@ -64,16 +57,16 @@ def record_at(data: bytes, place: int) -> tuple[Record, int]:
     tag, after = varint_at(data, place)
     field, form = tag >> 3, tag & 7
     if not 1 <= field <= MOST_FIELDS:
-        raise Faulty(BAD_FIELD, f"a record has the field {field}")
+        raise Faulty(f"a record has the field {field}")
     if form not in (VARINT, EIGHT, LENGTH, FOUR):
-        raise Faulty(BAD_WIRE_TYPE, f"a record has the wire type {form}")
+        raise Faulty(f"a record has the wire type {form}")
     if form == VARINT:
         number, end = varint_at(data, after)
         return Record(field, form, number, data[place:end]), end
     length, after = varint_at(data, after) if form == LENGTH else (WIDTHS[form], after)
     end = after + length
     if end > len(data):
-        raise Faulty(TRUNCATED, "the bytes end inside a record")
+        raise Faulty("the bytes end inside a record")
     return Record(field, form, data[after:end], data[place:end]), end
 
 

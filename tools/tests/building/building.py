@@ -169,6 +169,8 @@ class Build(Builds):
         self.check_end(self.build("definition", "out"), 2, line)
         line = f"this is not the program llbm: /bin/true; {others}"
         self.check_end(self.build("definition", "out", llbm="/bin/true"), 2, line)
+        self.make(b"a", b"a")
+        self.check_end(self.build("definition", "out", "src=in", llbm="/bin/true"), 2, line, "nothing is written")
 
     def test_command_lines_are_refused(self):
         for words in [[], ["definition"], ["definition", "out", "src"], ["definition", "out", "src="]]:

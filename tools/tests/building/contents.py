@@ -404,12 +404,13 @@ class BothWays(base.Folder):
                 self.assertEqual(self.text_of(f"reference-{result}"), self.text_of(f"value-{result}"))
 
     def test_the_examples(self):
+        places = {}
         for tree in [*base.ROOT.glob("examples/*.tree"), *base.ROOT.glob("examples/*/*.tree")]:
-            if not (self.at / tree.stem).exists():
-                self.check_success(run("directory-of-tree", self.at / tree.stem, text=tree.read_bytes()))
+            places[tree] = self.at / f"{tree.parent.name}-{tree.stem}"
+            self.check_success(run("directory-of-tree", places[tree], text=tree.read_bytes()))
         for name, given in self.definitions():
             trees = [*base.ROOT.glob(f"examples/{name}/*.tree"), *base.ROOT.glob("examples/*.tree")]
-            sources = [f"{'source' if tree.stem == 'tour' else tree.stem}={self.at / tree.stem}" for tree in trees]
+            sources = [f"{'source' if tree.stem == 'tour' else tree.stem}={places[tree]}" for tree in trees]
             self.check_both(name, given, *sources, status=1 if name == "failure" else 0)
 
     def test_listed_appended_joined_and_cached_contents(self):

@@ -15,7 +15,7 @@ from llbm_tools.llb import local_names
 from llbm_tools.llb.findings import findings_of
 from llbm_tools.streams import Refused
 from tests import base
-from tests.base import Folder, number, part, run, run_closed, run_into
+from tests.base import number, part, run, run_closed, run_into
 from tests.definitions import linting
 from tests.definitions.linting import EXAMPLES, ROOT_MOUNT, action, exec_of, mount
 

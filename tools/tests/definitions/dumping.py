@@ -7,7 +7,7 @@ import unittest
 
 from llbm_tools.llb import whole_messages
 from tests import base
-from tests.base import ROOT, Folder, number, part, run
+from tests.base import ROOT, number, part, run
 
 FOREIGN = ROOT / "examples" / "foreign.llb"
 IMAGE, GIT = base.source("docker-image://alpine"), base.source("git://example.com/x")

@@ -8,7 +8,7 @@ import unittest
 from llbm_tools.llb import definition, wire
 from llbm_tools.llb.ops import Input
 from tests import base
-from tests.base import ROOT, Folder, run
+from tests.base import ROOT, run
 
 STORED = ROOT / "examples" / "from-buildkit"
 NAMES = ["copy", "dockerfile", "exec", "image", "merge", "newer"]

@@ -7,7 +7,6 @@ import pathlib
 import random
 import re
 import subprocess
-import unittest
 
 from llbm_tools.definitions.impacts import Comparison
 from llbm_tools.fuzzing import changed as fuzz_changed
@@ -17,7 +16,7 @@ from llbm_tools.llb.findings import findings_of
 from llbm_tools.sessions.shows import show_of
 from llbm_tools.trees.digests import tree_digest
 from tests import base
-from tests.base import ROOT, Folder, run, run_closed, run_into
+from tests.base import ROOT, run, run_closed, run_into
 
 EXAMPLES = ROOT / "examples"
 STORED = EXAMPLES / "from-buildkit"

@@ -10,11 +10,11 @@ from unittest import mock
 
 from llbm_tools.common import printable
 from llbm_tools.llb import definition, op_reading, scripts, wire
-from llbm_tools.llb.findings import FEATURE, RULE, findings_of
+from llbm_tools.llb.findings import ENTRY, FEATURE, RULE, findings_of
 from llbm_tools.llb.ops import MESSAGES, CacheOpt, Definition, Mount, Op, UserOpt, fields_of
 from llbm_tools.llb.wire import Faulty
 from tests import base
-from tests.base import ROOT, Folder, number, part, run, run_closed, run_into
+from tests.base import ROOT, number, part, run, run_closed, run_into
 
 EXAMPLES = ROOT / "examples"
 RUNS = 60
@@ -43,34 +43,35 @@ COPY = part(1, "/a") + part(2, "/b")
 BY_NAME = part(3, part(1, part(1, part(1, "root"))))
 
 
-class Reading(unittest.TestCase):
-    """Parsing of ops, and their first faults by number."""
+class Reading(base.WithProgram):
+    """Parsing of ops, which refuses what the program refuses."""
 
-    def check_fault(self, fault, entry):
-        """Checks that the entry is not an op, with this fault number."""
-        with self.assertRaises(Faulty, msg=entry) as caught:
-            op_reading.read_op(entry)
-        self.assertEqual(caught.exception.number, fault, entry)
+    def check_faults(self, *cases):
+        """Checks that entries are no ops, and that these are the numbers of their first faults."""
+        for _, entry in cases:
+            with self.assertRaises(Faulty, msg=entry):
+                op_reading.read_op(entry)
+        found = findings_of(base.definition(*(entry for _, entry in cases)), base.llbm)
+        shown = {one.row: one.rest for one in found if one.number == ENTRY}
+        self.assertEqual(shown, {row: str(fault) for row, (fault, _) in enumerate(cases)})
 
     def test_faults_of_records_have_their_numbers(self):
         ends = b"\x80" * 9
-        for fault, entry in [
+        self.check_faults(
             (1, b"\x0a"), (1, b"\x80"), (1, b"\x0a\x02a"), (1, b"\x9d\x06123"), (1, b"\x99\x061234567"), (1, ends),
             (2, ends + b"\x02"), (2, ends + b"\x80"), (2, b"\x98\x06" + ends + b"\x02"), (3, b"\x00"), (3, b"\x03"),
             (3, base.varint(1 << 32)), (4, b"\x0b"), (4, b"\x0c"), (4, b"\x0e"), (4, b"\x0f"),
-        ]:
-            self.check_fault(fault, entry)
+        )
 
     def test_the_first_fault_of_an_entry_is_found(self):
         bad = part(1, b"\xff")
-        for fault, entry in [
+        self.check_faults(
             (11, number(1, 0) + b"\x0a"), (1, part(1, bad) + b"\x0a"), (11, part(1, bad) + number(2, 0)),
             (12, part(1, bad)), (12, part(1, bad) + part(2, number(1, 0))), (11, part(1, number(1, 0))),
             (12, part(3, bad)), (12, part(3, bad + part(1, "a"))), (11, part(3, number(2, 0) + bad)),
             (12, part(3, part(2, part(2, b"\xff")))), (13, part(1, b"") * 1_025), (12, part(1, bad) * 1_025),
-            (13, part(3, part(2, b"") * 1_025)), (13, b"\x7a\x80\x80\x80\x08" + bytes(1 << 24)),
-        ]:
-            self.check_fault(fault, entry)
+            (13, part(3, part(2, b"") * 1_025)),
+        )
 
     def test_a_member_that_was_replaced_is_not_parsed(self):
         op = op_reading.read_op(part(3, part(1, b"\xff")) + part(4, part(2, MADE)))
@@ -80,16 +81,19 @@ class Reading(unittest.TestCase):
 
     def test_values_are_converted_to_their_kinds(self):
         shown = op_reading.read(Mount, number(1, -1) + number(6, (1 << 33) + 3) + number(5, 7) + part(21, "x"))
-        self.assertEqual((shown.input, shown.mount_type, shown.readonly, shown.extra), (-1, 3, True, part(21, "x")))
+        self.assertEqual((shown.input, shown.mount_type, shown.readonly), (-1, 3, True))
         self.assertEqual((shown.dest, shown.output, shown.cache_opt), ("", 0, None))
         self.assertEqual(op_reading.read(UserOpt, number(2, -1)).by_id, (1 << 32) - 1)
         self.assertEqual(op_reading.read(CacheOpt, number(2, (1 << 32) - 1)).sharing, -1)
 
     def test_faults_of_definitions_have_their_numbers(self):
-        for fault, data in [(1, b"\x0a"), (11, number(2, 0)), (11, number(3, 0)), (13, b"\x0a\x00" * 65_537)]:
-            with self.assertRaises(Faulty) as caught:
+        large = b"\x7a\x80\x80\x80\x08" + bytes(1 << 24)
+        for fault, data in [
+            (1, b"\x0a"), (11, number(2, 0)), (11, number(3, 0)), (13, b"\x0a\x00" * 65_537), (13, part(1, large)),
+        ]:
+            with self.assertRaises(Faulty):
                 op_reading.read_definition(data)
-            self.assertEqual(caught.exception.number, fault)
+            self.assertEqual([one.words() for one in findings_of(data, base.llbm)], [f"81 {fault}"])
         self.assertEqual(len(op_reading.read_definition(b"\x0a\x00" * 65_536)), 65_536)
 
 
@@ -351,7 +355,8 @@ class Lint(base.WithProgram):
         data = base.ending(base.source("git://a")) + self.named(base.source("git://a"), "the é")
         found = {"kind": "fault", "words": "88 0 Source", "name": "the é"}
         done = run("lint", "--json", text=data)
-        self.assertEqual((done.returncode, json.loads(done.stdout)), (1, {"findings": [found], "faults": 1, "notes": 0}))
+        wanted = {"findings": [found], "faults": 1, "notes": 0}
+        self.assertEqual((done.returncode, json.loads(done.stdout)), (1, wanted))
         done = run("lint", "--json", text=base.ending(base.source("local://a")))
         self.assertEqual((done.returncode, json.loads(done.stdout)), (0, {"findings": [], "faults": 0, "notes": 0}))
 

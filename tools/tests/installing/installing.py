@@ -146,7 +146,8 @@ class Install(WithFake):
         definition = self.file(b"definition", base.ending(base.source("local://a")))
         (self.prefix / "bin" / "llbm").write_text(base.FAKE_SHELL + "echo 'd 0755 0 0 /'\n")
         command = [sys.executable, self.prefix / "bin" / "llbm-build", definition, self.at / "result"]
-        done = subprocess.run(command, capture_output=True, text=True)
+        environment = {name: value for name, value in os.environ.items() if name != "LLBM"}
+        done = subprocess.run(command, capture_output=True, text=True, env=environment)
         self.assertEqual(done.returncode, 0, done.stderr)
         self.assertTrue((self.at / "result").is_dir())
 
