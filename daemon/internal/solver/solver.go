@@ -84,7 +84,7 @@ func (s *Solver) Solve(ctx context.Context, b *builds.Build, sent *pb.Definition
 	if err != nil {
 		return nil, err
 	}
-	def, err := convert(ctx, graph.Respelled(sent), slices.Concat(given, policies))
+	def, err := convert(ctx, respelled(sent), slices.Concat(given, policies))
 	if err != nil {
 		return nil, err
 	}
