@@ -276,7 +276,8 @@ func TestWhatLLBMDoesNotTakeOfAFileOpGoesByTheTrees(t *testing.T) {
 		"patterns of what is unknown": {llb.Scratch().File(llb.Copy(run, "/etc", "/n", without)), "", "patterns are taken only of a tree that is known"},
 		"no archive":                  {llb.Scratch().File(llb.Copy(context, "/plain.txt", "/n/", unpack)), plain, ""},
 		"no archive, after a run":     {run.File(llb.Copy(context, "/plain.txt", "/n/", unpack)), etc + plain + "0644 0:0 out \"x\\n\"\n", ""},
-		"an archive":                  {llb.Scratch().File(llb.Copy(context, "/a.tar", "/n/", unpack)), "", "an archive is not unpacked"},
+		"an archive":                  {llb.Scratch().File(llb.Copy(context, "/a.tar", "/n/", unpack)), "0755 0:0 n/ \"\"\n0600 0:0 n/f \"\"\n", ""},
+		"an archive of a stage":       {llb.Scratch().File(llb.Copy(base.File(llb.Copy(context, "/a.tar", "/")), "/a.tar", "/n/", unpack)), "", "an archive is unpacked only from"},
 	} {
 		got, err := d.solved(t, one.state, fromFolder(root))
 		if (err != nil) != (one.fails != "") || err != nil && !strings.Contains(err.Error(), one.fails) || err == nil && got != one.want {

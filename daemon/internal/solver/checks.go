@@ -84,7 +84,7 @@ func (c *checks) loadAs(def, sent, other *pb.Definition, parts ...int) (*graph.G
 // beyond is what can be done about what an action has that llbm does not take.
 var beyond = map[string]string{
 	rules.ByName:   "the numbers of an owner are looked up only in a tree that is known before an execution runs: give the owner as numbers",
-	rules.Unpacked: "an archive is not unpacked, nor a file that is packed by xz: unpack it before, or use COPY",
+	rules.Unpacked: "an archive is unpacked only from a local source or an image, to a place that is made: unpack it before, or use COPY",
 	rules.Filtered: "patterns are taken only of a tree that is known before an execution runs: copy from the context, or without them",
 }
 

@@ -2,6 +2,7 @@ package solver
 
 import (
 	"context"
+	"slices"
 
 	"github.com/moby/buildkit/solver/pb"
 	"google.golang.org/grpc/codes"
@@ -52,7 +53,7 @@ func (s *Solver) liken(
 	if err != nil || made == def && !checks.isBeyond {
 		return def, g, err
 	}
-	if g, err = checks.load(made, sent, parts...); err != nil {
+	if g, err = checks.load(made, sent, slices.Concat(p.further, parts)...); err != nil {
 		return nil, nil, err
 	}
 	p.change(g)

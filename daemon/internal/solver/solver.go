@@ -140,6 +140,9 @@ func (s *Solver) work(c *checks, b *builds.Build, def, sent *pb.Definition, from
 	if def, g, err = in.named(def, sent, g, p); err != nil {
 		return nil, err
 	}
+	if def, g, err = s.unpackArchives(c.ctx, b, def, sent, g, in, p); err != nil {
+		return nil, err
+	}
 	return s.onTexts(c, b, def, sent, g, in, p)
 }
 
