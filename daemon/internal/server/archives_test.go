@@ -167,7 +167,8 @@ func randomArchive(t testing.TB, random *rand.Rand) []byte {
 	names := []string{"a", "b", "c", "d", "f"}
 	pick := func(all ...string) string { return all[random.Intn(len(all))] }
 	var all []tar.Header
-	most := int64([]int{0o7777, 0o1777}[random.Intn(2)]) // of a mode; hard links are beside the second one, since docker looks for their targets in a chroot
+	// Hard links are beside modes without the upper bits: docker looks for their targets in a chroot, and a test has none.
+	most := int64([]int{0o7777, 0o1777}[random.Intn(2)])
 	for n := 1 + random.Intn(6); n > 0; n-- {
 		parts := []string{}
 		for depth := 1 + random.Intn(3); depth > 0; depth-- {
