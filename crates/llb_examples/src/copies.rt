@@ -34,33 +34,38 @@ f 0644 0 0 31 /b/f
 d 0755 0 0 /c
 ";
 
-// Fields of a copy, a second tree, and whether that is the same as `BEFORE` at and below what is copied.
-type Row = (&'static str, &'static str, bool);
+// What a copy selects and its other fields, a second tree, and whether that is the same as `BEFORE` at and below what is copied.
+type Row = (&'static str, &'static str, &'static str, bool);
+
+const WILD: &str = " | allowWildcard true";
 
 const ROWS: &[Row] = &[
-    ("src \"/a\"", CONTENT, true),
-    ("src \"/b\"", CONTENT, false),
-    ("src \"/b/f\"", CONTENT, false),
-    ("src \"/b/f\"", OWNER, true),
-    ("src \"/b\"", OWNER, false),
-    ("src \"/\"", CONTENT, false),
+    ("/a", "", CONTENT, true),
+    ("/b", "", CONTENT, false),
+    ("/b/f", "", CONTENT, false),
+    ("/b/f", "", OWNER, true),
+    ("/b", "", OWNER, false),
+    ("/", "", CONTENT, false),
     // Nothing is there in both, and in one of them.
-    ("src \"/none\"", CONTENT, true),
-    ("src \"/c\"", OWNER, false),
+    ("/none", "", CONTENT, true),
+    ("/c", "", OWNER, false),
     // Patterns; the last text is none, so that both copies fail.
-    ("src \"/[a]\" | allowWildcard true", CONTENT, true),
-    ("src \"/*\" | allowWildcard true", CONTENT, false),
-    ("src \"/*/g\" | allowWildcard true", CONTENT, true),
-    ("src \"/*/f\" | allowWildcard true", OWNER, true),
-    ("src \"/[c]\" | allowWildcard true", OWNER, false),
-    ("src \"/[\" | allowWildcard true", CONTENT, true),
+    ("/[a]", WILD, CONTENT, true),
+    ("/*", WILD, CONTENT, false),
+    ("/*/g", WILD, CONTENT, true),
+    ("/*/f", WILD, OWNER, true),
+    ("/[c]", WILD, OWNER, false),
+    ("/[", WILD, CONTENT, true),
 ];
 
-fn op_of(rt: &impl Abort, alloc: Global, fields: &str) -> Op {
+fn op_of(rt: &impl Abort, alloc: Global, selected: &str, more: &str) -> Op {
     let mut text = String::new(alloc);
-    let front = "op { | file { | actions { | copy { | dest \"/\" | mode -1 | ";
+    let front = "op { | file { | actions { | copy { | src \"";
     text.push_str(front).expect(rt, "memory");
-    text.push_str(fields).expect(rt, "memory");
+    text.push_str(selected).expect(rt, "memory");
+    text.push_str("\" | dest \"/\" | mode -1")
+        .expect(rt, "memory");
+    text.push_str(more).expect(rt, "memory");
     text.push_str(" | } | } | } | }").expect(rt, "memory");
     let entries = entries_of(alloc, text.as_str()).expect(rt, "entries");
     let entry = entries.as_slice().first().expect(rt, "an entry");
@@ -87,16 +92,16 @@ fn copied(rt: &impl Abort, alloc: Global, action: &Action, second: &Tree) -> Str
 
 // Returns whether the trees agree as the row says, and whether the copies from them are the same exactly then.
 fn is_as_wanted(rt: &impl Abort, alloc: Global, row: &Row) -> bool {
-    let op = op_of(rt, alloc, row.0);
+    let op = op_of(rt, alloc, row.0, row.1);
     let action = action_in(&op).expect(rt, "an action");
     let copy = copy_in(action).expect(rt, "a copy");
     let first = tree_from(alloc, BEFORE).expect(rt, "a tree");
-    let second = tree_from(alloc, row.1).expect(rt, "a tree");
+    let second = tree_from(alloc, row.2).expect(rt, "a tree");
     copies_alike(copy, &first, &first, &second);
     let agree = agree_for(alloc, copy, &first, &second).expect(rt, "memory");
     let one = copied(rt, alloc, action, &first);
     let other = copied(rt, alloc, action, &second);
-    agree == row.2 && (one.as_str() == other.as_str()) == row.2
+    agree == row.3 && (one.as_str() == other.as_str()) == row.3
 }
 
 #[test]

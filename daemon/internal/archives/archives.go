@@ -8,14 +8,10 @@ import (
 	"compress/bzip2"
 	"compress/gzip"
 	"encoding/binary"
-	"errors"
 	"io"
 
 	"github.com/klauspost/compress/zstd"
 )
-
-// ErrXZ is why an archive is not read.
-var ErrXZ = errors.New("an archive that is packed by xz can't be read")
 
 const (
 	// mostOfWindow bounds what unpacking holds in memory.
@@ -66,19 +62,18 @@ func Open(from io.Reader) (io.Reader, error) {
 	case Bzip2:
 		return bzip2.NewReader(buffered), nil
 	case XZ:
-		return nil, ErrXZ
+		return openXZ(buffered)
 	case Zstd:
 		return zstd.NewReader(buffered, zstd.WithDecoderConcurrency(1), zstd.WithDecoderMaxWindow(mostOfWindow))
 	}
 	return buffered, nil
 }
 
-// Is is whether BuildKit takes a file for an archive: it begins with an entry of a tar, which may be packed. A file that is packed by xz
-// is taken for one, since what is in it is not known.
+// Is is whether BuildKit takes a file for an archive: it begins with an entry of a tar, which may be packed.
 func Is(from io.Reader) bool {
 	inside, err := Open(from)
 	if err != nil {
-		return err == ErrXZ
+		return false
 	}
 	if packed, ok := inside.(*zstd.Decoder); ok {
 		defer packed.Close()

@@ -79,7 +79,9 @@ func TestAnArchiveIsToldByItsBytes(t *testing.T) {
 		"a tar by zstd":            {packed, true},
 		"a frame that is skipped":  {append(unhex(t, "502a4d1800000000"), packed...), true},
 		"the beginning of a zstd":  {unhex(t, "28b52ffd"), false},
-		"the beginning of an xz":   {[]byte("\xfd7zXZ\x00"), true},
+		"a tar by xz":              {byXZ(t, one, 1<<20, 4, 1<<16), true},
+		"a text by xz":             {byXZ(t, []byte("hello\n"), 1<<20, 4, 1<<16), false},
+		"the beginning of an xz":   {[]byte("\xfd7zXZ\x00"), false},
 		"the beginning of a bzip2": {[]byte("BZh91AY&SY"), false},
 	} {
 		if is := Is(bytes.NewReader(test.data)); is != test.is {

@@ -61,7 +61,10 @@ func refuse(name string, code codes.Code, format string, words ...any) error {
 }
 
 // wrapped returns an error of an image with the code that it has.
-func wrapped(name string, err error) error {
+func wrapped(name string, err error) error { return wrappedAs("image "+name, err) }
+
+// wrappedAs says of what an error is, with the code that it has.
+func wrappedAs(what string, err error) error {
 	code := status.Code(err)
 	if found := status.FromContextError(err); found.Code() != codes.Unknown {
 		code = found.Code()
@@ -72,7 +75,7 @@ func wrapped(name string, err error) error {
 	if code == codes.Unknown {
 		code = codes.InvalidArgument
 	}
-	return refuse(name, code, "%s", messages.Of(err))
+	return status.Error(code, messages.Text(fmt.Sprintf("%s: %s", what, messages.Of(err))))
 }
 
 // read reads the image for a platform that a descriptor names.

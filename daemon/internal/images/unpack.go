@@ -20,6 +20,7 @@ import (
 	fstypes "github.com/tonistiigi/fsutil/types"
 	"google.golang.org/grpc/codes"
 	"google.golang.org/grpc/status"
+	"llbm/daemon/internal/archives"
 	"llbm/daemon/internal/contents"
 	"llbm/daemon/internal/sources"
 )
@@ -45,7 +46,8 @@ func (i *Image) Read(ctx context.Context, store *contents.Store, options sources
 	if err != nil {
 		return nil, err
 	}
-	u := &unpacker{ctx: ctx, pack: pack, overlay: newOverlay(), options: options, left: mostUnpacked}
+	overlay := newOverlay()
+	u := &unpacker{ctx: ctx, pack: pack, overlay: overlay, put: overlay.put, options: options, left: mostUnpacked}
 	manifest, err := sources.Collect(pack, options, func(add sources.Add) error {
 		if err := u.all(i); err != nil {
 			return wrapped(i.Name, err)
@@ -59,7 +61,8 @@ func (i *Image) Read(ctx context.Context, store *contents.Store, options sources
 type unpacker struct {
 	ctx     context.Context
 	pack    *contents.Pack
-	overlay *overlay
+	overlay *overlay          // of an image
+	put     func(*item) error // takes the next entry
 	options sources.Options
 	left    int64 // the bytes that may still be unpacked
 	came    int64
@@ -161,7 +164,8 @@ func unpacked(from io.Reader) (io.ReadCloser, error) {
 	case bytes.HasPrefix(head, []byte("BZh")):
 		return io.NopCloser(bzip2.NewReader(start)), nil
 	case bytes.HasPrefix(head, []byte("\xfd7zXZ\x00")):
-		return nil, errors.New("it is packed by xz: pack it by gzip or zstd, as skopeo copy --dest-compress-format does")
+		plain, err := archives.Open(start)
+		return io.NopCloser(plain), err
 	}
 	return io.NopCloser(start), nil
 }
@@ -198,7 +202,7 @@ func (u *unpacker) entry(h *tar.Header, from io.Reader) error {
 			return fmt.Errorf("%.80q: %w", h.Name, err)
 		}
 	}
-	return u.overlay.put(one)
+	return u.put(one)
 }
 
 // copy writes a content.

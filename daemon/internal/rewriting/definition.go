@@ -132,6 +132,8 @@ func (w *writer) vertex(ctx context.Context, v int) error {
 		return w.file(ctx, v)
 	case op.GetMerge() != nil:
 		return w.merge(ctx, v)
+	case op.GetExec() != nil:
+		w.exec(v)
 	}
 	return nil
 }

@@ -122,6 +122,9 @@ func (n *Node) children() persistent.Map[*Node] {
 // IsDir is whether there is a directory.
 func (n *Node) IsDir() bool { return n != nil && n.dir }
 
+// IsArchive is whether a file that BuildKit unpacks is at a path.
+func (n *Node) IsArchive(path []string) bool { return n.At(path).isArchive() }
+
 // isArchive is whether there is a file that BuildKit unpacks.
 func (n *Node) isArchive() bool { return n != nil && !n.dir && n.content.isArchive() }
 

@@ -128,6 +128,7 @@ func TestALinkThatBuildKitFollowsIsResolvedByTheTrees(t *testing.T) {
 	d, root := started(t, func(o *Options) { o.Strict = true }), linked(t)
 	context := llb.Local("context")
 	etc := llb.Scratch().File(llb.Copy(context, "/etc", "/"))
+	selector := llb.AddMount("/m", context, llb.SourcePath("/etc/current"), llb.Readonly)
 	follow, wild := &llb.CopyInfo{FollowSymlinks: true}, &llb.CopyInfo{FollowSymlinks: true, AllowWildcard: true}
 	const real = "0755 0:0 etc/ \"\"\n0777 0:0 etc/current -> real\n0755 0:0 etc/real/ \"\"\n0644 0:0 etc/real/conf \"conf\"\n"
 	for name, one := range map[string]struct {
@@ -143,6 +144,7 @@ func TestALinkThatBuildKitFollowsIsResolvedByTheTrees(t *testing.T) {
 		"a dest":             {etc.File(llb.Copy(context, "/data", "/etc/current/")), real + "0644 0:0 etc/real/data \"data\"\n"},
 		"an mkfile":          {etc.File(llb.Mkfile("/etc/current/new", 0o600, nil)), real + "0600 0:0 etc/real/new \"\"\n"},
 		"an mkdir":           {etc.File(llb.Mkdir("/etc/current/new", 0o700)), real + "0700 0:0 etc/real/new/ \"\"\n"},
+		"a selector":         {llb.Scratch().Run(llb.Args([]string{"cp", "/m/conf", "/t"}), llb.Dir("/"), selector).Root(), "0644 0:0 t \"conf\"\n"},
 		"an rm":              {etc.File(llb.Rm("/etc/current/conf")), strings.Replace(real, "0644 0:0 etc/real/conf \"conf\"\n", "", 1)},
 	} {
 		got, err := d.solved(t, one.state, fromFolder(root))
@@ -159,7 +161,7 @@ func TestALinkThatCanNotBeResolvedIsRefused(t *testing.T) {
 	etc := llb.Scratch().File(llb.Copy(context, "/etc", "/"))
 	call := func(words ...string) llb.State { return etc.Run(llb.Args(words), llb.Dir("/")).Root() }
 	run := call("write", "/out", "x")
-	selected := llb.Scratch().Run(llb.Args([]string{"true"}), llb.Dir("/"), llb.AddMount("/m", context, llb.SourcePath("/etc/current"), llb.Readonly)).Root()
+	selected := llb.Scratch().Run(llb.Args([]string{"true"}), llb.Dir("/"), llb.AddMount("/m", run, llb.SourcePath("/etc/current"), llb.Readonly)).Root()
 	const through = " leads through the symbolic link /etc/current, which llbm does not follow"
 	for name, one := range map[string]struct {
 		state llb.State
@@ -245,6 +247,7 @@ func TestWhatLLBMDoesNotTakeOfAFileOpGoesByTheTrees(t *testing.T) {
 	context := llb.Local("context")
 	base := llb.Scratch().File(llb.Copy(context, "/etc", "/"))
 	run := base.Run(llb.Args([]string{"write", "/out", "x"}), llb.Dir("/")).Root()
+	staged := base.File(llb.Copy(context, "/a.tar", "/"))
 	all := llb.CopyInfo{AllowWildcard: true, AllowEmptyWildcard: true, CreateDestPath: true, CopyDirContentsOnly: true, FollowSymlinks: true}
 	with := func(change func(*llb.CopyInfo)) *llb.CopyInfo {
 		one := all
@@ -276,7 +279,8 @@ func TestWhatLLBMDoesNotTakeOfAFileOpGoesByTheTrees(t *testing.T) {
 		"patterns of what is unknown": {llb.Scratch().File(llb.Copy(run, "/etc", "/n", without)), "", "patterns are taken only of a tree that is known"},
 		"no archive":                  {llb.Scratch().File(llb.Copy(context, "/plain.txt", "/n/", unpack)), plain, ""},
 		"no archive, after a run":     {run.File(llb.Copy(context, "/plain.txt", "/n/", unpack)), etc + plain + "0644 0:0 out \"x\\n\"\n", ""},
-		"an archive":                  {llb.Scratch().File(llb.Copy(context, "/a.tar", "/n/", unpack)), "", "an archive is not unpacked"},
+		"an archive":                  {llb.Scratch().File(llb.Copy(context, "/a.tar", "/n/", unpack)), "0755 0:0 n/ \"\"\n0600 0:0 n/f \"\"\n", ""},
+		"an archive of a stage":       {llb.Scratch().File(llb.Copy(staged, "/a.tar", "/n/", unpack)), "", "an archive is unpacked only from"},
 	} {
 		got, err := d.solved(t, one.state, fromFolder(root))
 		if (err != nil) != (one.fails != "") || err != nil && !strings.Contains(err.Error(), one.fails) || err == nil && got != one.want {

@@ -326,8 +326,8 @@ func (c *comparing) show(s *comparison.Step) {
 // differs shows a warning for lines with the same causes.
 func (c *comparing) differs(s *comparison.Step, lines []rules.Line) {
 	place := ""
-	if s.Action >= 0 {
-		place = fmt.Sprintf("action %d: ", s.Action)
+	if action := c.p.sentAction(s.Vertex, s.Action); action >= 0 {
+		place = fmt.Sprintf("action %d: ", action)
 	}
 	var details []string
 	for _, name := range lines[0].Notes {

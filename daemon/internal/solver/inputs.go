@@ -262,7 +262,7 @@ func (in *inputs) texts(r *reading, g *graph.Graph) (texts, error) {
 	if g.Canonical && !r.isMarked() {
 		table := contents.NewTable()
 		written, err := in.write(func(one *input, to io.Writer) error {
-			if slices.ContainsFunc(one.vertices, func(v int) bool { return r.isByValue(&g.Vertices[v]) }) {
+			if slices.ContainsFunc(one.vertices, func(v int) bool { return r.isByValue(g, v) }) {
 				return writeValue(one, to, table)
 			}
 			return one.manifest.WriteByReference(to, table, in.note)

@@ -2,6 +2,7 @@ package solver
 
 import (
 	"context"
+	"slices"
 
 	"github.com/moby/buildkit/solver/pb"
 	"google.golang.org/grpc/codes"
@@ -9,6 +10,18 @@ import (
 	"llbm/daemon/internal/graph"
 	"llbm/daemon/internal/rewriting"
 )
+
+// respelled returns a definition as BuildKit's library would write it. One that llbm has to show before it is read here stays as it is.
+func respelled(def *pb.Definition) *pb.Definition {
+	size := 0
+	for _, entry := range def.Def {
+		size += len(entry)
+	}
+	if size > mostUnseen {
+		return def
+	}
+	return graph.Respelled(def)
+}
 
 // note shows a warning for each field of the entries that were sent which has an effect in BuildKit alone.
 func (s *Solver) note(sent *pb.Definition, g *graph.Graph, p *progress) {
@@ -22,7 +35,8 @@ func (s *Solver) note(sent *pb.Definition, g *graph.Graph, p *progress) {
 // rewrites is whether ops are rewritten on which BuildKit and llbm do not agree.
 func (s *Solver) rewrites(g *graph.Graph, p *progress) bool {
 	if !s.Literal && !g.Canonical {
-		p.warn(g.Result, "the definition has a field that BuildKit's library does not know, so it runs by the rules of llbm alone", nil)
+		p.warn(g.Result, "the definition has a field that BuildKit's library does not know, or is longer than 1 MiB and written in another way, "+
+			"so it runs by the rules of llbm alone", nil)
 	}
 	return !s.Literal && g.Canonical
 }
@@ -39,7 +53,7 @@ func (s *Solver) liken(
 	if err != nil || made == def {
 		return def, g, err
 	}
-	if g, err = graph.Read(made, sent, parts...); err != nil {
+	if g, err = graph.Read(made, sent, slices.Concat(p.further, parts)...); err != nil {
 		return nil, nil, status.Errorf(codes.Internal, "%v", err)
 	}
 	p.change(g)

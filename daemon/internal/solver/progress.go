@@ -30,6 +30,9 @@ type progress struct {
 	begun   []*time.Time
 	running map[int]int    // the vertex of each worker
 	rows    rewriting.Rows // the rows that were rewritten
+	// further are the rows of entries that were added for what archives unpack to, and unpacked has the actions of rows that unpack them.
+	further  []int
+	unpacked map[int][]int
 }
 
 func newProgress(b *builds.Build, g *graph.Graph) *progress {
@@ -56,7 +59,15 @@ func (p *progress) change(g *graph.Graph) {
 func (p *progress) action(v, place int) int {
 	row, at := p.rows[p.g.Vertices[v].Row], p.g.Vertices[v].Before+place
 	if row != nil && at < len(row.Actions) {
-		return row.Actions[at]
+		place = row.Actions[at]
+	}
+	return p.sentAction(v, place)
+}
+
+// sentAction returns the number that an action had before what archives unpack to was put into its op.
+func (p *progress) sentAction(v, place int) int {
+	if actions := p.unpacked[p.g.Vertices[v].Row]; place >= 0 && place < len(actions) {
+		return actions[place]
 	}
 	return place
 }

@@ -114,9 +114,21 @@ func (r *reading) wait() error {
 	return r.err
 }
 
-// isByValue is whether a vertex reads contents for which no token must be given.
-func (r *reading) isByValue(v *graph.Vertex) bool {
-	return r.plan != nil && r.plan.ByValue[digest.FromBytes(r.shown.Def[v.Row]).String()]
+// isByValue is whether a vertex reads contents for which no token must be given. llbm was not asked about a source that has what an
+// archive unpacks to: its contents are read by whoever copies from it.
+func (r *reading) isByValue(g *graph.Graph, v int) bool {
+	if r.plan == nil {
+		return false
+	}
+	if row := g.Vertices[v].Row; row < len(r.shown.Def)-1 {
+		return r.plan.ByValue[digest.FromBytes(r.shown.Def[row]).String()]
+	}
+	for user := range g.Vertices {
+		if slices.Contains(g.Vertices[user].Inputs, v) && r.isByValue(g, user) {
+			return true
+		}
+	}
+	return false
 }
 
 // isMarked is whether something writes the byte by which tokens are known.
@@ -145,7 +157,7 @@ func (r *reading) ended(err error) error {
 // beyond is what can be done about what an action has that llbm does not take.
 var beyond = map[string]string{
 	rules.ByName:   "the numbers of an owner are looked up only in a tree that is known before an execution runs: give the owner as numbers",
-	rules.Unpacked: "an archive is not unpacked, nor a file that is packed by xz: unpack it before, or use COPY",
+	rules.Unpacked: "an archive is unpacked only from a local source or an image, to a place that is made: unpack it before, or use COPY",
 	rules.Filtered: "patterns are taken only of a tree that is known before an execution runs: copy from the context, or without them",
 }
 

@@ -83,7 +83,7 @@ func (s *Solver) Solve(ctx context.Context, b *builds.Build, sent *pb.Definition
 	if err != nil {
 		return nil, err
 	}
-	def, err := convert(ctx, graph.Respelled(sent), slices.Concat(given, policies))
+	def, err := convert(ctx, respelled(sent), slices.Concat(given, policies))
 	if err != nil {
 		return nil, err
 	}
@@ -134,6 +134,9 @@ func (s *Solver) work(r *reading, b *builds.Build, def *pb.Definition, from *rep
 	}
 	defer in.close()
 	if def, g, err = in.named(def, r.sent, g, p); err != nil {
+		return nil, err
+	}
+	if def, g, err = s.unpackArchives(r.ctx, b, def, r.sent, g, in, p); err != nil {
 		return nil, err
 	}
 	return s.onTexts(r, b, def, g, in, p)

@@ -87,6 +87,15 @@ func (m *Manifest) place(path string) (int, bool) {
 	return slices.BinarySearchFunc(m.Entries, path, func(e Entry, path string) int { return tree.Compare(e.Path, path) })
 }
 
+// Content returns the content of the file at a path, if there is one.
+func (m *Manifest) Content(path string) (contents.Ref, bool) {
+	at, ok := m.place(path)
+	if !ok || m.Entries[at].Dir || m.Entries[at].Link != "" {
+		return contents.Ref{}, false
+	}
+	return m.Entries[at].Content, true
+}
+
 // WriteByReference writes the source's tree with a token of the table in the place of each content, and notes each, if it is asked to.
 func (m *Manifest) WriteByReference(to io.Writer, table *contents.Table, note func(e *Entry, token []byte) error) error {
 	return m.write(to, func(e *Entry) ([]byte, error) {
