@@ -26,6 +26,7 @@ type Vertex struct {
 	Sent   *pb.Op        // the op as the client sent it: the same one, unless it was rewritten
 	Entry  digest.Digest // of the op's bytes
 	Row    int           // of the definition as the client sent it
+	Place  int           // the entry's own row: another one only for further entries
 	Inputs []int         // the vertices that the op's inputs name
 	// Whole is the vertex itself, or the last part of the op of which it is a part; before it are parts with some actions.
 	Whole, Before int
@@ -143,6 +144,7 @@ func load(def, sent *pb.Definition, parts []int, ordered func(*rows) ([]int, err
 	g, from := &Graph{Canonical: canonical, sent: sent}, r.originsOf(parts)
 	for _, k := range order {
 		v := g.vertex(r.ops[k], r.digests[k], def.Def[k], from.rows[k])
+		v.Place = k
 		v.Whole, v.Before = number[from.rows[k]], from.before[k]
 		inputs, err := r.inputs(k)
 		if err != nil {

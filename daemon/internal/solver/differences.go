@@ -124,7 +124,7 @@ func (s *Solver) begin(c *comparing, def *pb.Definition, in *inputs, texts texts
 	request.Known = in.known
 	for i, one := range in.all {
 		for _, v := range one.vertices {
-			row := c.g.Vertices[v].Row
+			row := c.g.Vertices[v].Place
 			request.Rows[row] = machine.PathOf(texts.sources[i].Text)
 			if linked := slices.Concat(one.manifest.HardLinks()...); len(linked) > 0 {
 				request.Links[row] = linked

@@ -120,7 +120,7 @@ func (r *reading) isByValue(g *graph.Graph, v int) bool {
 	if r.plan == nil {
 		return false
 	}
-	if row := g.Vertices[v].Row; row < len(r.shown.Def)-1 {
+	if row := g.Vertices[v].Place; row < len(r.shown.Def)-1 {
 		return r.plan.ByValue[digest.FromBytes(r.shown.Def[row]).String()]
 	}
 	for user := range g.Vertices {

@@ -40,7 +40,7 @@ func timesOf(g *graph.Graph, in *inputs) map[int]map[string]rules.Time {
 			}
 		}
 		for _, v := range source.vertices {
-			found[g.Vertices[v].Row] = times
+			found[g.Vertices[v].Place] = times
 		}
 	}
 	return found
