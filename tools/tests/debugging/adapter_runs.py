@@ -274,7 +274,7 @@ class Breakpoints(WithRun):
         client = self.entered()
         answers = self.set_breakpoints(client, 0, (1, "now"), -7, 10**9)
         self.assertEqual([one["verified"] for one in answers], [False] * 4)
-        self.assertEqual(answers[1]["message"], "the condition is neither claim nor settle")
+        self.assertIn("the condition has the name now where a value should be", answers[1]["message"])
         self.set_breakpoints(client, 1)
         other = self.set_breakpoints(client, 1, source={"path": "/nowhere/main.c"})
         self.assertFalse(other[0]["verified"])
