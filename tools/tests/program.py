@@ -165,10 +165,13 @@ class WithProgram(base.WithProgram):
         texts = [*EXAMPLES.glob("*.tree"), *EXAMPLES.glob("*/*.tree")]
         for name, given in self.definitions():
             sources = [text for text in texts if text.parent.name == name or text.parent == EXAMPLES]
+            words = []
             for text in sources:
-                if not (self.at / text.stem).exists():
-                    self.check_success(run("directory-of-tree", self.at / text.stem, text=text.read_bytes()))
-            yield name, given, [f"{self.source_name(text)}={self.at / text.stem}" for text in sources]
+                place = self.at / f"{text.parent.name}-{text.stem}"
+                if not place.exists():
+                    self.check_success(run("directory-of-tree", place, text=text.read_bytes()))
+                words.append(f"{self.source_name(text)}={place}")
+            yield name, given, words
 
     def without_progress(self, done):
         """Splits the lines of a build into those of settled vertices, which are numbered, and the others."""
@@ -234,7 +237,7 @@ class WithProgram(base.WithProgram):
 
     def test_each_line_for_183_is_accepted(self):
         place = EXAMPLES / "first-run.definition"
-        settled = {"N": "2", "FILE": str(place), "NAME=FILE ...": f"a={EXAMPLES / 'tour.tree'}"}
+        settled = {"N": "2", "FILE": str(place), "OLD": str(place), "NAME=FILE ...": f"a={EXAMPLES / 'tour.tree'}"}
         for line in [row.line for row in faults.read_page().lines[183]]:
             name, *words = re.findall(r"NAME=FILE \.\.\.|[^ \[\]]+", line)
             self.assertEqual(name, "llbm")
@@ -249,7 +252,7 @@ class WithProgram(base.WithProgram):
 
     def test_each_line_for_173_is_accepted(self):
         lines = [re.sub("[VWIK]", "0", row.line) for row in faults.read_page().lines[173]]
-        self.assertEqual((len(set(lines)), lines.pop(lines.index("quit"))), (18, "quit"))
+        self.assertEqual((len(set(lines)), lines.pop(lines.index("quit"))), (21, "quit"))
         given = "\n".join([*lines, "quit"]).encode()
         answers = self.output("step", "--looks", EXAMPLES / "first-run.definition", given=given)
         self.assertNotIn(b"fault 173", answers)
