@@ -15,6 +15,7 @@ from llbm_tools.building.plans import local_name
 from llbm_tools.common import say
 from llbm_tools.llb import definition, op_reading
 from llbm_tools.llb.ops import Op
+from llbm_tools.llb.wire import Unreadable
 from llbm_tools.rules import program
 from llbm_tools.rules.comparison import Comparison, Executions, Later, Outputs
 from llbm_tools.streams import Refused
@@ -51,6 +52,13 @@ def check_archives(ops: list[Op]) -> None:
         for place, action in enumerate(op.file.actions if op.file else ()):
             if action.copy and action.copy.unpack:
                 raise Refused(f"vertex {number} action {place} would unpack an archive, which --links can't tell")
+
+
+def check_unread(data: bytes) -> None:
+    """Refuses a definition that the program does not take if that is by a copy that would unpack archives."""
+    with contextlib.suppress(Unreadable):
+        entries = definition.entries_of(data)
+        check_archives([op_reading.read_op(entries[row]) for row in definition.graph_of(entries).rows])
 
 
 class Following:

@@ -65,8 +65,10 @@ class Given:
     def link(self, target: bytes) -> bytes:
         """Returns the token of a symbolic link."""
         if self.no_tokens:
-            line = f"a symbolic link to {os.fsdecode(target)} needs a token, and this build can't have any"
-            raise Refused(f"{line}: {self.no_tokens}")
+            raise Refused(
+                f"a symbolic link to {os.fsdecode(target)} needs a token, "
+                f"and this build can't have any: {self.no_tokens}"
+            )
         return self.table.add_link(target)
 
     def give(self, plan: Plan) -> str:

@@ -104,6 +104,10 @@ class Build:
             say(note)
         plan = plans.plan_of(self.request.data, llbm) if names and not self.options.by_value else None
         cause = ASKED if self.options.by_value else plan.all if plan else UNREADABLE
+        if cause == UNREADABLE and self.options.links:
+            from llbm_tools.building.following import check_unread
+
+            check_unread(self.request.data)
         if not cause and plan:
             cause = self.new_given().give(plan)
         if cause:
