@@ -42,9 +42,9 @@ class Parsers(unittest.TestCase):
 
     def test_the_parser_of_a_tool_is_read_in_full(self):
         tool = tool_named("tar-of-tree")
-        words = [("-h", "--help"), ("--version",), ("--mtime",), ("--pack",)]
+        words = [("-h", "--help"), ("--version",), ("--mtime",), ("--links",), ("--pack",)]
         self.assertEqual([option.words for option in tool.options], words)
-        self.assertEqual(tool.options[3].values, (Value("FORM", ("gzip", "bzip2", "xz", "zstd")),))
+        self.assertEqual(tool.options[4].values, (Value("FORM", ("gzip", "bzip2", "xz", "zstd")),))
         self.assertEqual([argument.value for argument in tool.arguments], [Value("ARCHIVE", ())])
         between = {option.words: option for option in tool_named("dump").options}[("--between",)]
         self.assertEqual([value.shown for value in between.values], ["V", "W"])
