@@ -155,7 +155,7 @@ class Solving(unittest.TestCase):
             self.assertEqual(status, done.returncode, done.stdout)
         self.assertEqual("d 0755 0 0 /\nf 0600 7 5 6869 /x\n", (self.folder / "a" / "r.tree").read_text())
 
-    @unittest.skipUnless(testing.tool("as-buildkit"), "there is no tool as-buildkit")
+    @unittest.skipUnless(os.environ.get(testing.RULES), "there is no program llbm-rules")
     def test_buildkit_makes_the_same(self) -> None:
         solve(mkfile("hi")).same_as_buildkit()
 

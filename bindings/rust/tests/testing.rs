@@ -104,6 +104,8 @@ fn a_failure_has_its_reason() {
     assert_says(|| fails(&missing, "none of this", &[]), "it does not fail with \"none of this\", but with\nfault 121 src");
     if env::var_os("LLBM_TOOLS").is_some() {
         fails(&missing, "/b.txt", &[files("src", &[])]);
+    }
+    if env::var_os("LLBM_RULES").is_some() {
         solve(&mkfile(), &[]).same_as_buildkit();
     }
 }
