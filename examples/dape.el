@@ -9,7 +9,8 @@
    'dape-configs
    `(llbm
      modes (text-mode fundamental-mode)
-     command ,(expand-file-name "tools/debug-adapter" root)
+     command ,(expand-file-name "llbm-tools" root)
+     command-args ("debug" "adapter")
      command-cwd ,root
      :type "llbm"
      :request "launch"

@@ -6,7 +6,8 @@ local root = vim.fn.fnamemodify(debug.getinfo(1, "S").source:sub(2), ":p:h:h")
 
 dap.adapters.llbm = {
   type = "executable",
-  command = root .. "/tools/debug-adapter",
+  command = root .. "/llbm-tools",
+  args = { "debug", "adapter" },
   options = { cwd = root },
 }
 

@@ -1,19 +1,17 @@
 /**
- * Changes a foreign definition into one that the machine takes, as `tools/adopt --all` does: sources that are images
- * and the like become local ones; secrets, agents, unpacking and owners by name are dropped; words that are refused run
- * `true`. A change of an entry changes all entries that depend on it, since inputs name entries by their digests.
+ * Changes a foreign definition into one that the machine takes, as `llbm-tools adopt --all` does: sources that are
+ * images and the like become local ones; secrets, agents, unpacking and owners by name are dropped; words that are
+ * refused run `true`. A change of an entry changes all entries that depend on it, since inputs name entries by their
+ * digests.
  */
 
-import { findingsOf, Rows } from './findings.mjs';
 import { canBeGiven, isKnown, LOCAL, LocalNames } from './local_names.mjs';
-import { entriesIn, membersOf, read, readDefinition } from './op_reading.mjs';
-import { orderOf } from './order.mjs';
+import { textIn } from './metadata.mjs';
+import { membersOf, read } from './op_reading.mjs';
 import {
-  areEqual, changed, Faulty, recordsIn, withEach, withMessage, without, withText, withTexts, written,
+  areEqual, changed, recordsIn, withEach, withMessage, without, withText, withTexts, written,
 } from './records.mjs';
-import { faultOfScript } from './script_faults.mjs';
-import { sha256 } from './sha256.mjs';
-import { fieldsOf, text } from './wire.mjs';
+import { inputsFirst } from './rows.mjs';
 
 const EXEC = 2;
 const SOURCE = 3;
@@ -34,19 +32,12 @@ function wordsShown(words) {
   return letters.length > MOST_CHARACTERS ? `${letters.slice(0, MOST_CHARACTERS - 3).join('')}...` : letters.join('');
 }
 
-// The text in a field of a message that may be unreadable.
-function textIn(bytes, field) {
-  try {
-    return text(fieldsOf(bytes), field);
-  } catch {
-    return '';
-  }
-}
-
 /** One entry while it is changed, with a description of each change. */
 class Entry {
-  constructor(local) {
+  constructor(local, isRefused) {
     this.local = local;
+    // Whether the machine refuses its words, if it is an execution.
+    this.isRefused = isRefused;
     this.changes = [];
   }
 
@@ -79,7 +70,7 @@ class Entry {
       left = without(left, 5);
     }
     const old = exec.meta?.args;
-    if (!exec.meta || (old.length && faultOfScript(old) === null)) return left;
+    if (!exec.meta || !this.isRefused) return left;
     this.changes.push(`runs ${wordsShown(NOTHING)} in place of ${wordsShown(old)}`);
     return withMessage(left, 1, (held) => changed(held, (meta) => withTexts(meta, 1, NOTHING)));
   }
@@ -123,12 +114,17 @@ class Entry {
   }
 }
 
+// The rules that words break which are refused.
+const RULES_OF_WORDS = new Set(['Script', 'NoArgs']);
+
 /** A definition while it is adopted. */
 class Adoption {
-  constructor(data) {
-    this.records = readDefinition(data);
-    this.rows = new Rows(entriesIn(this.records));
-    this.reached = this.rows.reached();
+  constructor(definition, rows, findings, digestOf) {
+    this.records = [...recordsIn(definition)];
+    this.rows = rows;
+    this.refused = new Set(findings.filter(({ name }) => RULES_OF_WORDS.has(name)).map(({ row }) => row));
+    this.digestOf = digestOf;
+    this.reached = rows.reached();
     this.sources = [];
     this.local = new Map();
     this.nameSources();
@@ -147,24 +143,20 @@ class Adoption {
       let name = identifier.startsWith(LOCAL) ? identifier.slice(LOCAL.length) : null;
       if (isKnown(identifier)) {
         name = given.newName(identifier);
-        this.local.set(this.rows.digests[row], name);
+        this.local.set(this.rows.entries[row].digest, name);
       } else if (name && !canBeGiven(name)) {
         name = renamed.get(identifier) ?? given.newName(identifier);
         renamed.set(identifier, name);
-        this.local.set(this.rows.digests[row], name);
+        this.local.set(this.rows.entries[row].digest, name);
       }
       if (name !== null) this.sources.push({ name, identifier });
     }
   }
 
   order() {
-    const ops = [...this.rows.ops].filter(([row]) => this.reached.has(row));
-    const among = new Set(ops.map(([row]) => row));
-    const rowsOf = ({ inputs }) => inputs.map((edge) => this.rows.named.get(edge.digest));
-    const named = (op) => rowsOf(op).filter((row) => among.has(row));
-    const order = orderOf(new Map(ops.map(([row, op]) => [row, named(op)])));
-    if (order.length < ops.length) throw new Error('the rows have a cycle');
-    return order;
+    const ops = [...this.rows.ops.keys()].filter((row) => this.reached.has(row));
+    const among = new Set(ops);
+    return inputsFirst(ops, (row) => this.rows.linksOf(row).filter((one) => among.has(one)));
   }
 
   input(held) {
@@ -174,13 +166,13 @@ class Adoption {
   }
 
   adoptRow(row) {
-    const digest = this.rows.digests[row];
-    const one = new Entry(this.local);
-    const entry = one.changedOp(digest, this.rows.entries[row], this.rows.ops.get(row));
+    const { digest, bytes } = this.rows.entries[row];
+    const one = new Entry(this.local, this.refused.has(row));
+    const entry = one.changedOp(digest, bytes, this.rows.ops.get(row));
     const linked = changed(entry, (records) => withEach(records, 1, (held) => this.input(held)));
     if (!areEqual(linked, entry)) one.changes.push('its inputs have new digests');
     this.made.set(digest, linked);
-    this.fresh.set(digest, `sha256:${sha256(linked)}`);
+    this.fresh.set(digest, areEqual(linked, bytes) ? digest : this.digestOf(linked));
     this.changes.push(...one.changes.map((words) => ({ row, words })));
   }
 
@@ -202,7 +194,7 @@ class Adoption {
     let row = 0;
     const records = withEach(this.records, 1, (entry) => {
       row += 1;
-      return this.made.get(this.rows.digests[row - 1]) ?? entry;
+      return this.made.get(this.rows.entries[row - 1].digest) ?? entry;
     });
     const metadata = withEach(records, 2, (held) => this.renamed(held));
     return written(withMessage(metadata, 3, (held) => this.places(held)));
@@ -212,20 +204,18 @@ class Adoption {
 function recordsOrNull(data) {
   try {
     return [...recordsIn(data)];
-  } catch (fault) {
-    if (!(fault instanceof Faulty)) throw fault;
+  } catch {
     return null;
   }
 }
 
 /**
- * Returns a definition that is adopted as far as possible, its changes by row, the local sources that it has then with
- * what they were before, and the findings that are left. Throws if there is a cycle, or if it is no definition.
+ * Returns a definition that is adopted as far as possible, its changes by row, and the local sources that it has then
+ * with what they were before. `digestOf` returns the digest of a new entry.
  */
-export function adopted(data) {
-  const adoption = new Adoption(data);
+export function adopted(definition, rows, findings, digestOf) {
+  const adoption = new Adoption(definition, rows, findings, digestOf);
   for (const row of adoption.order()) adoption.adoptRow(row);
-  const result = adoption.result();
   const changes = adoption.changes.sort((a, b) => a.row - b.row);
-  return { data: result, changes, sources: adoption.sources, left: findingsOf(result) };
+  return { data: adoption.result(), changes, sources: adoption.sources };
 }

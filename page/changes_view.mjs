@@ -42,6 +42,7 @@ export class ChangesView {
     const done = event ? `${eventWords(event, entry)}${why} ${explained(faultOf(event))}`.trim() : '';
     const words = done || 'Nothing has happened yet.';
     by('happened').textContent = words;
+    by('cause').textContent = '';
     const notes = event ? this.notes.at(event) : [];
     by('step-notes').replaceChildren(...notes.map(({ words: said }) => make('li', { text: said })));
     return words;
@@ -57,8 +58,26 @@ export class ChangesView {
     const nothing = make('p', { class: 'note', text: event ? 'It changed no path of a tree.' : '' });
     by('changes').replaceChildren(...(parts.length ? parts : [nothing]));
     this.showCaches(found.caches);
+    const cause = found.cause ? `The cause: ${found.cause.words}.` : '';
+    by('cause').textContent = cause;
+    // It is shown once it is known: nothing waits for it.
+    if (found.cause?.path) this.showTouched(cause, found.cause.path).catch(() => {});
     await this.chooseTree(found);
-    return found.spoken ? `${words} It ${found.spoken}.` : words;
+    return [words, cause, found.spoken ? `It ${found.spoken}.` : ''].filter(Boolean).join(' ');
+  }
+
+  // Adds to the cause of a failure which event last changed the path in it, once that is known.
+  async showTouched(cause, path) {
+    const found = await this.looker.call('touched');
+    if (by('cause').textContent !== cause) return;
+    by('cause').textContent = `${cause} ${this.touchedInWords(path, found)}`;
+  }
+
+  touchedInWords(path, found) {
+    if (!found) return `No step before it changed ${path} there.`;
+    if (found.more) return `Which step changed ${path} is looked for in at most ${found.more} events.`;
+    const { kind, event } = found;
+    return `${path} was ${kind} last by ${eventWords(event, this.entries[event.vertex])}.`;
   }
 
   compared({ name, counts, summary, changes, more }, part) {

@@ -1,21 +1,19 @@
 /**
- * What a definition says of its vertices beside the graph that the machine shows: names, what an op does in a line, the
- * trees that actions are done on, and the mounts of executions. Nothing of the run depends on it: what can't be read is
- * left out.
+ * What a definition says of its vertices beside what the machine shows of them: names and places of the metadata, what
+ * an op does in a line, the trees that actions are done on, and the mounts of executions. Digests are the machine's,
+ * and it says which entries are vertices, in which order, and of which kind.
  */
 
-import { orderOf } from './order.mjs';
-import { sha256 } from './sha256.mjs';
-import { fieldsOf, message, number, parts, scan, text } from './wire.mjs';
+import { digestsOf } from './digests.mjs';
+import { LOCAL } from './local_names.mjs';
+import { Metadata, namesIn, placeInWords } from './metadata.mjs';
+import { entriesIn, readOp } from './op_reading.mjs';
+import { recordsIn } from './records.mjs';
 
-const CUSTOM_NAME = 'llb.customname';
-const COMMAND = 'com.docker.dockerfile.v1.command';
-const LOCAL = 'local://';
 const MODES = ['shared', 'private', 'locked'];
 const CACHE = 3;
-const [INPUT, EXEC, SOURCE, FILE, MERGE] = [1, 2, 3, 4, 6];
-const decoder = new TextDecoder();
-const ACTIONS = { 4: 'copy', 5: 'mkfile', 6: 'mkdir', 7: 'rm' };
+const [EXEC, SOURCE] = [2, 3];
+const NOTHING = { line: '', actions: [], commands: [], mounts: [] };
 
 function optional(read, otherwise) {
   try {
@@ -25,187 +23,135 @@ function optional(read, otherwise) {
   }
 }
 
-// A map of Protocol Buffers: entries with a key (1) and a value (2).
-function mapOf(fields, field) {
-  return new Map(parts(fields, field).map((bytes) => {
-    const entry = fieldsOf(bytes);
-    return [text(entry, 1), parts(entry, 2).at(-1) ?? new Uint8Array(0)];
-  }));
+function actionOf({ input, kind, ...members }) {
+  const body = members[kind] ?? {};
+  const line = kind === 'copy' ? `copy ${body.src} ${body.dest}` : `${kind ?? 'action'} ${body.path ?? ''}`;
+  return { input, line };
 }
 
-function nameOf(metadata) {
-  const described = mapOf(fieldsOf(metadata), 2);
-  const name = described.get(CUSTOM_NAME) ?? described.get(COMMAND);
-  return name ? decoder.decode(name) : '';
-}
-
-function actionOf(bytes) {
-  const fields = fieldsOf(bytes);
-  const kind = [4, 5, 6, 7].findLast((field) => fields.has(field));
-  const body = message(fields, kind) ?? new Map();
-  const first = text(body, 1);
-  const line = kind === 4 ? `copy ${first} ${text(body, 2)}` : `${ACTIONS[kind] ?? 'action'} ${first}`;
-  return { input: number(fields, 1), line };
-}
-
-function mountOf(bytes, inputs) {
-  const fields = fieldsOf(bytes);
-  const input = number(fields, 1);
-  const cache = message(fields, 20) ?? new Map();
+function mountOf({ dest, selector, readonly, mountType, cacheOpt, input }, inputs) {
   const seed = inputs[input];
   return {
-    dest: text(fields, 3), isReadonly: number(fields, 5) !== 0, isCache: number(fields, 6) === CACHE,
-    id: text(cache, 1), mode: MODES[number(cache, 2)], seed: seed ? `${seed.digest}.${seed.index}` : '-',
+    dest, selector, input, isReadonly: readonly, isCache: mountType === CACHE, id: cacheOpt?.ID ?? '',
+    mode: MODES[cacheOpt?.sharing ?? 0], seed: seed ? `${seed.digest}.${seed.index}` : '-',
   };
 }
 
 // What is between two commands of a script: a separator is a word of its own.
 const SEPARATOR = /(?:^|(?<= ))(?:;|&&|\|\|)(?= |$)/;
 
-function execOf(fields, inputs) {
-  const words = parts(message(fields, 1) ?? new Map(), 1).map((bytes) => new TextDecoder().decode(bytes));
+function execWords({ meta, mounts }, inputs) {
+  const words = meta?.args ?? [];
   const isShell = words[1] === '-c';
   const script = isShell ? words[2] ?? '' : words.join(' ');
   const commands = isShell ? script.split(SEPARATOR).map((command) => command.trim()).filter(Boolean) : [script];
-  const mounts = parts(fields, 2).map((one) => mountOf(one, inputs));
-  return { kind: 'exec', line: script, actions: [], commands, mounts };
+  return { ...NOTHING, line: script, commands, mounts: mounts.map((one) => mountOf(one, inputs)) };
 }
 
-function inputAt(bytes, from, to) {
-  const input = { digest: '', index: 0 };
-  scan(bytes, from, to, (field, value, start, end) => {
-    if (field === 1) input.digest = decoder.decode(bytes.subarray(start, end));
-    else if (field === 2) input.index = Number(BigInt.asIntN(64, BigInt(value ?? 0)));
-  });
-  return input;
+function opInWords({ kind, inputs, ...op }) {
+  if (kind === 'exec') return execWords(op.exec, inputs);
+  if (kind === 'source') return { ...NOTHING, line: op.source.identifier };
+  if (kind === 'merge') return { ...NOTHING, line: `merge of ${op.merge.inputs.length}` };
+  if (kind !== 'file') return NOTHING;
+  const actions = op.file.actions.map(actionOf);
+  return { ...NOTHING, line: actions.map((action) => action.line).join('; '), actions };
 }
 
-function opOf(fields, inputs) {
-  const kind = [EXEC, SOURCE, FILE, MERGE].findLast((field) => fields.has(field));
-  const body = kind ? message(fields, kind) : new Map();
-  if (kind === EXEC) return execOf(body, inputs);
-  const none = { actions: [], commands: [], mounts: [] };
-  if (kind === SOURCE) return { ...none, kind: 'source', line: text(body, 1) };
-  if (kind === MERGE) return { ...none, kind: 'merge', line: `merge of ${parts(body, 1).length}` };
-  if (kind !== FILE) return NOTHING;
-  const actions = parts(body, 2).map(actionOf);
-  return { ...none, kind: 'file', line: actions.map((action) => action.line).join('; '), actions };
-}
-
-const NOTHING = { kind: '', line: '', actions: [], commands: [], mounts: [] };
-
-/** An entry of a definition. Its inputs are read at once, all else of it when it is asked for. */
+/** An entry of a definition. All of it is read when it is asked for. */
 class Entry {
-  constructor(row, digest, bytes) {
+  constructor(row, digest, bytes, about) {
     this.row = row;
     this.digest = digest;
     this.bytes = bytes;
-    this.metadata = null;
-    this.isSource = false;
-    this.inputs = [];
+    this.about = about;
     this.read = null;
-    optional(() => this.scan(), null);
+    this.words = null;
   }
 
-  // Reads the inputs, and whether it is a source.
-  scan() {
-    const { bytes, inputs } = this;
-    scan(bytes, 0, bytes.length, (field, _value, start, end) => {
-      if (field === SOURCE) this.isSource = true;
-      else if (field === INPUT) inputs.push(inputAt(bytes, start, end));
-    });
-  }
-
+  /** The op, or null where it can't be read. */
   get op() {
-    this.read ??= optional(() => opOf(fieldsOf(this.bytes), this.inputs), NOTHING);
-    return this.read;
+    this.read ??= { op: optional(() => readOp(this.bytes), null) };
+    return this.read.op;
   }
 
-  get kind() { return this.op.kind; }
+  get inWords() {
+    this.words ??= this.op ? opInWords(this.op) : NOTHING;
+    return this.words;
+  }
 
-  get line() { return this.op.line; }
+  get kind() { return this.op?.kind ?? ''; }
 
-  get actions() { return this.op.actions; }
+  // Whether a record of a field is there, which is known without reading the whole op.
+  has(field) {
+    return optional(() => [...recordsIn(this.bytes)].some((record) => record.field === field), false);
+  }
 
-  get commands() { return this.op.commands; }
+  get isSource() { return this.has(SOURCE) && this.kind === 'source'; }
 
-  get mounts() { return this.op.mounts; }
+  get line() { return this.inWords.line; }
 
-  get name() {
-    return this.metadata ? optional(() => nameOf(this.metadata), '') : '';
+  get actions() { return this.inWords.actions; }
+
+  get commands() { return this.inWords.commands; }
+
+  get mounts() { return this.has(EXEC) ? this.inWords.mounts : []; }
+
+  get metadata() { return this.about.of(this.digest); }
+
+  get name() { return this.metadata ? namesIn(this.metadata).name : ''; }
+
+  get group() { return this.metadata ? namesIn(this.metadata).group : ''; }
+
+  /** The lines that it was made from, in words; empty where they are not known. */
+  get place() {
+    const place = this.about.placeOf(this.digest);
+    return place ? placeInWords(place) : '';
   }
 }
 
 const known = new WeakMap();
+const digestsKept = new WeakMap();
 
-// The entries of a definition by digest, in the order of rows, and the last one; they are kept with its bytes.
-function entriesOf(definition) {
+/** Keeps the digests of a definition's entries, which a machine made elsewhere. */
+export function keepDigests(definition, digests) {
+  digestsKept.set(definition, digests);
+}
+
+/** Returns the digests of a definition's entries, by row. */
+export function digestsOfRows(machine, definition) {
+  return entriesOf(machine, definition).rows.map(({ digest }) => digest);
+}
+
+/** Returns the entries of a definition by row, and the first one of each digest; they are kept with its bytes. */
+export function entriesOf(machine, definition) {
   if (known.has(definition)) return known.get(definition);
+  const all = optional(() => entriesIn(definition), []);
+  const digests = digestsKept.get(definition) ?? optional(() => digestsOf(machine.handle(), all), []);
+  const about = new Metadata(definition);
+  const rows = digests.map((digest, row) => new Entry(row, digest, all[row], about));
   const first = new Map();
-  const fields = optional(() => fieldsOf(definition), new Map());
-  let terminal = null;
-  parts(fields, 1).forEach((bytes, row) => {
-    const digest = `sha256:${sha256(bytes)}`;
-    if (!first.has(digest)) first.set(digest, new Entry(row, digest, bytes));
-    terminal = first.get(digest);
-  });
-  const metadata = optional(() => mapOf(fields, 2), new Map());
-  for (const entry of first.values()) entry.metadata = metadata.get(entry.digest) ?? null;
-  const found = { entries: first, terminal };
+  for (const entry of rows) if (!first.has(entry.digest)) first.set(entry.digest, entry);
+  const found = { rows, first };
   known.set(definition, found);
   return found;
 }
 
-// The rows that the result needs.
-function reached(entries, terminal) {
-  const found = new Set();
-  const waiting = terminal?.inputs.slice(0, 1).map((input) => input.digest) ?? [];
-  while (waiting.length) {
-    const entry = entries.get(waiting.pop());
-    if (entry && !found.has(entry)) {
-      found.add(entry);
-      for (const { digest } of entry.inputs) waiting.push(digest);
-    }
-  }
-  return found;
-}
-
-function numbered(entries, found) {
-  const byRow = new Map([...found].sort((a, b) => a.row - b.row).map((entry) => [entry.row, entry]));
-  const rowsOf = (entry) => entry.inputs.map(({ digest }) => entries.get(digest)?.row).filter((row) => byRow.has(row));
-  return orderOf(new Map([...byRow].map(([row, entry]) => [row, rowsOf(entry)]))).map((row) => byRow.get(row));
-}
-
-/** Returns the entries of a definition that are vertices, by vertex number; none where it can't be read. */
-export function verticesOf(definition) {
-  return optional(() => {
-    const { entries, terminal } = entriesOf(definition);
-    return numbered(entries, reached(entries, terminal));
-  }, []);
-}
-
-/** Returns what each entry of a definition is, by its digest; empty where it can't be read. */
-export function rowsOf(definition) {
-  return optional(() => entriesOf(definition).entries, new Map());
+/** Returns the entries that are vertices, given the digests of the vertices by number. */
+export function verticesOf(machine, definition, digests) {
+  const { first } = entriesOf(machine, definition);
+  return digests.map((digest) => first.get(digest));
 }
 
 /** Returns what the entry of a row is for a person: its name and what it does; empty where it can't be read. */
-export function rowInWords(definition, row) {
-  return optional(() => {
-    const rows = parts(fieldsOf(definition), 1);
-    const entry = entriesOf(definition).entries.get(`sha256:${sha256(rows[row])}`);
-    return [...new Set([entry.name, entry.line])].filter(Boolean).join(': ');
-  }, '');
+export function rowInWords(machine, definition, row) {
+  const entry = entriesOf(machine, definition).rows[row];
+  return entry ? [...new Set([entry.name, entry.line])].filter(Boolean).join(': ') : '';
 }
 
-/** Returns the names of the local sources that a definition needs. */
-export function localsOf(definition) {
-  const lines = optional(() => {
-    const { entries, terminal } = entriesOf(definition);
-    const sources = [...reached(entries, terminal)].filter((one) => one.isSource);
-    return sources.sort((a, b) => a.row - b.row).map((one) => one.line);
-  }, []);
-  return [...new Set(lines.filter((line) => line.startsWith(LOCAL)).map((line) => line.slice(LOCAL.length)))];
+/** Returns the names of the local sources among vertices, in the order of rows. */
+export function localsOf(vertices) {
+  const sources = vertices.filter((entry) => entry.isSource).sort((a, b) => a.row - b.row);
+  return [...new Set(sources.map(({ line }) => line.slice(LOCAL.length)))];
 }
 
 // The first line of a text that is neither empty nor a comment, without spaces around it. A long text is not split.

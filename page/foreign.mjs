@@ -1,30 +1,15 @@
-/** A definition that the machine refuses: its rows as a graph, what is refused, and what adopting would change. */
+/** A definition that the machine refuses: its rows as a graph, what is found in them, and what adopting changes. */
 
 import { adopted } from './adopting.mjs';
-import { rowsOf } from './definition.mjs';
-import { findingsOf, Rows } from './findings.mjs';
-import { entriesIn, readDefinition } from './op_reading.mjs';
-import { orderOf } from './order.mjs';
-
-// The rows that a row names, without itself and without rows that are not there.
-function namedRows(rows, row) {
-  const inputs = rows.ops.get(row)?.inputs ?? [];
-  return inputs.map((edge) => rows.named.get(edge.digest)).filter((one) => one !== undefined && one !== row);
-}
-
-// All rows but repeated ones, inputs first as far as there is no cycle.
-function orderedRows(rows) {
-  const all = [...rows.named.values()];
-  const links = new Map(all.map((row) => [row, namedRows(rows, row)]));
-  const order = orderOf(links);
-  const placed = new Set(order);
-  return [...order, ...all.filter((row) => !placed.has(row))];
-}
+import { entriesOf } from './definition.mjs';
+import { digestsOf } from './digests.mjs';
+import { findingsOf } from './findings.mjs';
+import { inputsFirst, Rows } from './rows.mjs';
 
 function graphOf(rows, order) {
   const place = new Map(order.map((row, i) => [row, i]));
   const vertices = order.map((row, number) => {
-    const named = namedRows(rows, row).map((one) => place.get(one)).filter((one) => one < number);
+    const named = rows.linksOf(row).map((one) => place.get(one)).filter((one) => one < number);
     const kind = row === rows.terminal ? 'result' : rows.ops.get(row)?.kind ?? 'no op';
     return { number, kind, steps: 0, outputs: 0, inputs: named.map((vertex) => ({ vertex, output: 0 })), row };
   });
@@ -38,9 +23,11 @@ function byRow(list) {
 }
 
 // What adopting would change, or why it can't be done.
-function adoptionOf(definition) {
+function adoptionOf(machine, definition, rows, findings) {
   try {
-    return adopted(definition);
+    const handle = machine.handle();
+    const adoption = adopted(definition, rows, findings, (entry) => digestsOf(handle, [entry])[0]);
+    return { ...adoption, left: findingsOf(machine, adoption.data) };
   } catch (fault) {
     return { data: null, changes: [], sources: [], left: [], why: fault.message };
   }
@@ -48,17 +35,16 @@ function adoptionOf(definition) {
 
 /**
  * Returns what is known of a definition that can be read into rows but is refused: the graph of its rows, each with its
- * number, what the rows are, and the findings and the changes by row. Throws if it can't be read into rows.
+ * number, what the rows are, and the findings and the changes by row.
  */
-export function foreignOf(definition) {
-  const rows = new Rows(entriesIn(readDefinition(definition)));
-  const order = orderedRows(rows);
-  const graph = graphOf(rows, order);
-  const known = rowsOf(definition);
-  const findings = findingsOf(definition);
-  const adoption = adoptionOf(definition);
+export function foreignOf(machine, definition) {
+  const findings = findingsOf(machine, definition);
+  const { rows: entries } = entriesOf(machine, definition);
+  const rows = new Rows(entries, findings);
+  const order = inputsFirst([...rows.named.values()], (row) => rows.linksOf(row));
+  const adoption = adoptionOf(machine, definition, rows, findings);
   return {
-    definition, graph, entries: order.map((row) => known.get(rows.digests[row])), findings, adoption,
+    definition, graph: graphOf(rows, order), entries: order.map((row) => entries[row]), findings, adoption,
     found: byRow(findings), changes: byRow(adoption.changes), reached: rows.reached(),
   };
 }

@@ -3,8 +3,9 @@
  * The session goes to the place of the page's own session by the same events, and each line has to be the same.
  */
 
+import { causeOf, makersOf } from './causes.mjs';
 import { changesInWords, changesOf, wordsOf } from './changes.mjs';
-import { verticesOf } from './definition.mjs';
+import { keepDigests } from './definition.mjs';
 import { pictureType, rowsOf } from './differences.mjs';
 import { FolderIndex } from './folder_index.mjs';
 import { allTrees, holdersOf, keysOf } from './looks.mjs';
@@ -16,6 +17,7 @@ import { summaryOf, summaryOfTree } from './summary.mjs';
 import { bytesOfHex, linesOf } from './tree_text.mjs';
 
 const MOST_CHANGES = 200;
+const MOST_EVENTS = 1000;
 const MOST_OF_A_PICTURE = 4 << 20;
 
 // The line of the tree that an event is about: one that it changed or brought, or else one of its worker's.
@@ -40,14 +42,16 @@ function shown({ name, line, changes }) {
 
 /** A session for looks, and what it showed last. */
 export class Looks {
-  constructor(machine, { definition, locals, workers, graph, isKept }) {
-    this.given = [machine, definition, locals, workers, graph];
+  constructor(machine, { definition, digests, locals, workers, isKept }) {
+    keepDigests(definition, digests);
+    this.given = [machine, definition, locals, workers];
     if (isKept) globalThis.llbmTranscript = [];
     this.session = new Session(...this.given);
-    this.entries = verticesOf(definition);
+    this.entries = this.session.entries;
     this.last = [];
     this.indexes = new Map();
     this.paths = null;
+    this.cause = null;
   }
 
   // Goes to a place: back over a number of events, and forth by lines of a record, which have to be the machine's.
@@ -70,7 +74,9 @@ export class Looks {
     this.last = compared;
     const trees = allTrees(session);
     const statuses = session.statuses();
+    this.cause = causeOf(session);
     return {
+      cause: this.cause && { words: this.cause.words, path: this.cause.path ? this.cause.shown : null },
       compared: compared.map(shown), trees, usual: treeOfEvent({ ...found, compared }, trees),
       spoken: changesInWords(compared), hasChosen: chosen !== '' && session.tree(chosen) !== null,
       caches: keysOf(session).map((key) => ({ ...key, holders: holdersOf(key, statuses, this.entries) })),
@@ -115,19 +121,28 @@ export class Looks {
   /** Returns the events that made, changed or removed paths with a text in them, in the order of the run. */
   async search(text, lines) {
     if (this.paths?.lines !== lines) {
-      this.paths = { lines, index: new PathIndex(new Session(...this.given), this.entries) };
+      this.paths = { lines, index: new PathIndex(new Session(...this.given, false), this.entries) };
     }
     return this.paths.index.find(text, linesOf(lines).map(eventOf));
   }
 
+  /** Returns the event before the failure that changed the path in its cause last, or null; none of very many. */
+  async touched() {
+    const { cause, session } = this;
+    const events = session.ways.path().map(({ event }) => event).filter((one) => one && one.number < cause.number);
+    if (events.length > MOST_EVENTS) return { more: MOST_EVENTS };
+    const index = new PathIndex(new Session(...this.given, false), this.entries);
+    return index.lastChange(events, cause.path, makersOf(session, cause));
+  }
+
   /** Returns how two orders of the run, given by their records, compare vertex by vertex. */
   orders(first, second) {
-    const session = () => new Session(...this.given);
+    const session = () => new Session(...this.given, false);
     const commands = (lines) => commandsOf(linesOf(lines));
     return compareOrders([session(), session()], [commands(first), commands(second)], this.entries);
   }
 
-  /** Returns all lines that the sessions for looks were asked, with their answers. */
+  /** Returns all lines that the session for looks was asked, with their answers. */
   transcript() {
     return globalThis.llbmTranscript ?? [];
   }

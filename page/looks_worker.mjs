@@ -2,12 +2,14 @@
 
 import { Looks } from './looking.mjs';
 import { Machine } from './machine.mjs';
+import { loadTables } from './tables.mjs';
 
 let looks = null;
 let last = Promise.resolve();
 
 async function answered({ call, args }) {
   if (call === 'open') {
+    await loadTables('tables.json');
     looks = new Looks(new Machine(args[0].module), args[0]);
     return null;
   }
@@ -22,8 +24,10 @@ async function answer({ id, call, args }) {
   }
 }
 
-// A search has a session of its own and goes on in slices: nothing waits for it.
+// What has a session of its own and goes on in slices: nothing waits for it.
+const IN_SLICES = new Set(['search', 'touched']);
+
 addEventListener('message', ({ data }) => {
   const done = last.then(() => answer(data));
-  if (data.call !== 'search') last = done;
+  if (!IN_SLICES.has(data.call)) last = done;
 });

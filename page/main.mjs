@@ -1,7 +1,6 @@
 /** The page: its views over one session. */
 
 import { ChangesView } from './changes_view.mjs';
-import { verticesOf } from './definition.mjs';
 import { DefinitionView } from './definition_view.mjs';
 import { by, make, oncePerFrame } from './dom.mjs';
 import { explained } from './faults.mjs';
@@ -69,7 +68,7 @@ class Page {
     this.session = session;
     this.foreign = null;
     this.given = given;
-    this.entries = verticesOf(given.definition);
+    this.entries = session.entries;
     this.selected = null;
     by('views').classList.remove('empty', 'foreign');
     by('to-share').disabled = false;
@@ -135,7 +134,7 @@ class Page {
 
   /** Draws a definition that the machine refuses. Throws where it can't be read into rows. */
   openForeign(definition) {
-    const foreign = foreignOf(definition);
+    const foreign = foreignOf(this.machine, definition);
     this.stop();
     this.session = null;
     this.foreign = foreign;
@@ -450,8 +449,8 @@ class Page {
 /** Says what the module says of its proof, unless it is proved. */
 function sayProof(proof) {
   const words = proof === 'not proved'
-    ? 'Not proved: the machine of this page was compiled without proof. Where rt ci has run, tools/wasm makes one with '
-      + 'proof.'
+    ? 'Not proved: the machine of this page was compiled without proof. Where rt ci has run, dev/dev wasm makes one '
+      + 'with proof.'
     : 'Whether the machine of this page is proved is not known: its module does not say it.';
   by('unproved').textContent = words;
   by('unproved').hidden = proof === 'proved';
@@ -473,8 +472,8 @@ async function start() {
 
 start().catch((fault) => {
   by('said').hidden = false;
-  by('said').textContent = `The machine could not be loaded: ${fault.message}. It is the file ${MODULE}. tools/wasm `
-    + 'makes it, where rt ci has proved the library, and tools/wasm --unproved makes one without proof. Then load this '
-    + 'page again.';
+  by('said').textContent = `The machine could not be loaded: ${fault.message}. It is the file ${MODULE}. dev/dev wasm `
+    + 'makes it, where rt ci has proved the library, and dev/dev wasm --unproved makes one without proof. Then load '
+    + 'this page again.';
   document.body.dataset.ready = 'no';
 });

@@ -1,9 +1,8 @@
 /**
- * Notes of what has an effect in BuildKit and none here, by the table that `tools/lint` has, and of what a build ends
- * otherwise in BuildKit, by `tools/as-buildkit`. docs/BUILDKIT.md lists them.
+ * Notes of what has an effect in BuildKit and none here, by the table that `llbm-tools lint` has, and of what a build
+ * ends otherwise in BuildKit, by `llbm-tools explain buildkit`. docs/BUILDKIT.md lists them.
  */
 
-import { read } from './op_reading.mjs';
 import { bytesIn, counted, joined, recordsIn } from './records.mjs';
 import { tables } from './tables.mjs';
 
@@ -46,9 +45,9 @@ function notesBy(rows, data, members) {
     }))));
 }
 
-function notesOfAttributes(bytes) {
+function notesOfAttributes(given) {
   const { attributes, attributes_without_effect: known } = tables.notes;
-  const last = new Map(attributesOf(bytes).map((one) => [one.key, one.value]));
+  const last = new Map(given.map((one) => [one.key, one.value]));
   return [...last].filter(([key]) => !known.includes(key)).flatMap(([key, value]) => {
     const row = attributes.find((one) => one.key === key);
     if (!row) return [{ name: 'Attribute', part: key, effect: 'an attribute that llbm does not know' }];
@@ -61,17 +60,9 @@ export function notesOf(entry) {
   if (!entry?.bytes) return [];
   const { fields, metadata } = tables.notes;
   return [
-    ...notesBy(fields, entry.bytes, MEMBERS.op), ...notesOfAttributes(entry.bytes),
+    ...notesBy(fields, entry.bytes, MEMBERS.op), ...notesOfAttributes(entry.op?.source?.attrs ?? []),
     ...(entry.metadata ? notesBy(metadata, entry.metadata, MEMBERS.none) : []),
   ];
-}
-
-function attributesOf(bytes) {
-  try {
-    return read('Op', bytes).source?.attrs ?? [];
-  } catch {
-    return [];
-  }
 }
 
 /** Returns a note in words. */

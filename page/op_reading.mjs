@@ -1,23 +1,23 @@
-/** Reads the messages of a definition as the machine does: all fields of docs/FORMATS.md, or the first fault. */
+/**
+ * The messages of a definition, read from their records by the tools' table of fields. The machine says which entries
+ * are ops: of another one what is read means nothing, or Unreadable is thrown.
+ */
 
-import { bytesIn, counted, Faulty, joined, LENGTH, recordsIn, VARINT, WIRE } from './records.mjs';
+import { bytesIn, counted, joined, recordsIn } from './records.mjs';
 import { tables } from './tables.mjs';
 
-const MOST_ENTRIES = 65536;
-const MOST_OF_AN_ENTRY = 16777216;
-const MOST_OF_A_FIELD = 1024;
-const MOST_BYTES = 67108864;
 const WIDTHS = { int64: 64, int32: 32, enum: 32, uint32: 32 };
 const DEFAULTS = { string: '', bytes: new Uint8Array(0), bool: false, int64: 0, int32: 0, enum: 0, uint32: 0 };
+const MOST_AS_IT_IS = 2 ** 31;
 
-const decoder = new TextDecoder('utf-8', { fatal: true, ignoreBOM: true });
+const decoder = new TextDecoder('utf-8', { ignoreBOM: true });
 const known = new Map();
 
 // Returns the fields of a message by number, the numbers of its members of a oneof, and its value without fields.
 function shapeOf(name) {
   if (!known.has(name)) {
     const list = tables.messages[name];
-    const empty = { kind: null, extra: 0 };
+    const empty = { kind: null };
     for (const field of list) {
       if (field.repeated) empty[field.name] = [];
       else empty[field.name] = field.member || field.isMessage ? null : DEFAULTS[field.kind];
@@ -33,28 +33,16 @@ export function membersOf(name) {
   return shapeOf(name).members;
 }
 
-function isNumber(field) {
-  return field.kind in WIDTHS || field.kind === 'bool';
-}
-
-function textIn(bytes) {
-  try {
-    return decoder.decode(bytes);
-  } catch {
-    throw new Faulty(WIRE.notUtf8);
-  }
-}
-
 function numberIn(kind, held) {
+  if (held < MOST_AS_IT_IS) return Number(held);
   const width = WIDTHS[kind];
-  const number = BigInt(held);
-  const found = kind === 'uint32' ? BigInt.asUintN(width, number) : BigInt.asIntN(width, number);
+  const found = kind === 'uint32' ? BigInt.asUintN(width, BigInt(held)) : BigInt.asIntN(width, BigInt(held));
   return Number.isSafeInteger(Number(found)) ? Number(found) : found;
 }
 
 function valueIn(field, record) {
   if (field.isMessage) return read(field.kind, bytesIn(record));
-  if (field.kind === 'string') return textIn(bytesIn(record));
+  if (field.kind === 'string') return decoder.decode(bytesIn(record));
   if (field.kind === 'bytes') return bytesIn(record);
   return field.kind === 'bool' ? Number(record.held) !== 0 : numberIn(field.kind, record.held);
 }
@@ -63,57 +51,30 @@ function valueOf(field, given) {
   if (field.repeated) return given.map((record) => valueIn(field, record));
   if (field.isMessage) return read(field.kind, joined(given.map(bytesIn)));
   if (field.kind === 'bytes' && field.member) return joined(given.map(bytesIn));
-  return given.map((record) => valueIn(field, record)).at(-1);
+  return valueIn(field, given.at(-1));
 }
 
-function checkedRecords(name, data) {
-  const { fields } = shapeOf(name);
-  const found = [];
-  for (const record of recordsIn(data)) {
-    const field = fields.get(record.field);
-    if (field && record.form !== (isNumber(field) ? VARINT : LENGTH)) throw new Faulty(WIRE.wrongForm);
-    found.push(record);
-  }
-  return found;
-}
-
-/** Reads a message; of the members of a oneof only the one that is set is read. Throws Faulty at the first fault. */
+/** Reads a message; of the members of a oneof only the one that is set is read. */
 export function read(name, data) {
   const { fields, members, empty } = shapeOf(name);
-  const given = checkedRecords(name, data);
-  for (const record of given) if (fields.get(record.field)?.kind === 'string') textIn(bytesIn(record));
+  const given = [...recordsIn(data)];
   const last = given.findLast((record) => members.has(record.field))?.field ?? null;
   const message = { ...empty };
-  for (const [number, field] of fields) {
-    const ofField = !field.member || number === last ? counted(members, number, given) : [];
-    if (ofField.length) message[field.name] = valueOf(field, ofField);
-  }
-  for (const field of fields.values()) {
-    if (field.repeated && message[field.name].length > MOST_OF_A_FIELD) throw new Faulty(WIRE.overLimit);
+  for (const number of new Set(given.map((record) => record.field))) {
+    const field = fields.get(number);
+    if (!field || (field.member && number !== last)) continue;
+    message[field.name] = valueOf(field, counted(members, number, given));
   }
   message.kind = last === null ? null : fields.get(last).name;
-  for (const record of given) if (!fields.has(record.field)) message.extra += record.text.length;
   return message;
 }
 
 /** Reads the op in an entry. */
 export function readOp(entry) {
-  if (entry.length > MOST_OF_AN_ENTRY) throw new Faulty(WIRE.overLimit);
   return read('Op', entry);
 }
 
-/** Reads a definition into records. */
-export function readDefinition(data) {
-  if (data.length > MOST_BYTES) throw new Faulty(WIRE.overLimit);
-  const found = checkedRecords('Definition', data);
-  const entries = entriesIn(found);
-  if (entries.length > MOST_ENTRIES || entries.some((entry) => entry.length > MOST_OF_AN_ENTRY)) {
-    throw new Faulty(WIRE.overLimit);
-  }
-  return found;
-}
-
-/** Returns the entries among the records of a definition. */
-export function entriesIn(records) {
-  return records.filter((record) => record.field === 1).map(bytesIn);
+/** Returns the entries of a definition. */
+export function entriesIn(definition) {
+  return [...recordsIn(definition)].filter((record) => record.field === 1).map(bytesIn);
 }

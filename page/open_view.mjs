@@ -203,7 +203,7 @@ export class OpenView {
       if (!isAsked()) return;
       const refusal = refusalOf(this.machine, definition);
       const none = refusal ? 'Which trees it needs is not known, since the definition is refused.' : 'It needs none.';
-      this.showRead(refusal, names, none, placeOf(definition, refusal));
+      this.showRead(refusal, names, none, placeOf(this.machine, definition, refusal));
     } catch (fault) {
       if (!isAsked()) return;
       this.showRead(fault.message, [], 'Which trees it needs is not known, since the definition is refused.');
@@ -354,9 +354,9 @@ export function canBeDrawn(refusal) {
 }
 
 // The entry that the line of a fault names.
-function placeOf(definition, refusal) {
+function placeOf(machine, definition, refusal) {
   const row = /^fault (?:82|8[4-9]|90) ([0-9]+)/.exec(refusal)?.[1];
-  const words = row === undefined ? '' : rowInWords(definition, Number(row));
+  const words = row === undefined ? '' : rowInWords(machine, definition, Number(row));
   return words ? `Row ${row} is ${words}` : '';
 }
 

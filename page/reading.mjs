@@ -1,6 +1,6 @@
 /** Reading of what a person gives, by workers: files for a local source, and definitions. */
 
-import { keepShown } from './session.mjs';
+import { keepRead } from './session.mjs';
 
 // Returns a promise of the one answer of a worker to what it is given.
 async function answerOf(worker, given, moved = []) {
@@ -26,12 +26,12 @@ export async function treeOfFile(file) {
 
 /**
  * Returns a promise of a definition, given by its bytes or by the text of its entries, with the names of its local
- * sources. What a machine shows of it is kept.
+ * sources. What a machine says of it is kept.
  */
 export async function definitionOf(machine, bytes, isWritten) {
   const given = { module: machine.module, bytes, isWritten };
   const worker = new Worker('definition_worker.mjs', { type: 'module' });
-  const { definition, shown, names } = await answerOf(worker, given);
-  keepShown(definition, shown);
+  const { definition, names, ...said } = await answerOf(worker, given);
+  keepRead(definition, said);
   return { definition, names };
 }

@@ -50,26 +50,35 @@ function stepWords(reply, entry) {
   return word === 'ran' ? `${named}, status ${status}` : reply;
 }
 
-/** Returns an event in words. `entry` is what the definition says of its vertex. */
-export function wordsOf(event, entry = null) {
-  const { kind, worker, vertex, reply } = event;
+function doneInWords({ kind, worker, vertex, reply }, entry) {
   const who = `worker ${worker}, vertex ${vertex}`;
-  if (kind === 'claim') return `event ${event.number}: worker ${worker} takes vertex ${vertex}`;
-  if (kind === 'settle') return `event ${event.number}: ${who}: ${reply.endsWith(' failed') ? 'failed' : 'done'}`;
-  if (kind === 'cancel') return `event ${event.number}: worker ${worker} gives vertex ${vertex} up`;
-  return `event ${event.number}: ${who}: ${stepWords(reply, entry)}`;
+  if (kind === 'claim') return `worker ${worker} takes vertex ${vertex}`;
+  if (kind === 'settle') return `${who}: ${reply.endsWith(' failed') ? 'failed' : 'done'}`;
+  if (kind === 'cancel') return `worker ${worker} gives vertex ${vertex} up`;
+  return `${who}: ${stepWords(reply, entry)}`;
 }
 
-/** Returns the step by which the vertex of a settle failed, given the place after the settle; null if there is none. */
-export function failedStep(place) {
+/** Returns an event in words, with the line of the Dockerfile. `entry` is what the definition says of its vertex. */
+export function wordsOf(event, entry = null) {
+  const place = entry?.place ? ` (${entry.place})` : '';
+  return `event ${event.number}: ${doneInWords(event, entry)}${place}`;
+}
+
+/** Returns the place after the step by which the vertex of a settle failed, given that after the settle, or null. */
+export function failedPlace(place) {
   const { event } = place;
   for (let one = place.before; one?.event; one = one.before) {
     if (one.event.worker === event.worker) {
       if (one.event.kind === 'claim') return null;
-      if (isFault(one.event)) return one.event;
+      if (isFault(one.event)) return one;
     }
   }
   return null;
+}
+
+/** Returns the step by which the vertex of a settle failed, given the place after the settle; null if there is none. */
+export function failedStep(place) {
+  return failedPlace(place)?.event ?? null;
 }
 
 /** Returns the line of the fault with which an action failed, as `fault 21`; empty for any other event. */

@@ -1,24 +1,15 @@
 /**
- * The records of which messages of Protocol Buffers consist, read as the machine reads them: up to the first fault,
- * with its number. docs/FORMATS.md has the rules. Records are written as they were read, and in their order.
+ * The records of which messages of Protocol Buffers consist: this is the page's one reader of them. The machine says
+ * what is wrong with bytes that can't be read. Records are written as they were read, and in their order.
  */
 
 const FORMS = { varint: 0, eight: 1, length: 2, four: 5 };
 const MOST_FIELDS = 536870911;
 
-/** The numbers of faults. */
-export const WIRE = {
-  truncated: 1, longVarint: 2, badField: 3, badForm: 4, wrongForm: 11, notUtf8: 12, overLimit: 13,
-};
-
-/** The wire types of a number, and of bytes with a length. */
-export const { varint: VARINT, length: LENGTH } = FORMS;
-
-/** The bytes are not such a message; `number` is that of the first fault. */
-export class Faulty extends Error {
-  constructor(number) {
-    super(`fault ${number}`);
-    this.number = number;
+/** The bytes are no such message. */
+export class Unreadable extends Error {
+  constructor() {
+    super('the bytes are not a message');
   }
 }
 
@@ -32,32 +23,30 @@ function varintAt(data, place) {
     low += (byte & 127) * 2 ** (7 * count);
     if (byte < 128) return [low, place + count + 1];
   }
-  throw new Faulty(WIRE.truncated);
+  throw new Unreadable();
 }
 
 function longVarintAt(data, place) {
   let number = 0n;
   for (let count = 0; count < 10 && place + count < data.length; count += 1) {
     const byte = data[place + count];
-    if (count === 9 && byte > 1) throw new Faulty(WIRE.longVarint);
+    if (count === 9 && byte > 1) break;
     number |= BigInt(byte & 127) << BigInt(7 * count);
     if (byte < 128) return [number <= Number.MAX_SAFE_INTEGER ? Number(number) : number, place + count + 1];
   }
-  throw new Faulty(WIRE.truncated);
+  throw new Unreadable();
 }
 
 function recordAt(data, place) {
   const [tag, after] = varintAt(data, place);
-  const field = typeof tag === 'bigint' ? Infinity : Math.floor(tag / 8);
-  const form = Number(BigInt.asUintN(3, BigInt(tag)));
-  if (field < 1 || field > MOST_FIELDS) throw new Faulty(WIRE.badField);
-  if (!Object.values(FORMS).includes(form)) throw new Faulty(WIRE.badForm);
+  const [field, form] = [Math.floor(Number(tag) / 8), Number(tag) % 8];
+  if (field < 1 || field > MOST_FIELDS) throw new Unreadable();
   if (form === FORMS.varint) {
     const [held, end] = varintAt(data, after);
     return [{ field, form, held, text: data.subarray(place, end) }, end];
   }
   const [length, start] = form === FORMS.length ? varintAt(data, after) : [form === FORMS.eight ? 8 : 4, after];
-  if (start + Number(length) > data.length) throw new Faulty(WIRE.truncated);
+  if (start + Number(length) > data.length) throw new Unreadable();
   const end = start + length;
   return [{ field, form, held: data.subarray(start, end), text: data.subarray(place, end) }, end];
 }
@@ -142,7 +131,7 @@ export function withMessage(records, field, change, members = new Set()) {
 /** Changes each message of a repeated field; those for which `change` returns null are removed. */
 export function withEach(records, field, change) {
   return records.flatMap((record) => {
-    const isMessage = record.field === field && record.form === LENGTH;
+    const isMessage = record.field === field && record.form === FORMS.length;
     const fresh = isMessage ? change(record.held) : bytesIn(record);
     if (fresh === null) return [];
     return areEqual(fresh, bytesIn(record)) ? [record] : [recordOf(field, fresh)];

@@ -41,6 +41,21 @@ export class PathIndex {
     }
   }
 
+  /** Returns the last of these events that changed a path, of those of some vertices, or null. */
+  async lastChange(events, path, vertices) {
+    let since = performance.now();
+    for (const event of events) {
+      this.step(event);
+      if (performance.now() - since > SLICE) {
+        await pause();
+        since = performance.now();
+      }
+    }
+    const isOne = ({ event, changes }) => vertices.has(event.vertex) && changes.has(path);
+    const found = this.found.findLast(isOne);
+    return found ? { event: found.event, kind: found.changes.get(path) } : null;
+  }
+
   /** Returns the events that changed paths with a text in them, and how many changes are left out. */
   async find(text, events) {
     await this.complete(events);

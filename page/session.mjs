@@ -4,6 +4,7 @@
  * docs/FORMATS.md, "A stepping session", has the lines that a session takes and what it answers.
  */
 
+import { digestsOfRows, keepDigests, localsOf, verticesOf } from './definition.mjs';
 import { diceOf, shuffled } from './dice.mjs';
 import { STATUS } from './machine.mjs';
 import { eventOf, graphOf } from './record.mjs';
@@ -50,52 +51,55 @@ export function disassembled(machine, definition) {
   return handle.text();
 }
 
-const shown = new WeakMap();
+const planned = new WeakMap();
 
-// The text of a definition's graph, or the line of the fault for which it is refused; it is kept with its bytes.
-function shownBy(machine, definition) {
-  if (!shown.has(definition)) {
+// The lines of a definition's vertices, or that of the fault for which it is refused; they are kept with its bytes.
+function plannedBy(machine, definition) {
+  if (!planned.has(definition)) {
     const handle = machine.handle();
-    const isDone = handle.show(definition) === STATUS.done;
+    const isDone = handle.plan(definition) === STATUS.done;
     const fault = isDone ? '' : handle.messages().trim() || 'no memory';
-    shown.set(definition, { text: isDone ? handle.text() : '', fault });
+    planned.set(definition, { text: isDone ? handle.text() : '', fault });
   }
-  return shown.get(definition);
+  return planned.get(definition);
 }
 
-/** Returns a definition, given by its bytes or by the text of its entries, and what the machine shows of it. */
+/** Returns a definition, given by its bytes or by the text of its entries, and what a machine says of it. */
 export function readDefinition(machine, bytes, isWritten) {
   const definition = isWritten ? assembled(machine, bytes) : bytes;
-  return { definition, shown: shownBy(machine, definition) };
+  const { text, fault } = plannedBy(machine, definition);
+  const vertices = verticesOf(machine, definition, digestsIn(linesOf(text)));
+  return { definition, fault, names: localsOf(vertices), digests: digestsOfRows(machine, definition) };
 }
 
-/** Keeps what a machine showed of a definition. */
-export function keepShown(definition, what) {
-  shown.set(definition, what);
+/** Keeps what a machine said of a definition: the digests of its entries, and the fault for which it is refused. */
+export function keepRead(definition, { fault, digests }) {
+  planned.set(definition, { text: '', fault });
+  keepDigests(definition, digests);
 }
 
 /** Returns the line of the fault for which the machine refuses a definition; empty if it takes it. */
 export function refusalOf(machine, definition) {
-  return shownBy(machine, definition).fault;
+  return plannedBy(machine, definition).fault;
 }
 
-/** Returns the text of the graph of a definition. Throws if the machine refuses it. */
-export function graphText(machine, definition) {
-  const { text, fault } = shownBy(machine, definition);
-  if (fault) throw new Refused(fault, 'the definition');
-  return text;
+// The digests on lines of vertices, which have the number of the vertex and its digest before all else.
+function digestsIn(lines) {
+  return lines.filter((line) => /^[0-9]/.test(line)).map((line) => line.split(' ')[1]);
 }
 
 /** A session over a definition, and where it is. */
 export class Session {
-  /** Opens a session. `locals` has the tree text of each local source by its name, `text` that of the graph. */
-  constructor(machine, definition, locals, workers, text = graphText(machine, definition)) {
-    this.graph = graphOf(linesOf(text));
+  /** Opens a session. `locals` has the tree text of each local source by its name; `isKept`: its answers are kept. */
+  constructor(machine, definition, locals, workers, isKept = true) {
+    this.isKept = isKept;
     this.handle = machine.handle();
     for (const [name, text] of locals) {
       checked(this.handle, this.handle.local(name, text), `the tree of ${name}`);
     }
     checked(this.handle, this.handle.open(definition, workers), 'the session');
+    this.graph = graphOf(this.lines('graph'));
+    this.entries = verticesOf(machine, definition, digestsIn(this.lines('digests')));
     this.workers = workers;
     this.locals = new Map(locals);
     this.follows = false;
@@ -108,7 +112,7 @@ export class Session {
     const status = this.handle.line(line);
     const answer = this.handle.output();
     // Whoever wants to compare answers with those of `llbm step` sets this list.
-    globalThis.llbmTranscript?.push([line, decoder.decode(answer)]);
+    if (this.isKept) globalThis.llbmTranscript?.push([line, decoder.decode(answer)]);
     if (status === STATUS.failed) throw new Refused('no memory', 'the line');
     return answer;
   }

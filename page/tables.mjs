@@ -1,7 +1,7 @@
 /**
- * The tables that the page shares with the repository's tools, as `tools/wasm` writes them into tables.json: the faults
- * of docs/FAULTS.md, the fields of the messages of a definition, the schemes of sources that `tools/adopt` changes, and
- * the fields that have an effect in BuildKit and none here.
+ * The tables that the page shares with the repository's tools, as `dev/dev wasm` writes them into tables.json: the
+ * faults of docs/FAULTS.md, the fields of the messages of a definition, the schemes of sources that `llbm-tools adopt`
+ * changes, and the fields that have an effect in BuildKit and none here.
  */
 
 /** The tables by name; each is empty until it is loaded. */

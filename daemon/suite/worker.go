@@ -1,6 +1,6 @@
 // Package suite lets BuildKit's own integration tests run against llbmd: it is a backend for them, which gives each test
 // a daemon of its own. The files of testdata add it to BuildKit's packages of tests, by Go's flag -overlay; no file of
-// BuildKit is changed. tools/daemon-suite builds and runs these tests.
+// BuildKit is changed. dev/dev daemon suite builds and runs these tests.
 //
 // LLBMD_SUITE_DAEMON names the daemon and LLBMD_SUITE_LLBM the program; LLBMD_SUITE_FRONTEND, if it is set, is a frontend as
 // the daemon's flag -frontend takes it. LLBMD_SUITE_PATH is the path in which the tests look for programs: it has no registry,

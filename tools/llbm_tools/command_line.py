@@ -5,6 +5,7 @@ import sys
 from collections.abc import Sequence
 from typing import Any
 
+from llbm_tools.commands import name_of
 from llbm_tools.common import PROVER, discard_output, say
 from llbm_tools.streams import FAILED
 
@@ -29,6 +30,11 @@ def print_all(text: str, what: str) -> None:
         raise SystemExit(FAILED) from fault
 
 
+def version_line(name: str) -> str:
+    """Returns the line that says of which release a command is."""
+    return f"{name}, of llbm {RELEASE}, for {PROVER}\n"
+
+
 class Version(argparse.Action):
     """The option that prints the version."""
 
@@ -37,8 +43,7 @@ class Version(argparse.Action):
 
     def __call__(self, parser: argparse.ArgumentParser, *_: object) -> None:
         """Prints the version, and ends the tool."""
-        name = parser.prog.rpartition("/")[2]
-        print_all(f"{name}, of llbm {RELEASE}, for {PROVER}\n", "the version")
+        print_all(version_line(parser.prog), "the version")
         parser.exit()
 
 
@@ -46,7 +51,8 @@ class Parser(argparse.ArgumentParser):
     """A parser that takes no abbreviated options, and knows --help and --version."""
 
     def __init__(self, **settings: Any) -> None:
-        super().__init__(**{"allow_abbrev": False, **settings})
+        # (argparse would take what follows the last `/` of dev/dev)
+        super().__init__(**{"allow_abbrev": False, "prog": name_of(sys.argv[0]), **settings})
         self.add_argument("--version", action=Version)
 
     def print_help(self, file: object = None) -> None:

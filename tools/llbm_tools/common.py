@@ -142,11 +142,6 @@ def say_unproved(program: str) -> None:
     say(f"the program is not proved: {os.path.relpath(program)}")
 
 
-def tool_named(name: str) -> str:
-    """Returns the command by which a person here starts a tool."""
-    return f"llbm-{name}" if paths.INSTALLED.is_file() else f"tools/{name}"
-
-
 def program_given(word: str | None) -> str | None:
     """Returns the program that a person names: by an option, or else by the variable LLBM."""
     return word if word is not None else os.environ.get("LLBM") or None

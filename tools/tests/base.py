@@ -9,26 +9,25 @@ import tempfile
 import time
 import unittest
 
-from llbm_tools import common
+from llbm_tools import commands, common
 from llbm_tools.rules import program
 
 TOOLS = pathlib.Path(__file__).resolve().parent.parent
 ROOT = TOOLS.parent
 IS_ROOT = os.geteuid() == 0
 
-AS_NOBODY = """
+AS_NOBODY = f"""
 import argparse, importlib, os, sys
 sys.argv = sys.argv[1:]
-folder, name = os.path.split(sys.argv[0])
-sys.path.insert(0, folder)
-from llbm_tools.installing import tool_parsers
-tool = importlib.import_module(tool_parsers.module_of(name))
-importlib.import_module("llbm_tools.building.one_build")
+sys.path.insert(0, {str(TOOLS)!r})
+from llbm_tools import commands, doors
+for module in (doors.found(commands.of_all(), sys.argv[1:])[0].module, "building.one_build"):
+    importlib.import_module(f"llbm_tools.{{module}}")
 argparse.ArgumentParser().format_help()
 os.setgroups([])
 os.setgid(65534)
 os.setuid(65534)
-sys.exit(tool.main())
+sys.exit(doors.main())
 """
 
 # The begin of a fake program, in two languages: by its version it is llbm, and it plans as the program does.
@@ -67,10 +66,12 @@ def wait_until(is_so, what):
 
 
 def command(tool, *words, before=()):
-    """Returns the command that runs a tool without site packages, and counts the run."""
+    """Returns the line that runs a command, by its words or by its old name, without site packages; counts the run."""
     global runs
     runs += 1
-    return [sys.executable, "-S", *before, TOOLS / tool, *words]
+    old = commands.old_name(tool)
+    python, *line = commands.line_of(old.words if old else tool, *words)
+    return [python, "-S", *before, *line]
 
 
 def run(tool, *words, text=b"", before=(), **settings):
@@ -97,7 +98,7 @@ def skip_without_rules(case):
     try:
         program.place()
     except program.Missing:
-        case.skipTest("the program llbm-rules is needed (tools/daemon builds it)")
+        case.skipTest("the program llbm-rules is needed (dev/dev daemon builds it)")
 
 
 def skip_if_slow(case):

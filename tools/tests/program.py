@@ -8,7 +8,7 @@ import resource
 import subprocess
 
 from llbm_tools.definitions import faults
-from llbm_tools.fuzzing import limited
+from llbm_tools.fuzzing import limited_runs
 from tests import base
 from tests.base import ROOT, run
 
@@ -16,6 +16,12 @@ EXAMPLES = ROOT / "examples"
 DEEPEST = 65_535
 STACK = 256 << 10
 DOUBLINGS = 20
+# The forms of the command line, as the pages of --help have them.
+COMMAND_LINES = [
+    "run [--workers N] [NAME=FILE ...]", "show", "show --findings", "show --plan", "show --matches OLD",
+    "step [--workers N] [--looks] [--ends] FILE [NAME=FILE ...]", "asm", "dis", "[run|show|step|asm|dis] --help",
+    "--version",
+]  # fmt: skip
 
 
 def narrow():
@@ -235,12 +241,11 @@ class WithProgram(base.WithProgram):
             self.assertEqual([one["number"] for one in events], list(range(1, len(events) + 1)))
             self.assertEqual(objects[-1], {"kind": "fault", "fault": 173, "line": 7})
 
-    def test_each_line_for_183_is_accepted(self):
+    def test_each_command_line_is_accepted(self):
         place = EXAMPLES / "first-run.definition"
         settled = {"N": "2", "FILE": str(place), "OLD": str(place), "NAME=FILE ...": f"a={EXAMPLES / 'tour.tree'}"}
-        for line in [row.line for row in faults.read_page().lines[183]]:
-            name, *words = re.findall(r"NAME=FILE \.\.\.|[^ \[\]]+", line)
-            self.assertEqual(name, "llbm")
+        for line in COMMAND_LINES:
+            words = re.findall(r"NAME=FILE \.\.\.|[^ \[\]]+", line)
             for first in words[0].split("|"):
                 given = [settled.get(word, word) for word in [first, *words[1:]]]
                 text = (EXAMPLES / "first-run.text").read_bytes() if first == "asm" else place.read_bytes()
@@ -272,9 +277,9 @@ class WithProgram(base.WithProgram):
 
     def with_little_memory(self):
         """Returns the settings of a run that is refused more than a gigabyte, or more than a megabyte at once."""
-        if limited.SANITIZER in pathlib.Path(base.llbm).read_bytes():
+        if limited_runs.SANITIZER in pathlib.Path(base.llbm).read_bytes():
             return {"env": {**os.environ, "ASAN_OPTIONS": "allocator_may_return_null=1:max_allocation_size_mb=1"}}
-        return {"preexec_fn": lambda: limited.limit(resource.RLIMIT_AS, 1 << 30)}
+        return {"preexec_fn": lambda: limited_runs.limit(resource.RLIMIT_AS, 1 << 30)}
 
     def test_a_script_that_doubles_a_file_without_end_is_refused_memory(self):
         doubles = [f"concat {to} {at} {at}" for at, to in [("/a", "/b"), ("/b", "/a")] * DOUBLINGS]

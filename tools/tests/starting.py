@@ -28,7 +28,7 @@ sys.path.insert(0, sys.argv[1])
 from llbm_tools import word
 print(word.WORD)
 """
-PROVED, UNPROVED, MAKER = "crates/llbm/out/llbm", "out/llbm-unproved", "tools/unproved-program"
+PROVED, UNPROVED, MAKER = "crates/llbm/out/llbm", "out/llbm-unproved", "dev/dev"
 
 
 class Script(Folder):
@@ -82,7 +82,7 @@ class Script(Folder):
     def test_a_program_is_made_if_there_is_none(self):
         self.put(MAKER, MAKES)
         self.put_program(f"{MAKER}.made", "unproved")
-        said = b"llbm: there is no program yet; tools/unproved-program makes out/llbm-unproved, in about a minute\n"
+        said = b"llbm: there is no program yet; dev/dev unproved-program makes out/llbm-unproved, in about a minute\n"
         self.check_success(self.run_it("dis"), b"unproved;dis;input", said + b"made\nerror\n")
         self.check_success(self.run_it("dis"), b"unproved;dis;input", b"error\n")
 
@@ -182,15 +182,8 @@ class Kept(Folder):
         self.assertFalse(self.cache.exists())
 
 
-class Help(unittest.TestCase):
-    """The help of every tool."""
-
-    def test_every_tool_has_a_help_page(self):
-        for tool in sorted(TOOLS.iterdir()):
-            if tool.is_file():
-                done = base.run(tool.name, "--help")
-                self.assertEqual((done.returncode, done.stderr), (0, b""), tool.name)
-                self.assertIn(b"usage: ", done.stdout, tool.name)
+class Imports(unittest.TestCase):
+    """What a command imports."""
 
     def imported(self, *words):
         """Returns the names of the modules that a tool imports."""

@@ -5,7 +5,7 @@ package llbmtest
 import (
 	"fmt"
 
-	"llbm.example/llbm"
+	llbm "llbm.example/llbm/bindings/go"
 )
 
 // runHere solves the graph in this process.

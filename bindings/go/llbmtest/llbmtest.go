@@ -13,7 +13,7 @@ import (
 	"strings"
 	"testing"
 
-	"llbm.example/llbm"
+	llbm "llbm.example/llbm/bindings/go"
 )
 
 var update = flag.Bool("update", false, "write golden trees anew (llbmtest)")

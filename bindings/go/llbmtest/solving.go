@@ -10,7 +10,7 @@ import (
 	"strings"
 	"testing"
 
-	"llbm.example/llbm"
+	llbm "llbm.example/llbm/bindings/go"
 )
 
 const (

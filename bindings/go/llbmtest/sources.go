@@ -11,7 +11,7 @@ import (
 
 	"github.com/distribution/reference"
 	"github.com/tonistiigi/fsutil"
-	"llbm.example/llbm"
+	llbm "llbm.example/llbm/bindings/go"
 )
 
 // A Source is a tree for a local source, or in the place of an image.

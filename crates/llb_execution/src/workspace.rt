@@ -184,8 +184,9 @@ impl Workspace {
         }
     }
 
-    // Returns the input or the earlier result that an action names by this number; `None` means the empty tree.
-    fn tree(&self, number: i64) -> Option<&Tree>
+    /// Returns the tree that an action of a file op names by this number: an input, or an earlier result. `None` means the empty tree: for -1, and if there is
+    /// no tree with this number. Does not allocate.
+    pub fn tree(&self, number: i64) -> Option<&Tree>
         ensures { unwrap_or (option_map (λ t. t.now) result) empty_tree ≡ base_in number (trees_in self.now) }
     {
         if number < 0 {

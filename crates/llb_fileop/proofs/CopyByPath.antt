@@ -94,22 +94,28 @@ parents_above : (goal : List (List ℕ)) → Each (IsAbove goal) (parents goal)
 parents_above [] = tt
 parents_above (n ∷ goal) = (record { name = n; rest = goal; is = refl }, each_below n goal (parents goal) (parents_above goal))
 
+-- what is at or below a path stays when its parents are made
+pub stays_below : (m : MetaValue) (goal : List (List ℕ)) (t v : TreeMap) → make_all m (parents goal) t ≡ Ok v
+    → (q : List (List ℕ)) → finite.get v (goal ++ q) ≡ finite.get t (goal ++ q)
+stays_below m goal t v is q = elim (made_there (IsAbove goal) m (parents goal) t v (parents_above goal) is (goal ++ q)) [
+  | inl same ↦ same
+  | inr above ↦ absurd (omega (arith, ap length above.one.is, length-append (goal ++ q) (above.one.name ∷ above.one.rest), length-append goal q))
+]
+
 -- the tree that the copy lands on is as it was below the target
-record LandsOn (t v : TreeMap) (goal : List (List ℕ)) : Type 0 where
-  below : (q : List (List ℕ)) → finite.get v (goal ++ q) ≡ finite.get t (goal ++ q)
+pub record LandsOn (t v : TreeMap) (goal : List (List ℕ)) : Type 0 where
+  pub below : (q : List (List ℕ)) → finite.get v (goal ++ q) ≡ finite.get t (goal ++ q)
   others : (q : List (List ℕ)) → (finite.get v q ≡ finite.get t q) ⊎ IsMadeHere (IsAbove goal) new_dir_meta t v q
 
-lands_on : (create : Bool) (goal : List (List ℕ)) (t v : TreeMap) → parents_for create goal t ≡ Ok v → LandsOn t v goal
+-- making the parents of the target, or finding them, keeps what is at or below it
+pub lands_on : (create : Bool) (goal : List (List ℕ)) (t v : TreeMap) → parents_for create goal t ≡ Ok v → LandsOn t v goal
 lands_on false goal t v is =
     let same : t ≡ v = same_Ok (bind_ok (walk (finite.get t) goal) (λ _. Ok t) v is).2 in
     record { below = λ q. ap (λ x. finite.get x (goal ++ q)) (sym same); others = λ q. inl (ap (λ x. finite.get x q) (sym same)) }
 lands_on true goal t v is =
     let made = made_there (IsAbove goal) new_dir_meta (parents goal) t v (parents_above goal) is in
     record {
-      below = λ q. elim (made (goal ++ q)) [
-        | inl same ↦ same
-        | inr above ↦ absurd (omega (arith, ap length above.one.is, length-append (goal ++ q) (above.one.name ∷ above.one.rest), length-append goal q))
-      ];
+      below = stays_below new_dir_meta goal t v is;
       others = made;
     }
 

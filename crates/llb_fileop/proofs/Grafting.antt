@@ -333,7 +333,8 @@ module _ (given : MetaValue → MetaValue) (t : TreeMap) (goal : List (List ℕ)
 
 -- ---- the parents that are made
 
-keeps_dir : (m : MetaValue) (p : List (List ℕ)) (t u : TreeMap) → kept_or_made m p (finite.get t p) t ≡ Ok u → (q : List (List ℕ))
+-- making a directory keeps the directories that are there
+pub keeps_dir : (m : MetaValue) (p : List (List ℕ)) (t u : TreeMap) → kept_or_made m p (finite.get t p) t ≡ Ok u → (q : List (List ℕ))
     → IsDirAt (finite.get t) q → IsDirAt (finite.get u) q
 keeps_dir m p t u is q dir = by_there (finite.get t p) is
   where
@@ -346,7 +347,8 @@ keeps_dir m p t u is q dir = by_there (finite.get t p) is
         subst (λ x. IsDirAt (finite.get x) q) (same_Ok fit.2)
         (get-insert_cases (λ o. (n : MetaValue) × (o ≡ Some (Dir n))) t p (Dir m) q (λ same. (m, refl)) dir)
 
-makes_dir : (m : MetaValue) (p : List (List ℕ)) (t u : TreeMap) → kept_or_made m p (finite.get t p) t ≡ Ok u → IsDirAt (finite.get u) p
+-- a directory is at the path where one is made or kept
+pub makes_dir : (m : MetaValue) (p : List (List ℕ)) (t u : TreeMap) → kept_or_made m p (finite.get t p) t ≡ Ok u → IsDirAt (finite.get u) p
 makes_dir m p t u is = by_there (finite.get t p) refl is
   where
     by_there : (o : Option Entry) → finite.get t p ≡ o → kept_or_made m p o t ≡ Ok u → IsDirAt (finite.get u) p

@@ -7,3 +7,5 @@ pub mod EntryPlacement
 pub mod EntryRelocation
 pub mod Grafting
 pub mod CopyByPath
+pub mod ExactRefusals
+pub mod RefusedCopies

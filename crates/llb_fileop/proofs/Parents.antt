@@ -11,12 +11,7 @@ use Rattle.std.proofs.lemmas.List.{append-nil, drop_all, length-append}
 use Rattle.llb_tree.specs.Tree.{TreeMap, parents}
 use Rattle.llb_tree.specs.Meta.{MetaValue}
 use Rattle.llb_tree.specs.declared.fault.TreeFault.{TreeFault}
-use Rattle.llb_fileop.specs.Making.{make_all, kept_or_made}
-
--- the parents, at or below p, of the path p with these names after it
-abbrev pub parents_from : List (List ℕ) → List (List ℕ) → List (List (List ℕ))
-parents_from p [] = []
-parents_from p (n ∷ ns) = p ∷ parents_from (p ++ n ∷ []) ns
+use Rattle.llb_fileop.specs.Making.{make_all, kept_or_made, parents_from}
 
 map_map : (p : List (List ℕ)) (n : List ℕ) (qs : List (List (List ℕ)))
     → map (λ (q : List (List ℕ)). p ++ q) (map (λ (q : List (List ℕ)). n ∷ q) qs) ≡ map (λ (q : List (List ℕ)). (p ++ n ∷ []) ++ q) qs

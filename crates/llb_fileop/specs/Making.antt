@@ -1,5 +1,5 @@
 -- The tree after a file or a directory is made, or the first fault.
-use Rattle.std.specs.Prelude.{Bool, true, false, List, [], ◌∷◌, ℕ, Option, Some, None, Result, Ok, Err}
+use Rattle.std.specs.Prelude.{Bool, true, false, List, [], ◌∷◌, ◌++◌, ℕ, Option, Some, None, Result, Ok, Err}
 use Rattle.std.specs.FinMap as finite
 use Rattle.llb_wire.specs.Answer.{◌>>=◌}
 use Rattle.llb_ops.specs.declared.actions.MkFile as file
@@ -20,6 +20,11 @@ abbrev pub kept_or_made : MetaValue → List (List ℕ) → Option Entry → Tre
 kept_or_made m p None t = put_dir t p m
 kept_or_made m p (Some (Dir n)) t = Ok t
 kept_or_made m p (Some (File n bytes)) t = Err NotDir
+
+-- the parents, at or below p, of the path p with these names after it
+abbrev pub parents_from : List (List ℕ) → List (List ℕ) → List (List (List ℕ))
+parents_from p [] = []
+parents_from p (n ∷ ns) = p ∷ parents_from (p ++ n ∷ []) ns
 
 -- the tree after a directory is made at each of these paths, in order, unless a directory is there; or the first fault: at a file, `NotDir`
 abbrev pub make_all : MetaValue → List (List (List ℕ)) → TreeMap → Result TreeMap TreeFault

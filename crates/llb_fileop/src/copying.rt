@@ -19,12 +19,12 @@ use llb_ops::CopyFile;
 use llb_tree::{Meta, Path, Tree, TreeFault};
 use std::alloc::Global;
 
-// The destination of a copy: the path that the destination's text is read as (`path`), and whether the text ends in `/` (`inside`). If it does, sources are
-// copied into the directory at the path.
+/// The destination of a copy: the path that the destination's text is read as (`path`), and whether the text ends in `/` (`inside`). If it does, sources are
+/// copied into the directory at the path.
 #[derive(Drop)]
-struct Dest {
-    path: Path,
-    inside: bool,
+pub struct Dest {
+    pub path: Path,
+    pub inside: bool,
 }
 
 /// Returns the base after the copy: what the action's `src` names in the second tree is copied to the action's destination in the base. Fails as `act` does.
@@ -43,8 +43,8 @@ pub fn copy(alloc: Global, action: &CopyFile, base: &Tree, second: &Tree) -> Res
     Ok(tree)
 }
 
-// Reads the destination of a copy.
-fn dest_of(alloc: Global, action: &CopyFile) -> Result<Dest, ActFault>
+/// Reads the destination of a copy.
+pub fn dest_of(alloc: Global, action: &CopyFile) -> Result<Dest, ActFault>
     ensures { Gives (λ d. (d.path, d.inside)) result (on_tree (resolved action.now.dest)) }
 {
     let (path, inside) = resolve(alloc, action.dest.as_str())?;
@@ -92,8 +92,8 @@ fn copy_matches(
     Ok(tree)
 }
 
-// Copies one source to its target; first makes the missing parents of the target, if the action allows this.
-fn copy_one(
+/// Copies one source to its target; first makes the missing parents of the target, if the action allows this.
+pub fn copy_one(
     alloc: Global,
     action: &CopyFile,
     dest: &Dest,
@@ -111,8 +111,8 @@ fn copy_one(
     land(alloc, action, second, source, &goal, tree)
 }
 
-// Returns the target of a source: the path that the source is copied to.
-fn target(
+/// Returns the target of a source: the path that the source is copied to.
+pub fn target(
     action: &CopyFile,
     dest: &Dest,
     second: &Tree,

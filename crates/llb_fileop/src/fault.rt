@@ -3,6 +3,7 @@
 
 use llb_glob::PatternFault;
 use llb_tree::TreeFault;
+use llb_wire::Memory;
 use thiserror::Error;
 
 /// Why an action is refused.
@@ -44,5 +45,16 @@ impl From<PatternFault> for ActFault {
             PatternFault::Memory => ActFault::Memory,
             PatternFault::BadPattern => ActFault::BadPattern,
         }
+    }
+}
+
+impl From<Memory> for ActFault {
+    ghost use Rattle.std.specs.Prelude.{◌≡◌};
+    ghost use Rattle.llb_fileop.specs.declared.fault.ActFault.TheVariants as fault;
+
+    ghost from_gives = { λ _ e. e ≡ fault.Memory };
+
+    fn from(_: Memory) -> ActFault {
+        ActFault::Memory
     }
 }

@@ -42,9 +42,9 @@ fn rm_path(path: &Path, allowed: bool, base: &Tree) -> Result<Tree, TreeFault>
     Ok(tree)
 }
 
-// Returns the tree without all paths that match a pattern, and without what is below them. Fails with 25 `Root` if the
-// pattern has no parts, and with 21 `NotFound` if no path matches and `allowed` is false.
-fn rm_pattern(pattern: &Pattern, allowed: bool, base: &Tree) -> Result<Tree, TreeFault>
+/// Returns the tree without all paths that match a pattern, and without what is below them. Fails with 25 `Root` if the
+/// pattern has no parts, and with 21 `NotFound` if no path matches and `allowed` is false.
+pub fn rm_pattern(pattern: &Pattern, allowed: bool, base: &Tree) -> Result<Tree, TreeFault>
     ensures { tree.Gives (λ t. t) result (rm_pattern allowed base.now pattern.now) }
 {
     base.is_tree();

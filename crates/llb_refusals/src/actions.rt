@@ -2,9 +2,9 @@
 //! which was equal to it before the call: the call must have changed nothing.
 
 use super::growths::{Row, Trial, are_refused};
-use super::printed::{printed_fault, printed_text, printed_tree, tree_or_fault};
+use super::printed::{printed_fault, printed_text, printed_tree, say, tree_or_fault};
 use super::written::{entries_of, tree_and_twin, tree_named};
-use llb_fileop::{ActFault, act};
+use llb_fileop::{ActFault, Obstacle, Refusal, act, why_refused};
 use llb_merge::{Memory, lay, lay_onto, lay_over};
 use llb_ops::{Action, Kind, Op, read_op};
 use llb_tree::Tree;
@@ -16,6 +16,7 @@ use std::process::Abort;
 enum Answer {
     None,
     Acted(Result<Tree, ActFault>),
+    Why(Result<Option<Refusal>, ActFault>),
     Laid(Result<Tree, Memory>),
     LaidOver(Result<(), Memory>),
 }
@@ -86,6 +87,53 @@ fn acted(alloc: Global, op: &Op, base: &Tree, second: &Tree) -> Answer {
     }
 }
 
+fn why(alloc: Global, op: &Op, base: &Tree, second: &Tree) -> Answer {
+    match action_in(op) {
+        Some(action) => Answer::Why(why_refused(alloc, action, base, Some(second))),
+        None => Answer::None,
+    }
+}
+
+// Returns what `act` returns, or what `why_refused` does for a call that begins with `why `.
+fn acted_or_why(alloc: Global, call: &str, op: &Op, base: &Tree, second: &Tree) -> Answer {
+    if call.starts_with("why ") {
+        return why(alloc, op, base, second);
+    }
+    acted(alloc, op, base, second)
+}
+
+fn word_of(obstacle: Obstacle) -> &'static str {
+    match obstacle {
+        Obstacle::Nothing => "Nothing",
+        Obstacle::NoSource => "NoSource",
+        Obstacle::NoDir => "NoDir",
+        Obstacle::FileAbove => "FileAbove",
+        Obstacle::IsDir => "IsDir",
+        Obstacle::IsFile => "IsFile",
+        Obstacle::DirReplaced => "DirReplaced",
+        Obstacle::TooLong => "TooLong",
+    }
+}
+
+// Returns what is wrong, and for a path its last name.
+fn printed_refusal(rt: &impl Abort, alloc: Global, refusal: &Option<Refusal>) -> String {
+    match refusal {
+        None => printed_text(rt, alloc, "nothing"),
+        Some(Refusal::NotPath(_)) => printed_text(rt, alloc, "NotPath"),
+        Some(Refusal::NotPattern(_)) => printed_text(rt, alloc, "NotPattern"),
+        Some(Refusal::NoMatch(_)) => printed_text(rt, alloc, "NoMatch"),
+        Some(Refusal::Root) => printed_text(rt, alloc, "Root"),
+        Some(Refusal::At(obstacle, path)) => {
+            let mut text = printed_text(rt, alloc, word_of(*obstacle));
+            if let Some(name) = path.names().last() {
+                say(rt, &mut text, " ");
+                say(rt, &mut text, name.as_str());
+            }
+            text
+        }
+    }
+}
+
 fn laid(alloc: Global, base: &Tree, second: &Tree) -> Answer {
     Answer::Laid(lay(alloc, base, second))
 }
@@ -108,7 +156,7 @@ impl OnTrees {
             "lay" => laid(alloc, &self.base, &self.second),
             "lay_onto" => laid_onto(&mut self.handed, &self.second),
             "lay_over" => laid_over(&mut self.base, &self.second),
-            _ => acted(alloc, &self.op, &self.base, &self.second),
+            call => acted_or_why(alloc, call, &self.op, &self.base, &self.second),
         }
     }
 }
@@ -120,7 +168,7 @@ impl Trial for OnTrees {
         let (base, twin) = tree_and_twin(rt, alloc, on);
         OnTrees {
             call,
-            op: op_of(rt, alloc, call),
+            op: op_of(rt, alloc, call.trim_start_matches("why ")),
             handed: two_copies(rt, alloc, &twin),
             base,
             twin,
@@ -138,6 +186,8 @@ impl Trial for OnTrees {
         match &self.answer {
             Answer::None => printed_text(rt, alloc, "nothing"),
             Answer::Acted(acted) => tree_or_fault(rt, alloc, acted),
+            Answer::Why(Ok(refusal)) => printed_refusal(rt, alloc, refusal),
+            Answer::Why(Err(fault)) => printed_fault(rt, alloc, fault),
             Answer::Laid(laid) => tree_or_fault(rt, alloc, laid),
             Answer::LaidOver(Ok(())) => printed_tree(rt, alloc, &self.base),
             Answer::LaidOver(Err(fault)) => printed_fault(rt, alloc, fault),
@@ -229,6 +279,20 @@ const ROWS: &[Row] = &[
     ("rm: path \"/old\"", "OLD", "53", "EMPTY"),
     ("rm: path \"/old\"", "copy of OLD", "53", "EMPTY"),
     ("rm: path \"o*\", allowWildcard true", "OLD", "53", "EMPTY"),
+    ("why rm: path \"/x\"", "OLD", "53", "Nothing x"),
+    ("why mkdir: path \"/x/y\", mode 493", "OLD", "53", "NoDir x"),
+    (
+        "why copy: src \"/f\", dest \"/d\", mode -1",
+        "D_F with F",
+        "53",
+        "DirReplaced f",
+    ),
+    (
+        "why copy: src \"s*\", dest \"/d\", mode -1, allowWildcard true",
+        "D_F with S_F",
+        "53",
+        "nothing",
+    ),
     ("lay", "PQ with P", "", "P"),
     ("lay", "P with PR", "", "PR"),
     ("lay", "PQ with PR", "55", PQR),

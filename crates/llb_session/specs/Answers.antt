@@ -20,7 +20,7 @@ use Rattle.llb_session.specs.declared.request.Request.{Request}
 use Rattle.llb_session.specs.declared.request.Request.TheVariants as ask
 use Rattle.llb_session.specs.GraphText.{graph_text, digest_lines}
 use Rattle.llb_session.specs.Request.{request_in}
-use Rattle.llb_session.specs.Reasons.{why_at, why_lines}
+use Rattle.llb_session.specs.Whys.{why_at}
 use Rattle.llb_session.specs.Streams.{Stream, IsKept, IsWritten, IsPartWritten}
 use Rattle.llb_session.specs.Texts.{status_lines, record_line, record_lines, tree_lines, work_lines, key_lines, fault_line, back_line}
 
@@ -51,7 +51,7 @@ look_lines (look.Work w) s = work_lines (option_map (λ (x : Execution). x.own) 
 look_lines (look.WorkTree w i) s = tree_lines (worked_on s.board.state w i)
 look_lines look.Caches s = key_lines s.board.rows (length s.board.rows)
 look_lines (look.Cache k i) s = tree_lines (cached_at s.board.rows s.board.state.store k i)
-look_lines (look.Why w k) s = why_lines (why_at s.board.build s.board.state w k)
+look_lines (look.Why w k) s = why_at s.board.build s.board.state w k
 look_lines look.Graph s = graph_text s.board.build.graph
 look_lines look.Digests s = digest_lines s.board.build.graph.vertices
 

@@ -1,4 +1,4 @@
--- Why a command of the exec that a worker runs fails on the trees that the worker works on now, and the line that says so.
+-- Why a command of the exec that a worker runs fails on the trees that the worker works on now, and the words that say so.
 use Rattle.std.specs.Prelude.{ℕ, zero, suc, List, [], ◌++◌, codes, length, Option, Some, None, option_map, option_and_then, slice_get}
 use Rattle.std.specs.Fmt.{decimal}
 use Rattle.llb_tree.specs.Tree.{TreeMap}
@@ -11,7 +11,7 @@ use Rattle.llb_applet.specs.declared.cause.Cause.TheVariants.{Always, NoPath, At
 use Rattle.llb_applet.specs.declared.cause.What.{What}
 use Rattle.llb_applet.specs.declared.cause.What.TheVariants as what
 use Rattle.llb_loader.specs.declared.graph.Vertex.{Vertex}
-use Rattle.llb_model.specs.Program.{Build, MicroStep, ReadLocal, Act, LayInput, Run, Workspace, program_of}
+use Rattle.llb_model.specs.Program.{Build, MicroStep, ReadLocal, Act, LayInput, Run, program_of}
 use Rattle.llb_model.specs.State.{State, Execution, runs}
 use Rattle.llb_execution.specs.WorkspaceTrees.{mounts_of}
 use Rattle.llb_board.specs.WorkedOnAndCachedTrees.{worked_on}
@@ -46,15 +46,15 @@ cause_in view (Some (LayInput i)) = None
 cause_in view None = None
 
 -- the first cause by which micro-step k of a vertex fails, given the vertex and the mounts that a worker has for it
-abbrev pub why_on : State → ℕ → ℕ → Option (List Shown) → Option Vertex → Option Cause
-why_on s w k None v = None
-why_on s w k (Some mounts) None = None
-why_on s w k (Some mounts) (Some v) = cause_in (shown_now s w mounts (length mounts)) (slice_get (program_of v).steps k)
+abbrev pub cause_on : State → ℕ → ℕ → Option (List Shown) → Option Vertex → Option Cause
+cause_on s w k None v = None
+cause_on s w k (Some mounts) None = None
+cause_on s w k (Some mounts) (Some v) = cause_in (shown_now s w mounts (length mounts)) (slice_get (program_of v).steps k)
 
 -- the first cause by which command k of the exec that worker w runs fails on the trees that it works on now; nothing if w runs no exec, if the exec has no
 -- command k, or if the command would end with status 0
-abbrev pub why_at : Build → State → ℕ → ℕ → Option Cause
-why_at b s w k = why_on s w k (mounts_run (runs (slice_get s.workers w))) (vertex_run b (runs (slice_get s.workers w)))
+abbrev pub cause_at : Build → State → ℕ → ℕ → Option Cause
+cause_at b s w k = cause_on s w k (mounts_run (runs (slice_get s.workers w))) (vertex_run b (runs (slice_get s.workers w)))
 
 -- ---- texts
 
@@ -89,8 +89,3 @@ abbrev pub cause_text : Cause → List ℕ
 cause_text Always = codes "it always fails"
 cause_text (NoPath n) = codes "word " ++ (decimal n ++ codes " is not a path")
 cause_text (At w path) = before_path w ++ (path_text path ++ after_path w)
-
--- the line with a cause; the line `none` if there is none
-abbrev pub why_lines : Option Cause → List ℕ
-why_lines None = codes "none\n"
-why_lines (Some c) = cause_text c ++ codes "\n"

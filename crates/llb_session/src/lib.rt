@@ -18,6 +18,7 @@
 //!     converse(alloc, &mut session, &mut commands, &mut out, 1 << 20, 1 << 20).ok()
 #![tactic(auto)]
 
+mod action_reasons;
 mod answering;
 mod conversation;
 mod fault;

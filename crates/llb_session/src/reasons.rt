@@ -1,14 +1,18 @@
-//! Why a command of the exec that a worker runs fails on the trees that the worker works on now.
+//! Why a command of the exec that a worker runs fails on the trees that the worker works on now; and the line that says why a command fails or an action is
+//! refused.
 
 ghost use Rattle.std.specs.Prelude.{◌≡◌, ◌++◌, length, option_map, slice_get, IfOk, IfErr, string_bytes};
 ghost use Rattle.llb_model.specs.State.{runs};
 ghost use Rattle.llb_execution.specs.ModelValues.{step_in};
-ghost use Rattle.llb_session.specs.Reasons.{shown_now, mounts_run, vertex_run, cause_in, why_at, before_path, after_path, cause_text, why_lines};
+ghost use Rattle.llb_session.specs.Reasons.{shown_now, mounts_run, vertex_run, cause_in, cause_at, before_path, after_path, cause_text};
+ghost use Rattle.llb_session.specs.Whys.{why_lines, why_at};
 ghost use Rattle.llb_stepper.specs.declared.fault.StepperFault.TheVariants as refusal;
 
+use crate::action_reasons::{push_refusal, refusal_at};
 use llb_applet::{Cause, View, What, why_failed};
 use llb_board::{Board, WorkerStatus};
 use llb_execution::{MicroStep, Program};
+use llb_fileop::Refusal;
 use llb_loader::Vertex;
 use llb_stepper::StepperFault;
 use llb_treetext::push_path;
@@ -21,8 +25,8 @@ fn mounts_run(board: &Board, w: u32) -> Option<&View>
     board.workspace(w)?.mounts()
 }
 
-// Returns the vertex that a worker runs; `None` if it runs none.
-fn vertex_run(board: &Board, w: u32) -> Option<&Vertex>
+/// Returns the vertex that a worker runs; `None` if it runs none.
+pub fn vertex_run(board: &Board, w: u32) -> Option<&Vertex>
     ensures { option_map (λ v. v.now) result ≡ vertex_run board.now.build (runs (slice_get board.now.state.workers w)) }
 {
     match board.worker(w) {
@@ -72,8 +76,8 @@ fn cause_in(
 
 // Returns why command `k` of the exec that a worker runs fails on the trees that the worker works on now; `None` if there is no such command, or it does not
 // fail.
-fn why_at(alloc: Global, board: &Board, w: u32, k: u32) -> Result<Option<Cause>, StepperFault>
-    ensures cause { IfOk result (λ c. c ≡ why_at board.now.build board.now.state w k) }
+fn cause_at(alloc: Global, board: &Board, w: u32, k: u32) -> Result<Option<Cause>, StepperFault>
+    ensures cause { IfOk result (λ c. c ≡ cause_at board.now.build board.now.state w k) }
     ensures memory { IfErr result (λ e. e ≡ refusal.Memory) }
 {
     let Some(mounts) = mounts_run(board, w) else {
@@ -141,24 +145,33 @@ fn push_cause(text: &mut String, cause: &Cause) -> Result<(), AllocError>
     Ok(())
 }
 
-// Returns the line with a cause; the line `none` if there is none.
-fn cause_line(alloc: Global, cause: Option<Cause>) -> Result<String, AllocError>
-    ensures { IfOk result (λ s. string_bytes s ≡ why_lines cause) }
+// Returns the line with a cause or a refusal; the line `none` if there is neither.
+fn why_line(
+    alloc: Global,
+    cause: Option<Cause>,
+    refusal: Option<Refusal>,
+) -> Result<String, AllocError>
+    ensures { IfOk result (λ s. string_bytes s ≡ why_lines cause refusal) }
 {
     let mut text = String::new(alloc);
     match cause {
         Some(cause) => push_cause(&mut text, &cause)?,
-        None => text.push_str("none")?,
+        None => match refusal {
+            Some(refusal) => push_refusal(&mut text, &refusal)?,
+            None => text.push_str("none")?,
+        },
     }
     text.push_str("\n")?;
     Ok(text)
 }
 
-/// Returns the line that says why command `k` of the exec that worker `w` runs fails on the trees that the worker works on now, or the line `none`.
+/// Returns the line that says why micro-step `k` of what worker `w` runs fails on the trees that the worker works on now, if it is a command or an action and
+/// fails; otherwise the line `none`.
 pub(crate) fn why_text(alloc: Global, board: &Board, w: u32, k: u32) -> Result<String, StepperFault>
-    ensures line { IfOk result (λ s. string_bytes s ≡ why_lines (why_at board.now.build board.now.state w k)) }
+    ensures line { IfOk result (λ s. string_bytes s ≡ why_at board.now.build board.now.state w k) }
     ensures memory { IfErr result (λ e. e ≡ refusal.Memory) }
 {
-    let cause = why_at(alloc, board, w, k)?;
-    Ok(cause_line(alloc, cause)?)
+    let cause = cause_at(alloc, board, w, k)?;
+    let refusal = refusal_at(alloc, board, w, k)?;
+    Ok(why_line(alloc, cause, refusal)?)
 }

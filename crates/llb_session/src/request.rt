@@ -29,7 +29,7 @@ pub enum Look {
     Caches,
     /// Prints as text the tree of instance `i` of the cache key with the number `k`, for `Cache(k, i)`.
     Cache(u32, u32),
-    /// Prints why command `k` of the exec that worker `w` runs fails on the trees that the worker works on now, for `Why(w, k)`.
+    /// Prints why command `k` of the exec, or action `k` of the file op, that worker `w` runs fails on the trees that the worker works on now.
     Why(u32, u32),
     /// Prints the text of the graph, as `llbm show` does.
     Graph,

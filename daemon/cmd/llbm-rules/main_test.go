@@ -164,5 +164,15 @@ func TestFiltersThatCanNotBeAppliedAreRefused(t *testing.T) {
 		did(t, statusOfRefusal, data, "select", "ctx", folder)
 	}
 	did(t, statusOfRefusal, localSource(t, one), "select", "ctx", filepath.Join(folder, "none"))
+	again := localSource(t, map[string]string{pb.AttrExcludePatterns: `["a","!a/b","a"]`})
+	if err := os.Mkdir(filepath.Join(folder, "a"), 0o755); err != nil {
+		t.Fatal(err)
+	}
+	for text, status := range map[string]int{"": 0, "x": statusOfRefusal} {
+		if err := os.WriteFile(filepath.Join(folder, "a", "b"), []byte(text), 0o644); err != nil {
+			t.Fatal(err)
+		}
+		did(t, status, again, "select", "ctx", folder)
+	}
 	did(t, statusOfRefusal, localSource(t, one), "select", "ctx")
 }

@@ -7,7 +7,6 @@ import (
 	"slices"
 	"strings"
 
-	"llbm/daemon/internal/examples"
 	"llbm/daemon/internal/notes"
 	"llbm/daemon/internal/rules"
 )
@@ -44,15 +43,10 @@ func tablesOfPage() (map[string]string, error) {
 	if err != nil {
 		return nil, err
 	}
-	least, err := examples.All()
-	if err != nil {
-		return nil, err
-	}
 	return map[string]string{
-		"rules":    table([]string{"Rule", "Case", "BuildKit", "llbm"}, rowsOfTexts(rules.Texts())),
-		"others":   table([]string{"Note", "Case", "BuildKit", "llbm"}, rowsOfTexts(rules.Others())),
-		"examples": table([]string{"Rule", "Least example", "BuildKit", "llbm", "`adopt --like-buildkit`"}, rowsOfExamples(least)),
-		"fields":   table([]string{"Note", "Where", "Effect in BuildKit"}, rowsOfFields(fields)),
+		"rules":  table([]string{"Rule", "Case", "BuildKit", "llbm"}, rowsOfTexts(rules.Texts())),
+		"others": table([]string{"Note", "Case", "BuildKit", "llbm"}, rowsOfTexts(rules.Others())),
+		"fields": table([]string{"Note", "Where", "Effect in BuildKit"}, rowsOfFields(fields)),
 	}, nil
 }
 
@@ -77,44 +71,6 @@ func rowsOfTexts(of []rules.Text) [][]string {
 		rows = append(rows, []string{"`" + one.Name + "`", one.Case, one.BuildKit, one.LLBM})
 	}
 	return rows
-}
-
-// rowsOfExamples has for each example what one result has and the other has not, and what adopting does about it.
-func rowsOfExamples(of []examples.Example) [][]string {
-	adopt := map[string]string{}
-	for _, one := range rules.Texts() {
-		adopt[one.Name] = one.Adopt
-	}
-	var rows [][]string
-	for _, one := range of {
-		tool := "-"
-		switch one.Adopted {
-		case examples.Always:
-			tool = adopt[one.Rule]
-		case examples.ByTrees:
-			tool = "makes both agree, given the trees"
-		}
-		there, here := beside(one.BuildKit, one.LLBM), beside(one.LLBM, one.BuildKit)
-		rows = append(rows, []string{"`" + one.Rule + "`", one.Shows, there, here, tool})
-	}
-	return rows
-}
-
-// beside returns the lines of a result that the other one has not.
-func beside(one, other []string) string {
-	if one == nil {
-		return "fails"
-	}
-	var lines []string
-	for _, line := range one {
-		if !slices.Contains(other, line) {
-			lines = append(lines, "`"+line+"`")
-		}
-	}
-	if lines == nil {
-		return "nothing"
-	}
-	return strings.Join(lines, ", ")
 }
 
 func rowsOfFields(of *notes.Table) [][]string {

@@ -44,7 +44,8 @@ func printSelected(ctx context.Context, given []string, in io.Reader, out io.Wri
 	} else {
 		err = rules.SelectedBelow(ctx, given[1], filters, put)
 	}
-	if errors.Is(err, fs.ErrNotExist) {
+	var notSent rules.NotSent
+	if errors.Is(err, fs.ErrNotExist) || errors.As(err, &notSent) {
 		return refused{err}
 	} else if err != nil {
 		return err

@@ -65,7 +65,7 @@ func (o *options) flags() *flag.FlagSet {
 	f.StringVar(&o.address, "addr", "", "the `PATH` of the socket, or unix://PATH")
 	f.StringVar(&o.Program, "llbm", "llbm", "the `PROGRAM` llbm")
 	f.StringVar(&o.Rules, "comparison", "", "the `PROGRAM` llbm-rules, which has BuildKit's rules, instead of the one beside llbmd")
-	f.Func("rules", "a `FILE` of rules, as of tools/adopt, which give executions scripts of llbm to run; may be repeated", o.readRules)
+	f.Func("rules", "a `FILE` of rules, as of llbm-tools adopt, which give executions scripts of llbm to run; may be repeated", o.readRules)
 	f.Func("run", "`skip` or refuse: executions that are no scripts, and that no rule names, do nothing, with a warning, or are refused", o.setRun)
 	f.IntVar(&o.Workers, "workers", 1, "the number of workers of each build, 1 to 64")
 	f.IntVar(&o.AtOnce, "builds", runtime.NumCPU(), "how many builds run at once; others wait")

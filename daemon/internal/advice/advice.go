@@ -22,10 +22,10 @@ const (
 	byClient  = "BuildKit's own clients do not ask for this: the program that called has to change what it asks for"
 	afterSome = "try again when one of them has ended"
 	ofStore   = "llbmd's option -store-bytes raises the bound, -store names another disk, and `buildctl prune` frees what is kept"
-	ofFaults  = "docs/FAULTS.md says what the fault is and what to do; tools/explain says it of this line"
+	ofFaults  = "docs/FAULTS.md says what the fault is and what to do; llbm-tools explain says it of this line"
 	ofNames   = "rename it, or leave it out with .dockerignore"
-	ofTools   = "tools/tree-of-image reads the same image, and says what is in it; skopeo copy makes it anew"
-	ofKept    = "llbmd's option -keep keeps the build, and tools/explain-run goes through it (docs/DAEMON.md, \"A build afterwards\")"
+	ofTools   = "llbm-tools tree from image reads the same image, and says what is in it; skopeo copy makes it anew"
+	ofKept    = "llbmd's option -keep keeps the build, and llbm-tools explain run goes through it (docs/DAEMON.md, \"A build afterwards\")"
 	ofClient  = "see whether the client still runs and reads; llbmd's option -idle raises the bound"
 	ofOptions = "docs/DAEMON.md, \"What it supports\", has the options of exporters"
 	ofPolicy  = "see the rules of the source policy"
@@ -60,6 +60,8 @@ var rows = []row{
 	of(`^llbm: failed`, ofKept),
 	of(`^llbm: the build (took|wrote|needs)`, ofLimits),
 	of(`^llbm: .*(leads through|symbolic links)`, "name the path to which the link leads; docs/DAEMON.md, \"Links\", says which are followed"),
+	of(`^llbm: fault 88 \d+ (SecretMount|SshMount|SecretEnv)`,
+		"give the RUN a stand-in by -rules, which leaves it out; with -run skip so does a RUN that is no script"),
 	of(`^llbm: `, ofFaults),
 	// Exporters.
 	of(`has no attestations|attest`, "leave out --attest and --sbom; --provenance=false builds without it"),
@@ -72,7 +74,7 @@ var rows = []row{
 	of(`a layer of an image can't have a name`, "rename it in the build, or export it by type=tar"),
 	of(`the client took nothing`, ofClient),
 	// Frontends.
-	of(`no frontend`, "-frontend NAME=PROGRAM of llbmd adds one: tools/daemon --clients builds that of Dockerfiles"),
+	of(`no frontend`, "-frontend NAME=PROGRAM of llbmd adds one: dev/dev daemon --clients builds that of Dockerfiles"),
 	of(`frontend .*(its options|the option)`, "a file of a source has room for more"),
 	of(`frontends of the build run`, "see why the frontend calls itself again and again"),
 	of(`no containers for frontends`, "a frontend that starts processes in containers does not run on llbmd"),

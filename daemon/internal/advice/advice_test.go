@@ -14,6 +14,7 @@ import (
 
 	"google.golang.org/grpc/codes"
 	"google.golang.org/grpc/status"
+	"llbm/daemon/internal/rules"
 )
 
 // A refusal is one in the daemon's sources: where it is, its code if it is a constant, and a message of its form.
@@ -126,6 +127,25 @@ func TestEachRefusalTellsTheNextStep(t *testing.T) {
 	}
 	if count < 60 {
 		t.Errorf("only %d refusals were read", count)
+	}
+}
+
+// What is no constant text where a refusal is made.
+func TestARefusalByALinkOrASecretTellsTheNextStep(t *testing.T) {
+	const link, secret = "name the path to which the link leads", "give the RUN a stand-in"
+	for message, want := range map[string]string{
+		rules.Following{Action: 1, Path: "/a/b", Link: "/a"}.String():                        link,
+		rules.Following{Action: -1, Path: "command 0: /a/b", Link: "/a"}.String():            link,
+		rules.Following{Action: -1, Path: "mount 1: the selector /a", Link: "/a"}.String():   link,
+		rules.Following{Action: -1, Path: "the working directory /a"}.String():               link,
+		"a source has symbolic links, and whether BuildKit would follow one is not known: x": link,
+		"fault 88 1 SecretMount ([2/2] RUN make)":                                            secret,
+		"fault 88 12 SshMount (RUN make)":                                                    secret,
+		"fault 88 1 SecretEnv":                                                               secret,
+	} {
+		if next, ok := Of("llbm: " + message); !ok || !strings.Contains(next, want) {
+			t.Errorf("%s: %s", message, next)
+		}
 	}
 }
 

@@ -120,7 +120,7 @@ func (s *session) outputs(v int, files []string, inputs []*rules.Node) ([]*rules
 	}
 	near, out := rules.Bases(exec, inputs), []*rules.Node{}
 	for number, file := range reply.Outputs {
-		t, err := s.read(file, near[number], nil, nil)
+		t, err := s.read(file, rules.Reader{Near: near[number]})
 		if err != nil {
 			return nil, err
 		}

@@ -25,15 +25,16 @@ type Request struct {
 	Rows     map[int]string    `json:"rows,omitempty"`     // the same by rows of the definition as it was sent
 	Links    map[int][]string  `json:"links,omitempty"`    // files of such sources that have other names, which are hard links
 	// Times are those of files of such sources; of those that are not there no other file has the size and the time.
-	Times    map[int]map[string]rules.Time `json:"times,omitempty"`
-	Known    []rules.Given                 `json:"known,omitempty"`    // what is known of contents for which trees have tokens
-	Received bool                          `json:"received,omitempty"` // whether the trees are what BuildKit's client sent
-	Executes bool                          `json:"executes,omitempty"` // whether executions can be done on other inputs
-	Folder   string                        `json:"folder,omitempty"`   // where trees are written
-	Paths    int                           `json:"paths,omitempty"`    // how many paths with the same rules a step has at most
-	Result   bool                          `json:"result,omitempty"`   // whether the results are compared too
-	Tree     bool                          `json:"tree,omitempty"`     // whether BuildKit's result is written
-	Made     string                        `json:"made,omitempty"`     // the file of the result that llbm made, which is checked
+	Times    map[int]map[string]rules.Time   `json:"times,omitempty"`
+	Folders  map[int]map[string]rules.Folder `json:"folders,omitempty"`  // those of what archives unpack to, by rows of such sources
+	Known    []rules.Given                   `json:"known,omitempty"`    // what is known of contents for which trees have tokens
+	Received bool                            `json:"received,omitempty"` // whether the trees are what BuildKit's client sent
+	Executes bool                            `json:"executes,omitempty"` // whether executions can be done on other inputs
+	Folder   string                          `json:"folder,omitempty"`   // where trees are written
+	Paths    int                             `json:"paths,omitempty"`    // how many paths with the same rules a step has at most
+	Result   bool                            `json:"result,omitempty"`   // whether the results are compared too
+	Tree     bool                            `json:"tree,omitempty"`     // whether BuildKit's result is written
+	Made     string                          `json:"made,omitempty"`     // the file of the result that llbm made, which is checked
 }
 
 // A Message is one of a comparison: only one of its fields is set.

@@ -166,7 +166,7 @@ func (s *session) checkMade(here *rules.Node) error {
 	if s.request.Made == "" || here == nil {
 		return nil
 	}
-	made, err := s.read(s.request.Made, here, nil, nil)
+	made, err := s.read(s.request.Made, rules.Reader{Near: here})
 	if err == nil && !rules.Equal(made, here) {
 		err = refuse("the result is not what the rules of docs/FORMATS.md make")
 	}

@@ -411,19 +411,20 @@ func (s *session) tree(v *graph.Vertex) (*rules.Node, error) {
 	if t, ok := s.trees[file]; ok {
 		return t, nil
 	}
-	t, err := s.read(file, nil, s.request.Links[v.Row], s.request.Times[v.Row])
+	t, err := s.read(file, rules.Reader{Linked: s.request.Links[v.Row], Times: s.request.Times[v.Row], Folders: s.request.Folders[v.Row]})
 	s.trees[file] = t
 	return t, err
 }
 
 // read reads the tree in a file.
-func (s *session) read(file string, near *rules.Node, linked []string, times map[string]rules.Time) (*rules.Node, error) {
+func (s *session) read(file string, reader rules.Reader) (*rules.Node, error) {
 	text, err := os.Open(file)
 	if err != nil {
 		return nil, err
 	}
 	defer text.Close()
-	t, err := rules.Reader{Near: near, Linked: linked, Times: times, Known: s.known}.Read(s.ctx, text)
+	reader.Known = s.known
+	t, err := reader.Read(s.ctx, text)
 	if err == nil && t == nil {
 		err = fmt.Errorf("no tree is there")
 	}

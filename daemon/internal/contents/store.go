@@ -1,7 +1,7 @@
 // Package contents keeps contents of files on disk, in files without names, and stands tokens for them in texts of trees.
 //
 // A token is the byte 255, which UTF-8 does not have, and a number of four bytes, the most significant first, as
-// tools/build has them. llbm hands contents on without looking at them, so what it prints has tokens in the place of
+// llbm-tools build has them. llbm hands contents on without looking at them, so what it prints has tokens in the place of
 // contents, with literal bytes between them.
 package contents
 
@@ -130,6 +130,7 @@ type Pack struct {
 	file    disk
 	mu      sync.Mutex
 	size    int64
+	unused  int64 // of the size: what has been given up
 	holders int
 }
 
@@ -157,7 +158,7 @@ func (p *Pack) Hold() {
 func (p *Pack) Drop() {
 	p.mu.Lock()
 	p.holders--
-	last, size := p.holders == 0, p.size
+	last, size := p.holders == 0, p.size-p.unused
 	p.mu.Unlock()
 	if last {
 		_ = p.file.Truncate(0) // a process that is just being started has the file open too
@@ -184,6 +185,16 @@ func (p *Pack) Reserve(size int64) (Ref, error) {
 type Ref struct {
 	Pack        *Pack
 	Start, Size int64
+}
+
+// GiveUp frees the room of a content of which nothing was written, and which nobody reads.
+func (r Ref) GiveUp() {
+	r.Pack.mu.Lock()
+	r.Pack.unused += r.Size
+	r.Pack.mu.Unlock()
+	r.Pack.store.mu.Lock()
+	r.Pack.store.used -= r.Size
+	r.Pack.store.mu.Unlock()
 }
 
 // WriteAt writes a part of the content; a disk that stays full is a status of gRPC.

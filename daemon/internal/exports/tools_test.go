@@ -25,7 +25,7 @@ import (
 	"llbm/daemon/internal/tree"
 )
 
-// python writes for each image of a list in JSON the archive that tools/build writes, into a folder by its number.
+// python writes for each image of a list in JSON the archive that llbm-tools build writes, into a folder by its number.
 const python = `
 import io, json, os, sys
 from llbm_tools.images import oci_layout
@@ -51,7 +51,7 @@ for one in json.load(sys.stdin):
     print(archive_writing.blocks_of(header).hex())
 `
 
-// values prints each value of a list in JSON in the form of tools/build, a line each, as a text of JSON.
+// values prints each value of a list in JSON in the form of llbm-tools build, a line each, as a text of JSON.
 const values = `
 import json, sys
 from llbm_tools.images import oci_layout

@@ -36,10 +36,15 @@ func Archive(ctx context.Context, store *contents.Store, from io.Reader, options
 	if err != nil {
 		return nil, nil, err
 	}
-	a := &addition{what: options.What, root: &node{below: map[string]*node{}}}
+	a := &addition{directories: map[string]bool{}}
+	a.begin()
 	u := &unpacker{ctx: ctx, pack: pack, put: a.put, options: options, left: mostUnpacked}
 	manifest, err := sources.Collect(pack, options, func(add sources.Add) error {
-		if err := u.archive(from); err != nil {
+		err := u.archive(from)
+		if err == nil {
+			err = a.check()
+		}
+		if err != nil {
 			return wrappedAs(options.What, err)
 		}
 		return a.entries(add)
@@ -68,51 +73,82 @@ func (u *unpacker) archive(from io.Reader) error {
 	}
 }
 
-// An addition is what an ADD unpacks. A node without an item is a directory for which there is no entry.
+// An addition is what an ADD unpacks, in parts that are laid one over another: as long as the order of the entries does not matter they are in
+// one part. A node without an item is a directory for which there is no entry.
 type addition struct {
-	what    string
-	root    *node
-	folders []Folder
+	parts       []*node
+	directories map[string]bool // the paths of directories that have entries
+	folders     []Folder
 }
+
+// begin begins a part.
+func (a *addition) begin() { a.parts = append(a.parts, &node{below: map[string]*node{}}) }
 
 // put does an entry, after those before it. What would depend on what is at the place to which the archive is unpacked is refused.
 func (a *addition) put(i *item) error {
-	names := namesOf(path.Clean(i.header.Name))
+	names := namesOf(path.Join("/", i.header.Name)) // above the directory to which it is unpacked there is nothing
 	switch {
-	case slices.Contains(names, "..") || len(names) > paths.MostNames:
+	case len(names) > paths.MostNames:
 		return fmt.Errorf("%.80q is no path of a tree", i.header.Name)
 	case len(names) == 0 && i.is(tar.TypeDir) && path.Clean(i.header.Name) == ".":
 		return nil
 	case len(names) == 0:
 		return fmt.Errorf("%.80q is the directory to which the archive is unpacked", i.header.Name)
 	}
-	last := len(names) - 1
-	at, err := a.directory(names[:last])
-	if err != nil {
-		return err
-	}
 	if i.is(tar.TypeLink) {
-		if i, err = a.linked(i); err != nil {
+		var err error
+		if i, err = a.linked(i, names); err != nil {
 			return err
 		}
+	}
+	if i.is(tar.TypeDir) {
+		a.directories[strings.Join(names, "/")] = true
+	}
+	isIn, err := a.putInto(a.parts[len(a.parts)-1], names, i)
+	if err == nil && !isIn {
+		a.begin()
+		_, err = a.putInto(a.parts[len(a.parts)-1], names, i)
+	}
+	return err
+}
+
+// putInto does an entry in a part, unless it has to be in one after it.
+func (a *addition) putInto(part *node, names []string, i *item) (bool, error) {
+	last := len(names) - 1
+	at, err := directory(part, names[:last])
+	if at == nil || err != nil {
+		return false, err
 	}
 	before, isDir := at.below[names[last]], i.is(tar.TypeDir)
 	switch {
 	case before == nil && isDir:
 		at.below[names[last]] = &node{item: i, below: map[string]*node{}}
-	case before == nil, before.below == nil && !isDir:
+	case !isDir:
 		at.below[names[last]] = &node{item: i}
-	case before.below != nil && isDir:
-		before.item = i
+	case before.below == nil || before.handsDown(i):
+		return false, nil
 	default:
-		return fmt.Errorf("%.80q is a directory and something else", i.header.Name)
+		before.item = i
 	}
-	return nil
+	return true, nil
 }
 
-// directory returns a directory, which is made if there is none.
-func (a *addition) directory(names []string) (*node, error) {
-	at := a.root
+// handsDown is whether a directory had another set-group bit, or may have had, than by a new entry, as directories were made in it that have no
+// entries.
+func (n *node) handsDown(i *item) bool {
+	if n.item != nil && (n.item.header.Mode^i.header.Mode)&setGroup == 0 {
+		return false
+	}
+	for _, one := range n.below {
+		if one.item == nil {
+			return true
+		}
+	}
+	return false
+}
+
+// directory returns a directory of a part, which is made if there is none; nil if a symbolic link leads to it.
+func directory(at *node, names []string) (*node, error) {
 	for count, name := range names {
 		next := at.below[name]
 		switch {
@@ -120,7 +156,7 @@ func (a *addition) directory(names []string) (*node, error) {
 			next = &node{below: map[string]*node{}}
 			at.below[name] = next
 		case next.below == nil && next.item.is(tar.TypeSymlink):
-			return nil, fmt.Errorf("an entry leads through the symbolic link /%.200s", strings.Join(names[:count+1], "/"))
+			return nil, nil
 		case next.below == nil:
 			return nil, fmt.Errorf("a file with entries below it: /%.200s", strings.Join(names[:count+1], "/"))
 		}
@@ -129,15 +165,29 @@ func (a *addition) directory(names []string) (*node, error) {
 	return at, nil
 }
 
-// linked returns the item of a file that gets another name, with its owner and its mode.
-func (a *addition) linked(i *item) (*item, error) {
-	at := a.root
-	for _, name := range namesOf(path.Join("/", i.header.Linkname)) {
-		if at = at.below[name]; at == nil {
-			break
+// at returns what the archive has at a path so far, or nil.
+func (a *addition) at(names []string) *node {
+	for _, at := range slices.Backward(a.parts) {
+		for _, name := range names {
+			if at.below == nil {
+				return nil // it is below a file
+			}
+			if at = at.below[name]; at == nil {
+				break
+			}
+		}
+		if at != nil {
+			return at
 		}
 	}
-	if at == nil || at.below != nil {
+	return nil
+}
+
+// linked returns the item of a file that gets another name, with its owner and its mode. What the name has is removed before.
+func (a *addition) linked(i *item, names []string) (*item, error) {
+	target := namesOf(path.Join("/", i.header.Linkname))
+	at := a.at(target)
+	if at == nil || at.below != nil || len(target) >= len(names) && slices.Equal(target[:len(names)], names) {
 		return nil, fmt.Errorf("%.80q is a link to %.80q, which is no file of the archive", i.header.Name, i.header.Linkname)
 	}
 	h := at.item.header
@@ -145,45 +195,61 @@ func (a *addition) linked(i *item) (*item, error) {
 	return at.item, nil
 }
 
-// entries hands on all entries in path order, folder by folder.
-func (a *addition) entries(add sources.Add) error {
-	type step struct {
-		path string // in the archive
-		node *node
-	}
-	first, todo := map[*item]string{}, []step{{"", a.root}}
-	for len(todo) > 0 {
-		next := todo[0]
-		todo = todo[1:]
-		folder := Folder{fmt.Sprintf("%06d", len(a.folders)), next.path}
-		a.folders = append(a.folders, folder)
-		if err := add(&fstypes.Stat{Path: folder.Name, Mode: uint32(os.ModeDir | 0o755)}, contents.Ref{}); err != nil {
-			return err
-		}
-		var below func(at string, n *node) error
-		below = func(at string, n *node) error {
-			for _, name := range slices.Sorted(maps.Keys(n.below)) {
-				one, inside := n.below[name], path.Join(at, name)
-				if one.item == nil && n.item != nil && n.item.header.Mode&setGroup != 0 {
-					err := fmt.Errorf("there is no entry of the directory /%.200s, whose group is that of the one that it is in", inside)
-					return wrappedAs(a.what, err)
-				}
-				if one.item == nil {
-					todo = append(todo, step{path.Join(next.path, inside), one})
-					continue
-				}
-				if err := add(statOf(path.Join(folder.Name, inside), one.item, first), one.item.content); err != nil {
-					return err
-				}
-				if err := below(inside, one); err != nil {
-					return err
-				}
-			}
-			return nil
-		}
-		if err := below("", next.node); err != nil {
-			return err
+// check refuses an archive if a directory is not there once all is unpacked: BuildKit sets the times of directories then.
+func (a *addition) check() error {
+	for _, text := range slices.Sorted(maps.Keys(a.directories)) {
+		if found := a.at(namesOf(text)); found == nil || found.below == nil && found.item.is(tar.TypeSymlink) {
+			return fmt.Errorf("the directory /%.200s is replaced by a later entry", text)
 		}
 	}
 	return nil
+}
+
+// entries hands on all entries in path order, part by part and folder by folder.
+func (a *addition) entries(add sources.Add) error {
+	first := map[*item]string{}
+	for _, part := range a.parts {
+		todo := []step{{"", part}}
+		for len(todo) > 0 {
+			further, err := a.folder(todo[0], first, add)
+			if err != nil {
+				return err
+			}
+			todo = append(todo[1:], further...)
+		}
+	}
+	return nil
+}
+
+// A step is a directory without an entry, and its path in the archive.
+type step struct {
+	path string
+	node *node
+}
+
+// folder hands on the entries of a folder, and returns the directories in it that are folders of their own.
+func (a *addition) folder(of step, first map[*item]string, add sources.Add) (further []step, err error) {
+	folder := Folder{fmt.Sprintf("%06d", len(a.folders)), of.path}
+	a.folders = append(a.folders, folder)
+	if err := add(&fstypes.Stat{Path: folder.Name, Mode: uint32(os.ModeDir | 0o755)}, contents.Ref{}); err != nil {
+		return nil, err
+	}
+	var below func(at string, n *node) error
+	below = func(at string, n *node) error {
+		for _, name := range slices.Sorted(maps.Keys(n.below)) {
+			one, inside := n.below[name], path.Join(at, name)
+			if one.item == nil {
+				further = append(further, step{path.Join(of.path, inside), one})
+				continue
+			}
+			if err := add(statOf(path.Join(folder.Name, inside), one.item, first), one.item.content); err != nil {
+				return err
+			}
+			if err := below(inside, one); err != nil {
+				return err
+			}
+		}
+		return nil
+	}
+	return further, below("", of.node)
 }

@@ -194,7 +194,7 @@ import io, json, sys
 from llbm_tools.images import unpacking
 from llbm_tools.streams import Refused
 from llbm_tools.trees import archive_texts
-from llbm_tools.trees.leftout import LeftOut
+from llbm_tools.trees.left_out import LeftOut
 texts = []
 for place in json.load(sys.stdin):
     text = io.BytesIO()
@@ -207,7 +207,7 @@ for place in json.load(sys.stdin):
 print(json.dumps(texts))
 `
 
-// byTool returns the texts that tools/tree-of-image writes of images, or nil for one that it refuses; it may skip the test.
+// byTool returns the texts that llbm-tools tree from image writes of images, or nil for one that it refuses; it may skip the test.
 func byTool(t testing.TB, places []string) []*string {
 	t.Helper()
 	working, err := os.Getwd()

@@ -17,6 +17,7 @@ import (
 	ocispecs "github.com/opencontainers/image-spec/specs-go/v1"
 	"google.golang.org/grpc/codes"
 	"google.golang.org/grpc/status"
+	"llbm/daemon/internal/contents"
 	"llbm/daemon/internal/sources"
 )
 
@@ -72,6 +73,30 @@ func TestLayersAreLaidOneOverAnother(t *testing.T) {
 		if _, below, _ := strings.Cut(got, "\n"); err != nil || below != c.want {
 			t.Errorf("%s: %s%v", name, got, err)
 		}
+	}
+}
+
+func TestWhatALayerRemovesOfItsOwnIsKnown(t *testing.T) {
+	m := newLayout(t)
+	lower := []entry{{name: "a"}, {name: "b/c"}, {name: "d"}}
+	m.add(t, gzipped, nil, layerOf(t, lower...), layerOf(t, entry{name: "a"}, entry{name: ".wh.a"}, entry{name: "b/e"}, entry{name: "b/.wh.c"},
+		entry{name: ".wh.b"}, entry{name: ".wh.d"}, entry{name: "d"}))
+	image, err := catalog(t, m.folder).Find(context.Background(), "base", amd64)
+	if err != nil {
+		t.Fatal(err)
+	}
+	defer image.Close()
+	store, err := contents.New(t.TempDir(), 1<<30)
+	if err != nil {
+		t.Fatal(err)
+	}
+	manifest, err := image.Read(context.Background(), store, sources.Options{})
+	if err != nil {
+		t.Fatal(err)
+	}
+	defer manifest.Drop()
+	if got := fmt.Sprint(manifest.Removed); got != "[/a /b]" {
+		t.Error(got)
 	}
 }
 

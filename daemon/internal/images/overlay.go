@@ -22,6 +22,8 @@ const (
 const (
 	mostFollowed = 255
 	mostDeep     = 2 * paths.MostNames
+	// mostOwn is how many paths of one kind a warning has.
+	mostOwn = 10
 )
 
 // An item is an entry of a layer. Its names by hard links share it.
@@ -39,10 +41,11 @@ type node struct {
 	below map[string]*node
 }
 
-// An overlay is the tree of an image, up to the layer that is being laid, by the rules of tools/tree-of-image.
+// An overlay is the tree of an image, up to the layer that is being laid, by the rules of llbm-tools tree from image.
 type overlay struct {
 	layer int
 	root  *node
+	own   []string // paths that a layer removes after its own entry for them, up to a bound
 }
 
 func newOverlay() *overlay { return &overlay{root: &node{item: implied(), below: map[string]*node{}}} }
@@ -92,10 +95,15 @@ func (o *overlay) clear(names []string) error {
 // remove removes what lower layers have at a path.
 func (o *overlay) remove(parent []string, name string) error {
 	at, err := o.directory(parent, false)
-	if at != nil && at.below[name] != nil && !o.isKept(at.below[name]) {
-		delete(at.below, name)
+	if at == nil || at.below[name] == nil {
+		return err
 	}
-	return err
+	if !o.isKept(at.below[name]) {
+		delete(at.below, name)
+	} else if len(o.own) < mostOwn {
+		o.own = append(o.own, "/"+strings.Join(append(slices.Clip(parent), name), "/"))
+	}
+	return nil
 }
 
 // keepNewer removes what lower layers have below a node.

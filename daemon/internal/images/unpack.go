@@ -54,6 +54,9 @@ func (i *Image) Read(ctx context.Context, store *contents.Store, options sources
 		}
 		return u.entries(add)
 	})
+	if err == nil {
+		manifest.Removed = overlay.own
+	}
 	return manifest, err
 }
 

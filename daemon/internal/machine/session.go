@@ -245,14 +245,14 @@ func (r *Run) Failure(vertex int) (found Failure, err error) {
 	return found, err
 }
 
-// Why returns in words why a command failed of the vertex that an event settled, or "" if it is not known. It goes back to before the
-// event, where the worker still has the trees that the command saw, and then forward again.
-func (r *Run) Why(settled Event, command int) (string, error) {
+// Why returns in words why a command or an action failed of the vertex that an event settled, or "" if it is not known. It goes back to
+// before the event, where the worker still has the trees that the command or the action saw, and then forward again.
+func (r *Run) Why(settled Event, place int) (string, error) {
 	if err := r.settle(); err != nil {
 		return "", err
 	}
 	back, why := r.events-settled.Number+1, ""
-	r.ask(strings.Repeat("back\n", back) + fmt.Sprintf("why %d %d\n", settled.Worker, command) + strings.Repeat("next\n", back))
+	r.ask(strings.Repeat("back\n", back) + fmt.Sprintf("why %d %d\n", settled.Worker, place) + strings.Repeat("next\n", back))
 	if err := r.skip(back); err != nil {
 		return "", err
 	}

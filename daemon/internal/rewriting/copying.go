@@ -72,7 +72,7 @@ func known(number uint32) uint32 {
 
 // copyOne adds the copy of one source.
 func (c *cursor) copyOne(given *pb.FileActionCopy, one rules.Source, from *rules.Node, owner *pb.ChownOpt, wanted *rules.Node) error {
-	dest, err := rules.Follow(given.Dest, c.pair(c.at).again)
+	dest, err := from.Dest(given.Dest, c.pair(c.at).again)
 	if err != nil {
 		return err
 	}
@@ -96,8 +96,8 @@ func (c *cursor) copyOne(given *pb.FileActionCopy, one rules.Source, from *rules
 	action.GetCopy().Timestamp = given.Timestamp
 	c.from = append(c.from, source{target, c.second, path, given.Mode, owner, true})
 	err = c.do(action, c.second)
-	if err != nil && len(given.ExcludePatterns) > 0 && c.ctx.Err() == nil {
-		return nil // what is excluded may be in the way, so it is copied piece by piece
+	if err != nil && (len(given.ExcludePatterns) > 0 || from.IsUnpacked()) && c.ctx.Err() == nil {
+		return nil // what is excluded, or replaced, may be in the way, so it is copied piece by piece
 	}
 	return err
 }

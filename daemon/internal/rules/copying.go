@@ -17,7 +17,9 @@ type copier struct {
 	like  Rules
 	by    owner
 	dest  []string
-	laid  map[laying]*Node
+	// folder is that of the only source, if an archive is unpacked.
+	folder Folder
+	laid   map[laying]*Node
 	// filter has the patterns by which only a part is copied, or nil.
 	filter *filter
 	// grafted has, by the path of what was put into the tree as it is, the path where it was.
@@ -42,6 +44,9 @@ func copied(ctx context.Context, given *pb.FileActionCopy, base, second *Node, l
 	}
 	c := &copier{ctx: ctx, given: given, from: second, into: base, like: like, by: ownerOf(given.Owner, like)}
 	c.laid, c.grafted = map[laying]*Node{}, map[string]string{}
+	if len(sources) == 1 {
+		c.folder = second.At(sources[0].Path).folder
+	}
 	if given.CreateDestPath && len(sources) == 0 {
 		_, err = read(given.Dest, like) // no link is followed for nothing
 		return c, err
@@ -66,7 +71,11 @@ func copied(ctx context.Context, given *pb.FileActionCopy, base, second *Node, l
 }
 
 // readDest reads where the action copies to.
-func (c *copier) readDest() error {
+func (c *copier) readDest() (err error) {
+	if c.folder.isUnpacked() && c.like&Followed != 0 && c.into.HasLinks() {
+		c.dest, err = c.folder.destOf(c.given.Dest, c.into, c.like)
+		return err
+	}
 	text, err := followClean(c.given.Dest, c.into, c.like)
 	if err != nil {
 		return err
@@ -117,6 +126,9 @@ func (c *copier) makeParents(path []string) (err error) {
 	m := maker{mode: newMode, by: noOwner, like: c.like}
 	if c.like.Has(ParentOwner) {
 		m.by = c.by
+	}
+	if c.folder.isUnpacked() {
+		m.by = owner{0, 0} // whatever the group of the directory is
 	}
 	into, err := m.all(c.into, path)
 	if err == nil {
@@ -198,7 +210,7 @@ func (c *copier) copySource(source Source) error {
 	if err != nil {
 		return err
 	}
-	return c.put(target, source.Path, from)
+	return c.put(target, source.Path, from.withoutFolder())
 }
 
 // put puts what is copied at a path whose parents are there.
@@ -220,8 +232,11 @@ func (c *copier) put(target, source []string, from *Node) (err error) {
 }
 
 // lay returns what is at a path in a directory once a node is copied over what is there. Rule NestedDirectory: a directory
-// below the source replaces mode and owner of one that is there.
+// below the source replaces mode and owner of one that is there. What an archive unpacks to takes the place of what is of another kind.
 func (c *copier) lay(path, source []string, old, from *Node, in entry, isSource bool) (*Node, error) {
+	if old != nil && old.dir != from.dir && c.folder.isUnpacked() && c.like&TakesPlace != 0 && !isSource {
+		old = nil
+	}
 	if old != nil && old.dir != from.dir {
 		kind := "file"
 		if old.dir {

@@ -23,6 +23,9 @@ func (e *entry) isLink() bool {
 // IsLink is whether there is a symbolic link.
 func (n *Node) IsLink() bool { return n != nil && n.isLink() }
 
+// Linkname returns the target of a symbolic link.
+func (n *Node) Linkname() string { return string(n.content.given.Target) }
+
 // HasLinks is whether there is a link at or below a node.
 func (n *Node) HasLinks() bool { return n != nil && n.Extent().HasLinks }
 
@@ -32,7 +35,7 @@ func (n *Node) target() links.Read {
 		names := paths.Names(at)
 		one := n.At(names)
 		if one.IsLink() {
-			return string(one.content.given.Target), nil
+			return one.Linkname(), nil
 		}
 		if n.isBelowFile(names) {
 			return "", fails("%s is below a file", shown(names))
@@ -120,7 +123,7 @@ func checkTarget(link []string, n *Node) error {
 		case one == nil:
 			return fails("%s is missing", shown(next))
 		case one.IsLink():
-			target := string(one.content.given.Target)
+			target := one.Linkname()
 			if path.IsAbs(target) {
 				return ErrHost
 			}

@@ -7,7 +7,6 @@ import (
 	"fmt"
 	"io"
 	"io/fs"
-	"os"
 	"path/filepath"
 	"strings"
 	"syscall"
@@ -81,9 +80,23 @@ func selectedBy(ctx context.Context, source *pb.SourceOp, t *Node) (*Node, error
 		if err != nil {
 			return err
 		}
-		return b.put(path, t.At(paths.Names(path)).entry)
+		one := t.At(paths.Names(path)).entry
+		if !one.dir && !isSent(selecting, path) {
+			one.content = contentOf("")
+		}
+		return b.put(path, one)
 	})
 	return b.tree(), err
+}
+
+// isSent is whether the bytes of a file that filters select are sent: fsutil's walk takes a file by what the patterns match of the
+// directories above it, and its Open by the file's own path; what it does not open comes empty.
+func isSent(filtered fsutil.FS, path string) bool {
+	file, err := filtered.Open(path)
+	if err == nil {
+		_ = file.Close()
+	}
+	return err == nil
 }
 
 // withoutOwners returns a tree in which all is of 0:0.
@@ -100,10 +113,8 @@ func withoutOwners(t *Node) *Node {
 // A directory is a tree as fsutil walks it.
 type directory struct{ root *Node }
 
-// Open fails: nothing reads contents.
-func (d directory) Open(path string) (io.ReadCloser, error) {
-	return nil, &os.PathError{Op: "open", Path: path, Err: os.ErrInvalid}
-}
+// Open returns nothing of a file: nothing reads contents.
+func (d directory) Open(string) (io.ReadCloser, error) { return unread{}.Open("") }
 
 // Walk calls a function for what is at and below a path, but for the root, in path order. Above the root there is nothing.
 func (d directory) Walk(ctx context.Context, target string, found fs.WalkDirFunc) error {

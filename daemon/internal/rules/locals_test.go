@@ -37,7 +37,7 @@ func filtered(random *rand.Rand) map[string][]string {
 	return found
 }
 
-// directoryAt makes a tree of empty files at random in a directory, and returns it.
+// directoryAt makes a tree of files of one byte at random in a directory, and returns it.
 func directoryAt(t *testing.T, random *rand.Rand, at string) *Node {
 	t.Helper()
 	entries := tree.Tree{{Dir: true, Mode: 0o755}}
@@ -48,13 +48,16 @@ func directoryAt(t *testing.T, random *rand.Rand, at string) *Node {
 				continue
 			}
 			one := tree.Entry{Path: strings.TrimPrefix(path+"/"+name, "/"), Dir: depth < 3 && random.Intn(2) == 0, Mode: 0o755}
+			if !one.Dir {
+				one.Content = []byte("x")
+			}
 			place := filepath.Join(at, one.Path)
 			var err error
 			if entries = append(entries, one); one.Dir {
 				err = os.Mkdir(place, 0o755)
 				fill(path+"/"+name, depth+1)
 			} else {
-				err = os.WriteFile(place, nil, 0o755)
+				err = os.WriteFile(place, one.Content, 0o755)
 			}
 			if err != nil {
 				t.Fatal(err)
@@ -64,6 +67,9 @@ func directoryAt(t *testing.T, random *rand.Rand, at string) *Node {
 	fill("", 0)
 	return Of(entries)
 }
+
+// emptied is what the tests have after the path of a file of which no byte is sent.
+const emptied = " (empty)"
 
 // sentOf returns the paths that the library of BuildKit's client sends of a directory.
 func sentOf(at string, filters *fsutil.FilterOpt) ([]string, error) {
@@ -75,16 +81,27 @@ func sentOf(at string, filters *fsutil.FilterOpt) ([]string, error) {
 		return nil, err
 	}
 	var found []string
-	err = root.Walk(context.Background(), "/", func(path string, _ fs.DirEntry, err error) error {
+	err = root.Walk(context.Background(), "/", func(path string, one fs.DirEntry, err error) error {
+		if err != nil {
+			return err
+		}
+		if !one.IsDir() {
+			file, err := root.Open(path)
+			if err != nil {
+				path += emptied // as its Send takes the error
+			} else if err := file.Close(); err != nil {
+				return err
+			}
+		}
 		found = append(found, path)
-		return err
+		return nil
 	})
 	return found, err
 }
 
 func TestFiltersSelectOfATreeWhatTheClientSendsOfADirectory(t *testing.T) {
 	random := rand.New(rand.NewSource(5))
-	failing, selected := 0, 0
+	failing, selected, empty := 0, 0, 0
 	for range 20 {
 		at := t.TempDir()
 		n := directoryAt(t, random, at)
@@ -112,6 +129,10 @@ func TestFiltersSelectOfATreeWhatTheClientSendsOfADirectory(t *testing.T) {
 			failing--
 			var got []string
 			for _, one := range left.Tree()[1:] {
+				if !one.Dir && len(one.Content) == 0 {
+					one.Path += emptied
+					empty++
+				}
 				got = append(got, one.Path)
 			}
 			slices.Sort(want)
@@ -123,7 +144,7 @@ func TestFiltersSelectOfATreeWhatTheClientSendsOfADirectory(t *testing.T) {
 			}
 		}
 	}
-	if failing < 100 || selected < 500 {
-		t.Error(failing, selected)
+	if failing < 100 || selected < 500 || empty < 10 {
+		t.Error(failing, selected, empty)
 	}
 }

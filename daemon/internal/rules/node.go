@@ -3,6 +3,7 @@ package rules
 import (
 	"context"
 	"encoding/binary"
+	"fmt"
 	"io"
 
 	"llbm/daemon/internal/paths"
@@ -25,6 +26,7 @@ type entry struct {
 	linked            bool // of a file: whether its source has other names for it
 	mode, user, group uint32
 	content           content // of a file
+	folder            Folder  // of a directory of what an archive unpacks to
 	time              Time    // the same, where it is known; equal nodes may have others
 }
 
@@ -52,6 +54,9 @@ func newNode(one entry, below persistent.Map[*Node]) *Node {
 	}
 	for _, number := range []uint32{one.mode, one.user, one.group} {
 		data = binary.LittleEndian.AppendUint32(data, number)
+	}
+	if one.folder != (Folder{}) {
+		data = fmt.Append(data, one.folder)
 	}
 	last := below.Sum()
 	if !one.dir {
@@ -244,6 +249,8 @@ type Reader struct {
 	Linked []string        // the files that have other names
 	Known  Known           // contents
 	Times  map[string]Time // of some files
+	// Folders are those of what an archive unpacks to, by their names.
+	Folders map[string]Folder
 }
 
 // Of returns the node of a tree, nil of none.
@@ -257,7 +264,7 @@ func (r Reader) Of(t tree.Tree) *Node {
 
 // Read reads the text of a tree.
 func (r Reader) Read(ctx context.Context, text io.Reader) (*Node, error) {
-	b := builder{near: r.Near, linked: map[string]bool{}, times: r.Times, known: r.Known}
+	b := builder{near: r.Near, linked: map[string]bool{}, times: r.Times, known: r.Known, folders: r.Folders}
 	for _, path := range r.Linked {
 		b.linked[paths.Clean(path)] = true
 	}

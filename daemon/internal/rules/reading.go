@@ -14,12 +14,13 @@ import (
 
 // A builder makes a tree of entries in path order.
 type builder struct {
-	near   *Node           // a tree that may have the same
-	linked map[string]bool // the files that have other names
-	times  map[string]Time // of some files
-	known  Known           // contents
-	open   []*building     // the directories that lead to the next entry
-	last   string
+	near    *Node           // a tree that may have the same
+	linked  map[string]bool // the files that have other names
+	times   map[string]Time // of some files
+	known   Known           // contents
+	folders map[string]Folder
+	open    []*building // the directories that lead to the next entry
+	last    string
 }
 
 // A building is a directory while what is below it is read.
@@ -33,7 +34,9 @@ type building struct {
 // entryOf returns an entry of a tree.
 func (b *builder) entryOf(e *tree.Entry) entry {
 	one := entry{dir: e.Dir, mode: e.Mode, user: e.UID, group: e.GID}
-	if !e.Dir {
+	if e.Dir {
+		one.folder = b.folders[e.Path]
+	} else {
 		one.content, one.linked, one.time = contentOf(string(e.Content)), b.linked[e.Path], b.times[e.Path]
 		one.content.given = b.known[one.content.text]
 	}

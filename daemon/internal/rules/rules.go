@@ -7,7 +7,7 @@ import (
 	"slices"
 )
 
-// A Rule is one by which BuildKit ends otherwise than llbm. docs/BUILDKIT.md has a least example of each.
+// A Rule is one by which BuildKit ends otherwise than llbm. The package examples has a least example of each.
 type Rule uint8
 
 const (
@@ -52,10 +52,13 @@ type Rules uint64
 
 const (
 	None Rules = 0
-	All  Rules = 1<<numberOfRules - 1 | Followed
+	All  Rules = 1<<numberOfRules - 1 | Followed | TakesPlace
 	// Followed is that symbolic links are followed, as in BuildKit. It is no rule: where llbm would not make the same, a build is
 	// refused.
 	Followed Rules = 1 << 63
+	// TakesPlace is that an entry of an archive takes the place of what is of another kind, as in BuildKit. It is no rule either: by those of
+	// llbm it fails.
+	TakesPlace Rules = 1 << 62
 )
 
 func (s Rules) Has(r Rule) bool { return s>>r&1 == 1 }
@@ -86,10 +89,10 @@ func (t Text) String() string {
 func (t Text) Sentences() string {
 	todo := t.Advice
 	if todo == "" {
-		todo = "`tools/adopt --like-buildkit` " + t.Adopt + "."
+		todo = "`llbm-tools adopt --like-buildkit` " + t.Adopt + "."
 	}
 	if t.ByTrees && t.Advice != "" {
-		todo += " Given the trees, `tools/adopt --like-buildkit` makes both agree."
+		todo += " Given the trees, `llbm-tools adopt --like-buildkit` makes both agree."
 	}
 	return t.String() + " What to do: " + todo
 }

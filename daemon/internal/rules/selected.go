@@ -3,8 +3,10 @@ package rules
 import (
 	"context"
 	"fmt"
+	"io"
 	"io/fs"
 	"reflect"
+	"strings"
 
 	"github.com/moby/buildkit/solver/pb"
 	"github.com/tonistiigi/fsutil"
@@ -42,19 +44,39 @@ func FiltersIn(def *pb.Definition, name string) (*fsutil.FilterOpt, error) {
 }
 
 // SelectedBelow calls a function for each path below a directory that filters select, in the order in which BuildKit's client sends them.
+// It is a NotSent if the client sends a file without its bytes.
 func SelectedBelow(ctx context.Context, folder string, filters *fsutil.FilterOpt, found func(path string) error) error {
 	all, err := fsutil.NewFS(folder)
 	if err != nil {
 		return err
 	}
-	selected, err := fsutil.NewFilterFS(all, filters)
+	selected, err := fsutil.NewFilterFS(unread{all}, filters)
 	if err != nil {
 		return err
 	}
-	return selected.Walk(ctx, "/", func(path string, _ fs.DirEntry, err error) error {
+	return selected.Walk(ctx, "/", func(path string, one fs.DirEntry, err error) error {
 		if err != nil {
 			return err
+		}
+		about, err := one.Info()
+		if err != nil {
+			return err
+		}
+		if about.Mode().IsRegular() && about.Size() > 0 && !isSent(selected, path) {
+			return NotSent(path)
 		}
 		return found(path)
 	})
 }
+
+// NotSent is the path of a file that filters select, of which BuildKit's client sends no byte.
+type NotSent string
+
+func (path NotSent) Error() string {
+	return fmt.Sprintf("%.200q: a pattern after the one with `!` that selects it matches a directory above it, so BuildKit's client sends it empty", string(path))
+}
+
+// An unread is a directory whose files are opened, but not read.
+type unread struct{ fsutil.FS }
+
+func (unread) Open(string) (io.ReadCloser, error) { return io.NopCloser(strings.NewReader("")), nil }

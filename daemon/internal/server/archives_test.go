@@ -115,7 +115,7 @@ type pathOf struct {
 }
 
 var placed = []pathOf{
-	{"to", 0o755, 0, false}, {"to/a", 0o700, 3, false}, {"to/a/b", 0o750, 4, false}, {"to/a/f", 0o600, 5, true}, {"to/c", 0o604, 6, true},
+	{"to", 0o755, 0, false}, {"to/a", 0o2700, 3, false}, {"to/a/b", 0o750, 4, false}, {"to/a/f", 0o600, 5, true}, {"to/c", 0o604, 6, true},
 }
 
 // stateBefore returns these as a state.
@@ -125,9 +125,11 @@ func stateBefore() llb.State {
 		owner := llb.WithUIDGID(one.uid, one.uid)
 		if one.file {
 			state = state.File(llb.Mkfile("/"+one.path, one.mode, []byte("old"), owner))
-		} else {
-			state = state.File(llb.Mkdir("/"+one.path, one.mode, owner))
+			continue
 		}
+		info := &llb.CopyInfo{Mode: &one.mode} // an mkdir has no set-group bit
+		owner.SetCopyOption(info)
+		state = state.File(llb.Copy(llb.Scratch().File(llb.Mkdir("/empty", 0o755)), "/empty", "/"+one.path, info))
 	}
 	return state
 }
@@ -148,7 +150,7 @@ func byDocker(t testing.TB, data []byte, dest string) (string, error) {
 			err = os.Chown(place, one.uid, one.uid)
 		}
 		if err == nil {
-			err = os.Chmod(place, one.mode)
+			err = syscall.Chmod(place, uint32(one.mode))
 		}
 		if err != nil {
 			t.Fatal(err)
@@ -237,6 +239,66 @@ func TestAnArchiveIsUnpackedAsBuildKitsLibraryDoesIt(t *testing.T) {
 	}
 }
 
+func TestAnArchiveIsUnpackedIntoWhatIsThere(t *testing.T) {
+	d := started(t, func(o *Options) { o.Strict = true })
+	dir := func(name string, mode int64) tar.Header {
+		return tar.Header{Name: name, Mode: mode, Uid: 1, Gid: 2, Typeflag: tar.TypeDir}
+	}
+	file := func(name string) tar.Header { return tar.Header{Name: name, Mode: 0o600, Typeflag: tar.TypeReg} }
+	root := directory(t, map[string]string{"g/s/f": "old", "x/f": "old"})
+	for link, target := range map[string]string{"absolute": "/x", "above": "../../x", "gone": "nothing"} {
+		if err := os.Symlink(target, filepath.Join(root, "g", link)); err != nil {
+			t.Fatal(err)
+		}
+	}
+	if err := os.Mkdir(filepath.Join(root, "g", "x"), 0o700); err != nil {
+		t.Fatal(err)
+	}
+	if err := os.Chmod(filepath.Join(root, "g", "s"), os.ModeSetgid|0o775); err != nil {
+		t.Fatal(err)
+	}
+	const f, x = "0644 0:9 g/s/f \"old\"\n", "0700 0:9 g/x/ \"\"\n"
+	links := "0755 0:9 g/ \"\"\n0777 0:9 g/above -> ../../x\n0777 0:9 g/absolute -> /x\n0777 0:9 g/gone -> nothing\n"
+	const outside = "0755 0:9 x/ \"\"\n0644 0:9 x/f \"old\"\n"
+	for name, one := range map[string]struct {
+		dest    string
+		entries []tar.Header
+		want    string // or why it fails
+	}{
+		"no entry in one that hands down its bit": {
+			"/g", []tar.Header{file("s/d/n")}, links + "2775 0:9 g/s/ \"\"\n2755 0:0 g/s/d/ \"\"\n0600 0:0 g/s/d/n \"s/d/n\"\n" + f + x + outside,
+		},
+		"the entry after one without": {
+			"/", []tar.Header{file("g/s/d/n"), dir("g/s", 0o700)},
+			links + "0700 1:2 g/s/ \"\"\n2755 0:0 g/s/d/ \"\"\n0600 0:0 g/s/d/n \"g/s/d/n\"\n" + f + x + outside,
+		},
+		"a file for a directory": {"/g", []tar.Header{file("s")}, links + "0600 0:0 g/s \"s\"\n" + x + outside},
+		"a directory for a file": {
+			"/g", []tar.Header{dir("s/f", 0o755)}, links + "2775 0:9 g/s/ \"\"\n0755 1:2 g/s/f/ \"\"\n" + x + outside,
+		},
+		"a directory that was a file": {
+			"/g", []tar.Header{file("s"), dir("s", 0o755), file("s/n")}, links + "0755 1:2 g/s/ \"\"\n0600 0:0 g/s/n \"s/n\"\n" + x + outside,
+		},
+		"through an absolute link": {
+			"/g", []tar.Header{file("absolute/n")}, links + "2775 0:9 g/s/ \"\"\n" + f + x + "0600 0:0 g/x/n \"absolute/n\"\n" + outside,
+		},
+		"through a link that leads above": {
+			"/g", []tar.Header{file("above/n")}, links + "2775 0:9 g/s/ \"\"\n" + f + x + "0600 0:0 g/x/n \"above/n\"\n" + outside,
+		},
+		"through a link to nothing": {"/g", []tar.Header{file("gone/n")}, "/g/gone: /g/gone is a file"},
+		"paths that lead above":     {"/g/x", []tar.Header{file("../../n")}, links + "2775 0:9 g/s/ \"\"\n" + f + x + "0600 0:0 g/x/n \"../../n\"\n" + outside},
+	} {
+		archive := directory(t, map[string]string{"archive": string(tarOf(t, one.entries...))})
+		info := &llb.CopyInfo{CopyDirContentsOnly: true}
+		llb.WithUIDGID(0, 9).SetCopyOption(info)
+		state := adding(llb.Scratch().File(llb.Copy(llb.Local("before"), "/", "/", info)), one.dest)
+		got, err := d.solved(t, state, client.SolveOpt{LocalDirs: map[string]string{"context": archive, "before": root}})
+		if got != one.want && (err == nil || !strings.Contains(err.Error(), one.want)) {
+			t.Errorf("%s: %q, not %q: %v", name, got, one.want, err)
+		}
+	}
+}
+
 func TestWhatAnArchiveUnpacksToIsCopiedBesideFiles(t *testing.T) {
 	d := started(t, func(o *Options) { o.Strict = true })
 	root := directory(t, map[string]string{
@@ -286,13 +348,12 @@ func TestAnArchiveThatCanNotBeUnpackedIsRefusedByItsName(t *testing.T) {
 	file := func(name string) tar.Header { return tar.Header{Name: name, Mode: 0o644, Typeflag: tar.TypeReg} }
 	link := tar.Header{Name: "l", Linkname: "d", Typeflag: tar.TypeSymlink}
 	for why, data := range map[string][]byte{
-		"is no path of a tree":                     tarOf(t, file("../x")),
-		"leads through the symbolic link /l":       tarOf(t, link, file("l/x")),
+		"the directory /l is replaced by a later":  tarOf(t, tar.Header{Name: "l/", Mode: 0o755, Typeflag: tar.TypeDir}, link),
 		"a file with entries below it: /a":         tarOf(t, file("a"), file("a/b")),
-		"is a directory and something else":        tarOf(t, file("a/b"), file("a")),
+		"\"a\" is a link to \"a\", which is no":    tarOf(t, file("a"), tar.Header{Name: "a", Linkname: "a", Typeflag: tar.TypeLink}),
+		"\"a\" is a link to \"a/b\", which is no":  tarOf(t, file("a/b"), tar.Header{Name: "a", Linkname: "a/b", Typeflag: tar.TypeLink}),
 		"which is no file of the archive":          tarOf(t, file("a"), tar.Header{Name: "b", Linkname: "none", Typeflag: tar.TypeLink}),
 		"is the directory to which the archive is": tarOf(t, file("a"), tar.Header{Name: "/", Mode: 0o700, Typeflag: tar.TypeDir}),
-		"there is no entry of the directory /s/t":  tarOf(t, tar.Header{Name: "s/", Mode: 0o2755, Typeflag: tar.TypeDir}, file("s/t/u")),
 		"unexpected EOF":                           tarOf(t, file(strings.Repeat("long/", 15)+"name"))[:520],
 	} {
 		root := directory(t, map[string]string{"archive": string(data)})

@@ -28,6 +28,12 @@ func TestAResultIsExported(t *testing.T) {
 	if got, err := d.solved(t, state, client.SolveOpt{}); err != nil || got != want {
 		t.Errorf("%s%v", got, err)
 	}
+	for _, text := range []string{"\xff\xff", "\xff\x00\x00\x00\x00"} { // as tokens are, which there are none of without a source
+		got, err := d.solved(t, llb.Scratch().File(llb.Mkfile("/a", 0o644, []byte(text))), client.SolveOpt{})
+		if err != nil || got != fmt.Sprintf("0644 0:0 a %q\n", text) {
+			t.Errorf("%s%v", got, err)
+		}
+	}
 	out := t.TempDir()
 	_, err := d.Solve(context.Background(), marshal(t, state), client.SolveOpt{Exports: []client.ExportEntry{{Type: "local", OutputDir: out}}}, nil)
 	data, readErr := os.ReadFile(filepath.Join(out, "a/b"))
@@ -137,9 +143,9 @@ func TestRefusalsHaveACodeAndLlbmsNumber(t *testing.T) {
 	}{
 		"an image":            {llb.Image("docker.io/library/a:b"), none, codes.Unimplemented, "llbm: fault 88 0 Source (docker-image://docker.io/library/a:b)"},
 		"no script":           {llb.Scratch().Run(llb.Shlex("make all")).Root(), none, codes.InvalidArgument, "llbm: fault 89 0 Script 71 make"},
-		"a failing action":    {llb.Scratch().File(llb.Rm("/a/b")), none, codes.Unknown, "llbm: failed 0 action 0 fault 21 NotFound: /a/b: no such file"},
+		"a failing action":    {llb.Scratch().File(llb.Rm("/a/b")), none, codes.Unknown, "llbm: failed 0 action 0 fault 21 NotFound: rm /a/b: nothing is at /a/b"},
 		"a long name, cut":    {llb.Scratch().Run(llb.Args([]string{"make", strings.Repeat("x", 300)})).Root(), none, codes.InvalidArgument, "xx ..)"},
-		"a name with escapes": {llb.Scratch().File(llb.Mkdir("/a\x1b[1m", 0o755)), none, codes.Unknown, `26 BadName: /a\x1b[1m: a part of the path`},
+		"a name with escapes": {llb.Scratch().File(llb.Mkdir("/a\x1b[1m", 0o755)), none, codes.Unknown, `26 BadName: mkdir /a\x1b[1m: the text of path is`},
 		"a failing copy":      {llb.Scratch().File(llb.Copy(file, "/b", "/c")), none, codes.Unknown, `0 fault 21 NotFound: "/b": not found: lstat /b: no such`},
 		"a failing command":   {again, none, codes.Unknown, "llbm: failed 0 command 1 status 1: mkdir a"},
 		"an exporter":         {file, image, codes.Unimplemented, `exporter "image"`},

@@ -20,7 +20,7 @@ func TestABuildGoesOnWithoutItsComparison(t *testing.T) {
 		why    string
 	}{
 		"it dies":       {func(o *Options) { o.Rules = as(t, dyingName) }, "dies: exit status 2: panic: these rules die"},
-		"it is missing": {func(o *Options) { o.Rules = "" }, "the program llbm-rules is missing: tools/daemon builds it beside llbmd"},
+		"it is missing": {func(o *Options) { o.Rules = "" }, "the program llbm-rules is missing: dev/dev daemon builds it beside llbmd"},
 	} {
 		d := started(t, one.change)
 		got, err := d.warnings(t, state, client.SolveOpt{})

@@ -123,6 +123,10 @@ func TestALinkOfAResultIsInADirectoryAndInALayer(t *testing.T) {
 	}
 }
 
+func call(base llb.State, folder string, words ...string) llb.State {
+	return base.Run(llb.Args(words), llb.Dir("/"+folder)).Root()
+}
+
 // Each of these is what BuildKit makes: it follows links in parents, in a source that is selected, and in a dest.
 func TestALinkThatBuildKitFollowsIsResolvedByTheTrees(t *testing.T) {
 	d, root := started(t, func(o *Options) { o.Strict = true }), linked(t)
@@ -130,6 +134,8 @@ func TestALinkThatBuildKitFollowsIsResolvedByTheTrees(t *testing.T) {
 	etc := llb.Scratch().File(llb.Copy(context, "/etc", "/"))
 	selector := llb.AddMount("/m", context, llb.SourcePath("/etc/current"), llb.Readonly)
 	follow, wild := &llb.CopyInfo{FollowSymlinks: true}, &llb.CopyInfo{FollowSymlinks: true, AllowWildcard: true}
+	at := etc.Run(llb.Args([]string{"cp", "/etc/real/m/cli.js", "/etc/z"}), llb.Dir("/"),
+		llb.AddMount("/etc/current/m", context, llb.SourcePath("/modules/tool"), llb.Readonly)).Root()
 	const real = "0755 0:0 etc/ \"\"\n0777 0:0 etc/current -> real\n0755 0:0 etc/real/ \"\"\n0644 0:0 etc/real/conf \"conf\"\n"
 	for name, one := range map[string]struct {
 		state llb.State
@@ -145,6 +151,9 @@ func TestALinkThatBuildKitFollowsIsResolvedByTheTrees(t *testing.T) {
 		"an mkfile":          {etc.File(llb.Mkfile("/etc/current/new", 0o600, nil)), real + "0600 0:0 etc/real/new \"\"\n"},
 		"an mkdir":           {etc.File(llb.Mkdir("/etc/current/new", 0o700)), real + "0700 0:0 etc/real/new/ \"\"\n"},
 		"a selector":         {llb.Scratch().Run(llb.Args([]string{"cp", "/m/conf", "/t"}), llb.Dir("/"), selector).Root(), "0644 0:0 t \"conf\"\n"},
+		"a call":             {call(etc, "", "cp", "/etc/current/conf", "/etc/z"), real + "0644 0:0 etc/z \"conf\"\n"},
+		"a call with a dir":  {call(etc, "/etc/current", "cp", "conf", "../z"), real + "0644 0:0 etc/z \"conf\"\n"},
+		"a dest of a mount":  {at, real + "0644 0:0 etc/z \"cli\"\n"},
 		"an rm":              {etc.File(llb.Rm("/etc/current/conf")), strings.Replace(real, "0644 0:0 etc/real/conf \"conf\"\n", "", 1)},
 	} {
 		got, err := d.solved(t, one.state, fromFolder(root))
@@ -159,8 +168,7 @@ func TestALinkThatCanNotBeResolvedIsRefused(t *testing.T) {
 	d, root := started(t, nil), linked(t)
 	context := llb.Local("context")
 	etc := llb.Scratch().File(llb.Copy(context, "/etc", "/"))
-	call := func(words ...string) llb.State { return etc.Run(llb.Args(words), llb.Dir("/")).Root() }
-	run := call("write", "/out", "x")
+	run := call(etc, "", "write", "/out", "x")
 	selected := llb.Scratch().Run(llb.Args([]string{"true"}), llb.Dir("/"), llb.AddMount("/m", run, llb.SourcePath("/etc/current"), llb.Readonly)).Root()
 	const through = " leads through the symbolic link /etc/current, which llbm does not follow"
 	for name, one := range map[string]struct {
@@ -169,11 +177,14 @@ func TestALinkThatCanNotBeResolvedIsRefused(t *testing.T) {
 	}{
 		"a dest":            {run.File(llb.Copy(context, "/data", "/etc/current/")), "action 0: /etc/current" + through},
 		"an mkfile":         {run.File(llb.Mkdir("/a", 0o755).Mkfile("/etc/current/new", 0o600, nil)), "action 1: /etc/current/new" + through},
-		"a call":            {call("cp", "/etc/current/conf", "/out"), "/etc/current/conf" + through},
-		"a call with a dir": {etc.Run(llb.Args([]string{"cp", "current/conf", "/out"}), llb.Dir("/etc")).Root(), "/etc/current/conf" + through},
-		"a selector":        {selected, "the selector /etc/current" + through},
-		"another call":      {call("rm", "/etc/current"), ""},
-		"another path":      {run.File(llb.Copy(context, "/data", "/etc/real/")), ""},
+		"a call":            {call(run, "", "cp", "/etc/current/conf", "/out"), "command 0: /etc/current/conf" + through},
+		"a call with a dir": {call(run, "etc", "cp", "current/conf", "/out"), "command 0: /etc/current/conf" + through},
+		"a directory":       {call(run, "etc/current", "true"), "the working directory /etc/current" + through},
+		"a selector":        {selected, "mount 1: the selector /etc/current" + through},
+		"a cp to a link": {call(etc.File(llb.Copy(context, "/modules", "/")), "", "cp", "/etc/real/conf", "/modules/.bin/tool"),
+			"command 0: /modules/.bin/tool leads through the symbolic link /modules/.bin/tool, which llbm does not follow"},
+		"another call": {call(run, "", "rm", "/etc/current"), ""},
+		"another path": {run.File(llb.Copy(context, "/data", "/etc/real/")), ""},
 	} {
 		_, err := d.solved(t, one.state, fromFolder(root))
 		if (err != nil) != (one.want != "") || err != nil && !strings.Contains(err.Error(), "llbm: "+one.want) {

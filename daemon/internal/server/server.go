@@ -144,7 +144,7 @@ func findRules(path string, limits machine.Limits) (*machine.Ahead, error) {
 	case named:
 		return nil, err
 	}
-	log.Printf("llbmd: %s is missing, so no build is compared with what BuildKit would make: tools/daemon builds it", path)
+	log.Printf("llbmd: %s is missing, so no build is compared with what BuildKit would make: dev/dev daemon builds it", path)
 	return nil, nil
 }
 

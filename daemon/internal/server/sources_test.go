@@ -191,6 +191,25 @@ func TestWhatATreeOfLlbmHasNotIsAWarningOfTheSource(t *testing.T) {
 	}
 }
 
+func TestAFileOfWhichNothingComesIsEmptyWithAWarning(t *testing.T) {
+	d := started(t, nil)
+	v, w := of("v", ""), of("w", "")
+	v.Size_, w.Size_ = 5, 1
+	want := "local source context: the client sent no byte of /v: it is empty, as in BuildKit"
+	archive, sent, _, warned := d.followed(t, llb.Local("context"), folder{files: []file{v}}, "")
+	if archive != "0644 0:0 v \"\"\n" || sent != 0 || warned != want {
+		t.Error(archive, sent, warned)
+	}
+	if _, _, _, warned := d.followed(t, copied(), folder{files: []file{v, w}}, "key"); warned != want+"; so are 1 more" {
+		t.Error(warned)
+	}
+	v = of("v", "hello")
+	archive, _, _, warned = d.followed(t, copied(), folder{files: []file{v, of("w", "x")}}, "key")
+	if archive != "0644 0:0 v \"hello\"\n" || warned != "" {
+		t.Error(archive, warned)
+	}
+}
+
 func TestASourceThatIsNotLocalIsRefusedBeforeATransfer(t *testing.T) {
 	d := started(t, nil)
 	for name, c := range map[string]struct {

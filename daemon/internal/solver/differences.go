@@ -90,7 +90,7 @@ func (s *Solver) compare(
 }
 
 // errNoRules says what is missing.
-var errNoRules = errors.New("the program llbm-rules is missing: tools/daemon builds it beside llbmd")
+var errNoRules = errors.New("the program llbm-rules is missing: dev/dev daemon builds it beside llbmd")
 
 // begin starts the child, and says what it has to compare.
 func (s *Solver) begin(c *comparing, def *pb.Definition, in *inputs, texts texts, rewrites bool) error {
@@ -121,13 +121,16 @@ func (s *Solver) begin(c *comparing, def *pb.Definition, in *inputs, texts texts
 	c.talk = comparison.NewTalk(c.child, c.child.In)
 	request := &comparison.Request{Sent: file, Rewrite: rewrites, Received: true, Paths: mostDetails, Rows: map[int]string{}, Links: map[int][]string{}}
 	request.Times = timesOf(c.g, in)
-	request.Known = in.known
+	request.Known, request.Folders = in.known, map[int]map[string]rules.Folder{}
 	for i, one := range in.all {
 		for _, v := range one.vertices {
 			row := c.g.Vertices[v].Place
 			request.Rows[row] = machine.PathOf(texts.sources[i].Text)
 			if linked := slices.Concat(one.manifest.HardLinks()...); len(linked) > 0 {
 				request.Links[row] = linked
+			}
+			if one.folders != nil {
+				request.Folders[row] = one.folders
 			}
 		}
 	}

@@ -26,8 +26,11 @@ func (s *Solver) failure(one *session, p *progress, v int, settled machine.Event
 	}
 	it, place, code := &p.g.Vertices[v], failure.Place, failure.Code
 	action, why := p.action(v, place), p.fails(v)
-	if why == "" && place < len(it.Op.GetFile().GetActions()) {
-		why = reason(one, v, place, code)
+	if actions := one.graph.Vertices[v].Op.GetFile().GetActions(); why == "" && place < len(actions) {
+		if why, err = one.run.Why(settled, place); err != nil {
+			return err
+		}
+		why = reason(actions[place], why)
 	}
 	text := fmt.Sprintf("fault %d %s", code, machine.Name(code))
 	if why != "" {
@@ -57,42 +60,39 @@ func commandFailure(one *session, v int, failure machine.Failure, settled machin
 	return failed(it.Sent, nil, status.Error(codes.Unknown, text))
 }
 
-// causes say what a fault of a file action means.
-var causes = map[int]string{
-	21: "no such file or directory",
-	22: "a parent is not a directory",
-	23: "a directory is in the way of a file",
-	24: "a file is in the way of a directory",
-	25: "this can't be done at the root",
-	26: "a part of the path is no name, or the path has more than 128 names",
-	52: "the text is not a pattern",
+// What llbm says before and after the path of a copy's source if nothing is there, and of a source that is a pattern if nothing matches.
+const sourceMissing, inSource, noMatch = "nothing is at ", " in the tree that it copies from", "nothing matches the text of src"
+
+// lacksSource returns whether a copy failed for want of its source. The source may be a pattern without wildcards: then it is told as a path.
+func lacksSource(c *pb.FileActionCopy, why string) bool {
+	if strings.HasPrefix(why, sourceMissing) && strings.HasSuffix(why, inSource) {
+		return true
+	}
+	return why == noMatch && !strings.ContainsAny(c.Src, `*?[\`)
 }
 
-// reason says what is wrong with an action. Of a copy it looks whether its source is there.
-func reason(one *session, v, place, fault int) string {
-	action := one.graph.Vertices[v].Op.GetFile().Actions[place]
+// reason returns an action and why it failed, as llbm says it. A missing source of a copy is told as BuildKit tells it.
+func reason(action *pb.FileAction, why string) string {
 	switch a := action.Action.(type) {
 	case *pb.FileAction_Mkfile:
-		return a.Mkfile.Path + ": " + causes[fault]
+		return because("mkfile "+a.Mkfile.Path, why)
 	case *pb.FileAction_Mkdir:
-		return a.Mkdir.Path + ": " + causes[fault]
+		return because("mkdir "+a.Mkdir.Path, why)
 	case *pb.FileAction_Rm:
-		return a.Rm.Path + ": " + causes[fault]
+		return because("rm "+a.Rm.Path, why)
 	case *pb.FileAction_Copy:
-		if fault == 21 && !(a.Copy.AllowWildcard && strings.ContainsAny(a.Copy.Src, `*?[\\`)) {
-			if missing, known := lacks(one, v, int(action.SecondaryInput), a.Copy.Src); known && missing {
-				return fmt.Sprintf("%q: not found: lstat %s: no such file or directory", a.Copy.Src, a.Copy.Src) // as BuildKit says it
-			} else if known {
-				return "a parent of " + a.Copy.Dest + ": no such file or directory"
-			}
+		if lacksSource(a.Copy, why) {
+			return fmt.Sprintf("%q: not found: lstat %s: no such file or directory", a.Copy.Src, a.Copy.Src)
 		}
-		return a.Copy.Src + " to " + a.Copy.Dest + ": " + causes[fault]
+		return because("copy "+a.Copy.Src+" "+a.Copy.Dest, why)
 	}
-	return causes[fault]
+	return why
 }
 
-// lacks returns whether the tree that a copy copies from lacks a path, and whether this is known.
-func lacks(one *session, v, input int, path string) (missing, known bool) {
-	t, known := one.input(v, input)
-	return known && t.Find(path) == nil, known
+// because returns a subject, and after a colon why it failed if that is known.
+func because(subject, why string) string {
+	if why == "" {
+		return subject
+	}
+	return subject + ": " + why
 }

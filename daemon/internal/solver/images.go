@@ -87,7 +87,7 @@ func newNames(def *pb.Definition) *names {
 	return n
 }
 
-// of returns the name of an image, as tools/adopt makes them: its last part, without a tag and a digest, and with a number if it is taken.
+// of returns the name of an image, as llbm-tools adopt makes them: its last part, without a tag and a digest, and with a number if it is taken.
 func (n *names) of(op *pb.Op, source *pb.SourceOp) string {
 	key := fmt.Sprintf("%q %v %q %q", source.Identifier, op.Platform, source.Attrs[pb.AttrOCILayoutSessionID], source.Attrs[pb.AttrOCILayoutStoreID])
 	if name, ok := n.given[key]; ok {

@@ -37,6 +37,7 @@ type input struct {
 	base     bool   // whether something builds on it
 	pulled   pulled // the image in the place of a local source, if it is one
 	manifest *sources.Manifest
+	folders  map[string]rules.Folder // of what an archive unpacks to
 }
 
 type inputs struct {
@@ -170,6 +171,17 @@ func (s *Solver) transfer(ctx context.Context, b *builds.Build, one *input, p *p
 		}
 		p.warn(v, text, nil)
 	}
+	if len(manifest.Removed) > 0 {
+		text := fmt.Sprintf("%s: %s is of the layer that removes it: it stays, and BuildKit can remove it", one.what(), manifest.Removed[0])
+		p.warn(v, text, manifest.Removed)
+	}
+	if manifest.EmptiedCount > 0 {
+		text := fmt.Sprintf("%s: the client sent no byte of %s: it is empty, as in BuildKit", one.what(), manifest.Emptied[0])
+		if more := manifest.EmptiedCount - 1; more > 0 {
+			text += fmt.Sprintf("; so are %d more", more)
+		}
+		p.warn(v, text, manifest.Emptied)
+	}
 	return manifest, nil
 }
 
@@ -259,7 +271,7 @@ func (in *inputs) texts(r *reading, g *graph.Graph) (texts, error) {
 		return texts{}, err
 	}
 	in.wanted = wantedOf(g)
-	if g.Canonical && !r.isMarked() {
+	if len(in.all) > 0 && g.Canonical && !r.isMarked() {
 		table := contents.NewTable()
 		written, err := in.write(func(one *input, to io.Writer) error {
 			if slices.ContainsFunc(one.vertices, func(v int) bool { return r.isByValue(g, v) }) {

@@ -74,19 +74,6 @@ func (s *session) aside(v, output, most int, to io.Writer) (int, error) {
 	return s.run.Aside(s.numbers[v], output, most, to)
 }
 
-// input returns the tree of an input of a vertex, if it is known: it is that of the empty tree or another vertex' output.
-func (s *session) input(v, input int) (tree.Tree, bool) {
-	inputs := s.shown.Vertices[s.numbers[v]].Inputs
-	switch {
-	case input < 0:
-		return tree.Empty(), true
-	case input >= len(inputs):
-		return nil, false
-	}
-	t, err := s.run.Tree(inputs[input].Vertex, inputs[input].Output)
-	return t, err == nil && t != nil
-}
-
 // open begins a session of what runs, once one more process of the program may run. The caller has to end it by the function that it
 // returns.
 func (s *Solver) open(

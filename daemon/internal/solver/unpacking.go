@@ -18,6 +18,7 @@ import (
 	"llbm/daemon/internal/contents"
 	"llbm/daemon/internal/graph"
 	"llbm/daemon/internal/images"
+	"llbm/daemon/internal/paths"
 	"llbm/daemon/internal/rules"
 	"llbm/daemon/internal/sources"
 )
@@ -256,7 +257,7 @@ func (u *unpacking) archive(from *input, at string) (*unpackedArchive, error) {
 	if err != nil {
 		return nil, err
 	}
-	one := &unpackedArchive{input: &input{request: sources.Request{Name: at}, manifest: manifest}, folders: folders}
+	one := &unpackedArchive{input: &input{request: sources.Request{Name: at}, manifest: manifest, folders: foldersOf(folders)}, folders: folders}
 	for n := 1; one.input.given == ""; n++ {
 		if name := fmt.Sprintf("archive-%d", n); !u.in.names[name] {
 			u.in.names[name], one.input.given = true, name
@@ -269,6 +270,15 @@ func (u *unpacking) archive(from *input, at string) (*unpackedArchive, error) {
 	}
 	u.done[key] = one
 	return one, nil
+}
+
+// foldersOf returns what the rules know of folders, by their names.
+func foldersOf(all []images.Folder) map[string]rules.Folder {
+	found := map[string]rules.Folder{}
+	for _, one := range all {
+		found[one.Name] = rules.Folder{Names: len(paths.Names(one.Path)) + 1}
+	}
+	return found
 }
 
 // An unpackWriter writes the actions of an op that has more inputs than before.

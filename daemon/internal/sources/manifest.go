@@ -36,11 +36,16 @@ type Manifest struct {
 	// Attributed is how many entries have extended attributes, which a tree of llbm has not, and FirstAttributed is the first.
 	Attributed      int
 	FirstAttributed string
-	FirstLink       string // the path of the first symbolic link, if there is one
-	links           []link
-	memory          int       // the bytes of the entries and their paths, about
-	began           time.Time // when the transfer began
-	packs           map[*contents.Pack]bool
+	// Emptied are the paths of files of which nothing came, though they have bytes, up to a bound; EmptiedCount is how many there were.
+	Emptied      []string
+	EmptiedCount int
+	// Removed are paths of an image that a layer removes after its own entry for them, up to a bound: only lower layers lose them.
+	Removed   []string
+	FirstLink string // the path of the first symbolic link, if there is one
+	links     []link
+	memory    int       // the bytes of the entries and their paths, about
+	began     time.Time // when the transfer began
+	packs     map[*contents.Pack]bool
 }
 
 // A link is a further name of a file: the place of its entry, and that of the file's first name.

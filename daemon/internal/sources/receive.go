@@ -22,6 +22,7 @@ import (
 
 const (
 	mostLeftOut = 10
+	mostEmptied = 10
 	mostPacks   = 16
 	// heldAtOnce is how many bytes at least are counted at once of what is held in memory.
 	heldAtOnce = 64 << 10
@@ -82,8 +83,16 @@ func Receive(stream Stream, store *contents.Store, options Options) (*Manifest, 
 	return r.manifest, nil
 }
 
-// finish counts what the manifest has, once all has come.
+// finish counts what the manifest has, once all has come. Only then it is known of which files nothing came.
 func (r *receiver) finish() {
+	for _, l := range r.manifest.links {
+		r.manifest.Entries[l.entry].Content = r.manifest.Entries[l.target].Content
+	}
+	slices.Sort(r.emptied)
+	r.manifest.EmptiedCount = len(r.emptied)
+	for _, place := range r.emptied[:min(mostEmptied, len(r.emptied))] {
+		r.manifest.Emptied = append(r.manifest.Emptied, "/"+r.manifest.Entries[place].Path)
+	}
 	for i := range r.manifest.Entries {
 		r.manifest.Bytes += r.manifest.Entries[i].Content.Size
 	}
@@ -110,6 +119,7 @@ type receiver struct {
 	paths    int // the bytes of all paths so far
 	held     int // the bytes in memory that Hold has counted
 	ended    bool
+	emptied  []int32       // the places of files of which nothing came
 	given    *contents.Ref // the content of the next entry, if it need not be asked for
 }
 
@@ -325,8 +335,10 @@ func (r *receiver) data(id uint32, data []byte) error {
 	e := &r.manifest.Entries[f.entry]
 	if len(data) == 0 {
 		delete(r.open, id)
-		if f.at != e.Content.Size {
-			return r.refuse(codes.Aborted, "%s: %d bytes came of %d: the file has changed, or can't be read", e.Path, f.at, e.Content.Size)
+		if f.at == 0 {
+			r.empty(f.entry)
+		} else if f.at != e.Content.Size {
+			return r.refuse(codes.Aborted, "%s: %d bytes came of %d: the file has changed", e.Path, f.at, e.Content.Size)
 		}
 		return nil
 	}
@@ -342,6 +354,16 @@ func (r *receiver) data(id uint32, data []byte) error {
 		r.Progress(r.manifest.Sent)
 	}
 	return nil
+}
+
+// empty takes a file of which nothing came as an empty one, as BuildKit does: a client sends so what it may not open, and what the
+// filters of a source select by their walk, but not by the file's own path. A file that was cut short is another one at each build,
+// so it is refused.
+func (r *receiver) empty(place int) {
+	e := &r.manifest.Entries[place]
+	e.Content.GiveUp()
+	e.Content = contents.Ref{}
+	r.emptied = append(r.emptied, int32(place))
 }
 
 // checkPath checks the path of the next entry: its names, that it comes after the last one, and that its parent came.

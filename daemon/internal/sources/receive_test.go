@@ -172,7 +172,6 @@ func TestWhatAClientMayNotSendIsRefused(t *testing.T) {
 		"a size beyond the store":   {sends(nil, stat("a", 0o644, 1<<62), last), "full"},
 		"more than its size":        {sends(map[uint32]string{0: "abcdef"}, stat("a", 0o644, 5), last), "more than its 5 bytes"},
 		"less than its size":        {sends(map[uint32]string{0: "abcd"}, stat("a", 0o644, 5), last), "4 bytes came of 5"},
-		"nothing of its size":       {sends(map[uint32]string{0: ""}, stat("a", 0o644, 5), last), "0 bytes came of 5"},
 		"data of nothing":           {sends(nil, data(3, "x")), "was not asked for"},
 		"data of an empty file":     {sends(nil, stat("a", 0o644, 0), data(0, "x")), "was not asked for"},
 		"data of a directory":       {sends(nil, dir("a"), data(0, "x")), "was not asked for"},
@@ -228,6 +227,38 @@ func TestAHardLinkHasTheContentOfItsTarget(t *testing.T) {
 	}
 	if got := text(t, m); got != "d 0755 0 0 /\nf 0644 0 0 616263 /a\nf 0644 0 0 616263 /b\n" {
 		t.Error(got)
+	}
+}
+
+func TestAFileOfWhichNothingComesIsEmpty(t *testing.T) {
+	store := newStore(t, 100)
+	client := sends(map[uint32]string{0: "", 2: "abc"}, stat("a", 0o644, 5), hardLink("b", "a"), stat("c", 0o644, 3), stat("d", 0o644, 0), last)
+	m, err := Receive(client, store, Options{})
+	if err != nil {
+		t.Fatal(err)
+	}
+	if got := text(t, m); got != "d 0755 0 0 /\nf 0644 0 0 - /a\nf 0644 0 0 - /b\nf 0644 0 0 616263 /c\nf 0644 0 0 - /d\n" {
+		t.Error(got)
+	}
+	if m.Bytes != 3 || m.Sent != 3 || store.Used() != 3 || m.EmptiedCount != 1 || fmt.Sprint(m.Emptied) != "[/a]" {
+		t.Error(m.Bytes, m.Sent, store.Used(), m.EmptiedCount, m.Emptied)
+	}
+	m.Drop()
+	if store.Used() != 0 {
+		t.Error(store.Used())
+	}
+}
+
+func TestAFileOfWhichNothingCameIsAskedForAgain(t *testing.T) {
+	store, at := newStore(t, 100), stat("a", 0o644, 5)
+	at.Stat.ModTime = 1_500_000_000_123_456_789
+	before, err := Receive(sends(map[uint32]string{0: ""}, at, last), store, Options{})
+	if err != nil {
+		t.Fatal(err)
+	}
+	m, err := Receive(sends(map[uint32]string{0: "hello"}, at, last), store, Options{Before: before})
+	if err != nil || text(t, m) != "d 0755 0 0 /\nf 0644 0 0 68656c6c6f /a\n" || m.EmptiedCount != 0 {
+		t.Error(m, err)
 	}
 }
 

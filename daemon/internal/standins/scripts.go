@@ -3,8 +3,10 @@ package standins
 import (
 	"context"
 	"fmt"
+	"slices"
 	"strconv"
 	"strings"
+	"unicode/utf8"
 
 	"github.com/moby/buildkit/solver/pb"
 	digest "github.com/opencontainers/go-digest"
@@ -18,27 +20,80 @@ import (
 const Advice = "llbmd's option -rules FILE gives such a RUN a stand-in, as docker buildx's --build-context llbm-rules=DIRECTORY does, " +
 	"and with -run skip it does nothing"
 
-// Calls returns the calls of an execution's script, each with its words.
-func Calls(exec *pb.ExecOp) [][]string {
+// A Script has the words of an execution, which can be replaced.
+type Script struct {
+	words  []string
+	isText bool
+	calls  [][]int // the places of each call's words
+}
+
+// ScriptOf returns the script of an execution.
+func ScriptOf(exec *pb.ExecOp) Script {
 	if exec.GetMeta() == nil {
-		return nil
+		return Script{}
 	}
 	args := exec.Meta.Args
 	if len(args) != 3 || args[0] != "/bin/sh" || args[1] != "-c" {
-		return [][]string{args}
+		s := Script{words: slices.Clone(args), calls: [][]int{nil}}
+		for place := range args {
+			s.calls[0] = append(s.calls[0], place)
+		}
+		return s
 	}
-	calls := [][]string{nil}
-	for _, word := range strings.Split(args[2], " ") {
+	s := Script{words: strings.Split(args[2], " "), isText: true, calls: [][]int{nil}}
+	for place, word := range s.words {
 		switch word {
 		case "":
 		case ";", "&&", "||":
-			calls = append(calls, nil)
+			s.calls = append(s.calls, nil)
 		default:
-			calls[len(calls)-1] = append(calls[len(calls)-1], word)
+			last := len(s.calls) - 1
+			s.calls[last] = append(s.calls[last], place)
 		}
+	}
+	return s
+}
+
+// Calls returns the calls, each with its words.
+func (s Script) Calls() [][]string {
+	var calls [][]string
+	for _, places := range s.calls {
+		var words []string
+		for _, place := range places {
+			words = append(words, s.words[place])
+		}
+		calls = append(calls, words)
 	}
 	return calls
 }
+
+// IsChain is whether each call is only done if the one before it has succeeded.
+func (s Script) IsChain() bool {
+	return !s.isText || !slices.ContainsFunc(s.words, func(one string) bool { return one == ";" || one == "||" })
+}
+
+// Set replaces a word of a call, and returns whether a script may have the new one.
+func (s Script) Set(call, word int, text string) bool {
+	isOther := func(c rune) bool {
+		return c < utf8.RuneSelf && !('a' <= c && c <= 'z' || 'A' <= c && c <= 'Z' || '0' <= c && c <= '9') && !strings.ContainsRune("_-./,:+@%=", c)
+	}
+	if s.isText && strings.ContainsFunc(text, isOther) {
+		return false
+	}
+	s.words[s.calls[call][word]] = text
+	return true
+}
+
+// Args returns the words of the execution.
+func (s Script) Args() []string {
+	if s.isText {
+		return []string{"/bin/sh", "-c", strings.Join(s.words, " ")}
+	}
+	return s.words
+}
+
+// Calls returns the calls of an execution's script, each with its words.
+func Calls(exec *pb.ExecOp) [][]string { return ScriptOf(exec).Calls() }
 
 // Words says for a person what is wrong with the words of an execution, of which llbm says why they are no script.
 func Words(fault machine.ScriptFault, exec *pb.ExecOp) string {

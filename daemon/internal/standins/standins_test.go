@@ -8,7 +8,7 @@ import (
 	"testing"
 )
 
-// shared are the examples that the tests of tools/adopt read too.
+// shared are the examples that the tests of llbm-tools adopt read too.
 type shared struct {
 	Refused map[string]string
 	Fits    []example

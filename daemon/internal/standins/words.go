@@ -1,4 +1,4 @@
-// Package standins has the stand-ins for executions: rules that replace their words by scripts of llbm, as tools/adopt reads them, and
+// Package standins has the stand-ins for executions: rules that replace their words by scripts of llbm, as llbm-tools adopt reads them, and
 // executions that do nothing.
 package standins
 

@@ -5,7 +5,7 @@ import (
 	"testing"
 
 	"github.com/moby/buildkit/client/llb"
-	"llbm.example/llbm/llbmtest"
+	"llbm.example/llbm/bindings/go/llbmtest"
 )
 
 // The frontend under test, which puts the program of a project into an image of its own.

@@ -9,7 +9,7 @@ OS/ARCHITECTURE picks one of several images. With --strict a source is refused i
 program is --llbm PROGRAM, or else crates/llbm/out/llbm of the repository, or else its out/llbm-unproved, which is named
 on standard error as not proved; --workers N sets its number of workers. All entries of sources get the owner 0:0,
 except those of texts. Of a directory only what the filters of its source select is given, as BuildKit's clients do: the
-program llbm-rules applies them (tools/daemon builds it), and where it is not there such a source is refused. With
+program llbm-rules applies them (dev/dev daemon builds it), and where it is not there such a source is refused. With
 --no-filters all of it is given. Where llbm-rules is there, standard error has the notes of `lint`.
 
 With --links, which needs llbm-rules, symbolic links of sources are taken and written as they are. Paths are followed
@@ -63,9 +63,9 @@ import argparse
 import tempfile
 from typing import TYPE_CHECKING
 
-from llbm_tools.building import children, folders
+from llbm_tools.building import child_processes, folders
+from llbm_tools.building.build_requests import LARGEST, NOTHING, Ended, Request, source_of
 from llbm_tools.building.kept_changes import Changes, Memory
-from llbm_tools.building.requests import LARGEST, NOTHING, Ended, Request, source_of
 from llbm_tools.command_line import Parser
 from llbm_tools.common import discard_output, say
 from llbm_tools.os_errors import os_error_text
@@ -119,17 +119,17 @@ class Work:
                 memory.store(renewed)
             return True
         # What a build does not need it does not import.
-        from llbm_tools.building import cached
+        from llbm_tools.building import cached_vertices
 
-        found = cached.found_in(self.request, changes)
+        found = cached_vertices.found_in(self.request, changes)
         self.cached = found.say()
         if found.has_result and changes.are_contents():
             self.say_end(f"nothing to do: {self.request.result} is what this definition makes of these sources")
-            memory.store(cached.taken(self.request, memory, changes))
+            memory.store(cached_vertices.taken(self.request, memory, changes))
             return True
         if not memory.is_same or not changes.are_contents() or self.request.ending:
             return False
-        from llbm_tools.building.renewing import renew
+        from llbm_tools.building.renewed_results import renew
 
         self.end = f"{self.request.result} is up to date"
         return renew(self.request, memory, changes)
@@ -222,11 +222,11 @@ def main() -> int:
     work = Work(Request(parser().parse_args()))
     try:
         try:
-            children.handle_signals()
+            child_processes.handle_signals()
             return work.status()
         finally:
             work.clean()
-    except children.Interrupted as interrupted:
+    except child_processes.Interrupted as interrupted:
         work.clean()
         if work.request.is_output:
             discard_output()

@@ -7,7 +7,7 @@ from typing import BinaryIO
 from llbm_tools.building.result_texts import Line, Part, lines_in
 from llbm_tools.streams import Failed
 from llbm_tools.trees import links
-from llbm_tools.trees.references import Below, Copier, Table
+from llbm_tools.trees.content_tokens import Below, Copier, Table
 from llbm_tools.trees.trees import Entry, finish
 
 NEW_FILE = os.O_WRONLY | os.O_CLOEXEC | os.O_NOFOLLOW | os.O_CREAT | os.O_EXCL

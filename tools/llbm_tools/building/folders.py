@@ -10,7 +10,7 @@ import os
 import re
 import tempfile
 
-from llbm_tools.building import children
+from llbm_tools.building import child_processes
 from llbm_tools.common import say
 
 # The folder of the texts, in TMPDIR, and the one that becomes the result, beside it; and their names at first.
@@ -52,5 +52,5 @@ def remove_left(prefix: str, above: str) -> None:
         for name in sorted(os.listdir(above)):
             folder = os.path.join(above, name)
             if re.fullmatch(re.escape(prefix) + NAME, name) and is_left(folder):
-                children.remove(folder)
+                child_processes.remove(folder)
                 say(f"removed what a build left that was killed: {folder}")

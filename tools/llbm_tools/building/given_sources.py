@@ -5,15 +5,15 @@ import os
 from collections.abc import Callable
 
 from llbm_tools import inputs
+from llbm_tools.building.build_requests import Named
 from llbm_tools.building.kept_builds import state_at
-from llbm_tools.building.plans import Plan
-from llbm_tools.building.requests import Named
+from llbm_tools.building.sources_by_value import Plan
 from llbm_tools.common import MOST_BYTES, say
 from llbm_tools.rules.filters import Paths
 from llbm_tools.streams import Refused
+from llbm_tools.trees.content_tokens import Table
 from llbm_tools.trees.directory_texts import HasMark, Text, TooLong, Values
 from llbm_tools.trees.kept_sources import Recorder
-from llbm_tools.trees.references import Table
 from llbm_tools.trees.source_texts import Reading, Source
 
 STORED = "source-{}.tar"

@@ -3,8 +3,8 @@
 import time
 
 from llbm_tools.building import kept_builds
+from llbm_tools.building.build_requests import Named, Request
 from llbm_tools.building.kept_builds import Build, File, State, digest_of_file, state_at
-from llbm_tools.building.requests import Named, Request
 from llbm_tools.trees.kept_sources import Changed, Hidden, Kept, Structure, changes_of
 
 # Linux's clock of the times of files.

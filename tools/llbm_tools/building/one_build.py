@@ -5,18 +5,18 @@ import os
 import tempfile
 from typing import TYPE_CHECKING
 
-from llbm_tools.building import children, folders, plans, replacing
-from llbm_tools.building.children import held_back
-from llbm_tools.building.comparing import digests_of, kept_of, other_digests, recorders_of, resolved
+from llbm_tools.building import child_processes, folders, replaced_results, sources_by_value
+from llbm_tools.building.build_requests import NOTHING, Ended, Request
+from llbm_tools.building.child_processes import held_back
 from llbm_tools.building.exchange import exchange
 from llbm_tools.building.given_sources import Given, stored_at
 from llbm_tools.building.kept_builds import Build as LastBuild
 from llbm_tools.building.kept_builds import forget, state_at
 from llbm_tools.building.kept_changes import Memory
 from llbm_tools.building.program_runs import Program
-from llbm_tools.building.requests import NOTHING, Ended, Request
 from llbm_tools.building.result_texts import Checked, read_line
 from llbm_tools.building.result_writing import DirectoryWriter, write_archive
+from llbm_tools.building.source_readings import digests_of, kept_of, other_digests, recorders_of, resolved
 from llbm_tools.common import say
 from llbm_tools.images import packing
 from llbm_tools.inputs import shown
@@ -24,12 +24,12 @@ from llbm_tools.llb import source_names
 from llbm_tools.rules import notes
 from llbm_tools.streams import FAILED, REFUSED, program_at, program_to_ask, write_output
 from llbm_tools.trees import times
+from llbm_tools.trees.content_tokens import Copier, Table
 from llbm_tools.trees.kept_sources import bytes_of
-from llbm_tools.trees.references import Copier, Table
 from llbm_tools.trees.source_texts import Reading
 
 if TYPE_CHECKING:
-    from llbm_tools.building.following import Following
+    from llbm_tools.building.followed_links import Following
 
 ASKED = "--by-value asks for it"
 UNREADABLE = "the definition can't be read"
@@ -86,7 +86,7 @@ class Build:
                 one.close()
         for folder in (self.texts, self.directory):
             try:
-                children.remove(folder)
+                child_processes.remove(folder)
             except OSError as fault:
                 say(f"could not be removed: {folder}: {fault.strerror}")
 
@@ -102,10 +102,10 @@ class Build:
         heeded = FOLLOWED if self.options.links else ""
         for note in notes.lines_of(self.request.data, self.request.filtered(), heeded):
             say(note)
-        plan = plans.plan_of(self.request.data, llbm) if names and not self.options.by_value else None
+        plan = sources_by_value.plan_of(self.request.data, llbm) if names and not self.options.by_value else None
         cause = ASKED if self.options.by_value else plan.all if plan else UNREADABLE
         if cause == UNREADABLE and self.options.links:
-            from llbm_tools.building.following import check_unread
+            from llbm_tools.building.followed_links import check_unread
 
             check_unread(self.request.data)
         if not cause and plan:
@@ -152,7 +152,7 @@ class Build:
     def follow(self, texts: list[tuple[str, str]], place: str) -> None:
         """Stores the definition in which links are followed, in the place of the one that was given."""
         # Most builds have no links, nor what follows them.
-        from llbm_tools.building.following import Following, Texts
+        from llbm_tools.building.followed_links import Following, Texts
 
         assert self.given
         self.following = Following(self.request.data, Texts(texts, self.given.table, self.given.hard_links))
@@ -216,10 +216,10 @@ class Build:
                 self.directory = "" if place == self.directory else self.directory
             elif self.options.replace:
                 self.forget()
-                replacing.say_steps(exchange(place, result))
+                replaced_results.say_steps(exchange(place, result))
             else:
                 raise Ended(REFUSED, f"this exists already: {result}")
-            children.ignore_signals()
+            child_processes.ignore_signals()
         self.left = f"{result} is written"
         say(self.left)
 
@@ -240,7 +240,7 @@ class Build:
 
         with open(result, "rb") as new:
             old = io.BytesIO(bytes_of(last.text))
-            found = list(replacing.differences(map(read_line, old), map(read_line, new), same))
+            found = list(replaced_results.differences(map(read_line, old), map(read_line, new), same))
         if not found:
             self.left = f"{self.request.result} stays as it is"
             say(self.left)
@@ -249,12 +249,12 @@ class Build:
 
     def replace_part(self, text: bytes, found: list[tuple[bytes, bytes]]) -> bool:
         """Replaces the place that has all differences; returns False if that is most of the result."""
-        place = replacing.common_place(above for _, above in found)
-        part = replacing.Part(place, list(replacing.lines_at(text, place)), {path for path, _ in found})
+        place = replaced_results.common_place(above for _, above in found)
+        part = replaced_results.Part(place, list(replaced_results.lines_at(text, place)), {path for path, _ in found})
         if 2 * len(found) > len(part.lines) and not place:
             return False
         self.forget()
-        replacing.replace(part, self.request.result, self.directory, self.table(), self.options.mtime)
+        replaced_results.replace(part, self.request.result, self.directory, self.table(), self.options.mtime)
         self.left = f"{self.request.result} is written"
         return True
 

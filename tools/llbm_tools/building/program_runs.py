@@ -7,9 +7,9 @@ import subprocess
 from collections.abc import Callable, Iterable
 from typing import BinaryIO
 
-from llbm_tools.building import children, progress
-from llbm_tools.building.children import ended
-from llbm_tools.building.requests import Ended
+from llbm_tools.building import child_processes, progress
+from llbm_tools.building.build_requests import Ended
+from llbm_tools.building.child_processes import ended
 from llbm_tools.common import say, shortened
 from llbm_tools.sessions import shows
 from llbm_tools.streams import FAILED
@@ -36,16 +36,16 @@ class Program:
         command += ["--workers", workers] if workers else []
         return command + [f"{name}={text}" for name, text in self.sources]
 
-    def start(self, command: list[str], **streams: children.Stream) -> subprocess.Popen[bytes]:
+    def start(self, command: list[str], **streams: child_processes.Stream) -> subprocess.Popen[bytes]:
         """Starts the program, which is stopped by `end`."""
-        with children.held_back():
-            self.child = children.start(command, **streams)
+        with child_processes.held_back():
+            self.child = child_processes.start(command, **streams)
         return self.child
 
     def end(self) -> None:
         """Stops the program if it still runs."""
         if self.child:
-            children.end(self.child)
+            child_processes.end(self.child)
 
     def run(self, workers: str | None) -> str:
         """Runs the definition at once, and returns the path of the result's text."""

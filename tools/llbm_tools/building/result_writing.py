@@ -13,7 +13,7 @@ from llbm_tools.building.result_texts import Checked, Line, Part, lines_in
 from llbm_tools.images.archive_writing import BLOCK, blocks_of
 from llbm_tools.images.archive_writing import END as END_OF_ARCHIVE
 from llbm_tools.streams import FAILED, PIECE, REFUSED, Failed, Refused
-from llbm_tools.trees.references import Copier, Table, write_all
+from llbm_tools.trees.content_tokens import Copier, Table, write_all
 from llbm_tools.trees.tar_of_tree import header_of
 
 MOST_WORKERS = 8

@@ -1,7 +1,7 @@
 """Tries the bindings of the library in C, Python, Rust and Go: the tests in bindings/, as a user would run them.
 
-In: bindings/, examples/ and docs/EMBEDDING.md of the repository around this folder, and out/libllbm.a, as
-`tools/library` builds it, or ARCHIVE, such as out/libllbm-unproved.a. They are copied into a temporary folder, in which
+In: bindings/, examples/ and docs/EMBEDDING.md of the repository around this folder, and out/libllbm.a, as `llbm-tools
+library` builds it, or ARCHIVE, such as out/libllbm-unproved.a. They are copied into a temporary folder, in which
 everything is compiled and run. Tests of frontends also ask the tools of the repository and, if they are there, the
 program --llbm PROGRAM or that of the repository, and out/llbm-rules.
 
@@ -10,7 +10,8 @@ program --llbm PROGRAM or that of the repository, and out/llbm-rules.
 - `sanitizer`: the same, compiled with the address sanitizer and the sanitizer of undefined behavior.
 - `valgrind`: the same, under valgrind, which finds no fault and no leak.
 - `python`, `rust`, `go`: their tests, without a network. A shared object is linked for Python and Go. Go is that of
-  Debian's packages, if `tools/daemon` has unpacked them, and then the tests with BuildKit's client are run too.
+  Debian's packages, if `dev/dev daemon` has unpacked them, and then the tests with BuildKit's client are run too.
+- `go-get`: `go get` fetches the binding and llbmtest from a host of git in this process, and a program runs with it.
 
 Out: on standard output a line for each that passed or was skipped, since its compiler is not there, and the output of
 each that failed; the last line is `N passed, M failed, K skipped`.
@@ -30,6 +31,7 @@ from collections.abc import Callable
 from typing import NamedTuple
 
 from llbm_tools.command_line import Parser
+from llbm_tools.compiling import go_host
 from llbm_tools.compiling.library import ARCHIVE
 from llbm_tools.counts import Counts
 from llbm_tools.daemon import debian_packages, go_building
@@ -40,7 +42,7 @@ PATIENCE = 3000
 PAGE = "docs/EMBEDDING.md"
 HEADERS = ("bindings/llbm.h", "bindings/go/llbm.h")
 # Where Go looks for the module, and for the tests of a frontend.
-MODULE, FRONTEND = "llbm.example/llbm", "llbm.example/frontend"
+MODULE, FRONTEND = go_host.BINDING, "llbm.example/frontend"
 BLOCK = re.compile(r"^`(bindings/[^`]+)`:\n\n((?: {4}.*\n|\n)+)", re.MULTILINE)
 WARNINGS = ["-std=gnu11", "-Wall", "-Wextra", "-Werror", "-g", "-O1"]
 SANITIZED = ["-fsanitize=address,undefined", "-fno-sanitize-recover=all"]
@@ -138,12 +140,35 @@ def try_go(top: pathlib.Path) -> None:
         return
     sources = top / "go-path" / "src"
     # The tests look for the examples where they are in the repository, two folders above them.
-    shutil.copytree(top / "examples", sources / "examples")
+    shutil.copytree(top / "examples", sources / go_host.REPOSITORY / "examples")
     for name, place in ((MODULE, module), (FRONTEND, top / "examples" / "from-buildkit" / "frontend-test")):
         shutil.copytree(place, sources / name)
     go = go_building.with_packages(debian_packages.FOLDER, top / "go-path")
     given = {**go.environment, **settings(top), "CGO_ENABLED": "1"}
     call([go.command, "test", "-count=1", MODULE, f"{MODULE}/llbmtest", FRONTEND], sources / MODULE, **given)
+
+
+def try_go_get(top: pathlib.Path) -> None:
+    """Fetches the modules with `go get`, as a user does, and runs a program of that user."""
+    go, environment = "go", dict(os.environ)
+    if has_packages():
+        packages = go_building.with_packages(debian_packages.FOLDER)
+        go, environment = packages.command, packages.environment
+    environment |= {"GOPATH": str(top / "fetched"), "GO111MODULE": "on", "GOFLAGS": "-modcacherw", "CGO_ENABLED": "1"}
+    environment |= {"GOCACHE": environment.get("GOCACHE", str(top / "go-cache")), **settings(top)}
+    repository, user = top / "host", top / "user"
+    go_host.make_repository(top / "bindings", repository)
+    user.mkdir()
+    (user / "go.mod").write_text("module user.example/user\n\ngo 1.21\n", "utf-8")
+    (user / "main.go").write_text(go_host.PROGRAM, "utf-8")
+    with go_host.host(repository) as given:
+        environment |= given
+        call([go, "get", f"{go_host.BINDING}@{go_host.VERSION}"], user, **environment)
+        # What llbmtest asks for, BuildKit's client, is fetched by nobody here.
+        call([go, "mod", "download", f"{go_host.TESTING}@{go_host.VERSION}"], user, **environment)
+    said = call([go, "run", "."], user, **environment)
+    if said != go_host.PRINTED:
+        raise Wrong(f"the program prints another tree:\n{said.decode('utf-8', 'replace')}")
 
 
 class Trial(NamedTuple):
@@ -167,6 +192,7 @@ TRIALS = [
     Trial("python", ["cc"], try_python),
     Trial("rust", ["cc", "cargo", "rustc"], try_rust),
     Trial("go", ["cc", "go"], try_go),
+    Trial("go-get", ["cc", "git", "go"], try_go_get),
 ]
 
 
@@ -208,7 +234,7 @@ def try_all(archive: pathlib.Path, names: list[str]) -> int:
 
 def main() -> int:
     """Runs the tool, and returns its exit status."""
-    parser = Parser(prog="tools/bindings", description="Tries the bindings of the library.")
+    parser = Parser(description="Tries the bindings of the library.")
     parser.add_argument("archive", nargs="?", metavar="ARCHIVE", type=pathlib.Path, default=ARCHIVE)
     names = [trial.name for trial in TRIALS]
     parser.add_argument("--only", metavar="NAME", action="append", default=[], choices=names, help=", ".join(names))
@@ -219,7 +245,7 @@ def main() -> int:
 
     def work() -> int:
         if not options.archive.is_file():
-            raise Refused(f"there is no archive: {options.archive}; tools/library makes one, --unproved too")
+            raise Refused(f"there is no archive: {options.archive}; llbm-tools library makes one, --unproved too")
         return try_all(options.archive, options.only)
 
     return exit_status(work)

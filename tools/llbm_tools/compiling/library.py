@@ -3,7 +3,7 @@
 In: the crate llb_embed, crates.txt, and crates/*/out/rlib of the repository around this folder, or of --repository
 DIRECTORY; and the kit that `rt doc` names. `rt ci` proves the crate, but builds no static library: so it is proved
 once more here, which takes one to three minutes, and then built. What was proved is kept in the crate's out/, for the
-next build and for `tools/wasm`. With --unproved the sources of the repository around this folder are compiled without
+next build and for `dev/dev wasm`. With --unproved the sources of the repository around this folder are compiled without
 proof, which needs no `rt ci` and takes some minutes.
 
 Out: the archive out/libllbm.a of the repository, or -o FILE, and beside it the shared object with `.so` in the place of
@@ -116,7 +116,7 @@ def make(options: argparse.Namespace) -> int:
 
 def main() -> int:
     """Runs the tool, and returns its exit status."""
-    parser = Parser(prog="tools/library", description="Makes the static library and the shared object.")
+    parser = Parser(description="Makes the static library and the shared object.")
     where = "where the archive is written; FILE.so is beside it"
     parser.add_argument("-o", metavar="FILE", type=pathlib.Path, help=where)
     parser.add_argument("--repository", metavar="DIRECTORY", type=pathlib.Path, default=ROOT, help="where `rt ci` ran")

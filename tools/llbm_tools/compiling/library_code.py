@@ -109,7 +109,7 @@ def built_words(crates: Crates, kit: pathlib.Path, libraries: pathlib.Path) -> I
         library = libraries / "crates" / name / "out" / "rlib"
         if not (library / f"{name}.rlib").exists():
             line = f"the library {name} is not built: `rt ci` leaves it in crates/{name}/out"
-            raise Refused(f"{line}; `tools/wasm --unproved` makes the page without proof")
+            raise Refused(f"{line}; `dev/dev wasm --unproved` makes the page without proof")
         if name in crates.uses[CRATE]:
             yield from ["--extern", f"{name}={library}/{name}.rlib"]
         yield from ["-L", f"dependency={library}"]

@@ -1,4 +1,5 @@
-"""The IR of the library for C, compiled without any proof, of which `tools/library --unproved` and the page are made.
+"""The IR of the library for C, compiled without any proof, of which `llbm-tools library --unproved` and the page are
+made.
 
 `rt try` compiles a program without proof. So a copy of the library gets a `main` that calls each of its functions, and
 `rt try` of a copy of the kit's two scripts compiles it with a clang that keeps what it is given (`library_code`). The

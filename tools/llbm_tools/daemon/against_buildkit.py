@@ -4,10 +4,13 @@ In: a daemon at --address ADDRESS, and `buildctl` (--buildctl PROGRAM, else the 
 files of sources with their owners, so it runs as root, as the daemon does. With --start it builds the daemon and
 buildctl from Debian's packages in the cache folder, or --packages FOLDER, and runs the daemon, with a state of its
 own, until it ends. llbmd is --llbmd PROGRAM, or out/llbmd, with `llbm-rules` and `dockerfile-frontend` beside it, as
-`tools/daemon --clients` leaves them; it runs --llbm PROGRAM, or that of the repository. The definitions are those of
+`dev/dev daemon --clients` leaves them; it runs --llbm PROGRAM, or that of the repository. The definitions are those of
 examples/, the least examples of the rules, and --count N random ones of each kind (plain, wild, of many layers, with
 filters, with symbolic links and patterns); then there are Dockerfiles as projects have them and N random ones, without
-RUN. They depend only on --seed. Definitions that BuildKit's daemon dies of are left out.
+RUN. They depend only on --seed. Definitions that BuildKit's daemon dies of are left out. With --links there is also
+a fixed set of definitions with links, and a tree with links is exported in each form; with --dockerfiles, which needs
+--start, also the Dockerfiles of daemon/dockerfiles, with images from OCI layouts and with stand-ins for their RUNs,
+which the daemon that was started runs in containers; then a line has the medians of the times of their builds.
 
 Each is built by both daemons on the same trees, with the owner 0:0, as BuildKit's client sends them. A result is a tree
 without its root, or a failure.
@@ -38,56 +41,36 @@ import subprocess
 import sys
 import tempfile
 from collections.abc import Iterator
-from typing import NamedTuple
 
 from llbm_tools import common
 from llbm_tools.command_line import Parser
 from llbm_tools.counts import Counts
-from llbm_tools.daemon import debian_packages, project_dockerfiles, random_definitions, random_dockerfiles, runs
-from llbm_tools.daemon import started_daemon
 from llbm_tools.daemon import daemon as daemons
-from llbm_tools.daemon.runs import MOST_SECONDS, Daemon, DaemonBusy, DaemonLost, Ran
-from llbm_tools.definitions import adopting
+from llbm_tools.daemon import debian_packages, fixed_sets, project_dockerfiles, random_definitions, random_dockerfiles
+from llbm_tools.daemon import runs, started_daemon
+from llbm_tools.daemon.cases import Case, Lines, Verdict, lines_of
+from llbm_tools.daemon.runs import LINKED, MOST_SECONDS, Daemon, DaemonBusy, DaemonLost, Ran
+from llbm_tools.daemon.started_daemon import Started
+from llbm_tools.definitions import adopted_ops
 from llbm_tools.llb.findings import findings_of
 from llbm_tools.paths import ROOT
 from llbm_tools.rules import comparison as comparing
 from llbm_tools.rules import examples, notes, program
 from llbm_tools.streams import Refused, exit_status, program_at
-from llbm_tools.trees import maps
-from llbm_tools.trees.maps import Tree
+from llbm_tools.trees import tree_maps
+from llbm_tools.trees.tree_maps import Tree
 
-ALL_OPTIONS = adopting.Settings(frozenset(adopting.DROPPED), (), adopting.RunNothing.REFUSED)
+ALL_OPTIONS = adopted_ops.Settings(frozenset(adopted_ops.DROPPED), (), adopted_ops.RunNothing.REFUSED)
 NOT_MODELLED = {"Execution", notes.ATTRIBUTE, "SessionID"}
 FRONTEND = "dockerfile-frontend"
 # The kinds of notes that a warning can name: rules, and what has no rule, such as executions.
 NAMED = ("rule", "other")
 AT_ONCE = 4
-# What a refusal of llbmd has that names a link.
-LINKED = "which llbm does not follow"
 WELL = "Dockerfiles that end well on both"
 # One Dockerfile of so many has to end well on both; of the random ones about half do.
 ONE_OF = 3
 # What BuildKit's reasons name, which differs from one Dockerfile to the next.
 NAMED_THERE = re.compile(r'"[^"]*"|/\S*|\b[0-9a-z]{25}::[0-9a-z]{25}|\d+')
-
-Lines = list[bytes] | None
-
-
-class Case(NamedTuple):
-    """A definition with the trees of its sources, and a name by which it can be made again."""
-
-    name: str
-    data: bytes
-    sources: dict[str, Tree]
-    is_dockerfile: bool = False
-    is_modelled: bool = True
-
-
-class Verdict(NamedTuple):
-    """How a case ended: what is counted, and lines about what nothing announced."""
-
-    counts: list[str]
-    lines: list[str]
 
 
 def without_owners(tree: Tree) -> Tree:
@@ -95,21 +78,16 @@ def without_owners(tree: Tree) -> Tree:
     return {path: entry._replace(user=0, group=0) for path, entry in tree.items()}
 
 
-def lines_of(tree: Tree | None) -> Lines:
-    """Returns the lines of a result without its root; None for none."""
-    return None if tree is None else maps.lines_of(tree)[1:]
-
-
 def stored_cases(llbm: str) -> Iterator[Case]:
     """Yields the definitions of examples/, adopted where that is needed; a source without a tree there is empty."""
     places = [*ROOT.glob("examples/*.definition"), *ROOT.glob("examples/*.llb")]
     for place in sorted([*places, *ROOT.glob("examples/from-buildkit/*/definition")]):
-        adopted = adopting.adopt(place.read_bytes(), ALL_OPTIONS, llbm)
+        adopted = adopted_ops.adopt(place.read_bytes(), ALL_OPTIONS, llbm)
         trees = {one.stem: one for one in place.parent.glob("*.tree")}
         sources = {}
         for name, _ in adopted.sources:
             at = trees.get(name, trees.get(place.stem))
-            sources[name] = maps.tree_of(at.read_bytes().splitlines(keepends=True)) if at else maps.empty()
+            sources[name] = tree_maps.tree_of(at.read_bytes().splitlines(keepends=True)) if at else tree_maps.empty()
         yield Case(os.path.relpath(place, ROOT), adopted.data, sources)
 
 
@@ -141,8 +119,13 @@ def random_cases(count: int, seed: int, llbm: str) -> Iterator[Case]:
 
 def modelled(data: bytes, sources: dict[str, Tree]) -> Lines:
     """Returns what BuildKit makes of a definition without executions, by its rules in llbm-rules."""
-    _, tree = comparing.of_trees(data, {name: maps.lines_of(tree) for name, tree in sources.items()})
+    _, tree = comparing.of_trees(data, {name: tree_maps.lines_of(tree) for name, tree in sources.items()})
     return None if tree is None else tree[1:]
+
+
+def rules_that_warn() -> frozenset[str]:
+    """Returns the names that warnings of what ends otherwise have."""
+    return frozenset(one["name"] for one in program.answers("texts") if one["kind"] in NAMED)
 
 
 class Comparison:
@@ -151,7 +134,7 @@ class Comparison:
     def __init__(self, theirs: Daemon, ours: Daemon) -> None:
         self.theirs = theirs
         self.ours = ours
-        self.rules = {one["name"] for one in program.answers("texts") if one["kind"] in NAMED}
+        self.rules = rules_that_warn()
 
     def compare(self, case: Case) -> Verdict:
         """Builds a definition or a Dockerfile by both."""
@@ -188,7 +171,7 @@ class Comparison:
                 verdict.lines.append(f"{case.name}: ends otherwise than the model: {there.said or 'another tree'}")
         return verdict
 
-    def named(self, ran: Ran) -> set[str]:
+    def named(self, ran: Ran) -> frozenset[str]:
         """Returns the rules that warnings named."""
         return self.rules & ran.names
 
@@ -238,7 +221,7 @@ def keep(folder: str | None, case: Case) -> None:
     place.mkdir(parents=True, exist_ok=True)
     (place / ("Dockerfile" if case.is_dockerfile else "definition")).write_bytes(case.data)
     for name, tree in case.sources.items():
-        (place / f"{name}.tree").write_bytes(b"".join(maps.lines_of(tree)))
+        (place / f"{name}.tree").write_bytes(b"".join(tree_maps.lines_of(tree)))
 
 
 def verdicts(one: Comparison, options: argparse.Namespace) -> Iterator[tuple[Case, Verdict]]:
@@ -253,12 +236,24 @@ def verdicts(one: Comparison, options: argparse.Namespace) -> Iterator[tuple[Cas
             yield from zip(some, pool.map(one.compare, some))
 
 
-def compare_all(theirs: Daemon, ours: Daemon, options: argparse.Namespace) -> tuple[int, int]:
+def fixed(theirs: Started, ours: Daemon, options: argparse.Namespace) -> Iterator[tuple[Case, Verdict]]:
+    """Yields the cases of the fixed sets that are asked for; those with executions if the daemon is this program's."""
+    if options.links:
+        yield from fixed_sets.of_exporters(theirs.daemon, ours)
+        yield from fixed_sets.of_links(theirs.daemon, ours, options.start, rules_that_warn())
+    if options.dockerfiles:
+        files = fixed_sets.Dockerfiles(theirs, ours)
+        yield from files.verdicts()
+        print(files.line(), flush=True)
+
+
+def compare_all(theirs: Started, ours: Daemon, options: argparse.Namespace) -> tuple[int, int]:
     """Compares all cases, prints what was found, and returns how many had none, and how many had something."""
     counts: collections.Counter[str] = collections.Counter()
     cases, found = 0, 0
     try:
-        for case, verdict in verdicts(Comparison(theirs, ours), options):
+        some = verdicts(Comparison(theirs.daemon, ours), options)
+        for case, verdict in itertools.chain(fixed(theirs, ours, options), some):
             counts.update(verdict.counts)
             cases += not verdict.counts[0].startswith("left out")
             found += bool(verdict.lines)
@@ -279,7 +274,7 @@ def ours(options: argparse.Namespace, buildctl: str) -> Iterator[Daemon]:
     frontend = options.llbmd.with_name(FRONTEND)
     for place in (options.llbmd, frontend, options.llbmd.with_name(program.NAME)):
         if not place.is_file():
-            raise started_daemon.NoDaemon(f"there is no program {place}: `tools/daemon --clients` builds it")
+            raise started_daemon.NoDaemon(f"there is no program {place}: `dev/dev daemon --clients` builds it")
     with tempfile.TemporaryDirectory(prefix="l") as made:
         words = ["-frontend", f"{runs.FRONTEND}={frontend}"]
         folder = pathlib.Path(made)
@@ -293,13 +288,15 @@ def against(options: argparse.Namespace) -> int:
     if options.start:
         return against_started(options)
     buildctl = shutil.which(options.buildctl)
+    if options.dockerfiles:
+        raise Refused("--dockerfiles needs --start: RUNs have stand-ins only in a daemon of this program's own")
     theirs = Daemon(buildctl or "", options.address, started_daemon.NO_CACHE)
     if buildctl is None or not theirs.answers():
         cause = f"no daemon answers: {options.address}" if buildctl else f"there is no such program: {options.buildctl}"
         raise Refused(cause)
     try:
         with ours(options, buildctl) as daemon:
-            return int(compare_all(theirs, daemon, options)[1] > 0)
+            return int(compare_all(Started(theirs, pathlib.Path(os.devnull)), daemon, options)[1] > 0)
     except started_daemon.NoDaemon as fault:
         raise Refused(str(fault)) from fault
 
@@ -307,7 +304,7 @@ def against(options: argparse.Namespace) -> int:
 def against_started(options: argparse.Namespace) -> int:
     """Compares all cases with a daemon of this program's own, prints counts, and returns the status."""
     try:
-        with started_daemon.started(options.packages) as theirs, ours(options, theirs.command[0]) as daemon:
+        with started_daemon.started(options.packages) as theirs, ours(options, theirs.daemon.command[0]) as daemon:
             passed, failed = compare_all(theirs, daemon, options)
     except (started_daemon.NoDaemon, program.Missing) as fault:
         print(f"skipped: {fault}\n{Counts(skipped=1).line()}")
@@ -330,6 +327,8 @@ def parse_options() -> argparse.Namespace:
     add("--count", metavar="N", type=int, default=100, help="how many random ones of each kind")
     add("--seed", metavar="N", type=int, default=1, help="what the random ones depend on")
     add("--jobs", metavar="N", type=int, default=2, help="how many are built at once")
+    add("--links", action="store_true", help="also build the fixed set of definitions with links")
+    add("--dockerfiles", action="store_true", help="also build the Dockerfiles of daemon/dockerfiles; needs --start")
     add("--keep", metavar="FOLDER", help="where those with a finding are stored")
     return parser.parse_args()
 

@@ -12,8 +12,10 @@ import os
 import pathlib
 import platform
 import re
+import shlex
 import shutil
 import subprocess
+import sys
 import time
 from collections.abc import Iterator
 
@@ -28,6 +30,8 @@ STUBS = DAEMON / "buildkitd" / "testdata"
 SYSTEMD = pathlib.Path("src", "github.com", "coreos", "go-systemd", "v22")
 TAGS = ["-tags", "no_containerd_worker,osusergo,netgo,static_build,dfparents,dfexcludepatterns"]
 SETTINGS = "[worker.oci]\n  gc = false\n"
+APPLETS = f"{go_building.MODULE}/buildkitd/applets"
+RULES = "rules"
 PATIENCE = 3000
 PAUSE = 0.1
 
@@ -112,6 +116,20 @@ def build(packages: pathlib.Path, offline: bool = False) -> None:
     daemon.build_clients(go, OUT)
 
 
+def scripted_runc(packages: pathlib.Path, folder: pathlib.Path) -> pathlib.Path:
+    """Writes a program in the place of runc that runs scripts of llbm, by the rules in the file `rules` of a folder."""
+    applets = PROGRAM.with_name("applets")
+    go_building.with_packages(packages).build(APPLETS, applets)
+    known = {"PYTHONPATH": paths.TOOLS, "LLBM_RUNC": PROGRAM.with_name("runc"), "LLBM_APPLETS": applets}
+    known["LLBM_RULES"] = folder / RULES
+    place = folder / "scripted-runc"
+    lines = [f"export {name}={shlex.quote(str(value))}" for name, value in known.items()]
+    lines.append(f'exec {shlex.quote(sys.executable)} -m llbm_tools.daemon.scripted_runc "$@"')
+    place.write_text("\n".join(["#!/bin/sh", *lines, ""]), "utf-8")
+    place.chmod(0o755)
+    return place
+
+
 def answers(address: str) -> bool:
     """Returns whether a daemon answers."""
     words = [str(OUT / "buildctl"), "--addr", address, "debug", "workers"]
@@ -137,10 +155,11 @@ def end(child: subprocess.Popen[bytes]) -> None:
 
 
 @contextlib.contextmanager
-def running(folder: pathlib.Path) -> Iterator[tuple[str, int]]:
+def running(folder: pathlib.Path, runc: pathlib.Path | None = None) -> Iterator[tuple[str, int]]:
     """Runs the daemon with its state in a folder, and yields its address and its process; only root can do this.
 
-    The path of the folder has to be short: a socket is below it. In memory the daemon does not wait for a disk.
+    The path of the folder has to be short: a socket is below it. In memory the daemon does not wait for a disk. Another
+    program can be given in the place of runc.
     """
     if os.geteuid() != 0:
         raise Missing("only root can run buildkitd")
@@ -148,6 +167,7 @@ def running(folder: pathlib.Path) -> Iterator[tuple[str, int]]:
     settings.write_text(SETTINGS, "utf-8")
     address = f"unix://{folder}/socket"
     words = [str(PROGRAM), "--config", str(settings), "--root", str(folder / "state"), "--addr", address]
+    words += [f"--oci-worker-binary={runc}"] if runc else []
     known = {"HOME": str(folder), "TMPDIR": str(folder), "PATH": f"{PROGRAM.parent}:/usr/sbin:/usr/bin:/sbin:/bin"}
     with (
         open(folder / "printed", "wb") as printed,

@@ -37,7 +37,7 @@ def check_offline(packages: pathlib.Path) -> None:
     """Refuses a folder that lacks packages."""
     names = debian_packages.names_in(debian_packages.NAMES.read_text("utf-8"))
     if not debian_packages.are_there(packages, names):
-        raise debian_packages.Missing(f"the packages are not there: {packages}; tools/daemon fetches them")
+        raise debian_packages.Missing(f"the packages are not there: {packages}; dev/dev daemon fetches them")
 
 
 def go_of(packages: pathlib.Path, offline: bool) -> Go:
@@ -81,9 +81,7 @@ def make(options: argparse.Namespace) -> int:
 
 def main() -> int:
     """Runs the tool, and returns its exit status."""
-    parser = Parser(
-        prog="tools/daemon", description="Builds the daemon llbmd, which speaks BuildKit's API."
-    )
+    parser = Parser(description="Builds the daemon llbmd, which speaks BuildKit's API.")
     parser.add_argument("-o", metavar="FILE", type=pathlib.Path, default=PROGRAM, help="where the daemon is written")
     parser.add_argument(
         "--packages", metavar="FOLDER", type=pathlib.Path, default=debian_packages.FOLDER,

@@ -1,7 +1,7 @@
 """Runs BuildKit's own tests of its daemon against llbmd, and compares what each does with the lists of daemon/suite.
 
 In: the daemon out/llbmd, or --daemon PROGRAM, the program --llbm PROGRAM or that of the repository, the lists
-(`llbm_tools.daemon.suite_lists`), and Debian's packages in the cache folder, or --packages FOLDER, as `tools/daemon`
+(`llbm_tools.daemon.suite_lists`), and Debian's packages in the cache folder, or --packages FOLDER, as `dev/dev daemon`
 leaves them. Go's flag -overlay adds the files of daemon/suite/testdata to BuildKit's packages, of which no file is
 changed; the tests are built into out/daemon-suite. Each test runs in a process of its own, with a daemon of its own,
 for
@@ -203,7 +203,7 @@ def run_all(options: argparse.Namespace) -> tuple[list[Listed], list[str]]:
 def make(options: argparse.Namespace) -> int:
     """Builds what is needed, runs the tests, and returns the exit status."""
     if not options.daemon.is_file():
-        raise Refused(f"there is no daemon: {options.daemon}; tools/daemon builds it")
+        raise Refused(f"there is no daemon: {options.daemon}; dev/dev daemon builds it")
     options.llbm = program_at(options.llbm)
     try:
         go = daemon.go_of(options.packages, offline=True)
@@ -222,9 +222,7 @@ def make(options: argparse.Namespace) -> int:
 
 def parse(words: list[str] | None = None) -> argparse.Namespace:
     """Parses a command line; that of the process if none is given."""
-    parser = Parser(
-        prog="tools/daemon-suite", description="Runs BuildKit's own tests against llbmd."
-    )
+    parser = Parser(description="Runs BuildKit's own tests against llbmd.")
     parser.add_argument("--llbm", metavar="PROGRAM", help="the program llbm")
     parser.add_argument("--daemon", metavar="PROGRAM", type=pathlib.Path, default=daemon.PROGRAM, help="the daemon")
     parser.add_argument(

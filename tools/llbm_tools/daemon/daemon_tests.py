@@ -1,10 +1,10 @@
-"""Builds the daemon, and runs its tests: those in Go, and BuildKit's own as `tools/daemon-suite` does.
+"""Builds the daemon, and runs its tests: those in Go, and BuildKit's own as `dev/dev daemon suite` does.
 
 In: daemon/ of the repository around this folder, the program --llbm PROGRAM or that of the repository, and Debian's
 packages in the cache folder, or --packages FOLDER; they are fetched if they are not there and if --offline is not
 given. If they can't be had, all is skipped. The parts are:
 
-- `build`: `tools/daemon --clients` builds the daemon, `buildctl` and the frontend for Dockerfiles into out/;
+- `build`: `dev/dev daemon --clients` builds the daemon, `buildctl` and the frontend for Dockerfiles into out/;
 - `format` and `vet`: gofmt would change no file, and `go vet` finds nothing;
 - `go`: the tests in Go, of all packages of the daemon, with --order N in an order that follows from the seed N;
 - `fuzz`, only with --fuzz SECONDS: what hostile clients send as a source, for so long, at random as Go's fuzzing makes
@@ -149,9 +149,7 @@ def make(options: argparse.Namespace) -> int:
 
 def main() -> int:
     """Runs the tool, and returns its exit status."""
-    parser = Parser(
-        prog="tools/daemon-tests", description="Builds the daemon, and runs its tests."
-    )
+    parser = Parser(description="Builds the daemon, and runs its tests.")
     parser.add_argument("--llbm", metavar="PROGRAM", help="the program llbm")
     parser.add_argument(
         "--packages", metavar="FOLDER", type=pathlib.Path, default=debian_packages.FOLDER,

@@ -1,9 +1,12 @@
 """Dockerfiles as projects have them, without RUN, with their contexts: links in node_modules, files that are added,
-heredocs, owners by name, `--parents`, `--exclude` and a .dockerignore."""
+heredocs, owners by name, `--parents`, `--exclude`, a .dockerignore and archives."""
+
+import io
+import tarfile
 
 from llbm_tools.daemon.random_dockerfiles import Made
 from llbm_tools.daemon.runs import link_to
-from llbm_tools.trees.maps import ROOT, Entry, Tree
+from llbm_tools.trees.tree_maps import ROOT, Entry, Tree
 
 NODE = """\
 FROM scratch AS base
@@ -58,6 +61,20 @@ COPY --from=rootfs /bin/tool /var/run/app/tool
 COPY --from=rootfs /lib /libs
 COPY tool /lib/
 """
+# The second pattern of .dockerignore takes tool/main, which the third one, again, does not let the client open: it is
+# sent empty.
+IGNORED = """\
+FROM scratch
+COPY tool /tool
+COPY . /all
+"""
+# The first archive has entries without their directories, in one with the set-group bit and through a link, and a
+# directory where a file is; the second one a file where a directory is, and a path that leads above.
+ARCHIVES = """\
+FROM scratch
+COPY --chmod=2775 base /
+ADD --chown=7:8 first.tar second.tar /to/
+"""
 PYTHON = """\
 FROM scratch AS wheels
 ADD wheels /wheels
@@ -81,6 +98,18 @@ def context(entries: dict[str, str]) -> Tree:
     return tree
 
 
+def archive(entries: dict[str, str]) -> str:
+    """Returns a tar archive of files and directories: the path of a directory ends in `/`."""
+    made = io.BytesIO()
+    with tarfile.open(fileobj=made, mode="w", format=tarfile.GNU_FORMAT) as opened:
+        for path, content in entries.items():
+            one = tarfile.TarInfo(path)
+            one.mode, one.uid, one.size = 0o750, 3, len(content)
+            one.type = tarfile.DIRTYPE if path.endswith("/") else tarfile.REGTYPE
+            opened.addfile(one, io.BytesIO(content.encode()))
+    return made.getvalue().decode("ascii")
+
+
 PROJECTS = {
     "node": Made(NODE.encode(), context({
         "package.json": "{}", "node_modules/tool/cli.js": "cli", "node_modules/.bin/tool": "-> ../tool/cli.js",
@@ -101,6 +130,14 @@ PROJECTS = {
         "rootfs/usr/bin/sh": "sh", "rootfs/bin": "-> usr/bin", "rootfs/lib": "-> usr/lib", "rootfs/usr/lib/a.so": "a",
         "rootfs/usr/lib64": "-> lib", "rootfs/run/x": "x", "rootfs/var/run": "-> ../run",
         "rootfs/etc/mtab": "-> /proc/mounts", "tool": "tool", "lib.so": "lib",
+    })),
+    "ignored": Made(IGNORED.encode(), context({
+        "tool/main": "main", "tool/other": "other", "x": "x", "y": "-> x", ".dockerignore": "tool\n!tool/main\ntool\n",
+    })),
+    "archives": Made(ARCHIVES.encode(), context({
+        "base/to/shared/x": "x", "base/to/target/x": "x", "base/to/link": "-> /target", "base/to/file": "x",
+        "first.tar": archive({"shared/new/file": "new", "link/file": "file", "file/": ""}),
+        "second.tar": archive({"file": "file", "../above": "above"}),
     })),
     "python": Made(PYTHON.encode(), context({
         "wheels/a-1.whl": "a", "wheels/latest.whl": "-> a-1.whl", "wheels/notes.txt": "n", "app/__init__.py": "",

@@ -12,7 +12,7 @@ from typing import NamedTuple
 from llbm_tools.daemon.runs import link_to
 from llbm_tools.llb import messages
 from llbm_tools.llb.messages import Message, made
-from llbm_tools.trees.maps import Entry, Path, Tree
+from llbm_tools.trees.tree_maps import Entry, Path, Tree
 
 PLAIN, WILD, LAYERS, FILTERS, LINKS = "plain", "wild", "layers", "filters", "links"
 KINDS = (PLAIN, WILD, LAYERS, FILTERS, LINKS)

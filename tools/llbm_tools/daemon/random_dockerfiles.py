@@ -11,7 +11,7 @@ from typing import NamedTuple
 
 from llbm_tools.daemon.random_definitions import TARGETS
 from llbm_tools.daemon.runs import link_to
-from llbm_tools.trees.maps import Entry, Path, Tree
+from llbm_tools.trees.tree_maps import Entry, Path, Tree
 
 NAMES = ["a", "b", "c", "d"]
 PATTERNS = ["*", "?", "a*", "*b", "[a-c]", "[^a]", "*/*", "**", "[!a]", "\\a", "[", "\\\\a/*", "*[^/]b"]

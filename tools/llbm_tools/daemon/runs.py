@@ -12,8 +12,8 @@ import time
 from collections.abc import Callable
 from typing import NamedTuple
 
-from llbm_tools.trees import maps
-from llbm_tools.trees.maps import Entry, Tree
+from llbm_tools.trees import tree_maps
+from llbm_tools.trees.tree_maps import Entry, Tree
 
 MOST_SECONDS = 600
 TRIES = 5
@@ -25,8 +25,12 @@ LOST = ("connection refused", "error reading from server", "connection reset", "
 # A warning of what ends otherwise ends with names, and can have more paths.
 WARNED = re.compile(r"^#\d+ WARN: .*: ([A-Z]\w+(?:, [A-Z]\w+)*)(?:, and \d+ more)?$", re.M)
 FRONTEND = "dockerfile.v0"
+# What a refusal of llbmd has that names a link.
+LINKED = "which llbm does not follow"
 # In these trees a symbolic link is a file whose content begins so; then comes its target, in hexadecimal.
 LINK = b"link-"
+# Another name of a file is one whose content begins so; then come that file's path, and its content.
+HARD_LINK = b"name-"
 # Times in nanoseconds, none of them of a whole second: BuildKit's merges compare contents of such times.
 MOMENTS = itertools.count(time.time_ns() | 1, 2)
 
@@ -53,6 +57,11 @@ def link_to(target: str) -> Entry:
     return Entry(0o777, 0, 0, LINK + target.encode().hex().encode("ascii"))
 
 
+def hard_link_to(path: str, entry: Entry) -> Entry:
+    """Returns another name of a file, which comes before it in the order of paths, as these trees have it."""
+    return entry._replace(content=HARD_LINK + path.encode().hex().encode("ascii") + b"-" + (entry.content or b""))
+
+
 def write_tree(tree: Tree, place: bytes) -> None:
     """Writes a tree at a path where nothing is; it needs the right to change owners.
 
@@ -67,6 +76,8 @@ def write_tree(tree: Tree, place: bytes) -> None:
             os.mkdir(at, 0o700)
         elif content.startswith(LINK):
             os.symlink(bytes.fromhex(content.removeprefix(LINK).decode("ascii")), at)
+        elif content.startswith(HARD_LINK):
+            os.link(b"/".join((place, bytes.fromhex(content.split(b"-")[1].decode("ascii")))), at)
         else:
             pathlib.Path(os.fsdecode(at)).write_bytes(bytes.fromhex(content.decode("ascii")))
     for path in sorted(tree, reverse=True):
@@ -80,7 +91,7 @@ def write_tree(tree: Tree, place: bytes) -> None:
 
 def tree_in(archive: str) -> Tree:
     """Reads the tree of a tar that the daemon made, which has no root."""
-    tree = maps.empty()
+    tree = tree_maps.empty()
     with tarfile.open(archive, errors="surrogateescape") as opened:
         for one in opened:
             path = tuple(os.fsencode(part) for part in one.name.split("/") if part not in ("", "."))
@@ -128,15 +139,15 @@ class Daemon:
         """Runs a definition on the trees of its sources."""
         return self.again(sources, lambda places: (data, local_words(places)))
 
-    def run_dockerfile(self, dockerfile: bytes, context: Tree) -> Ran:
-        """Runs a Dockerfile on its context."""
-        file: Tree = {(): maps.ROOT, (b"Dockerfile",): Entry(0o644, 0, 0, dockerfile.hex().encode("ascii"))}
+    def run_dockerfile(self, dockerfile: bytes, context: Tree, *words: str) -> Ran:
+        """Runs a Dockerfile on its context, with further words of the client."""
+        file: Tree = {(): tree_maps.ROOT, (b"Dockerfile",): Entry(0o644, 0, 0, dockerfile.hex().encode("ascii"))}
 
         def words_of(places: dict[str, str]) -> tuple[bytes, list[str]]:
             # The frontend takes another name for the directory of the Dockerfile; that of the context has one name.
             name = f"dockerfile-{os.getpid()}-{next(self.numbers)}"
             named = {"context": places["context"], name: places["dockerfile"]}
-            return b"", ["--frontend", FRONTEND, "--opt", f"dockerfilekey={name}", *local_words(named)]
+            return b"", ["--frontend", FRONTEND, "--opt", f"dockerfilekey={name}", *words, *local_words(named)]
 
         return self.again({"context": context, "dockerfile": file}, words_of)
 
@@ -155,13 +166,25 @@ class Daemon:
                 write_tree(trees[name], os.fsencode(place))
             return self.built(*given(places), os.path.join(folder, "result.tar"))
 
-    def built(self, data: bytes, words: list[str], archive: str) -> Ran:
-        """Builds a definition, or what the words say."""
-        output = f"type=tar,dest={archive}"
-        done = subprocess.run(
+    def exported(self, data: bytes, sources: dict[str, Tree], kind: str, place: str) -> str | None:
+        """Exports a definition's result to a place, and returns the error of the build, or None."""
+        with tempfile.TemporaryDirectory(prefix="llbm-against-") as folder:
+            places = {name: os.path.join(folder, f"source{number}") for number, name in enumerate(sources)}
+            for name, at in places.items():
+                write_tree(sources[name], os.fsencode(at))
+            done = self.called(data, local_words(places), f"type={kind},dest={place}")
+        return said_in(done.stderr.decode("utf-8", "replace")) if done.returncode else None
+
+    def called(self, data: bytes, words: list[str], output: str) -> subprocess.CompletedProcess[bytes]:
+        """Calls buildctl."""
+        return subprocess.run(
             [*self.command, "build", "--progress=plain", *self.words, *words, "--output", output],
             input=data, capture_output=True, timeout=MOST_SECONDS,
         )  # fmt: skip
+
+    def built(self, data: bytes, words: list[str], archive: str) -> Ran:
+        """Builds a definition, or what the words say."""
+        done = self.called(data, words, f"type=tar,dest={archive}")
         text = done.stderr.decode("utf-8", "replace")
         if done.returncode == 0:
             return Ran(tree_in(archive), "", names_in(text))

@@ -8,6 +8,7 @@ import shutil
 import subprocess
 import tempfile
 from collections.abc import Iterator
+from typing import NamedTuple
 
 from llbm_tools.daemon import buildkitd, debian_packages
 from llbm_tools.daemon import daemon as daemons
@@ -55,8 +56,15 @@ def build(packages: pathlib.Path) -> None:
         raise NoDaemon(f"buildkitd is not built: {''.join(last)}") from fault
 
 
+class Started(NamedTuple):
+    """A daemon that builds; its executions are scripts of llbm, or have stand-ins by the rules in a file."""
+
+    daemon: Daemon
+    rules: pathlib.Path
+
+
 @contextlib.contextmanager
-def started(packages: pathlib.Path) -> Iterator[Daemon]:
+def started(packages: pathlib.Path) -> Iterator[Started]:
     """Yields a daemon that builds, or raises NoDaemon."""
     if os.geteuid() != 0:
         raise NoDaemon("only root can run buildkitd")
@@ -65,12 +73,13 @@ def started(packages: pathlib.Path) -> Iterator[Daemon]:
         made = tempfile.TemporaryDirectory(prefix="b", dir=place(), ignore_cleanup_errors=True)
         folder = pathlib.Path(stack.enter_context(made))
         try:
-            address, _ = stack.enter_context(buildkitd.running(folder))
+            runc = buildkitd.scripted_runc(packages, folder)
+            address, _ = stack.enter_context(buildkitd.running(folder, runc))
         except (debian_packages.Missing, NotBuilt, OSError) as fault:
             raise NoDaemon(f"buildkitd does not start here: {fault}") from fault
         daemon = Daemon(str(OUT / "buildctl"), address, NO_CACHE)
         check(daemon)
-        yield daemon
+        yield Started(daemon, folder / buildkitd.RULES)
 
 
 @contextlib.contextmanager

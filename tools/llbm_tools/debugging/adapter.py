@@ -5,17 +5,19 @@ waiting, so that the run can be paused between any two events.
 """
 
 import functools
+import secrets
 from collections.abc import Callable
 
-from llbm_tools.debugging import completing, console, launching
+from llbm_tools import commands
+from llbm_tools.debugging import completion, console, launching
+from llbm_tools.debugging.adapter_state import Held
 from llbm_tools.debugging.arguments import Object, argument
 from llbm_tools.debugging.capabilities import CAPABILITIES, FAILED
-from llbm_tools.debugging.holding import Held
-from llbm_tools.debugging.inspecting import Inspecting
-from llbm_tools.debugging.moving import Ended, Motion, Mover, Stop
-from llbm_tools.debugging.views import Views
-from llbm_tools.debugging.watching import Watching
-from llbm_tools.debugging.wire import Writer
+from llbm_tools.debugging.data_breakpoints import Watching
+from llbm_tools.debugging.inspection_requests import Inspecting
+from llbm_tools.debugging.protocol_messages import Writer
+from llbm_tools.debugging.run_control import Ended, Motion, Mover, Stop
+from llbm_tools.debugging.variables import Views
 from llbm_tools.sessions.session import Event, Refusal, SessionFailed
 from llbm_tools.streams import Refused
 
@@ -32,10 +34,11 @@ READY = (LAUNCHED, STOPPED, RUNNING)
 
 
 class Adapter(Inspecting, Watching):
-    """A debug adapter, from its first request to its last."""
+    """A debug adapter, from its first request to its last; with a token a launch has to have it."""
 
-    def __init__(self, writer: Writer) -> None:
+    def __init__(self, writer: Writer, token: str | None = None) -> None:
         super().__init__(writer)
+        self.token = token
         self.state = NEW
         self.then: list[Callable[[], None]] = []
         self.stops_on_entry = self.stops_at_end = False
@@ -210,8 +213,25 @@ class Adapter(Inspecting, Watching):
         self.held = Held(launched, mover, Views(launched))
         self.then = [functools.partial(self.output, line) for line in launching.unknown_arguments(arguments)]
 
+    def is_trusted(self) -> bool:
+        """Returns whether the client needs no token, or has shown it."""
+        return self.token is None or self.state not in (NEW, OPEN)
+
+    def check_token(self, arguments: Object) -> None:
+        """Refuses a launch that does not have the token, if there is one."""
+        given = argument(arguments, "token", str, "")
+        if self.token is not None and not secrets.compare_digest(given.encode("utf-8", "replace"), self.token.encode()):
+            raise Refused("token is not the one that the adapter has printed")
+
+    def attach(self, arguments: Object) -> None:
+        """Starts the program for a client that has connected to a port."""
+        if self.token is None:
+            raise Refused(f"attach needs an adapter at a port: {commands.shown('debug adapter')} --listen PORT")
+        self.launch(arguments)
+
     def launch(self, arguments: Object) -> None:
         """Starts the program."""
+        self.check_token(arguments)
         self.start(arguments)
         self.state = LAUNCHED
         self.then.append(lambda: self.event("initialized"))
@@ -307,7 +327,7 @@ class Adapter(Inspecting, Watching):
     def completions(self, arguments: Object) -> Object:
         """Returns what can follow what was typed at the console."""
         text, column = argument(arguments, "text", str), argument(arguments, "column", int)
-        return {"targets": completing.targets_of(self.views, text[: max(0, column - self.column(1))])}
+        return {"targets": completion.targets_of(self.views, text[: max(0, column - self.column(1))])}
 
     def do(self, command: str) -> Object:
         """Does a command that adds an event, and stops the run after it."""
@@ -327,6 +347,7 @@ Handler = Callable[[Adapter, Object], Object | None]
 REQUESTS: dict[str, tuple[Handler, tuple[str, ...]]] = {
     "initialize": (Adapter.initialize, (NEW,)),
     "launch": (Adapter.launch, (OPEN,)),
+    "attach": (Adapter.attach, (OPEN,)),
     "configurationDone": (Adapter.configuration_done, (LAUNCHED,)),
     "restart": (Adapter.restart, (STOPPED, RUNNING)),
     "terminate": (Adapter.terminate, READY),

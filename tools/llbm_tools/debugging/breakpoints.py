@@ -9,9 +9,9 @@ import re
 from collections.abc import Callable
 from typing import NamedTuple
 
-from llbm_tools.debugging import conditions, positions
+from llbm_tools.debugging import conditions, step_lines
 from llbm_tools.debugging.arguments import argument, of_kind
-from llbm_tools.debugging.places import Graph
+from llbm_tools.debugging.vertex_lines import Graph
 from llbm_tools.llb import definition
 from llbm_tools.sessions.session import Event
 
@@ -115,7 +115,7 @@ def made(wanted: Wanted, vertices: list[int], step: int = 0) -> Breakpoint:
 def step_at(graph: Graph, vertex: int, line: int, column: int) -> int:
     """Returns the micro-step of a vertex on a line, and in a column if that is not 0; 0 if it has none there."""
     known = graph.vertices[vertex]
-    for step, span in enumerate(positions.spans_of(graph, known)):
+    for step, span in enumerate(step_lines.spans_of(graph, known)):
         is_in = not column or not span.end_column or span.column <= column < span.end_column
         if (span.first, span.last) != (known.first, known.last) and span.first <= line <= span.last and is_in:
             return step

@@ -3,7 +3,7 @@
 from typing import NamedTuple
 
 from llbm_tools.common import printable
-from llbm_tools.debugging import trees
+from llbm_tools.debugging import shown_trees
 
 ADDED, REMOVED, CHANGED = "added", "removed", "changed"
 
@@ -12,8 +12,8 @@ class Change(NamedTuple):
     """A path at which two trees differ: its entry in each, without its names, or None where there is none."""
 
     path: str
-    before: trees.Node | None
-    after: trees.Node | None
+    before: shown_trees.Node | None
+    after: shown_trees.Node | None
 
     @property
     def kind(self) -> str:
@@ -45,17 +45,17 @@ class Compared(NamedTuple):
         return self.left or ", ".join(f"{count:,} {kind}" for kind, count in self.counts.items() if count) or "nothing"
 
 
-def entry_text(node: trees.Node | None) -> str:
+def entry_text(node: shown_trees.Node | None) -> str:
     """Describes an entry in one line; empty if there is none."""
     if node is None:
         return ""
     kind = "directory" if node.is_directory() else "file"
-    what, content = ("", "") if node.is_directory() else trees.shown(node)
+    what, content = ("", "") if node.is_directory() else shown_trees.shown(node)
     text = f"{kind} {node.mode} {node.owner}" + (f", {what}" if what else "")
     return f"{text}: {printable(content)}" if content else text
 
 
-def differences(before: trees.Node, after: trees.Node) -> list[str]:
+def differences(before: shown_trees.Node, after: shown_trees.Node) -> list[str]:
     """Describes each way in which two entries at one path differ."""
     if before.is_directory() != after.is_directory():
         return [f"{entry_text(before)} -> {entry_text(after)}"]
@@ -69,9 +69,9 @@ def differences(before: trees.Node, after: trees.Node) -> list[str]:
     return found
 
 
-def content_text(node: trees.Node) -> str:
+def content_text(node: shown_trees.Node) -> str:
     """Describes a content in one line."""
-    what, content = trees.shown(node)
+    what, content = shown_trees.shown(node)
     return f"{what}: {printable(content)}" if content else what
 
 
@@ -92,6 +92,6 @@ def compared(name: str, before: dict[str, bytes], after: dict[str, bytes], most:
     return Compared(name, kept, counts)
 
 
-def node_in(flat: dict[str, bytes], path: str) -> trees.Node | None:
+def node_in(flat: dict[str, bytes], path: str) -> shown_trees.Node | None:
     """Returns the entry at a path, without its names, or None."""
-    return trees.node_of(flat[path]) if path in flat else None
+    return shown_trees.node_of(flat[path]) if path in flat else None

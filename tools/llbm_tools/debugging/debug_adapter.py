@@ -19,6 +19,10 @@ changed. Each line of the record is an output event. A request that can't be gra
 cause in one line. When the run is over, or the client leaves, `exited` (with 1 if a vertex failed, else 0) and
 `terminated` are sent.
 
+With `--listen PORT` (0: one that is free) the adapter listens at 127.0.0.1, and prints that address and a token: that
+of LLBM_DEBUG_TOKEN, or a new one. Each connection, at most 16 at once, is a session like that of standard input; its
+`launch`, or `attach`, which is the same there, has to have the `token`. It listens until it is interrupted.
+
 Exit status: 0 the client has left, by `disconnect` or at the end of the input; 2 the input is not a message, or the
 command line is refused: standard error says why; 3 a read or a write failed; 130 or 143 interrupted or terminated.
 """
@@ -30,14 +34,28 @@ import sys
 
 from llbm_tools import common, os_errors
 from llbm_tools.command_line import Parser
+from llbm_tools.debugging import listening
 from llbm_tools.debugging.adapter import RUNNING, Adapter
-from llbm_tools.debugging.wire import Malformed, Reader, Writer
+from llbm_tools.debugging.protocol_messages import MOST_CONTENT, Malformed, Reader, Writer
+from llbm_tools.streams import Refused
+
+# The bytes of a message of a client that has not shown the token.
+MOST_UNTRUSTED = 1_048_576
 
 
 def parse_options() -> argparse.Namespace:
     """Parses the command line."""
-    parser = Parser(description="A debug adapter over llbm step, on standard input and output.")
+    parser = Parser(description="A debug adapter over llbm step, on standard input and output, or at a port.")
+    parser.add_argument("--listen", type=port, metavar="PORT", help="listen at 127.0.0.1, port PORT (0: a free one)")
     return parser.parse_args()
+
+
+def port(word: str) -> int:
+    """Returns the number of a port."""
+    number = int(word)
+    if not 0 <= number <= listening.MOST_PORT:
+        raise ValueError(word)
+    return number
 
 
 def handle(adapter: Adapter, content: bytes) -> None:
@@ -53,6 +71,7 @@ def handle(adapter: Adapter, content: bytes) -> None:
 def serve(adapter: Adapter, reader: Reader) -> None:
     """Handles requests until the client leaves; between them a run continues."""
     while not adapter.left:
+        reader.most = MOST_CONTENT if adapter.is_trusted() else MOST_UNTRUSTED
         if adapter.state == RUNNING and not reader.waits():
             adapter.turn()
             continue
@@ -67,19 +86,34 @@ def terminated(number: int, _frame: object) -> None:
     sys.exit(128 + number)
 
 
+def session(given: int, taken: int, token: str | None) -> None:
+    """Serves a client, whose requests come from one descriptor and whose responses go to another."""
+    adapter = Adapter(Writer(taken), token)
+    try:
+        serve(adapter, Reader(given))
+    finally:
+        adapter.dismiss()
+
+
+def listen(number: int) -> None:
+    """Serves the clients that connect to a port, each in a process of its own."""
+    token = listening.token_of()
+    with listening.connection_at(number, token) as connection:
+        session(connection.fileno(), connection.fileno(), token)
+
+
 def main() -> int:
     """Runs the tool, and returns its exit status."""
-    parse_options()
+    options = parse_options()
     signal.signal(signal.SIGTERM, terminated)
     try:
+        if options.listen is not None:
+            listen(options.listen)
+            return 0
         common.check_open(sys.stdin, "standard input")
         common.check_open(sys.stdout, "standard output")
-        adapter = Adapter(Writer(sys.stdout.fileno()))
-        try:
-            serve(adapter, Reader(sys.stdin.fileno()))
-        finally:
-            adapter.dismiss()
-    except Malformed as fault:
+        session(sys.stdin.fileno(), sys.stdout.fileno(), None)
+    except (Malformed, Refused) as fault:
         common.say(str(fault))
         return 2
     except OSError as fault:

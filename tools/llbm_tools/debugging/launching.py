@@ -16,11 +16,12 @@ from collections.abc import Callable
 from concurrent.futures import ThreadPoolExecutor
 from typing import BinaryIO, NamedTuple
 
-from llbm_tools.common import program_named, shortened, tool_named
-from llbm_tools.debugging import places
+from llbm_tools import commands
+from llbm_tools.common import program_named, shortened
+from llbm_tools.debugging import vertex_lines
 from llbm_tools.debugging.arguments import Object, argument, of_kind
-from llbm_tools.debugging.origins import Origins, origins_of
-from llbm_tools.debugging.readable import readable
+from llbm_tools.debugging.original_files import Origins, origins_of
+from llbm_tools.debugging.raw_entries import readable
 from llbm_tools.definitions import faults
 from llbm_tools.inputs import data_at, is_standard_input, opened_file
 from llbm_tools.llb import definition, given_definitions, names, no_definition, source_names
@@ -35,6 +36,7 @@ from llbm_tools.trees.trees import checked_at
 
 ARGUMENTS = (
     "build", "definition", "text", "sources", "files", "workers", "stopOnEntry", "stopAtEnd", "noDebug", "llbm",
+    "token",
 )
 EDITOR_ARGUMENTS = (
     "type", "request", "name", "presentation", "preLaunchTask", "postDebugTask", "internalConsoleOptions",
@@ -58,7 +60,7 @@ class Launched(NamedTuple):
     """
 
     session: Session
-    graph: places.Graph
+    graph: vertex_lines.Graph
     entries: faults.Entries
     name: str
     file: str | None
@@ -87,7 +89,7 @@ def cause_of(words: list[str], otherwise: str, entries: faults.Entries | None = 
     if not words:
         return otherwise
     meaning = explained(words[0], entries)
-    adopt = f" {tool_named('adopt')} rewrites what can be." if ADOPTED.match(words[0]) else ""
+    adopt = f" {commands.shown('adopt')} rewrites what can be." if ADOPTED.match(words[0]) else ""
     return f"{words[0]}: {shortened(' '.join(meaning), MOST_OF_A_CAUSE)}{adopt}" if meaning else words[0]
 
 
@@ -140,10 +142,10 @@ def definition_of(program: str, arguments: Object) -> tuple[bytes, bytes | None]
     return data, text
 
 
-def text_of(printed: bytes, is_given: bool, entries: list[bytes]) -> places.Text:
+def text_of(printed: bytes, is_given: bool, entries: list[bytes]) -> vertex_lines.Text:
     """Returns the text of the entries with their lines: the one that is given, or that of the program, readable."""
     text = printed.decode("utf-8")
-    return places.Text(text, places.lines_of(text)) if is_given else readable(text, entries)
+    return vertex_lines.Text(text, vertex_lines.lines_of(text)) if is_given else readable(text, entries)
 
 
 def sources_of(arguments: Object) -> dict[str, str]:
@@ -262,7 +264,7 @@ def start(arguments: Object, folder: str, say: Say, program_argument: str) -> La
         session, show, digests, words = begun(arguments, program, data, named_entries, folder, say)
         try:
             lines = text_of(written.result() if written else text or b"", text is not None, entries)
-            graph = places.graph_of(show, digests, lines, entries, [one.text for one in names.names_of(data)])
+            graph = vertex_lines.graph_of(show, digests, lines, entries, [one.text for one in names.names_of(data)])
             origins = origins_of(data, given, os.path.dirname(os.path.abspath(path or place)))
             named = (word.split("=", 1) for word in words)
             trees = {source: session.kept.enter_context(open(tree, "rb")) for source, tree in named}

@@ -1,20 +1,21 @@
 """The commands of a debugger at a prompt: they move a run forwards and backwards, and show what it sees."""
 
 import cmd
+import contextlib
 import re
 import sys
 from collections.abc import Iterable
 
 from llbm_tools.common import printable
-from llbm_tools.debugging import console, described, launching, path_breaks, trying
-from llbm_tools.debugging.happened import Watch, step_text
+from llbm_tools.debugging import completion, console, event_lines, launching, path_breakpoints, tried_commands
+from llbm_tools.debugging.last_event import Watch, step_text
 from llbm_tools.debugging.launching import Launched
-from llbm_tools.debugging.moving import Ended, Motion, Mover, Stop
-from llbm_tools.debugging.positions import spans_of, step_shown
-from llbm_tools.debugging.prompt_breaks import PromptBreaks
+from llbm_tools.debugging.prompt_breakpoints import PromptBreaks
+from llbm_tools.debugging.run_control import Ended, Motion, Mover, Stop
+from llbm_tools.debugging.shown_trees import NoPath, node_at
+from llbm_tools.debugging.step_lines import spans_of, step_shown
 from llbm_tools.debugging.tree_lines import tree_lines
-from llbm_tools.debugging.trees import NoPath, node_at
-from llbm_tools.debugging.views import LOOK, OUTPUT, Views
+from llbm_tools.debugging.variables import LOOK, OUTPUT, Views
 from llbm_tools.sessions.session import Event, Refusal
 from llbm_tools.streams import Refused
 
@@ -268,9 +269,9 @@ class Terminal(cmd.Cmd):
         if happened is None:
             self.say("the run is at its beginning")
             return
-        lines = list(described.changed_lines(happened, self.paths))
+        lines = list(event_lines.changed_lines(happened, self.paths))
         self.say(happened.text, *(f"  {line}" for line in lines or ["no path changed"]))
-        self.say(*(f"  {line}" for line in described.otherwise_lines(happened)))
+        self.say(*(f"  {line}" for line in event_lines.otherwise_lines(happened)))
 
     def do_why(self, line: str) -> None:
         """Prints why a vertex failed."""
@@ -286,11 +287,11 @@ class Terminal(cmd.Cmd):
         """Prints the events that changed a path."""
         if not line:
             raise Refused("who PATH: the path is missing")
-        found = path_breaks.all_changes(self.watch, line)
+        found = path_breakpoints.all_changes(self.watch, line)
         for one in found:
             text = step_text(self.launched.graph.vertices[one.event.vertex], one.event.reply)
             self.say(f"{one.number} {one.event.kind} {one.event.worker}: vertex {one.event.vertex} {text}")
-            self.say(f"  {one.tree}: {described.change_line(one.change)}")
+            self.say(f"  {one.tree}: {event_lines.change_line(one.change)}")
         if not found:
             self.say(f"no step so far changed what is at {line}")
 
@@ -330,8 +331,8 @@ class Terminal(cmd.Cmd):
             raise Refused("the run is at its beginning: no tree is there yet")
         last = record[-1]
         vertex = runs[last.worker].vertex if runs[last.worker] else last.vertex
-        stage = trying.stage_of(self.launched, last.worker, vertex)
-        self.some(trying.tried_lines(self.launched, self.program, stage, line, self.paths))
+        stage = tried_commands.stage_of(self.launched, last.worker, vertex)
+        self.some(tried_commands.tried_lines(self.launched, self.program, stage, line, self.paths))
 
     # ---- the prompt
 
@@ -384,3 +385,19 @@ class Terminal(cmd.Cmd):
         return [word for word in self.breaks.names() if word.startswith(text)]
 
     complete_why = complete_list
+
+    def complete_tree(self, text: str, line: str, _: int, end: int) -> list[str]:
+        """Returns the last word of an expression with each name that its path can go on with."""
+        rest = line[:end].partition(" ")[2]
+        start, names = completion.paths_of(self.views, rest) or (0, [])
+        return [rest[len(rest) - len(text) : start] + name for name in names]
+
+    complete_print = complete_tree
+
+    def preloop(self) -> None:
+        """Has words completed that are separated by spaces alone, as paths are."""
+        if self.use_rawinput:
+            with contextlib.suppress(ImportError):
+                import readline
+
+                readline.set_completer_delims(" ")

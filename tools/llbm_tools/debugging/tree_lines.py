@@ -3,7 +3,7 @@
 from collections.abc import Iterator
 
 from llbm_tools.common import printable, shortened
-from llbm_tools.debugging.trees import Node, summary_of
+from llbm_tools.debugging.shown_trees import Node, summary_of
 
 MOST_OF_AN_ENTRY = 160
 

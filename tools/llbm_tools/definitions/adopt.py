@@ -12,8 +12,8 @@ a shell; `*` in PATTERN is any characters of the words and `?` is one, and a rul
 Rules take precedence over --run-nothing. --like-buildkit rewrites file ops and merges so that BuildKit and llbm agree
 on them, as far as that does not depend on trees (docs/BUILDKIT.md); for trees of local sources, NAME=PATH with a
 directory, a tar (both with owner 0:0) or a tree text, also what depends on these. The program llbm-rules does so
-(tools/daemon builds it); where it is not there, a line says that nothing is rewritten for BuildKit. --all means all of
-these options except --run-nothing=all, --rules and --like-buildkit.
+(dev/dev daemon builds it); where it is not there, a line says that nothing is rewritten for BuildKit. --all means all
+of these options except --run-nothing=all, --rules and --like-buildkit.
 
 Out: the definition, on standard output, or in FILE with -o FILE. Digests change, and with them the inputs that name
 them and the keys of the metadata and of the locations in `Source`; all other bytes and the order of the entries stay
@@ -35,18 +35,18 @@ from collections.abc import Iterator
 
 from llbm_tools import common, inputs
 from llbm_tools.command_line import Parser
-from llbm_tools.definitions import adopting, adoption_rules
+from llbm_tools.definitions import adopted_ops, adoption_rules
 from llbm_tools.llb import no_definition
 from llbm_tools.llb.findings import Finding
 from llbm_tools.llb.wire import Unreadable
 from llbm_tools.streams import Refused, exit_status, program_to_ask
 from llbm_tools.trees.source_files import source_of
 
-OPTIONS = {kind: f"--without-{kind}" for kind in adopting.DROPPED} | {adopting.RUN_NOTHING: "--run-nothing"}
-MENDS = {adopting.RUN_NOTHING: "or --rules replaces the words"}
+OPTIONS = {kind: f"--without-{kind}" for kind in adopted_ops.DROPPED} | {adopted_ops.RUN_NOTHING: "--run-nothing"}
+MENDS = {adopted_ops.RUN_NOTHING: "or --rules replaces the words"}
 
 
-def settings_from(options: argparse.Namespace, llbm: str) -> adopting.Settings:
+def settings_from(options: argparse.Namespace, llbm: str) -> adopted_ops.Settings:
     """Returns the changes that the command line asks for."""
     rules: list[adoption_rules.Rule] = []
     if options.rules is not None:
@@ -57,14 +57,14 @@ def settings_from(options: argparse.Namespace, llbm: str) -> adopting.Settings:
             rules = adoption_rules.rules_in(data, llbm)
         except Refused as fault:
             raise Refused(f"{fault}: {inputs.shown(options.rules)}") from fault
-    dropped = [kind for kind in adopting.DROPPED if options.all or getattr(options, f"without_{kind}")]
-    run_nothing = adopting.RunNothing.REFUSED if options.all or options.run_nothing else adopting.RunNothing.NONE
+    dropped = [kind for kind in adopted_ops.DROPPED if options.all or getattr(options, f"without_{kind}")]
+    run_nothing = adopted_ops.RunNothing.REFUSED if options.all or options.run_nothing else adopted_ops.RunNothing.NONE
     if options.run_all:
-        run_nothing = adopting.RunNothing.ALL
+        run_nothing = adopted_ops.RunNothing.ALL
     trees = tuple(dict(options.source).items())
     if trees and not options.like_buildkit:
         raise Refused("trees of local sources are for --like-buildkit")
-    return adopting.Settings(frozenset(dropped), tuple(rules), run_nothing, options.like_buildkit, trees)
+    return adopted_ops.Settings(frozenset(dropped), tuple(rules), run_nothing, options.like_buildkit, trees)
 
 
 def shown(finding: Finding) -> str:
@@ -76,17 +76,17 @@ def left_text(finding: Finding) -> str:
     """Describes what cannot be adopted, with the option that mends it."""
     if not finding.name():
         return f"not adopted: {shown(finding)}"
-    kind = adopting.KIND_OF_FINDING.get(finding.name())
+    kind = adopted_ops.KIND_OF_FINDING.get(finding.name())
     hint = f"; {OPTIONS[kind]} {MENDS.get(kind, 'drops it')}" if kind else ""
     return f"entry {finding.row}: not adopted: {finding.rest}{hint}"
 
 
-def advice(data: bytes, settings: adopting.Settings, left: list[Finding], llbm: str) -> list[str]:
+def advice(data: bytes, settings: adopted_ops.Settings, left: list[Finding], llbm: str) -> list[str]:
     """Returns a line with the options that are missing, and what would be left with them; none if no option helps."""
-    kinds = adopting.missing_kinds(left, settings)
+    kinds = adopted_ops.missing_kinds(left, settings)
     if not kinds:
         return []
-    rest = adopting.adopt(data, adopting.with_kinds(settings, kinds), llbm).left
+    rest = adopted_ops.adopt(data, adopted_ops.with_kinds(settings, kinds), llbm).left
     would = f"would leave {'; '.join(map(shown, rest))}" if rest else "would adopt all of it"
     return [f"{' '.join(OPTIONS[kind] for kind in kinds)} {would}"]
 
@@ -130,7 +130,7 @@ def files_written(texts: dict[str, bytes]) -> Iterator[None]:
                 os.unlink(beside)
 
 
-def write(options: argparse.Namespace, adopted: adopting.Adopted) -> None:
+def write(options: argparse.Namespace, adopted: adopted_ops.Adopted) -> None:
     """Writes the definition and, if a file is named for it, the list of its sources."""
     to_output = options.output in (None, "-")
     texts = {} if to_output else {options.output: adopted.data}
@@ -152,7 +152,7 @@ def adopt(options: argparse.Namespace) -> None:
     settings = settings_from(options, llbm)
     data = inputs.data_at(options.definition)
     try:
-        adopted = adopting.adopt(data, settings, llbm)
+        adopted = adopted_ops.adopt(data, settings, llbm)
     except Unreadable as fault:
         raise no_definition.refusal(fault, data, options.definition) from fault
     left = list(map(left_text, adopted.left))

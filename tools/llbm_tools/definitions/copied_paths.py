@@ -12,8 +12,6 @@ from collections.abc import Iterable, Mapping
 from llbm_tools import inputs
 from llbm_tools.common import names_in
 from llbm_tools.llb.ops import FileActionCopy, Op
-from llbm_tools.trees.source_texts import Reading, text_at
-from llbm_tools.trees.trees import checked_at
 
 Path = tuple[bytes, ...]
 Paths = frozenset[Path]
@@ -50,6 +48,10 @@ def copied_from(op: Op, number: int) -> Paths | None:
 
 def digests_below(place: str, paths: Iterable[Path]) -> Digests:
     """Returns for each path a digest of what the tree at a place has at and below it."""
+    # Most definitions are compared without trees, and need not import what reads them.
+    from llbm_tools.trees.source_texts import Reading, text_at
+    from llbm_tools.trees.trees import checked_at
+
     found = {path: hashlib.sha256() for path in paths}
     with text_at(place, Reading(quiet=True)) as text:
         for line, entry in checked_at(inputs.shown(place), text):

@@ -1,7 +1,7 @@
 """Explains a line of the program, `fault ..` or `failed ..`, with docs/FAULTS.md and with a definition; and a note.
 
-It reads the tables of the page: that of all faults, those of names after a number, those of lines that are taken, and
-that of failures.
+It reads the tables of the page: that of all faults, those of names after a number, that of lines that a session takes,
+and that of failures.
 """
 
 import functools
@@ -20,8 +20,10 @@ from llbm_tools.rules import explaining, program
 from llbm_tools.streams import Refused, program_at
 
 PAGE = ROOT / "docs" / "FAULTS.md"
-# The head of each table of lines that are taken, and the fault of a line that is not.
-INSTEAD = {"Command line": 183, "Session line": 173}
+# The head of the table of lines that a session takes, and the fault of a line that is none.
+INSTEAD = {"Session line": 173}
+# What is to be done where the page has a dash.
+MEMORY = "Allow more memory."
 
 NUMBERS = {"k", "i", "N", "V", "C", "P"}
 NAMES = {"FEATURE", "RULE"}
@@ -149,7 +151,7 @@ class Page:
         """Reads a table, by the first cell of its head; other tables are skipped."""
         after = re.fullmatch(r"Name after ([0-9]+)", head)
         if instead := INSTEAD.get(head):
-            self.lines[instead] = [Line(bare(line).replace(r"\|", "|"), sentence) for line, sentence in rows]
+            self.lines[instead] = [Line(bare(line), sentence) for line, sentence in rows]
         elif after:
             for called, *rest in rows:
                 name, *arguments = words_of(called)
@@ -157,8 +159,9 @@ class Page:
         elif head == "Failure":
             self.failures += [Failure(bare(line), bare(name), *rest) for line, name, *rest in rows]
         elif head == "Fault":
-            for number, causes, words, *rest in rows:
-                same = [Cause(bare(name), words_of(words), *rest) for name in causes.split(", ")]
+            for number, causes, words, sentence, status, advice in rows:
+                rest = (words_of(words), sentence, status, MEMORY if advice == "-" else advice)
+                same = [Cause(bare(name), *rest) for name in causes.split(", ")]
                 self.causes.setdefault(int(number), []).extend(same)
 
     def causes_of(self, number: int) -> list[Cause]:

@@ -26,7 +26,7 @@ import sys
 
 from llbm_tools import common
 from llbm_tools.command_line import Parser
-from llbm_tools.definitions import dot, inspected_graph, inspection
+from llbm_tools.definitions import graphviz, inspected_graph, inspection
 from llbm_tools.inputs import check_inputs, check_there, data_at, input_lines
 from llbm_tools.llb import definition, names, no_definition
 from llbm_tools.llb.ops import Op
@@ -67,7 +67,7 @@ def labels_of(show: Show, file: str | None) -> list[list[str]]:
     except Unreadable as fault:
         raise no_definition.refusal(fault, data, file) from fault
     check(show, graph, ops)
-    return [[*dot.named_by(name), *dot.texts_of(op)] for name, op in zip(shown, ops)]
+    return [[*graphviz.named_by(name), *graphviz.texts_of(op)] for name, op in zip(shown, ops)]
 
 
 def impacts_in(data: bytes) -> list[tuple[str, str]]:
@@ -88,7 +88,7 @@ def colors_of(show: Show, file: str | None) -> list[str]:
     found = impacts_in(data_at(file))
     if [vertex.kind for vertex in show.vertices] != [kind for kind, _ in found]:
         raise Refused("the impact is that of another graph")
-    return [dot.filled(COLORS[word]) for _, word in found]
+    return [graphviz.filled(COLORS[word]) for _, word in found]
 
 
 def arrow(edge: Edge, target: int | str) -> str:
@@ -98,8 +98,8 @@ def arrow(edge: Edge, target: int | str) -> str:
 
 def node(vertex: Vertex, label: list[str], color: str) -> str:
     """Returns the lines of a vertex and of the edges to it."""
-    text = dot.quoted([f"{vertex.number} {vertex.kind}", *label])
-    prefix = f"  {vertex.number} [shape={dot.SHAPES[vertex.kind]}, label={text}{color}];\n"
+    text = graphviz.quoted([f"{vertex.number} {vertex.kind}", *label])
+    prefix = f"  {vertex.number} [shape={graphviz.SHAPES[vertex.kind]}, label={text}{color}];\n"
     return prefix + "".join(arrow(edge, vertex.number) for edge in vertex.inputs)
 
 

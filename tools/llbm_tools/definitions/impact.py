@@ -49,15 +49,15 @@ read or a write failed; 130 interrupted.
 import argparse
 import collections
 import io
+from collections.abc import Mapping
 from typing import NamedTuple
 
 from llbm_tools import common, inputs, objects
 from llbm_tools.command_line import Parser
-from llbm_tools.definitions import both_runs, impacts
+from llbm_tools.definitions import impacts
 from llbm_tools.definitions.impacts import Comparison, Impact, Names, Result
 from llbm_tools.llb.given_definitions import definition_at
 from llbm_tools.streams import Refused, exit_status, program_to_ask, write_output
-from llbm_tools.trees.digests import tree_digest
 
 
 class Source(NamedTuple):
@@ -77,6 +77,16 @@ def check_sources(options: argparse.Namespace, known: Names) -> None:
         inputs.check_there(source.place)
 
 
+def digests_of(places: Mapping[str, str]) -> dict[str, str]:
+    """Returns the digest of the tree at each place."""
+    if not places:
+        return {}
+    # Most comparisons have no trees, and need not import what reads them.
+    from llbm_tools.trees.digests import tree_digest
+
+    return {name: tree_digest(place) for name, place in places.items()}
+
+
 def impacts_of(options: argparse.Namespace, comparison: Comparison) -> tuple[list[Impact], Names]:
     """Returns what is known of each vertex of NEW, and which sources have another tree for NEW than for OLD."""
     check_sources(options, comparison.sources())
@@ -84,7 +94,7 @@ def impacts_of(options: argparse.Namespace, comparison: Comparison) -> tuple[lis
         {name: place for name, place in given if name not in options.changed}
         for given in (options.before, options.after)
     )
-    before, after = ({name: tree_digest(place) for name, place in given.items()} for given in (older, newer))
+    before, after = digests_of(older), digests_of(newer)
     differ = {name for name in before.keys() | after.keys() if before.get(name) != after.get(name)}
     changed = frozenset(options.changed) | (differ - comparison.renamed(before, after))
     return list(comparison.impacts(changed, before, after, (older, newer))), changed
@@ -167,6 +177,8 @@ def compare(options: argparse.Namespace) -> None:
     found, changed = impacts_of(options, comparison)
     gone, result = comparison.gone(found), comparison.result(found)
     if options.run:
+        from llbm_tools.definitions import both_runs
+
         found, word = both_runs.compared(program, comparison, data, (before, after), found)
         result = result._replace(word=word)
     laws = laws_of(options.run)

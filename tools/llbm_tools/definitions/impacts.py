@@ -11,7 +11,7 @@ import collections
 from collections.abc import Iterable, Iterator, Mapping
 from typing import NamedTuple
 
-from llbm_tools import common
+from llbm_tools import commands
 from llbm_tools.definitions import copied_paths
 from llbm_tools.definitions.copied_paths import Agreement, Paths
 from llbm_tools.definitions.matched_vertices import NotAccepted, Words, matches_of, with_names
@@ -214,7 +214,7 @@ class Comparison:
 
     def refusal(self) -> Exception:
         """Returns why the definitions can't be compared."""
-        lint = common.tool_named("lint")
+        lint = commands.shown("lint")
         for data, place in zip(self.data, self.places, strict=True):
             if found := findings_of(data, self.program):
                 return Refused(f"the program does not accept it: {place}: fault {found[0].words()}; {lint} prints why")

@@ -15,7 +15,7 @@ After the findings there is a line `note ENTRY NAME` for each field of such an e
 BuildKit and none here; `action N`, `mount N` or the key of an attribute may follow the name. With --like-buildkit there
 is also a note for each rule by which a vertex can end otherwise in BuildKit, if no fault was found, and for what
 BuildKit's daemon dies of. docs/BUILDKIT.md lists the names. --strict makes findings of notes. The program llbm-rules
-finds the notes (tools/daemon builds it); where it is not there, a line on standard error says that they are left out.
+finds the notes (dev/dev daemon builds it); where it is not there, a line on standard error says that they are left out.
 --json prints one object in place of the lines (docs/FORMATS.md, "Objects of tools").
 
 Exit status: 0 the program accepts the definition, and nothing but notes is printed; 1 there are findings; 2 the command

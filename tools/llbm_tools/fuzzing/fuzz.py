@@ -40,8 +40,8 @@ from collections.abc import Callable, Iterator
 from llbm_tools.command_line import Parser
 from llbm_tools.common import check_open, printable, say
 from llbm_tools.counts import Counts
-from llbm_tools.fuzzing import cases as fuzz_cases
-from llbm_tools.fuzzing import limited
+from llbm_tools.fuzzing import fuzz_cases as fuzz_cases
+from llbm_tools.fuzzing import limited_runs
 from llbm_tools.paths import ROOT
 from llbm_tools.streams import INTERRUPTED, Refused, exit_status, program_at
 
@@ -58,8 +58,8 @@ def work(options: argparse.Namespace, job: int, folder: str, sender: multiproces
     signal.signal(signal.SIGINT, signal.SIG_DFL)
     signal.signal(signal.SIGTERM, signal.SIG_DFL)
     os.chdir(folder)
-    limited.limit_runs(options.memory)
-    cases = fuzz_cases.Cases(limited.Runner(options.llbm, options.patience), options.seed, EXAMPLES)
+    limited_runs.limit_runs(options.memory)
+    cases = fuzz_cases.Cases(limited_runs.Runner(options.llbm, options.patience), options.seed, EXAMPLES)
     end = time.monotonic() + options.seconds if options.seconds else math.inf
     count = 0
     for number in range(job, options.cases, options.jobs):
@@ -134,7 +134,7 @@ def fuzz(options: argparse.Namespace) -> int:
     if not EXAMPLES.is_dir():
         raise Refused(f"there are no examples: {EXAMPLES}")
     if options.memory is None:
-        options.memory = limited.memory_of(options.llbm)
+        options.memory = limited_runs.memory_of(options.llbm)
     print(f"seed {options.seed}", flush=True)
     start = time.monotonic()
     findings = Findings(options)

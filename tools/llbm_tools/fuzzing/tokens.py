@@ -1,9 +1,9 @@
-"""Texts of trees with tokens in the place of contents, and back, for tools/fuzz."""
+"""Texts of trees with tokens in the place of contents, and back, for dev/dev fuzz."""
 
 import binascii
 
 from llbm_tools.streams import Refused
-from llbm_tools.trees.references import pieces_of, token
+from llbm_tools.trees.content_tokens import pieces_of, token
 from llbm_tools.trees.trees import content_of
 
 

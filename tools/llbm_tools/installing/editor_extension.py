@@ -13,7 +13,7 @@ from xml.sax.saxutils import quoteattr
 
 TIME = (1980, 1, 1, 0, 0, 0)
 INSIDE = "extension"
-ADAPTER = "tools/debug-adapter"
+ADAPTER = "llbm-tools"
 OTHER_TYPE = "application/octet-stream"
 TYPES = {".json": "application/json", ".md": "text/markdown", ".py": "text/x-python", ".vsixmanifest": "text/xml"}
 XML = '<?xml version="1.0" encoding="utf-8"?>\n'

@@ -3,16 +3,16 @@
 In: PREFIX, the folder; the repository; and the program, which is --llbm PROGRAM, or else crates/llbm/out/llbm of the
 repository, or else its out/llbm-unproved.
 
-Out: PREFIX/bin has the program and a command for each tool, `llbm-build`, `llbm-lint` and so on, and, if tools/daemon
+Out: PREFIX/bin has the program and a command for each tool, `llbm-build`, `llbm-lint` and so on, and, if dev/dev daemon
 has built them, llbm-rules, which has BuildKit's rules for these, and the daemon llbmd; PREFIX/lib/llbm has what they
-need, with the pages and examples, the page in a browser if tools/wasm has made it, and in `tools/llbm_tools/debugging`
-the extension for editors; PREFIX/share has completions for bash, zsh and fish, and pages of the manual. If
-tools/library has made a library, the proved one or else the other is in PREFIX/lib, with its header in PREFIX/include,
-`lib/pkgconfig/llbm.pc`, which says whether it is proved, and the bindings in lib/llbm. PREFIX/lib/llbm/program says
-whether the program is proved: only one on which `./gate` passed is. PREFIX/lib/llbm/installed lists all files. Nothing
-is written outside PREFIX. Files of an earlier installation are replaced; any other file that is in the way is refused
-before anything is written. --dry-run prints the paths, and writes nothing. --uninstall removes the files that are
-listed, and then the folders that are empty.
+need, with the pages and examples, the page in a browser if dev/dev wasm has made it, and in
+`tools/llbm_tools/debugging` the extension for editors; PREFIX/share has completions for bash, zsh and fish, and pages
+of the manual. If llbm-tools library has made a library, the proved one or else the other is in PREFIX/lib, with its
+header in PREFIX/include, `lib/pkgconfig/llbm.pc`, which says whether it is proved, and the bindings in lib/llbm.
+PREFIX/lib/llbm/program says whether the program is proved: only one on which `./gate` passed is.
+PREFIX/lib/llbm/installed lists all files. Nothing is written outside PREFIX. Files of an earlier installation are
+replaced; any other file that is in the way is refused before anything is written. --dry-run prints the paths, and
+writes nothing. --uninstall removes the files that are listed, and then the folders that are empty.
 
 Exit status: 0 it is done; 2 the command line is refused, there is no program, or a file is in the way; 3 a read or a
 write failed.

@@ -6,7 +6,6 @@ tools' commands in `bin` are links into it. `share` has what shells and `man` lo
 """
 
 import hashlib
-import os
 import pathlib
 import re
 import shutil
@@ -15,20 +14,18 @@ import subprocess
 from collections.abc import Iterator
 from typing import NamedTuple
 
-from llbm_tools import common, paths
+from llbm_tools import commands, common, paths
+from llbm_tools.commands import Command
 from llbm_tools.compiling import library_files
 from llbm_tools.installing import editor_extension, tool_pages, tool_parsers
 from llbm_tools.os_errors import in_words
 from llbm_tools.running import command_words
 from llbm_tools.streams import why_not
 
-# The tools that test or prove the repository, or install it, and their tests.
-OF_THE_REPOSITORY = {
-    "against-buildkit", "bindings", "claims", "daemon", "daemon-suite", "daemon-tests", "dist", "floors", "fuzz",
-    "gate", "install", "library", "lines", "measure", "measure-daemons", "minutes", "page", "page-tests", "plants",
-    "proved", "refuse", "style", "test", "tests", "transcripts", "unproved-program", "wasm",
-}
+# The packages that need the sources, or make or test what is installed; no command of an installation imports them.
+MAINTENANCE = {"compiling", "daemon", "fuzzing", "installing", "measuring", "repository"}
 LIBRARY = "lib/llbm"
+PACKAGES = "llbm_tools"
 PAGES = ("README.md", "CHANGELOG.md")
 PACKAGE = "tools/llbm_tools/debugging/package.json"
 EXAMPLES = (
@@ -36,6 +33,9 @@ EXAMPLES = (
     "dape.el",
 )
 HEADER = paths.ROOT / "bindings" / "llbm.h"
+# What tests or measures the bindings: these parts of paths, and these names of files.
+OF_TESTS = {"target", "tests", "show"}
+TESTS = ("*_test.go", "test_*.py", "misuse.c")
 # What `pkg-config` reads of the library; the folder may be moved.
 PACKAGE_OF_LIBRARY = """prefix=${{pcfiledir}}/../..
 Name: llbm
@@ -95,12 +95,12 @@ def program_at(place: str) -> Program:
     """Returns the program in a file; it is proved only if the gate has passed on these bytes."""
     cause = why_not(place)
     if cause:
-        raise NotInstalled(f"{cause}: {place}; tools/unproved-program makes a program")
+        raise NotInstalled(f"{cause}: {place}; dev/dev unproved-program makes a program")
     try:
         content = pathlib.Path(shutil.which(place) or place).read_bytes()
         said = subprocess.run([place, "--version"], stdin=subprocess.DEVNULL, capture_output=True, text=True).stderr
     except OSError as fault:
-        raise NotInstalled(f"{in_words(fault)}: {place}; tools/unproved-program makes a program") from fault
+        raise NotInstalled(f"{in_words(fault)}: {place}; dev/dev unproved-program makes a program") from fault
     found = VERSION.search(said)
     if not found:
         raise NotInstalled(f"this is not the program llbm: {place}")
@@ -119,23 +119,6 @@ def files_below(place: pathlib.Path) -> Iterator[pathlib.Path]:
         kept = any(part == "__pycache__" or part.startswith(".") for part in file.relative_to(place).parts)
         if file.is_file() and not kept:
             yield file
-
-
-def tool_places() -> Iterator[pathlib.Path]:
-    """Yields what is installed of the folder of the tools: all but the repository's own tools."""
-    for place in sorted((paths.ROOT / "tools").iterdir()):
-        if place.name not in OF_THE_REPOSITORY and place.name != "__pycache__" and not place.name.startswith("."):
-            yield place
-
-
-def is_tool(place: pathlib.Path) -> bool:
-    """Returns whether a file is a tool."""
-    return place.is_file() and not place.suffix and os.access(place, os.X_OK)
-
-
-def tool_names() -> list[str]:
-    """Returns the names of the tools that are installed."""
-    return [place.name for place in tool_places() if is_tool(place)]
 
 
 def program_items() -> Iterator[Item]:
@@ -165,17 +148,36 @@ def library_items() -> Iterator[Item]:
     yield Item("lib/pkgconfig/llbm.pc", PACKAGE_OF_LIBRARY.format(version=version, number=number).encode())
     yield file_item(f"include/{HEADER.name}", HEADER)
     for file in files_below(HEADER.parent):
-        if not {"target", "tests"} & {*file.relative_to(HEADER.parent).parts}:
-            yield file_item(f"{LIBRARY}/bindings/{file.relative_to(HEADER.parent)}", file)
+        path = file.relative_to(HEADER.parent)
+        if not OF_TESTS & {*path.parts} and not any(path.match(name) for name in TESTS):
+            yield file_item(f"{LIBRARY}/bindings/{path}", file)
 
 
 def tool_items() -> Iterator[Item]:
-    """Yields the tools with their modules, and a command for each."""
-    for place in tool_places():
-        for file in files_below(place) if place.is_dir() else [place]:
-            yield file_item(f"{LIBRARY}/tools/{file.relative_to(place.parent)}", file)
-        if is_tool(place):
-            yield Item(f"bin/{tool_parsers.PREFIX}{place.name}", link=f"../{LIBRARY}/tools/{place.name}")
+    """Yields the users' door with its modules, and a link for each of its commands, also by its old name."""
+    door = paths.ROOT / commands.USERS_DOOR
+    yield file_item(f"{LIBRARY}/{door.name}", door)
+    for file in files_below(paths.TOOLS / PACKAGES):
+        path = file.relative_to(paths.TOOLS)
+        if path.parts[1] not in MAINTENANCE:
+            yield file_item(f"{LIBRARY}/tools/{path}", file)
+    known = installed_commands()
+    for name in sorted({door.name, *(one.link() for one in known), *(f"{commands.LINK}{one.old}" for one in known)}):
+        yield Item(f"bin/{name}", link=f"../{LIBRARY}/{door.name}")
+
+
+def installed_tables() -> dict[str, list[Command]]:
+    """Returns the users' commands that an installation can serve, by task."""
+    found = {
+        about: [command for command in known if command.module.partition(".")[0] not in MAINTENANCE]
+        for about, known in commands.USERS.items()
+    }
+    return {about: known for about, known in found.items() if known}
+
+
+def installed_commands() -> list[Command]:
+    """Returns the users' commands that an installation can serve."""
+    return [command for known in installed_tables().values() for command in known]
 
 
 def extension_item(version: str, tools: list[Item]) -> Item:
@@ -211,8 +213,12 @@ def shell_items(version: str) -> Iterator[Item]:
     """Yields the completions and the pages of the manual: of the program, and of each tool as its parser has it."""
     table = command_words
     yield from texts_for_shells("llbm", table.for_bash(), table.for_zsh(), table.for_fish(), table.manual(version))
-    for name in tool_names():
-        tool = tool_parsers.tool_named(name)
+    known = installed_commands()
+    yield from texts_for_shells(
+        commands.USERS_DOOR, tool_pages.door_for_bash(known), tool_pages.door_for_zsh(known),
+        tool_pages.door_for_fish(known), tool_pages.door_manual(installed_tables(), version),
+    )  # fmt: skip
+    for tool in map(tool_parsers.tool_of, known):
         yield from texts_for_shells(
             tool.name, tool_pages.for_bash(tool), tool_pages.for_zsh(tool), tool_pages.for_fish(tool),
             tool_pages.manual(tool, version),

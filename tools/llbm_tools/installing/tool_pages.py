@@ -1,8 +1,9 @@
-"""Completions for three shells, and a page of the manual, for a tool as its parser has it."""
+"""Completions for three shells, and a page of the manual: of a command as its parser has it, and of the users' door."""
 
 import re
-from collections.abc import Iterator
+from collections.abc import Iterable, Iterator
 
+from llbm_tools.commands import Command
 from llbm_tools.installing.tool_parsers import Argument, Option, Tool, Value
 from llbm_tools.running.command_words import roff
 
@@ -175,4 +176,100 @@ def manual(tool: Tool, version: str) -> str:
     for option in tool.options:
         lines += option_in_manual(option)
     lines += [line for status in statuses for line in (".SH EXIT STATUS", roff(sentence_of(status)))]
+    return "\n".join([*lines, ".SH SEE ALSO", "\\fBllbm\\fR(1)"]) + "\n"
+
+
+DOOR_IN_BASH = """# Completion of llbm-tools for bash: the words of its commands, and then what the command takes.
+_llbm_tools() {
+  local words= next place
+  for ((place = 1; place < COMP_CWORD; place++)); do
+    next="${words:+$words }${COMP_WORDS[place]}"
+    case "|@COMMANDS@|" in
+      *"|$next|"* | *"|$next "*) words=$next ;;
+      *) break ;;
+    esac
+  done
+  if ((place == COMP_CWORD)); then
+    case $words in
+@CASES@
+    esac
+  fi
+  local command=llbm-${words// /-}
+  local complete=_${command//-/_}
+  declare -F "$complete" > /dev/null || . "${BASH_SOURCE[0]%/*}/$command" 2> /dev/null || return 0
+  "$complete" "$command" "$2" "$3"
+}
+complete -o filenames -F _llbm_tools llbm-tools
+"""
+DOOR_IN_ZSH = """#compdef llbm-tools
+# Completion of llbm-tools for zsh: the words of its commands, and then what the command takes.
+local said= next place
+for ((place = 2; place < CURRENT; place++)); do
+  next="${said:+$said }${words[place]}"
+  case "|@COMMANDS@|" in
+    *"|$next|"* | *"|$next "*) said=$next ;;
+    *) break ;;
+  esac
+done
+if ((place == CURRENT)); then
+  case $said in
+@CASES@
+  esac
+fi
+local command=llbm-${said// /-}
+words=($command "${(@)words[place,-1]}")
+((CURRENT -= place - 2))
+_call_function ret "_$command"
+"""
+
+
+def words_after(commands: Iterable[Command]) -> dict[str, list[str]]:
+    """Returns for the words with which a command can begin, and for none, the words that can follow."""
+    found: dict[str, list[str]] = {}
+    for words in (command.words.split(" ") for command in commands):
+        for place, word in enumerate(words):
+            following = found.setdefault(" ".join(words[:place]), [])
+            if word not in following:
+                following.append(word)
+    return found
+
+
+def door_for_bash(commands: list[Command]) -> str:
+    """Returns the completion of the users' door for bash."""
+    add = 'mapfile -t COMPREPLY < <(compgen -W "{}" -- "$2"); [ -z "$words" ] && return'
+    lines = [f'      "{begin}") {add.format(" ".join(words))} ;;' for begin, words in words_after(commands).items()]
+    return with_commands(DOOR_IN_BASH, commands, lines)
+
+
+def door_for_zsh(commands: list[Command]) -> str:
+    """Returns the completion of the users' door for zsh."""
+    lines = [f'    "{begin}") compadd -- {" ".join(words)} ;;' for begin, words in words_after(commands).items()]
+    return with_commands(DOOR_IN_ZSH, commands, lines)
+
+
+def with_commands(text: str, commands: list[Command], cases: list[str]) -> str:
+    """Returns a text with the words of all commands, and the lines for what can follow them."""
+    return text.replace("@COMMANDS@", "|".join(one.words for one in commands)).replace("@CASES@", "\n".join(cases))
+
+
+def door_for_fish(commands: list[Command]) -> str:
+    """Returns the completion of the users' door for fish, which completes files by itself."""
+    lines = ["# Completion of llbm-tools for fish: the words of its commands."]
+    for begin, words in words_after(commands).items():
+        typed = " ".join(["llbm-tools", *begin.split()])
+        lines.append(f"complete -c llbm-tools -n 'test \"(commandline -opc)\" = \"{typed}\"' -a '{' '.join(words)}'")
+    return "\n".join(lines) + "\n"
+
+
+def door_manual(tables: dict[str, list[Command]], version: str) -> str:
+    """Returns the page of the manual of the users' door."""
+    lines = [
+        f'.TH LLBM\\-TOOLS 1 "" "llbm {version}" "User Commands"', ".SH NAME",
+        "llbm\\-tools \\- the tools around llbm", ".SH SYNOPSIS", "llbm\\-tools COMMAND [WORD ..]", ".SH DESCRIPTION",
+        "Starts a command by its words. Each has a page of its own, as llbm\\-build(1) or llbm\\-tree\\-from\\-tar(1).",
+    ]  # fmt: skip
+    for about, commands in tables.items():
+        lines.append(f".SH {about.upper()}")
+        for command in commands:
+            lines += [".TP", f"\\fB{roff(command.words)}\\fR", roff(sentence_of(command.about))]
     return "\n".join([*lines, ".SH SEE ALSO", "\\fBllbm\\fR(1)"]) + "\n"

@@ -5,19 +5,16 @@ A tool hands its words to the parser that it makes as the first thing that it do
 
 import argparse
 import importlib
-import re
 import sys
 from typing import NamedTuple, NoReturn
 
-from llbm_tools import paths
+from llbm_tools.commands import Command
 
 # What the values of options and arguments are called that are no files; all others can be files.
 NO_FILES = {
     "BYTES", "COUNT", "DIRECTORIES", "FILES", "FORM", "KIND", "N", "NAME", "OS/ARCH", "PREFIX", "SECONDS", "SUFFIX",
     "UID:GID", "V", "W", "WORD",
 }  # fmt: skip
-PREFIX = "llbm-"
-STARTED = re.compile(r"^from (llbm_tools\.[\w.]+) import main$", re.M)
 
 
 class Taken(Exception):
@@ -73,24 +70,16 @@ class Tool(NamedTuple):
     arguments: tuple[Argument, ...]
 
 
-def module_of(name: str) -> str:
-    """Returns the name of the module that a tool starts, which the tool's file names."""
-    found = STARTED.search((paths.TOOLS / name).read_text("utf-8"))
-    if found is None:
-        raise ValueError(f"the file of the tool names no module: {name}")
-    return found[1]
-
-
-def parser_of(name: str) -> tuple[argparse.ArgumentParser, str]:
-    """Returns the parser of a tool, and the head of its module."""
-    module = importlib.import_module(module_of(name))
+def parser_of(command: Command) -> tuple[argparse.ArgumentParser, str]:
+    """Returns the parser of a command, and the head of its module."""
+    module = importlib.import_module(f"llbm_tools.{command.module}")
 
     def take(parser: argparse.ArgumentParser, *_: object) -> NoReturn:
         raise Taken(parser)
 
     before = argparse.ArgumentParser.parse_args, sys.argv
     setattr(argparse.ArgumentParser, "parse_args", take)
-    sys.argv = [PREFIX + name, "--help"]
+    sys.argv = [command.link(), "--help"]
     try:
         module.main()
     except Taken as taken:
@@ -98,7 +87,7 @@ def parser_of(name: str) -> tuple[argparse.ArgumentParser, str]:
     finally:
         setattr(argparse.ArgumentParser, "parse_args", before[0])
         sys.argv = before[1]
-    raise ValueError(f"the tool has no parser: {name}")
+    raise ValueError(f"the command has no parser: {command.words}")
 
 
 def values_of(action: argparse.Action) -> tuple[Value, ...]:
@@ -116,9 +105,9 @@ def help_of(action: argparse.Action, parser: argparse.ArgumentParser) -> str:
     return (action.help or "") % values
 
 
-def tool_named(name: str) -> Tool:
-    """Returns the tool with a name."""
-    parser, text = parser_of(name)
+def tool_of(command: Command) -> Tool:
+    """Returns what the parser of a command has."""
+    parser, text = parser_of(command)
     options, arguments = [], []
     for action in parser._actions:
         about = help_of(action, parser)

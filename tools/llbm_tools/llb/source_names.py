@@ -3,7 +3,7 @@
 import os
 from typing import NamedTuple
 
-from llbm_tools.common import tool_named
+from llbm_tools import commands
 from llbm_tools.llb import definition
 from llbm_tools.llb.local_names import can_be_given
 from llbm_tools.llb.ops import LOCAL, Op
@@ -46,7 +46,7 @@ def missing_notes(data: bytes | None, given: list[str]) -> list[str]:
         notes.append(f"without a tree: {', '.join(f'{name} (vertex {vertex})' for vertex, name in missing)}")
     odd = list(dict.fromkeys(local.name for local in missing if not can_be_given(local.name)))
     if odd:
-        adopt = tool_named("adopt")
+        adopt = commands.shown("adopt")
         notes.append(f"no word NAME=FILE names it, and {adopt} gives it another name: {', '.join(odd)}")
     return notes
 

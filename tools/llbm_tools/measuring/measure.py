@@ -32,9 +32,9 @@ import time
 from typing import NamedTuple
 
 from llbm_tools.command_line import Parser
+from llbm_tools.commands import line_of
 from llbm_tools.common import check_open, say
-from llbm_tools.measuring import go_show, repeated, scale
-from llbm_tools.paths import TOOLS
+from llbm_tools.measuring import go_show, largest_graphs, repeated_builds
 from llbm_tools.streams import exit_status, program_at
 
 RUNS = 5
@@ -150,14 +150,14 @@ class Inputs:
         if key not in self.made:
             place = self.folder / str(len(self.made))
             with open(place, "wb") as file:
-                subprocess.run([sys.executable, TOOLS / tool, *self.smaller(text)], stdout=file, check=True)
+                subprocess.run(line_of(tool, *self.smaller(text)), stdout=file, check=True)
             self.made[key] = place
         return self.made[key]
 
     def sources(self, side: Side) -> list[str]:
         """Returns the words for the local sources of a run."""
         given = [("p", side.p), ("q", side.q)]
-        return [f"{name}={self.file('bigtree', text)}" for name, text in given if text]
+        return [f"{name}={self.file('large tree', text)}" for name, text in given if text]
 
     def program_in_go(self) -> pathlib.Path:
         """Returns the program in Go."""
@@ -208,7 +208,7 @@ def text_of(side: Side, inputs: Inputs) -> str:
 def row_of(pair: Pair, inputs: Inputs, runs: int) -> str:
     """Measures a pair, and returns its row."""
     sides = (pair.side, pair.other)
-    commands = [(inputs.command(side), inputs.file("bigdef", side.definition)) for side in sides]
+    commands = [(inputs.command(side), inputs.file("large definition", side.definition)) for side in sides]
     costs: list[list[Cost]] = [[], []]
     for _ in range(runs):
         for found, (command, given) in zip(costs, commands):
@@ -233,9 +233,9 @@ def scale_rows(inputs: Inputs, options: argparse.Namespace) -> list[str]:
         return f"{cost.clock:.2f} ({cost.processor:.2f}) s, {cost.memory:.0f} MB"
 
     def file(text: str) -> tuple[str, pathlib.Path]:
-        return " ".join(inputs.smaller(text)), inputs.file("bigdef", text)
+        return " ".join(inputs.smaller(text)), inputs.file("large definition", text)
 
-    return scale.scale(inputs.llbm, options.name[0] if options.name else "", inputs.folder, file, measured)
+    return largest_graphs.scale(inputs.llbm, options.name[0] if options.name else "", inputs.folder, file, measured)
 
 
 def measure(options: argparse.Namespace) -> int:
@@ -249,8 +249,8 @@ def measure(options: argparse.Namespace) -> int:
     with tempfile.TemporaryDirectory(prefix="llbm-measure-") as folder:
         inputs = Inputs(pathlib.Path(folder), options)
         if options.repeated:
-            definition, below = inputs.file("bigdef", repeated.DEFINITION), inputs.folder
-            rows = repeated.rows_of(below, inputs.llbm, definition, inputs.part, options.runs, cost_of)
+            definition, below = inputs.file("large definition", repeated_builds.DEFINITION), inputs.folder
+            rows = repeated_builds.rows_of(below, inputs.llbm, definition, inputs.part, options.runs, cost_of)
             print("\n".join(rows))
             sys.stdout.flush()
             return 0
@@ -289,7 +289,7 @@ def parse_options() -> argparse.Namespace:
     parser.add_argument("--repeated", action="store_true", help="measure repeated builds beside `git status`")
     parser.add_argument("name", metavar="NAME", nargs="*", help="a measurement (default: all)")
     options = parser.parse_args()
-    known = scale.kinds() if options.scale else {pair.name for pair in PAIRS}
+    known = largest_graphs.kinds() if options.scale else {pair.name for pair in PAIRS}
     for name in options.name:
         if name not in known:
             parser.error(f"there is no measurement {name}; --list prints their names")

@@ -1,13 +1,12 @@
 """Measures llbmd beside BuildKit's own daemon: the same builds, one after the other on both.
 
-In: the daemon out/llbmd with `buildctl` and the frontend for Dockerfiles beside it, as `tools/daemon --clients` leaves
-them, the program --llbm PROGRAM or that of the repository, and Debian's packages in the cache folder, or --packages
-FOLDER, from which BuildKit's daemon is built, and of which docker-buildx is one; only root can run that daemon, and as
-another user llbmd is measured alone. Both daemons keep their state below
---folder FOLDER, which is best in memory (/dev/shm), or else below a temporary folder. Each build is done --runs N times
-(5 by default), in turn on each daemon, with --no-cache and an export into a new local directory; between runs both
-daemons are pruned. --part N makes all counts of files N times smaller. The builds are these, or only those named NAME
-..:
+In: the daemon out/llbmd with `buildctl` and the frontend for Dockerfiles beside it, as `dev/dev daemon --clients`
+leaves them, the program --llbm PROGRAM or that of the repository, and Debian's packages in the cache folder, or
+--packages FOLDER, from which BuildKit's daemon is built, and of which docker-buildx is one; only root can run that
+daemon, and as another user llbmd is measured alone. Both daemons keep their state below --folder FOLDER, which is best
+in memory (/dev/shm), or else below a temporary folder. Each build is done --runs N times (5 by default), in turn on
+each daemon, with --no-cache and an export into a new local directory; between runs both daemons are pruned. --part N
+makes all counts of files N times smaller. The builds are these, or only those named NAME ..:
 
 - `mkfile`: one file;
 - `merge`: a merge of 20 vertices that make a file each;
@@ -49,8 +48,8 @@ from llbm_tools.command_line import Parser
 from llbm_tools.daemon import buildkitd, daemon, debian_packages, go_building, runs, started_daemon
 from llbm_tools.daemon.go_building import OUT
 from llbm_tools.llb.messages import definition_of, edge, encoded, made
-from llbm_tools.measuring import bigdef
-from llbm_tools.measuring.bigdef import file_op, mkfile
+from llbm_tools.measuring import large_definition
+from llbm_tools.measuring.large_definition import file_op, mkfile
 from llbm_tools.measuring.measure import RUNS, number
 from llbm_tools.streams import Refused, exit_status, program_at
 
@@ -97,7 +96,7 @@ def one_file(content: bytes) -> bytes:
 def merge_of(count: int) -> bytes:
     """Returns the definition of a merge of vertices that make a file each."""
     parts = [file_op([], mkfile(f"/f{place}", b"%d" % place)) for place in range(count)]
-    return ending([*parts, bigdef.merge(parts)])
+    return ending([*parts, large_definition.merge(parts)])
 
 
 def chain_of(count: int) -> bytes:
@@ -113,7 +112,7 @@ def copy_of(name: str) -> bytes:
     values = made(
         "FileActionCopy", src="/", dest="/out", mode=-1, dirCopyContents=True, createDestPath=True, timestamp=-1
     )
-    given = [bigdef.source(name)]
+    given = [large_definition.source(name)]
     action = made("FileAction", input=-1, secondaryInput=0, copy=values)
     return ending([*given, file_op(given, action)])
 
@@ -307,7 +306,7 @@ def measure(options: argparse.Namespace) -> int:
     buildx = options.packages / go_building.PLUGINS / "docker-buildx"
     for place in (options.daemon, OUT / "buildctl", FRONTEND, buildx):
         if not place.is_file():
-            raise Refused(f"there is no such program: {place}; `tools/daemon --clients` builds it")
+            raise Refused(f"there is no such program: {place}; `dev/dev daemon --clients` builds it")
     try:
         with contextlib.ExitStack() as stack:
             folder = pathlib.Path(stack.enter_context(tempfile.TemporaryDirectory(prefix="m", dir=options.folder)))
@@ -335,9 +334,7 @@ def measure(options: argparse.Namespace) -> int:
 
 def main() -> int:
     """Runs the tool, and returns its exit status."""
-    parser = Parser(
-        prog="tools/measure-daemons", description="Measures llbmd beside BuildKit's daemon."
-    )
+    parser = Parser(description="Measures llbmd beside BuildKit's daemon.")
     parser.add_argument("--llbm", metavar="PROGRAM", help="the program llbm")
     parser.add_argument("--daemon", metavar="PROGRAM", type=pathlib.Path, default=daemon.PROGRAM, help="the daemon")
     parser.add_argument(

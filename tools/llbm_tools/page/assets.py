@@ -6,14 +6,14 @@ from collections.abc import Iterator
 from typing import NamedTuple
 
 from llbm_tools.llb import local_names, ops
-from llbm_tools.page import faults
+from llbm_tools.page import fault_sentences
 from llbm_tools.paths import ROOT
 
 STATIC = ROOT / "page"
 EXAMPLES = ROOT / "examples"
 MODULE = "llbm.wasm"
 TABLES = "tables.json"
-# A server of files has no builds; `tools/page --serve` answers with its own.
+# A server of files has no builds; `llbm-tools page --serve` answers with its own.
 BUILDS, NO_BUILDS = "builds.json", b"[]\n"
 # The fields without an effect, which the daemon and the tools know from the program llbm-rules.
 FIELDS = ROOT / "daemon" / "internal" / "notes" / "fields.json"
@@ -94,7 +94,7 @@ def tables() -> bytes:
     """Returns the tables that the page shares with the tools, as JSON."""
     schemes = {"all": local_names.SCHEMES, "images": local_names.IMAGES}
     notes = json.loads(FIELDS.read_text("utf-8"))
-    found = {"faults": faults.table(), "messages": message_table(), "schemes": schemes, "notes": notes}
+    found = {"faults": fault_sentences.table(), "messages": message_table(), "schemes": schemes, "notes": notes}
     return json.dumps(found, separators=(",", ":")).encode()
 
 
@@ -109,6 +109,12 @@ def files(module: bytes | None) -> dict[str, bytes]:
     """Returns all files of the page by path, with a module if one is given."""
     made = {} if module is None else {MODULE: module}
     return {**dict(static_files()), **dict(example_files()), TABLES: tables(), BUILDS: NO_BUILDS, **made}
+
+
+def made_files(folder: pathlib.Path) -> dict[str, bytes]:
+    """Returns the files of a page that is made, by path, but its module; none if there is no such folder."""
+    found = {file.relative_to(folder).as_posix(): file for file in folder.rglob("*") if file.is_file()}
+    return {path: file.read_bytes() for path, file in found.items() if path != MODULE}
 
 
 def write(folder: pathlib.Path, module: bytes | None) -> None:

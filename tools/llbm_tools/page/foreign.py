@@ -1,12 +1,12 @@
 """Tests in the browser of definitions that the machine refuses: they are drawn, and adopted by one press."""
 
-from llbm_tools.definitions import adopting
+from llbm_tools.definitions import adopted_ops
 from llbm_tools.llb.findings import findings_of
 from llbm_tools.page import assets
 from llbm_tools.page.driver import Page, check, same
 
 # What `adopt --all` does.
-ALL = adopting.Settings(frozenset(adopting.DROPPED), (), adopting.RunNothing.REFUSED)
+ALL = adopted_ops.Settings(frozenset(adopted_ops.DROPPED), (), adopted_ops.RunNothing.REFUSED)
 EMPTY = b"d 0755 0 0 /\n"
 
 
@@ -33,7 +33,7 @@ def what_is_refused_is_drawn(page: Page) -> None:
     same(sorted(shown), sorted(f"fault {one.words()}" for one in findings_of(data, page.program)), "the findings")
     refused = page.run("[...document.querySelectorAll('.box.refused .vertex-name')].map(e => e.textContent).sort()")
     same(refused, ["row 0 source ≠", "row 1 exec ≠", "row 3 file ≠"], "the refused entries, which have notes too")
-    adopted = adopting.adopt(data, ALL, page.program)
+    adopted = adopted_ops.adopt(data, ALL, page.program)
     changes = page.run("[...document.querySelectorAll('.adopting li')].map(e => e.textContent)")
     same(changes, [text for _, text in adopted.changes], "what adopting would change")
     check("alpine, context" in page.text("foreign-said"), page.text("foreign-said"))
@@ -64,7 +64,7 @@ def adopted_by_one_press(page: Page) -> None:
     page.give_file("tour.tree", tree, "[data-name=context] input")
     page.browser.wait("document.querySelector('[data-name=context]').textContent.includes('tour.tree: ')")
     page.submit()
-    page.open_case(adopting.adopt(data, ALL, page.program).data, [("alpine", EMPTY), ("context", tree)], 2, False)
+    page.open_case(adopted_ops.adopt(data, ALL, page.program).data, [("alpine", EMPTY), ("context", tree)], 2, False)
     page.click("go")
     check("complete" in page.text("said"), page.text("said"))
     same(page.statuses(), ["done"] * 4, "the statuses")

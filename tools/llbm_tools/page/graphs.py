@@ -2,9 +2,8 @@
 
 import pathlib
 import subprocess
-import sys
 
-from llbm_tools import paths
+from llbm_tools.commands import line_of
 from llbm_tools.page.driver import NARROW, WIDE, Page, check, same
 from llbm_tools.page.large import GIVE, MOST_VERTICES, PRESS, file_on, merge_of
 
@@ -196,7 +195,7 @@ def the_largest_graph_as_a_whole(page: Page) -> None:
     """Shows 65,535 vertices as a whole: they are painted, a failure-free step changes the picture, one is gone to."""
     page.load()
     place = pathlib.Path(page.folder) / "whole.definition"
-    words = [sys.executable, str(paths.ROOT / "tools" / "bigdef"), "pairs", str(MOST_VERTICES)]
+    words = line_of("large definition", "pairs", str(MOST_VERTICES))
     place.write_bytes(subprocess.run(words, check=True, capture_output=True).stdout)
     known = "document.getElementById('definition-said').textContent !== ''"
     page.run(GIVE % (place.name, place.name, "#definition-file", known))

@@ -2,10 +2,9 @@
 
 import pathlib
 import subprocess
-import sys
 import time
 
-from llbm_tools import paths
+from llbm_tools.commands import line_of
 from llbm_tools.page.driver import Page, check, same
 
 FILES = 2000
@@ -212,7 +211,7 @@ def moved(page: Page, what: str, name: str, place: tuple[int, int]) -> None:
 def as_many_vertices_as_there_can_be(page: Page) -> None:
     """Opens 65,535 vertices, steps at the beginning, goes to the end of 196,605 events, and steps there."""
     page.load()
-    words = [sys.executable, str(paths.ROOT / "tools" / "bigdef"), "pairs", str(MOST_VERTICES)]
+    words = line_of("large definition", "pairs", str(MOST_VERTICES))
     place = page.folder / "most.definition"
     place.write_bytes(subprocess.run(words, check=True, capture_output=True).stdout)
     known = "document.getElementById('definition-said').textContent !== ''"

@@ -1,5 +1,7 @@
 """Orders at random, two orders side by side, and what a failure and an idle worker say, in a browser."""
 
+import json
+
 from llbm_tools.page.driver import Page, check, same
 
 # Two executions on one locked cache, one of which fails, and a merge of both: a second worker waits for the cache.
@@ -33,6 +35,11 @@ LOCKED = """op {
 def exec_on_cache(script: str) -> str:
     """Returns the text of an execution on the locked cache."""
     return LOCKED.replace("append /c/l a && cp /c/l /o", script)
+
+
+def exec_on_root(script: str) -> str:
+    """Returns the text of an execution on the empty tree."""
+    return exec_on_cache(script).partition('    mounts {\n      input -1\n      dest "/c"')[0] + "  }\n}\n"
 
 
 def locked() -> str:
@@ -114,6 +121,30 @@ def a_failure_names_its_command(page: Page) -> None:
     check("mount /, when it failed" in names, str(names))
     shown = page.run("[...document.querySelectorAll('#tree .path')].map(path => path.textContent)")
     check("a" in shown, f"the tree when it failed: {shown}")
+    said = "The cause: there is no file /none. No step before it changed /none there."
+    page.browser.wait(f"document.getElementById('cause').textContent === {json.dumps(said)}")
+    page.check_answers()
+
+
+def a_failure_names_what_touched_its_path(page: Page) -> None:
+    """Runs two executions: the second reads what the first removed, and the page says by which event that was."""
+    page.load()
+    first, second = exec_on_root("write /a x && rm /a"), exec_on_root("true && cp /a /b").replace("input -1", "input 0")
+    edge = "  inputs {\n    digest %0\n  }\n"
+    text = first + second.replace("op {\n", f"op {{\n{edge}") + "op {\n  inputs {\n    digest %1\n  }\n}\n"
+    page.give_file("touched.text", text.encode(), "#definition-file")
+    page.browser.wait("definition.value !== ''")
+    page.submit()
+    page.open_case(text.encode(), [], 2, True)
+    page.run("document.getElementById('break-fail').click()")
+    page.click("go")
+    removed = "/a was removed last by event 3: worker 0, vertex 0: command 1: rm /a, status 0."
+    said = f"The cause: there is no file /a. {removed}"
+    page.browser.wait(f"document.getElementById('cause').textContent === {json.dumps(said)}")
+    page.click("back")
+    page.browser.wait(f"document.getElementById('cause').textContent === {json.dumps(said)}")
+    page.click("back")
+    same(page.text("cause"), "", "the cause before the failure")
     page.check_answers()
 
 
@@ -133,5 +164,5 @@ def a_reload_keeps_the_session(page: Page) -> None:
 
 CASES = (
     an_idle_worker_says_why, two_orders_side_by_side, orders_on_a_cache_differ, a_failure_names_its_command,
-    a_reload_keeps_the_session,
+    a_failure_names_what_touched_its_path, a_reload_keeps_the_session,
 )  # fmt: skip

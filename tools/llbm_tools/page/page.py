@@ -1,9 +1,10 @@
 """Serves the page on this machine, with builds that it opens by a link.
 
-In: the module that `tools/wasm` made, in --page FOLDER or out/page of the repository; if it is not there, the page says
-how it is made, and takes it once it is there. And BUILD ..: folders with a definition, trees of its local sources and,
-if there is one, a record of a run, as `builds` describes them. A folder of llbmd's -keep stands for all builds in
-it, also those that are kept later, and REF in it for all definitions of that build.
+In: the module that `dev/dev wasm` made, in --page FOLDER or out/page of the repository, or the page of an installation;
+if it is not there, the page says how it is made, and takes it once it is there. And BUILD ..: folders with a
+definition, trees of its local sources and, if there is one, a record of a run, as `builds` describes them. A folder of
+llbmd's -keep stands for all builds in it, also those that are kept later, and REF in it for all definitions of that
+build.
 
 Out: without --serve a line for each build: its name, a tab, the local sources that have a tree, a tab, and whether
 there is a record. With --serve the link to the page, and a link to each build; then the page is served until the tool
@@ -23,12 +24,11 @@ import threading
 
 from llbm_tools import common, paths
 from llbm_tools.command_line import Parser
-from llbm_tools.page import assets, notes, server
+from llbm_tools.page import assets, buildkit_notes, server
 from llbm_tools.sessions import builds
 from llbm_tools.streams import Failed, Refused, exit_status
 
-PLACE = paths.ROOT / "out" / "page"
-MISSING = "the machine is missing: `tools/wasm` makes it where `rt ci` has run, `tools/wasm --unproved` without proof"
+MISSING = "the machine is missing: `dev/dev wasm` makes it where `rt ci` has run, else with --unproved"
 
 
 def list_builds(places: list[str]) -> None:
@@ -44,8 +44,8 @@ def serve(options: argparse.Namespace) -> None:
     module = options.page / assets.MODULE
     if not module.is_file():
         common.say(f"{MISSING}: {module}")
-    files = assets.files(None)
-    site = server.Site(files, module, options.build, lambda build: notes.notes_of(build, options.llbm))
+    files = assets.made_files(paths.PAGE) if paths.INSTALLED.is_file() else assets.files(None)
+    site = server.Site(files, module, options.build, lambda build: buildkit_notes.notes_of(build, options.llbm))
     try:
         with server.serving(site, options.port) as link:
             print(link)
@@ -78,13 +78,11 @@ def port_of(word: str) -> int:
 
 def parse_options() -> argparse.Namespace:
     """Parses the command line."""
-    parser = Parser(
-        description="Serves the page on this machine, with builds that it opens by a link."
-    )
+    parser = Parser(description="Serves the page on this machine, with builds that it opens by a link.")
     parser.add_argument("build", metavar="BUILD", nargs="*", help="a folder with a build, or one that llbmd keeps")
     parser.add_argument("--serve", action="store_true", help="serve the page; without it the builds are listed")
     parser.add_argument("--port", metavar="N", type=port_of, default=0, help="the port (default: one that is free)")
-    parser.add_argument("--page", metavar="FOLDER", type=pathlib.Path, default=PLACE, help="default: out/page")
+    parser.add_argument("--page", metavar="FOLDER", type=pathlib.Path, default=paths.PAGE, help="default: out/page")
     parser.add_argument("--llbm", metavar="PROGRAM", help="the program llbm, for notes of what BuildKit does otherwise")
     return parser.parse_args()
 

@@ -1,6 +1,6 @@
 """Tests the page: its module in Node against the program, and the page itself in a browser.
 
-In: the module that `tools/wasm` made, in --page FOLDER or out/page of the repository, and page/; the program, as for
+In: the module that `dev/dev wasm` made, in --page FOLDER or out/page of the repository, and page/; the program, as for
 `test`; Node for the first part, and Chromium for the second. The module and the program answer the same cases: each
 command on each example and sessions over it, and with --cases FOLDER the stored cases of a folder (`args`, `stdin`,
 `stdout`, `stderr`, `status` and the files of the words). In the browser the page is used as a person uses it, and each
@@ -25,7 +25,7 @@ from llbm_tools import common, streams
 from llbm_tools.command_line import Parser
 from llbm_tools.counts import Counts
 from llbm_tools.page import assets, browser, module_cases, pictures
-from llbm_tools.page import cases as page_cases
+from llbm_tools.page import browser_cases as page_cases
 from llbm_tools.page.driver import Page, Wrong, same
 from llbm_tools.streams import Failed, exit_status
 
@@ -60,7 +60,7 @@ class Outcome:
 
 def missing(options: argparse.Namespace) -> str:
     """Returns why there is no page to test, or nothing."""
-    return "" if (options.page / assets.MODULE).is_file() else "no page is there, tools/wasm makes it"
+    return "" if (options.page / assets.MODULE).is_file() else "no page is there, dev/dev wasm makes it"
 
 
 def module_tests(options: argparse.Namespace, program: str, outcome: Outcome) -> None:

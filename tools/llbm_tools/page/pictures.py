@@ -95,6 +95,11 @@ def take_pictures(page: Page, folder: pathlib.Path) -> None:
     page.press("h")
     page.browser.wait("document.getElementById('share-view').open")
     keep("share")
+    page.browser.size(*NARROW)
+    show_failure(page)
+    page.browser.wait("document.getElementById('cause').textContent.includes('No step before it')")
+    page.run("document.getElementById('changes-view').scrollIntoView()")
+    keep("failure")
     page.browser.size(*NARROW, is_dark=True)
     page.example("cache")
     for _ in range(2):

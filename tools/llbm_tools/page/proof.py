@@ -26,12 +26,12 @@ def what_is_said_of_proof(page: Page) -> None:
     bare = wasm_module.without_proof(module)
     same(shown_with(page, wasm_module.with_proof(bare, True)), ("yes", "", ""), "a proved module")
     ready, proof, _ = shown_with(page, wasm_module.with_proof(bare, False))
-    check(ready == "yes" and proof.startswith("Not proved: ") and "tools/wasm" in proof, proof)
+    check(ready == "yes" and proof.startswith("Not proved: ") and "dev/dev wasm" in proof, proof)
     ready, proof, _ = shown_with(page, bare)
     check(ready == "yes" and "is not known" in proof, proof)
     page.awaited.append("404 (Not Found)")
     ready, _, said = shown_with(page, None)
-    check(ready == "no" and "llbm.wasm" in said and "tools/wasm --unproved makes one without proof" in said, said)
+    check(ready == "no" and "llbm.wasm" in said and "dev/dev wasm --unproved makes one without proof" in said, said)
 
 
 CASES = (what_is_said_of_proof,)

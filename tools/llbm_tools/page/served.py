@@ -7,7 +7,7 @@ import tempfile
 from collections.abc import Iterator
 
 from llbm_tools.page import assets, module_cases, server
-from llbm_tools.page import notes as page_notes
+from llbm_tools.page import buildkit_notes as page_notes
 from llbm_tools.page.driver import Page, check, same
 
 KEPT = "llbmd-kept-builds"

@@ -38,7 +38,7 @@ HEADERS = {
     "style-src 'self' 'unsafe-inline'; connect-src 'self'; img-src 'self' data:; frame-ancestors 'none'",
 }  # fmt: skip
 MOST_SECONDS = 60
-# The owner of directories and archives, as `tools/build` reads them.
+# The owner of directories and archives, as `llbm-tools build` reads them.
 READING = source_texts.Reading(quiet=True)
 
 Opened = contextlib.AbstractContextManager[BinaryIO]

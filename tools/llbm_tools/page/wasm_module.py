@@ -5,10 +5,8 @@ clang compiles it and the heap for a memory of 64 bits, the kit's linker links t
 the module to a memory of 32 bits, which every browser takes. No proof covers any of this.
 """
 
-import os
 import pathlib
 import re
-import subprocess
 from collections.abc import Callable, Iterator
 
 from llbm_tools.compiling.library_code import EXPORTS, PREFIX, run, text_of

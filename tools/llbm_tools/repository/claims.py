@@ -1,13 +1,12 @@
 """Prints what has to be read to believe a statement, and maintains the tables in docs/CLAIMS.md.
 
-In: the sources in crates/. `tools/claims STATEMENT` prints every definition that a statement depends on, nearest first,
-each with its file and line, then the types of src/ that they name, and the number of lines in each file; STATEMENT is a
-column of the table in docs/CLAIMS.md: aim, load, assemble, disassemble, run, show, findings, plan, matches, asm, dis,
-step or program.
-`--first` prints the definitions that docs/CLAIMS.md has read first, in its order, each below its question. `--bodies`
-prints the wrong bodies that the prover refuses, each with its file and its function. `--write` writes the
-tables in docs/CLAIMS.md from the sources: for each statement the number of lines to read in each crate, and the number
-of wrong bodies of each crate. `--check` compares the page with the sources.
+In: the sources in crates/. `dev/dev claims STATEMENT` prints every definition that a statement depends on, nearest
+first, each with its file and line, then the types of src/ that they name, and the number of lines in each file;
+STATEMENT is a column of the table in docs/CLAIMS.md: aim, load, assemble, disassemble, run, show, findings, plan,
+matches, asm, dis, step or program. `--first` prints the definitions to read first, in the order of questions.md here,
+each below its question. `--bodies` prints the wrong bodies that the prover refuses, each with its file and its
+function. `--write` writes the tables in docs/CLAIMS.md from the sources: for each statement the number of definitions
+and lines to read, and the number of wrong bodies. `--check` compares the page with the sources.
 
 Out: definitions or wrong bodies on standard output, or with --check a line for each table that differs.
 
@@ -28,6 +27,7 @@ from llbm_tools.repository.specs import Definition, Library, contract
 from llbm_tools.streams import exit_status
 
 PAGE = ROOT / "docs" / "CLAIMS.md"
+QUESTIONS = pathlib.Path(__file__).with_name("questions.md")
 COLUMNS = 160
 FILE = re.compile(r"`(?:(\w+)/specs/)?(\w+)\.antt`")
 QUESTION = re.compile(r"- `(\w+)`: (.*)")
@@ -56,15 +56,14 @@ def resting(library: Library, statement: str) -> tuple[list[Definition], list[st
 
 
 def first(library: Library) -> list[tuple[Definition, str]]:
-    """Returns the definitions that the page has read first, in its order, each with its question.
+    """Returns the definitions to read first, in the order of the questions, each with its own.
 
     A group of them begins with a paragraph that names their files; one without a crate is in the crate before it.
     """
     known = {(one.crate, one.file, one.name): one for one in resting(library, "aim")[0]}
-    section = PAGE.read_text("utf-8").partition("\n## The definitions to read first\n")[2].partition("\n### ")[0]
     found: list[tuple[Definition, str]] = []
     files: list[tuple[str, str]] = []
-    for part in re.split(r"\n\n|\n(?=- )", section):
+    for part in re.split(r"\n\n|\n(?=- )", QUESTIONS.read_text("utf-8")):
         text = " ".join(part.split())
         if asked := QUESTION.fullmatch(text):
             keys = [(*file, asked[1]) for file in files]
@@ -91,13 +90,8 @@ def table_of(head: list[str], rows: list[list[str]]) -> list[str]:
 
 
 def reading(library: Library) -> list[str]:
-    """Returns the table of what to read: how many definitions, files and lines, and how many lines of each crate."""
+    """Returns the table of what to read: how many definitions, files and lines."""
     cones = {name: resting(library, name) for name in STATEMENTS}
-    lines: dict[str, dict[str, int]] = {}
-    for name, (definitions, _) in cones.items():
-        for (crate, _), count in counted(definitions).items():
-            lines.setdefault(crate, dict.fromkeys(STATEMENTS, 0))[name] += count
-    rows = [[f"`{crate}`", *(str(it or "") for it in counts.values())] for crate, counts in lines.items()]
     sums = [
         ["definitions", *(str(len(them)) for them, _ in cones.values())],
         ["files", *(str(len(counted(them))) for them, _ in cones.values())],
@@ -106,7 +100,7 @@ def reading(library: Library) -> list[str]:
         ["types of `src/`", *(str(len(types)) for _, types in cones.values())],
     ]
     whole = sum(len(it.read_text("utf-8").splitlines()) for it in library.root.glob("crates/*/specs/**/*.antt"))
-    table = table_of(["Lines in", *STATEMENTS], [*sums, *rows])
+    table = table_of(["What", *STATEMENTS], sums)
     return [*table, "", f"All files of `specs/` have {whole} lines."]
 
 
@@ -148,19 +142,17 @@ def changes_a_definition(edit: pathlib.Path) -> bool:
 
 
 def edits(library: Library) -> list[str]:
-    """Returns how many edits there are, how many of them change a definition, and how many each crate has."""
+    """Returns how many edits there are, how many of them change a definition, and how many crates have some."""
     crates = crates_with_edits(library)
-    each = ", ".join(f"`{crate.name}` {len(found)}" for crate, found in crates)
     whole = [edit for _, found in crates for edit in found]
-    text = f"{len(whole)} edits, of which {sum(map(changes_a_definition, whole))} change a definition: {each}."
-    return textwrap.wrap(text, COLUMNS, break_long_words=False, break_on_hyphens=False)
+    return [f"{len(whole)} edits in {len(crates)} crates; {sum(map(changes_a_definition, whole))} change a definition."]
 
 
 def page_of(text: str, lists: dict[str, list[str]]) -> tuple[str, list[str]]:
     """Returns the page with the lists replaced, and the names of the lists that differed."""
     differing = []
     for name, lines in lists.items():
-        marks = rf"(<!-- tools/claims writes: {name} -->\n)(.*?)(\n<!-- end -->)"
+        marks = rf"(<!-- dev/dev claims writes: {name} -->\n)(.*?)(\n<!-- end -->)"
         found = re.search(marks, text, re.S)
         if not found or found[2] != "\n".join(lines):
             differing.append(name)
@@ -176,7 +168,7 @@ def write_or_check(library: Library, writes: bool) -> int:
         PAGE.write_text(page, "utf-8")
         return 0
     for name in differing:
-        print(f"docs/CLAIMS.md: the part `{name}` differs from the sources: run tools/claims --write")
+        print(f"docs/CLAIMS.md: the part `{name}` differs from the sources: run dev/dev claims --write")
     return 1 if differing else 0
 
 

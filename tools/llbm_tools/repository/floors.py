@@ -36,6 +36,7 @@ LENDERS = {
     "llb_wire": None,
     "llb_model": None,
     "llb_tree": {"llb_merge", "llb_treetext", "llb_fileop", "llb_applet", "llb_laws"},
+    "llb_glob": {"llb_fileop"},
     "llb_merge": {"llb_laws"},
     "llb_cache": {"llb_model", "llb_board"},
     "llb_ops": {"llb_asm", "llb_loader"},

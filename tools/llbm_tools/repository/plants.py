@@ -119,7 +119,7 @@ def listing(top: pathlib.Path, crate: str, given: list[str]) -> str:
     with tempfile.TemporaryDirectory(prefix="llbm-plants-") as name:
         folder = pathlib.Path(name).resolve()
         lay_out(top, crate, folder)
-        module = "llbm_tools.repository.plant_over"
+        module = "llbm_tools.repository.plant_run"
         words = [sys.executable, "-m", module, str(folder), crate, "--all", "--jobs", "1", *given]
         known = {**os.environ, "PYTHONPATH": str(TOOLS)}
         done = subprocess.run(words, env=known, stdin=subprocess.DEVNULL, stdout=subprocess.PIPE, encoding="utf-8")
@@ -179,9 +179,7 @@ def work(options: argparse.Namespace) -> int:
 
 def main() -> int:
     """Runs the tool, and returns its exit status."""
-    parser = Parser(
-        prog="tools/plants", description="Tries wrong bodies that a machine writes."
-    )
+    parser = Parser(description="Tries wrong bodies that a machine writes.")
     parser.add_argument("crates", nargs="*", metavar="CRATE", help="a crate; all but those of tests if none is named")
     parser.add_argument("--repository", metavar="DIRECTORY", type=pathlib.Path, default=ROOT, help="where `rt ci` ran")
     parser.add_argument("--minutes", metavar="N", type=int, default=10, help="the time for the bodies of each crate")

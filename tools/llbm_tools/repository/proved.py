@@ -6,8 +6,8 @@ meets. The sentence is the first one of its docstring. Clauses without a name ar
 clauses`); `asks` names the conditions that the caller has to meet. The clauses are at the call, over the definitions
 of specs/.
 
-Out: on standard output, for each crate, its name and a list. `tools/test repository` fails for a call without a clause
-or a docstring, and for a clause that a page names and no call has.
+Out: on standard output, for each crate, its name and a list. `dev/dev test repository` fails for a call without a
+clause or a docstring, and for a clause that a page names and no call has.
 
 Exit status: 0 done; 2 the command line is refused; 3 a read or a write failed.
 """

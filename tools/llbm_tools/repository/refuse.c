@@ -1,4 +1,4 @@
-/* Makes requests for memory, and starts of threads, fail on demand. `tools/refuse` preloads this library into the
+/* Makes requests for memory, and starts of threads, fail on demand. `dev/dev refuse` preloads this library into the
    tests of `llb_refusals`, which control it by the sizes of requests that no allocator grants (ASK, START, ALL and
    TELL, as in `growths.rt` there). A request of ASK + k bytes makes the k-th later request fail, and only that one; a
    request of START + k bytes makes the k-th later start of a thread fail, and only that one; a request of ALL bytes

@@ -8,22 +8,22 @@ by bash. A command is one of these:
   line after `! `, then `status N`, unless the status is 0. If it reads standard input, a line that begins with `> ` is
   typed to it when it has printed what is above the line; what it then prints is below.
 - In another block (lines indented by four spaces, or between lines of ```), a line that begins with the path of a
-  program of this repository, such as `tools/lines` or `./llbm`, or with such a path after `(cd DIRECTORY && `; before
+  program of this repository, such as `dev/dev` or `./llbm`, or with such a path after `(cd DIRECTORY && `; before
   the first one the block may have lines that begin with `mkdir`. The output of such a block of commands is shown below
   it, by a paragraph that begins with `prints` or `which prints`: the text between backquotes right after that word, or
   else the block below the paragraph, which may also say `on standard error`, and `status N`. If no output is shown, the
   commands have to exit with status 0.
 
-The program is on the path as `llbm`: --llbm PROGRAM, or else the first one of the repository that exists. A file below
-a folder `tests` has an empty folder of its own, in which its commands make their inputs; with --unproved what it shows
-of the version says that the program is not proved. These files run at the same time, one on each processor. The other
-pages have one temporary folder with a copy of each file of the repository which git does not ignore (of all files
+On the path are `llbm-tools` and, as `llbm`, --llbm PROGRAM, or else the first one of the repository that exists. A file
+below a folder `tests` has an empty folder of its own, in which its commands make their inputs; with --unproved what it
+shows of the version says that the program is not proved. These files run at the same time, one on each processor. The
+other pages have one temporary folder with a copy of each file of the repository which git does not ignore (of all files
 without git, but the compiled ones), and with the program where the repository has it: at crates/llbm/out/llbm, or, if
-its version says that it is not proved, at out/llbm-unproved. Commands with the word `rt`, with
-`tools/unproved-program`, which compile, and with `./gate` or `.ci/run`, which run this page themselves, are left out.
-The program llbm-rules is that of the repository, at the same place of the copy; where `tools/daemon` has not built it,
-commands of the tools that print BuildKit's rules are left out, too.
-At the end the copy must have no other files than before, and these unchanged, but for files that git ignores.
+its version says that it is not proved, at out/llbm-unproved. Commands with the word `rt`, with `dev/dev
+unproved-program`, which compile, and with `./gate` or `.ci/run`, which run this page themselves, are left out. The
+program llbm-rules is that of the repository, at the same place of the copy; where `dev/dev daemon` has not built it,
+commands of the tools that print BuildKit's rules are left out, too. At the end the copy must have no other files than
+before, and these unchanged, but for files that git ignores.
 
 Out: on standard output a line for each command or block that differs, those left out, and each file of the copy that
 was made or changed, and at the end `N passed, M failed, K skipped`. Each command or block counts once, with all lines
@@ -45,6 +45,7 @@ from collections.abc import Iterator
 from typing import NamedTuple
 
 from llbm_tools.command_line import Parser
+from llbm_tools.commands import USERS_DOOR
 from llbm_tools.common import NOT_PROVED, PROVER, check_open, printable
 from llbm_tools.counts import Counts, total
 from llbm_tools.inputs import data_at
@@ -54,8 +55,10 @@ from llbm_tools.repository.shown_commands import Reply, Shown, parts_of, shown_b
 from llbm_tools.repository.shown_runs import Place, difference
 from llbm_tools.streams import Refused, exit_status, program_at
 
-BY_RULES = re.compile(r"tools/(?:as-buildkit|explain-run|lint)(?![^\s);&|])")
-LEFT_OUT = re.compile(r"(?:^|[\s(;&|])(?:rt|tools/unproved-program|\./gate|\.ci/run)(?![^\s);&|])", re.MULTILINE)
+RULES_TOOLS = r"llbm-tools (?:explain (?:buildkit|run)|lint)|tools/(?:as-buildkit|explain-run|lint)"
+BY_RULES = re.compile(rf"(?:{RULES_TOOLS})(?![^\s);&|])")
+COMPILES = r"rt|(?:dev/dev |tools/)unproved-program|\./gate|\.ci/run"
+LEFT_OUT = re.compile(rf"(?:^|[\s(;&|])(?:{COMPILES})(?![^\s);&|])", re.MULTILINE)
 TESTS = "tests"
 
 
@@ -127,10 +130,14 @@ def without_proof(shown: Shown) -> Shown:
 
 
 def path_with(folder: str, program: str) -> dict[str, str]:
-    """Puts the program into a folder, as `llbm`, and returns the environment with this folder first on the path."""
+    """Puts the program into a folder, as `llbm`, and llbm-tools; returns the environment with it first on the path.
+
+    The program is named there, too: of a named one no tool says whether it is proved, so all of them print the same.
+    """
     os.makedirs(folder)
-    os.symlink(program, os.path.join(folder, "llbm"))
-    return {**os.environ, "PATH": os.pathsep.join([folder, os.environ.get("PATH", os.defpath)])}
+    for place in (program, str(ROOT / USERS_DOOR)):
+        os.symlink(place, os.path.join(folder, "llbm" if place is program else USERS_DOOR))
+    return {**os.environ, "LLBM": program, "PATH": os.pathsep.join([folder, os.environ.get("PATH", os.defpath)])}
 
 
 def run_test(page: Page, settings: dict[str, str], is_unproved: bool) -> Result:
@@ -143,17 +150,19 @@ def run_test(page: Page, settings: dict[str, str], is_unproved: bool) -> Result:
 
 
 def run_pages(pages: list[Page], copy: Copy, settings: dict[str, str]) -> Result:
-    """Runs the commands of pages, in a copy of the repository."""
+    """Runs the commands of pages, in a copy of the repository whose programs come first on the path."""
     result = Result()
+    path = os.pathsep.join([copy.folder, settings["PATH"]])
+    known = {**copy.settings, "PATH": path, "LLBM": settings["LLBM"]}
     for page, shown in ((page, shown) for page in pages for shown in page.shown):
         if LEFT_OUT.search(shown.commands):
             result.leave(f"{page.path}:{shown.number}: left out, since it compiles or runs the gate")
         elif BY_RULES.search(shown.commands) and not RULES.exists():
             result.leave(f"{page.path}:{shown.number}: left out, since there is no out/llbm-rules")
         else:
-            result.run(page.path, shown, Place(copy.folder, {**copy.settings, "PATH": settings["PATH"]}))
-    for path in copy.changed():
-        result.fail(f"{path}: made or changed by these commands, and not ignored by git")
+            result.run(page.path, shown, Place(copy.folder, known))
+    for changed in copy.changed():
+        result.fail(f"{changed}: made or changed by these commands, and not ignored by git")
     return result
 
 

@@ -15,8 +15,8 @@ from collections.abc import Callable, Mapping
 from typing import BinaryIO, NamedTuple
 
 from llbm_tools.rules import program
-from llbm_tools.rules.lines import INHERITED, more_paths
 from llbm_tools.rules.program import Answer
+from llbm_tools.rules.rule_words import INHERITED, more_paths
 from llbm_tools.streams import REFUSED, Failed, Refused
 
 # The action of what is about a vertex as a whole.

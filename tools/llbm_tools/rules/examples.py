@@ -4,8 +4,8 @@ import base64
 from typing import NamedTuple
 
 from llbm_tools.rules import program
-from llbm_tools.trees import maps
-from llbm_tools.trees.maps import Tree
+from llbm_tools.trees import tree_maps
+from llbm_tools.trees.tree_maps import Tree
 
 
 # When an adopted example agrees.
@@ -30,7 +30,7 @@ def examples() -> list[Example]:
     found = []
     for one in program.answers("examples"):
         texts = {name: text.encode("utf-8").splitlines(keepends=True) for name, text in one["trees"].items()}
-        sources = {name: maps.tree_of(lines) for name, lines in texts.items()}
+        sources = {name: tree_maps.tree_of(lines) for name, lines in texts.items()}
         data = base64.b64decode(one["definition"])
         found.append(Example(one["rule"], one["shows"], data, sources, one["buildkit"], one["llbm"], one["adopted"]))
     return found

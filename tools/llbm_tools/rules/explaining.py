@@ -9,8 +9,8 @@ import re
 from typing import NamedTuple
 
 from llbm_tools.rules import program
-from llbm_tools.rules.lines import INHERITED
 from llbm_tools.rules.notes import ATTRIBUTE
+from llbm_tools.rules.rule_words import INHERITED
 
 # What is before a line in the output of `explain-run`, of buildctl and of docker-buildx.
 LEAD = re.compile(r"\s*(?:BuildKit: |(?:=> )*(?:#\d+ )?WARN: |- )?")

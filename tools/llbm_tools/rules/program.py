@@ -29,7 +29,7 @@ def place() -> str:
         if found := shutil.which(one):
             return found
     missing = f"{VARIABLE} names no program: {named}" if named else f"there is no program {NAME}"
-    raise Missing(f"{missing}; tools/daemon of the repository builds it")
+    raise Missing(f"{missing}; dev/dev daemon of the repository builds it")
 
 
 def output_of(word: str, *words: str, given: bytes = b"") -> bytes:

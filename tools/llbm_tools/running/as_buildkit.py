@@ -27,10 +27,10 @@ from llbm_tools import common, inputs, objects
 from llbm_tools.command_line import Parser
 from llbm_tools.debugging import launching
 from llbm_tools.llb import definition, names
-from llbm_tools.running import explain_run
 from llbm_tools.rules import notes, program
 from llbm_tools.rules.comparison import WHOLE, Comparison, End, Executions, Outputs, StepLines
-from llbm_tools.rules.executing import Program
+from llbm_tools.rules.one_execution import Program
+from llbm_tools.running import explain_run
 from llbm_tools.sessions.session import Refusal, Session, SessionFailed
 from llbm_tools.streams import FAILED, Failed, Refused, exit_status
 from llbm_tools.trees.source_files import source_of

@@ -27,9 +27,9 @@ from collections.abc import Iterator
 from llbm_tools import common, inputs, objects
 from llbm_tools.command_line import Parser
 from llbm_tools.debugging import launching
-from llbm_tools.debugging.described import changed_lines, otherwise_lines
-from llbm_tools.debugging.happened import Happened, Watch
-from llbm_tools.debugging.views import Views
+from llbm_tools.debugging.event_lines import changed_lines, otherwise_lines
+from llbm_tools.debugging.last_event import Happened, Watch
+from llbm_tools.debugging.variables import Views
 from llbm_tools.running import summary
 from llbm_tools.sessions.session import Event, Refusal, Session, SessionFailed
 from llbm_tools.streams import FAILED, Refused, exit_status

@@ -1,7 +1,7 @@
 """Says in words why vertices of a run failed: the command with its words, or the action, and what was missing.
 
 A run prints only numbers. So the definition is run again, by one worker in a session, which is asked at each failure
-why the command failed, or for the trees of the action. A run that takes longer than a minute has no reasons.
+why the command or the action failed. A run that takes longer than a minute has no reasons.
 """
 
 import contextlib
@@ -10,7 +10,7 @@ import re
 import threading
 from typing import NamedTuple
 
-from llbm_tools.debugging import reasons
+from llbm_tools.debugging import vertex_failures
 from llbm_tools.inputs import data_at
 from llbm_tools.llb import source_names
 from llbm_tools.llb.ops import Op
@@ -57,7 +57,7 @@ class Reasons:
         try:
             while event := session.event("next"):
                 if event.fails() and event.vertex < len(vertices):
-                    why = reasons.why_failed(session, vertices[event.vertex], len(session.record) - 1)
+                    why = vertex_failures.why_failed(session, vertices[event.vertex], len(session.record) - 1)
                     if why and self.found is not None:
                         self.found[event.vertex] = why
         finally:

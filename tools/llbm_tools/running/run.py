@@ -1,10 +1,11 @@
 """Runs the program llbm with the same words, and explains below each fault or failure line what is known of it.
 
-In: the words of the program's command line, with what it reads from standard input. `--llbm PROGRAM` before them names
+In: the words of the program's command line, with what it reads from standard input; if the first one is NAME=FILE or
+--workers, `run` is put before it. `--llbm PROGRAM` before them names
 another program than that of the repository or the installation around this folder. `--record FOLDER` before them, for
 `run`, keeps the run in a new folder: the definition, the trees, and the record of a run on one thread, which
-`tools/page` opens. A source may also be a directory, all of whose entries get the owner 0:0. Of it only what the
-filters of the local source select is given, as BuildKit's clients do, by the program llbm-rules (tools/daemon builds
+`llbm-tools page` opens. A source may also be a directory, all of whose entries get the owner 0:0. Of it only what the
+filters of the local source select is given, as BuildKit's clients do, by the program llbm-rules (dev/dev daemon builds
 it); where it is not there, such a source is refused. `--no-filters` before the words gives all of it.
 
 Out: what the program writes, unchanged; on standard error, below a line `fault ..` or `failed ..` of the program, lines
@@ -32,8 +33,9 @@ import tempfile
 from collections.abc import Iterator
 from typing import BinaryIO, cast
 
-from llbm_tools.command_line import Parser
-from llbm_tools.common import MOST_BYTES, check_open, say, tool_named
+from llbm_tools import commands
+from llbm_tools.command_line import Parser, print_all
+from llbm_tools.common import MOST_BYTES, say
 from llbm_tools.definitions import faults
 from llbm_tools.rules import notes
 from llbm_tools.running import given_trees, run_records
@@ -43,6 +45,7 @@ from llbm_tools.running.failure_reasons import Reasons
 from llbm_tools.running.program_words import HELP, read_words
 from llbm_tools.streams import PIECE, Refused, exit_status, program_at
 
+WORKERS = "--workers"
 OPTION, RECORD, NO_FILTERS = "--llbm", "--record", "--no-filters"
 # The statuses of a run that was not refused: the result was printed, or a vertex failed.
 WAS_RUN = (0, 1)
@@ -67,6 +70,9 @@ def options_and_words(words: list[str]) -> tuple[dict[str, str], list[str]]:
 def run_words(words: list[str]) -> int:
     """Runs the program with the words of the command line, and returns the exit status."""
     options, words = options_and_words(words)
+    # (the program has no command of such a name, so it is the first word of its command `run`)
+    if words and (words[0].startswith(WORKERS) or "=" in words[0]):
+        words = ["run", *words]
     program = program_at(options.get(OPTION), f"{OPTION} PROGRAM before the other words names another one")
     folder = pathlib.Path(options[RECORD]) if RECORD in options else None
     if folder:
@@ -164,7 +170,8 @@ def run_program(program: str, words: list[str], folder: pathlib.Path | None, *, 
     if read.asks:
         return page_of(program, words, read.command)
     if read.command == "step" and sys.stdin and sys.stdin.isatty():
-        say(f"llbm step reads a command on each line, as next, back, go or quit; {tool_named('debug')} has a prompt")
+        prompt = commands.shown("debug")
+        say(f"llbm step reads a command on each line, as next, back, go or quit; {prompt} has a prompt")
     with tempfile.TemporaryFile() as file:
         reads = not read.refused and read.command != "step"
         given = stored_input(cast(BinaryIO, file)) if reads else None
@@ -212,13 +219,12 @@ def parser() -> argparse.ArgumentParser:
 def page_of(program: str, words: list[str], command: str) -> int:
     """Prints the page of the program that the words ask for on standard output, and returns the exit status."""
     done = subprocess.run([program, *words], stdin=subprocess.DEVNULL, capture_output=True)
-    check_open(sys.stdout, "standard output")
-    print(done.stderr.partition(b"\n")[2].decode("utf-8", "backslashreplace"), end="")
+    text = done.stderr.partition(b"\n")[2].decode("utf-8", "backslashreplace")
     if command == "step":
-        print("\nCommands on standard input:")
+        text += "\nCommands on standard input:\n"
         for line in faults.read_page().lines[SESSION_LINE]:
-            print(f"  {line.line}\n      {line.sentence}")
-    sys.stdout.flush()
+            text += f"  {line.line}\n      {line.sentence}\n"
+    print_all(text, "the version" if "--version" in words else "the help")
     return 0
 
 

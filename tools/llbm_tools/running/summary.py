@@ -2,16 +2,16 @@
 
 from collections.abc import Iterator
 
-from llbm_tools.debugging import looks, trees
+from llbm_tools.debugging import shown_trees, worker_trees
 from llbm_tools.debugging.changes import Compared
-from llbm_tools.debugging.happened import Happened
+from llbm_tools.debugging.last_event import Happened
 from llbm_tools.sessions.session import Session, TooLarge
 
 # No tree has as many paths: all changes are counted.
 ALL_PATHS = 1 << 40
 
 
-def size_of(node: trees.Node | None) -> int:
+def size_of(node: shown_trees.Node | None) -> int:
     """Returns the length of a file's content; 0 for a directory and for nothing."""
     return len(node.content) // 2 if node else 0
 
@@ -34,15 +34,15 @@ def step_line(happened: Happened) -> str:
 def tree_size(session: Session, vertex: int, output: int) -> str:
     """Says how large an output of a vertex that is done is, or why its tree is not read."""
     try:
-        heads = looks.flat_by(session, f"tree {vertex} {output}").values()
+        heads = worker_trees.flat_by(session, f"tree {vertex} {output}").values()
     except TooLarge as cause:
         return str(cause)
-    nodes = [trees.node_of(head) for head in heads]
+    nodes = [shown_trees.node_of(head) for head in heads]
     directories = sum(node.is_directory() for node in nodes)
     counts = [
-        trees.counted(directories, "directory", "directories"),
-        trees.counted(len(nodes) - directories, "file", "files"),
-        trees.counted(sum(map(size_of, nodes)), "byte", "bytes"),
+        shown_trees.counted(directories, "directory", "directories"),
+        shown_trees.counted(len(nodes) - directories, "file", "files"),
+        shown_trees.counted(sum(map(size_of, nodes)), "byte", "bytes"),
     ]
     return ", ".join(counts)
 

@@ -9,7 +9,7 @@ from llbm_tools.images.archive_entries import Path, Placed
 from llbm_tools.images.archives import Member
 from llbm_tools.streams import Refused, temporary_file, write_output
 from llbm_tools.trees import links
-from llbm_tools.trees.leftout import ATTRIBUTE, DEVICE, LINK, NO_NAME, PIPE, Exclusion, LeftOut, exclusion_of_names
+from llbm_tools.trees.left_out import ATTRIBUTE, DEVICE, LINK, NO_NAME, PIPE, Exclusion, LeftOut, exclusion_of_names
 from llbm_tools.trees.trees import MOST_OF_AN_OWNER, Owner, line_start, path_of, warn_of_length
 
 HARD_LINK = Exclusion("a hard link to no entry", "hard link to no entry", "hard links to no entry")

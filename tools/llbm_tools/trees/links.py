@@ -8,7 +8,7 @@ import os
 from collections.abc import Callable
 
 from llbm_tools.streams import Refused
-from llbm_tools.trees.references import MARK
+from llbm_tools.trees.content_tokens import MARK
 from llbm_tools.trees.trees import MOST_OF_AN_OWNER, Entry
 
 MODE = 0o777

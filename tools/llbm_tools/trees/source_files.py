@@ -7,8 +7,8 @@ from collections.abc import Callable, Mapping
 
 from llbm_tools.inputs import opened_file
 from llbm_tools.streams import Failed, Refused
+from llbm_tools.trees.content_tokens import Table
 from llbm_tools.trees.directory_texts import Values
-from llbm_tools.trees.references import Table
 from llbm_tools.trees.source_texts import TEXT, Reading, Source, kind_of
 
 Say = Callable[[str], None]

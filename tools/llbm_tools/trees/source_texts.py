@@ -16,10 +16,10 @@ from llbm_tools.images import archives, packing, unpacking
 from llbm_tools.images.archive_entries import Placed, entries_of
 from llbm_tools.streams import Failed, Refused, temporary_file
 from llbm_tools.trees import archive_texts, links
+from llbm_tools.trees.content_tokens import Table, stamp_of, token
 from llbm_tools.trees.directory_texts import DirectoryText, Text, Values
 from llbm_tools.trees.kept_sources import Recorder
-from llbm_tools.trees.leftout import LeftOut
-from llbm_tools.trees.references import Table, stamp_of, token
+from llbm_tools.trees.left_out import LeftOut
 from llbm_tools.trees.trees import Owner, checked_at, line_start, path_of, warn_of_length
 
 DIRECTORY, ARCHIVE, IMAGE, TEXT = "directory", "archive", "image", "text"

@@ -6,8 +6,8 @@ import pathlib
 import shutil
 import stat
 
-from llbm_tools.building import plans, result_writing
-from llbm_tools.trees import references
+from llbm_tools.building import result_writing, sources_by_value
+from llbm_tools.trees import content_tokens
 from tests import base, program
 from tests.base import run
 from tests.building.building import Builds
@@ -43,7 +43,7 @@ class Plans(base.WithProgram):
 
     def check_plan(self, entries, sources, cause=""):
         """Checks the sources that are given by value, and the cause for giving all of them."""
-        plan = plans.plan_of(base.ending(*entries), base.llbm)
+        plan = sources_by_value.plan_of(base.ending(*entries), base.llbm)
         self.assertEqual((plan.sources, plan.all), (sources, cause))
 
     def test_sources_before_a_digest_are_given_by_value(self):
@@ -73,29 +73,29 @@ class Plans(base.WithProgram):
     def test_caches_carry_contents_between_execs(self):
         one, two = base.source("local://one"), base.source("local://two")
         filling, digest = cached_exec("cp", "/a", "/c", on=one), cached_exec("sha256", "/c/a", "/b", on=two)
-        found = plans.plan_of(base.ending(one, two, filling, digest, base.merge(filling, digest)), base.llbm)
+        found = sources_by_value.plan_of(base.ending(one, two, filling, digest, base.merge(filling, digest)), base.llbm)
         after = "vertex 3, an exec, calls sha256"
         self.assertEqual(found.sources, {b"one": f"{after}, and vertex 2 mounts a cache", b"two": after})
         self.check_plan([one, filling], {})
 
     def test_a_definition_that_is_refused_has_no_plan(self):
-        self.assertIsNone(plans.plan_of(b"\x0a", base.llbm))
-        self.assertIsNone(plans.plan_of(base.ending(base.source("git://a")), base.llbm))
+        self.assertIsNone(sources_by_value.plan_of(b"\x0a", base.llbm))
+        self.assertIsNone(sources_by_value.plan_of(base.ending(base.source("git://a")), base.llbm))
 
 
 class Pieces(base.Folder):
     """Tokens, and how contents are written."""
 
     def test_pieces(self):
-        token = references.token
+        token = content_tokens.token
         self.assertEqual(token(0x01020304), b"\xff\x01\x02\x03\x04")
         pieces = [b"a", 7, 0xFFFFFFFF, b"bc"]
         text = b"a" + token(7) + token(0xFFFFFFFF) + b"bc"
-        self.assertEqual(list(references.pieces_of(text)), pieces)
-        self.assertEqual(list(references.pieces_of(b"")), [])
+        self.assertEqual(list(content_tokens.pieces_of(text)), pieces)
+        self.assertEqual(list(content_tokens.pieces_of(b"")), [])
         for cut in range(1, 5):
-            with self.assertRaisesRegex(references.Refused, "inside a token"):
-                list(references.pieces_of(b"a" + token(7)[:cut]))
+            with self.assertRaisesRegex(content_tokens.Refused, "inside a token"):
+                list(content_tokens.pieces_of(b"a" + token(7)[:cut]))
 
     def test_a_path_of_128_long_names_is_opened_and_written(self):
         path = b"".join(b"/" + b"%03d" % number + b"n" * 252 for number in range(127))
@@ -106,7 +106,8 @@ class Pieces(base.Folder):
         text += b"f 0644 0 0 6869 %b/f\n" % path
         place = os.fsdecode(self.place(b"out"))
         os.mkdir(place)
-        result_writing.DirectoryWriter(os.fsdecode(self.file(b"text", text)), place, references.Table(), None).write()
+        source = os.fsdecode(self.file(b"text", text))
+        result_writing.DirectoryWriter(source, place, content_tokens.Table(), None).write()
         self.assertEqual(self.read().stdout.replace(self.mine, b"0 0"), text)
 
     def test_several_processes_write_what_one_does(self):
@@ -120,7 +121,7 @@ class Pieces(base.Folder):
             self.addCleanup(setattr, result_writing, "FILES_OF_A_WORKER", before)
             os.mkdir(self.place(name.encode()))
             place = os.fsdecode(self.place(name.encode()))
-            writer = result_writing.DirectoryWriter(text, place, references.Table(), None)
+            writer = result_writing.DirectoryWriter(text, place, content_tokens.Table(), None)
             writer.write()
             writer.end()
             read = self.read(name.encode(), "--owner", "0:0").stdout
@@ -132,8 +133,8 @@ class Pieces(base.Folder):
         lines = ["d 0755 0 0 /", *(f"f 0644 0 0 61 /{name}" for name in range(100, 900)), "f 0644 0 0 ff00000000 /900"]
         os.mkdir(self.place(b"out"))
         text = os.fsdecode(self.file(b"text", self.text(lines)))
-        writer = result_writing.DirectoryWriter(text, os.fsdecode(self.place(b"out")), references.Table(), None)
-        with self.assertRaisesRegex(references.Refused, "a token that is none of a source"):
+        writer = result_writing.DirectoryWriter(text, os.fsdecode(self.place(b"out")), content_tokens.Table(), None)
+        with self.assertRaisesRegex(content_tokens.Refused, "a token that is none of a source"):
             writer.write()
         writer.end()
 

@@ -73,7 +73,7 @@ class Filters(Sources):
         self.check_end(
             self.build("definition", "out", "src=in"), 2,
             "the local source src has filters, which llbm-rules applies; --no-filters gives all of in: "
-            "LLBM_RULES names no program: /none; tools/daemon of the repository builds it",
+            "LLBM_RULES names no program: /none; dev/dev daemon of the repository builds it",
         )  # fmt: skip
         del self.settings["env"]["LLBM_RULES"]
         self.set_source(EXCLUDES, {"local.includepattern": '["b"]'})

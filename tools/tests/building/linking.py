@@ -130,11 +130,16 @@ class Linked(Folder):
         self.assertEqual((done.returncode, self.made(self.at / "out")), (0, {"real/deep/file": "hello"}))
         self.assertIn("left out: 3 symbolic links", done.stderr.decode())
 
-    def test_an_execution_that_names_a_link_is_refused_by_the_path_and_the_link(self):
-        ran = execution("cp /current/deep/file /a", self.origin)
-        done = self.linked(ran)
+    def test_an_execution_follows_links_where_its_trees_are_known(self):
+        done = self.linked(execution("cp /current/deep/file /a", self.origin))
+        self.assertEqual(done.returncode, 0, done.stderr)
+        self.assertEqual(self.made(self.at / "out")["a"], "hello")
+
+    def test_an_execution_that_names_a_link_after_another_is_refused_by_the_path_and_the_link(self):
+        first = execution("true", self.origin)
+        done = self.linked(first, execution("cp /current/deep/file /a", first))
         self.assertEqual(done.returncode, 2)
-        line = "vertex 1: /current/deep/file leads through the symbolic link /current, which llbm does not follow"
+        line = ": command 0: /current/deep/file leads through the symbolic link /current, which llbm does not follow"
         self.assertIn(line, done.stderr.decode())
         self.assertFalse((self.at / "out").exists())
 

@@ -6,7 +6,7 @@ import shutil
 import stat
 import time
 
-from llbm_tools.building import exchange, kept_builds, replacing
+from llbm_tools.building import exchange, kept_builds, replaced_results
 from llbm_tools.trees import directory_states, kept_sources
 from tests import base
 from tests.base import run
@@ -327,7 +327,7 @@ class Parts(base.Folder):
             ([b"/a/b"], b"/a/b"), ([b"/a/b", b"/a/c"], b"/a"), ([b"/a/b", b"/a/bc"], b"/a"), ([b"/a", b"/b/c"], b""),
             ([b"/a/b", b"/a"], b"/a"), ([b""], b""),
         ]:
-            self.assertEqual(replacing.common_place(places), wanted)
+            self.assertEqual(replaced_results.common_place(places), wanted)
 
     def test_an_exchange_without_the_kernel_is_two_steps(self):
         self.addCleanup(setattr, exchange, "kernel_call", exchange.kernel_call)

@@ -3,7 +3,9 @@
 import argparse
 import collections
 import contextlib
+import hashlib
 import io
+import json
 import os
 import pathlib
 import re
@@ -15,16 +17,18 @@ import unittest
 from unittest import mock
 
 from llbm_tools.daemon import (
-    against_buildkit, daemon, project_dockerfiles, random_definitions, random_dockerfiles, runs, started_daemon,
+    against_buildkit, daemon, fixed_sets, link_cases, project_dockerfiles, random_definitions, random_dockerfiles, runs,
+    scripted_runc, started_daemon, stored_dockerfiles,
 )  # fmt: skip
 from llbm_tools.rules import examples
-from llbm_tools.trees import maps
+from llbm_tools.streams import Refused
+from llbm_tools.trees import tree_maps
 from tests import base
 
 ADDRESS = "LLBM_BUILDKIT_ADDRESS"
 COUNT = 3
-FILE = {(): maps.ROOT, (b"f",): maps.Entry(0o644, 0, 0, b"78")}
-OTHER = {(): maps.ROOT, (b"f",): maps.Entry(0o604, 0, 0, b"78")}
+FILE = {(): tree_maps.ROOT, (b"f",): tree_maps.Entry(0o644, 0, 0, b"78")}
+OTHER = {(): tree_maps.ROOT, (b"f",): tree_maps.Entry(0o604, 0, 0, b"78")}
 
 
 class Played:
@@ -45,7 +49,8 @@ def options(**others):
     """Returns the options of a command line."""
     words = {
         "address": "unix:///none", "start": False, "packages": pathlib.Path("none"), "buildctl": "buildctl",
-        "llbmd": daemon.PROGRAM, "llbm": base.llbm, "count": COUNT, "seed": 3, "jobs": 2, "keep": None, **others,
+        "llbmd": daemon.PROGRAM, "llbm": base.llbm, "count": COUNT, "seed": 3, "jobs": 2, "keep": None,
+        "links": False, "dockerfiles": False, **others,
     }  # fmt: skip
     return argparse.Namespace(**words)
 
@@ -73,7 +78,7 @@ class Verdicts(unittest.TestCase):
         """Returns what is said of an example, or of a Dockerfile, that the daemons end so."""
         one = against_buildkit.Comparison(Played(there), Played(here))
         case = next(against_buildkit.least_cases())
-        return one.compare(case._replace(sources={"context": maps.empty()}, is_dockerfile=is_dockerfile))
+        return one.compare(case._replace(sources={"context": tree_maps.empty()}, is_dockerfile=is_dockerfile))
 
     def test_what_ends_alike_has_no_line(self):
         alike = ["Dockerfiles", against_buildkit.WELL]
@@ -103,7 +108,7 @@ class Verdicts(unittest.TestCase):
             ["Mode: mkdir with mode 1777: ends otherwise: MkfileOver"],
         )
         there = next(iter(examples.examples())).buildkit
-        tree = maps.tree_of([b"d 0755 0 0 /\n", *(f"{line}\n".encode() for line in there or [])])
+        tree = tree_maps.tree_of([b"d 0755 0 0 /\n", *(f"{line}\n".encode() for line in there or [])])
         counts, lines = self.verdict(runs.Ran(tree), warned)
         self.assertEqual((counts, lines), (["definitions", "definitions otherwise", "definitions of the model"], []))
 
@@ -120,13 +125,12 @@ class Verdicts(unittest.TestCase):
             played = mock.Mock(side_effect=fault)
             self.assertEqual(self.verdict(played, played), against_buildkit.Verdict([f"left out: {said}"], []))
 
-
     def test_what_is_refused_by_a_link_is_counted_by_itself(self):
         refused = runs.Ran(None, "error: llbm: /a leads through the link /a, which llbm does not follow; name the path")
         for is_dockerfile, what in [(True, "Dockerfiles"), (False, "definitions")]:
             one = against_buildkit.Comparison(Played(runs.Ran(FILE)), Played(refused))
             case = next(against_buildkit.least_cases())._replace(is_dockerfile=is_dockerfile, is_modelled=False)
-            case = case._replace(sources={"context": maps.empty()})
+            case = case._replace(sources={"context": tree_maps.empty()})
             counts = [what, f"{what} that are refused by a link"]
             self.assertEqual(one.compare(case), against_buildkit.Verdict(counts, []))
 
@@ -143,7 +147,7 @@ class Against(unittest.TestCase):
         @contextlib.contextmanager
         def start(_):
             started_daemon.check(there)
-            yield there
+            yield started_daemon.Started(there, pathlib.Path(os.devnull))
 
         with (
             mock.patch.object(started_daemon, "started", start),
@@ -195,8 +199,24 @@ class Against(unittest.TestCase):
         missing = "buildkitd is not built: the packages are not there: none; "
         self.assertRegex(reason, f"^skipped: ({missing}|only root can run buildkitd)")
 
+    def test_the_fixed_sets_are_built_if_they_are_asked_for(self):
+        played = Played(runs.Ran(FILE))
+        played.exported = lambda *_: "no exporter"
+        with tempfile.TemporaryDirectory() as folder, mock.patch.object(started_daemon, "check", lambda _: None):
+            started = started_daemon.Started(played, pathlib.Path(folder, "rules"))
+            given = options(start=True, links=True, dockerfiles=True)
+            found, lines = called(lambda: list(against_buildkit.fixed(started, played, given)))
+        refused = [one for one in link_cases.cases() if one.is_refused]
+        with_lines = [case.name for case, verdict in found if verdict.lines]
+        exporters = [f"links: exported as {kind}" for kind in fixed_sets.EXPORTERS]
+        self.assertEqual(with_lines, [*exporters, *(f"links: {one.name}" for one in refused)])
+        medians = "^median of the builds of these: [0-9.]+ s by BuildKit's daemon, [0-9.]+ s by llbmd$"
+        self.assertRegex(lines[-1], medians)
+        with self.assertRaisesRegex(Refused, "^--dockerfiles needs --start"):
+            against_buildkit.against(options(dockerfiles=True))
+
     def test_all_is_skipped_without_llbmd(self):
-        with self.assertRaisesRegex(started_daemon.NoDaemon, "there is no program nowhere/llbmd: `tools/daemon"):
+        with self.assertRaisesRegex(started_daemon.NoDaemon, "there is no program nowhere/llbmd: `dev/dev daemon"):
             with against_buildkit.ours(options(llbmd=pathlib.Path("nowhere/llbmd")), "buildctl"):
                 pass
 
@@ -206,6 +226,48 @@ class Against(unittest.TestCase):
             raise unittest.SkipTest(f"BuildKit's daemon is needed: its address in {ADDRESS}, and buildctl on the path")
         status, lines = called(against_buildkit.against, options(address=address, count=40))
         self.assertEqual(status, 0, lines)
+
+
+class FixedSets(unittest.TestCase):
+    """Definitions with links, and Dockerfiles with stand-ins for a daemon that runs processes."""
+
+    def test_each_case_with_links_has_a_name(self):
+        cases = link_cases.cases()
+        self.assertEqual(len({one.name for one in cases}), len(cases))
+        self.assertGreater(len(cases), 100)
+
+    def test_a_case_is_refused_by_a_link_exactly_if_it_has_to_be(self):
+        built, refused = runs.Ran(FILE), runs.Ran(None, "error: llbm: /a leads through /a, which llbm does not follow")
+        for is_refused, here, count in [(False, built, 0), (True, refused, 0), (False, refused, 1), (True, built, 1)]:
+            self.assertEqual(len(fixed_sets.fault_of("a", is_refused, built, here, frozenset())), count)
+
+    def test_a_warning_that_something_runs_announces_no_difference(self):
+        rules = frozenset({"Execution", "MkfileOver"})
+        for name, count in [("Execution", 1), ("MkfileOver", 0)]:
+            other = runs.Ran(OTHER, "", frozenset({name}))
+            self.assertEqual(len(fixed_sets.fault_of("a", False, runs.Ran(FILE), other, rules)), count)
+
+    def test_an_execution_of_buildkit_runs_its_stand_in(self):
+        rules = "pattern '*go build*' => /bin/sh -c 'write /a x'\n\nwords true =>\n"
+        place = scripted_runc.PLACE
+        for args, given, words in [
+            (["/bin/sh", "-c", "go build ."], rules, [place, "/bin/sh", "-c", "write /a x"]),
+            (["true"], rules, [place, "true"]), (["apt-get"], rules, [place, "apt-get"]),
+            (["apt-get"], scripted_runc.SKIP, [place, "-skip", "apt-get"]),
+        ]:  # fmt: skip
+            self.assertEqual(scripted_runc.words_of(args, given), words)
+
+    def test_an_image_is_a_layout_for_two_platforms(self):
+        parts = {"image a:latest x/f": "f", "config a:latest": '{"config": {"User": "1"}}', "Dockerfile": "FROM a"}
+        with tempfile.TemporaryDirectory() as folder:
+            words = stored_dockerfiles.image_words(parts, pathlib.Path(folder))
+            blobs = {one.name: one.read_bytes() for one in pathlib.Path(folder, "image0/blobs/sha256").iterdir()}
+        self.assertEqual(words[:3:2], ["--oci-layout", "--opt"])
+        self.assertRegex(words[3], "^context:a=oci-layout://image0@sha256:[0-9a-f]{64}$")
+        index = json.loads(blobs[words[3].rpartition(":")[2]])
+        self.assertEqual([one["platform"]["architecture"] for one in index["manifests"]], ["amd64", "arm64"])
+        for name, data in blobs.items():
+            self.assertEqual(hashlib.sha256(data).hexdigest(), name)
 
 
 class Runs(unittest.TestCase):
@@ -247,7 +309,7 @@ class Runs(unittest.TestCase):
         one, seen = runs.Daemon("buildctl", "unix:///none"), []
         one.built = lambda data, words, archive: seen.append(words) or runs.Ran(None)
         for _ in range(2):
-            one.run_dockerfile(b"FROM scratch\n", maps.empty())
+            one.run_dockerfile(b"FROM scratch\n", tree_maps.empty())
         given = []
         for words in seen:
             options = dict(word.split("=") for flag, word in zip(words, words[1:]) if flag == "--opt")
@@ -269,8 +331,9 @@ class Runs(unittest.TestCase):
         self.assertTrue(all(time % 1_000_000_000 for time in times))
 
     def test_a_result_is_compared_without_its_root(self):
-        tree = {(): maps.ROOT, (b"d",): maps.Entry(0o1750, 7, 8), (b"d", b"f"): maps.Entry(0o4755, 0, 9, b"6162")}
-        self.assertEqual(against_buildkit.without_owners(tree)[b"d", b"f"], maps.Entry(0o4755, 0, 0, b"6162"))
+        file = tree_maps.Entry(0o4755, 0, 9, b"6162")
+        tree = {(): tree_maps.ROOT, (b"d",): tree_maps.Entry(0o1750, 7, 8), (b"d", b"f"): file}
+        self.assertEqual(against_buildkit.without_owners(tree)[b"d", b"f"], tree_maps.Entry(0o4755, 0, 0, b"6162"))
         self.assertEqual(against_buildkit.lines_of(tree), [b"d 1750 7 8 /d\n", b"f 4755 0 9 6162 /d/f\n"])
 
 
@@ -278,7 +341,7 @@ class Dockerfiles(unittest.TestCase):
     """Random Dockerfiles, and those of projects."""
 
     def test_a_link_is_written_and_read_as_it_is(self):
-        tree = {(): maps.ROOT, (b"a",): runs.link_to("b/c"), (b"f",): maps.Entry(0o644, 0, 0, b"61")}
+        tree = {(): tree_maps.ROOT, (b"a",): runs.link_to("b/c"), (b"f",): tree_maps.Entry(0o644, 0, 0, b"61")}
         with tempfile.TemporaryDirectory() as folder:
             runs.write_tree(tree, os.fsencode(f"{folder}/made"))
             self.assertEqual(os.readlink(f"{folder}/made/a"), "b/c")

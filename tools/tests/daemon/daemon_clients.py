@@ -1,6 +1,6 @@
 """Tests of the daemon with BuildKit's own clients: `buildctl`, `docker-buildx`, and the frontend for Dockerfiles.
 
-The programs are those that `tools/daemon --clients` leaves in out/; without them the tests are skipped.
+The programs are those that `dev/dev daemon --clients` leaves in out/; without them the tests are skipped.
 """
 
 import contextlib
@@ -82,7 +82,7 @@ class WithDaemon(unittest.TestCase):
     def setUp(self):
         for program in (daemon.PROGRAM, paths.RULES, BUILDCTL, FRONTEND):
             if not program.is_file():
-                self.skipTest("there is no daemon with clients: `tools/daemon --clients` builds them")
+                self.skipTest("there is no daemon with clients: `dev/dev daemon --clients` builds them")
         if base.llbm is None:
             self.skipTest("there is no program llbm")
         self.at = pathlib.Path(self.enterContext(tempfile.TemporaryDirectory(prefix="llbmd-")))
@@ -265,7 +265,7 @@ class Buildx(WithDaemon):
     def setUp(self):
         super().setUp()
         if not buildx():
-            self.skipTest("there is no docker-buildx: `tools/daemon` unpacks it")
+            self.skipTest("there is no docker-buildx: `dev/dev daemon` unpacks it")
         self.context = self.at / "context"
         self.context.mkdir()
         (self.context / "a").write_text("a\n", "utf-8")

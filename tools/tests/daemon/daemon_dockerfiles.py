@@ -1,28 +1,16 @@
-"""Tests of the daemon on Dockerfiles as real projects have them, which are in daemon/dockerfiles.
-
-A file there begins with a line that says what it is, and has parts after lines `-- NAME --`: the Dockerfile, the files
-of its context, those of images and their configurations, rules for its RUNs, options of the frontend, and what it
-makes: the tree, with a line `MODE OWNER PATH CONTENT` for each entry, and members of the image's configuration. These
-were worked out by hand, by BuildKit's rules for Dockerfiles and by the stand-ins.
-"""
+"""Tests of the daemon on Dockerfiles as real projects have them, which are in daemon/dockerfiles
+(`llbm_tools.daemon.stored_dockerfiles`)."""
 
 import json
 import os
 import re
 import tarfile
 
+from llbm_tools.daemon.stored_dockerfiles import options_of, stored
 from tests.base import ROOT
 from tests.daemon.daemon_clients import FRONTEND, WithDaemon
 
-STORED = ROOT / "daemon" / "dockerfiles"
 EXAMPLE = ROOT / "examples" / "dockerfile"
-PART = re.compile(r"^-- (.+) --$", re.M)
-
-
-def parts_of(text):
-    """Returns the parts of a file by their names; what is before the first one says what the file is."""
-    _, *parts = PART.split(text)
-    return {name: content.removeprefix("\n") for name, content in zip(parts[::2], parts[1::2])}
 
 
 def listed(archive):
@@ -79,16 +67,15 @@ class Dockerfiles(WithDaemon):
         image += ":latest" * (":" not in image.rpartition("/")[2])
         return {"image": self.at / "images" / image / path, "config": self.at / "images" / f"{image}.json"}.get(kind)
 
-    def check(self, path):
+    def check(self, parts):
         """Builds a Dockerfile, and compares what it makes."""
-        parts = parts_of(path.read_text("utf-8"))
         for name, content in parts.items():
             place = self.place_of(name)
             if place:
                 self.write(place, content)
         for folder in ("context", "images"):
             (self.at / folder).mkdir(exist_ok=True)
-        words = [word for line in parts.get("options", "").splitlines() for word in ("--opt", line)]
+        words = options_of(parts)
         if "rules" in parts:
             words += ["--local", f"mine={self.at / 'rules'}", "--opt", "context:llbm-rules=local:mine"]
         if "skip" in parts:
@@ -100,13 +87,13 @@ class Dockerfiles(WithDaemon):
             self.assertEqual(config.get(key), value, key)
 
 
-def test_of(path):
+def test_of(parts):
     """Returns the test of a Dockerfile."""
-    return lambda self: self.check(path)
+    return lambda self: self.check(parts)
 
 
-for stored in sorted(STORED.glob("*.txt")):
-    setattr(Dockerfiles, f"test_{stored.stem.replace('-', '_')}", test_of(stored))
+for its_name, its_parts in stored():
+    setattr(Dockerfiles, f"test_{its_name.replace('-', '_')}", test_of(its_parts))
 
 
 class Example(WithDaemon):

@@ -5,8 +5,8 @@ import signal
 import subprocess
 
 from llbm_tools.llb.messages import definition_of, edge, encoded, made
-from llbm_tools.measuring import bigdef
-from llbm_tools.measuring.bigdef import file_op, mkfile
+from llbm_tools.measuring import large_definition
+from llbm_tools.measuring.large_definition import file_op, mkfile
 from tests import base
 from tests.daemon import daemon_clients
 
@@ -25,7 +25,7 @@ def merges(width, depth):
     """Returns merges of merges, each of which names the one before many times."""
     entries = [file_op([], mkfile("/f", b""))]
     for _ in range(depth):
-        entries.append(bigdef.merge(entries[-1:] * width))
+        entries.append(large_definition.merge(entries[-1:] * width))
     return ending(entries)
 
 
@@ -57,8 +57,8 @@ def layers(count):
     files = [mkfile(f"/f{number}", b"", on=number - 1, output=-1) for number in range(count)]
     base = file_op([], *files, mkfile("/last", b"", on=count - 1))
     entries = [base, *(file_op([base], mkfile(f"/f{number}", b"x", on=0)) for number in range(count))]
-    entries.append(bigdef.merge(entries[1:]))
-    entries.append(bigdef.merge(entries[-1:] * WIDE))
+    entries.append(large_definition.merge(entries[1:]))
+    entries.append(large_definition.merge(entries[-1:] * WIDE))
     return ending(entries)
 
 

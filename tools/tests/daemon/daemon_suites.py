@@ -58,7 +58,7 @@ class Lists(Folder):
             functions[test.package, test.function].add((test.section, test.does))
         self.assertEqual(len(functions), 374)
         inside = [does for does in functions.values() if {section for section, _ in does} <= set(daemon_suite.SECTIONS)]
-        self.assertEqual(len(inside), 64)
+        self.assertEqual(len(inside), 71)
         passing = [does for does in inside if {does for _, does in does} - {"skips"} == {"passes"}]
         self.assertGreaterEqual(len(passing), 60)
 
@@ -172,5 +172,5 @@ class Parts(Folder):
         self.assertIn(b"build: skipped, the packages can't be had: ", done.stdout)
 
     def test_there_is_help(self):
-        for name in ("daemon-suite", "daemon-tests"):
-            self.assertTrue(run(name, "--help").stdout.startswith(b"usage: tools/" + name.encode()), name)
+        for name, words in (("daemon-suite", b"daemon suite"), ("daemon-tests", b"daemon tests")):
+            self.assertTrue(run(name, "--help").stdout.startswith(b"usage: dev/dev " + words), name)

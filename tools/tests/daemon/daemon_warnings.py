@@ -6,7 +6,7 @@ import re
 from llbm_tools.daemon import random_definitions, runs
 from llbm_tools.llb.findings import findings_of
 from llbm_tools.rules.examples import examples
-from llbm_tools.trees import maps
+from llbm_tools.trees import tree_maps
 from tests import base
 from tests.daemon.daemon_clients import WithDaemon
 from tests.rules.rule_examples import compared, names_of_rules
@@ -36,7 +36,7 @@ class Warnings(WithDaemon):
         names = {name for names in WARNING.findall(done.stderr.decode()) for name in names.split(", ")}
         made = None
         if done.returncode == 0:
-            made = [line.decode().rstrip("\n") for line in maps.lines_of(runs.tree_in(os.fspath(result)))[1:]]
+            made = [line.decode().rstrip("\n") for line in tree_maps.lines_of(runs.tree_in(os.fspath(result)))[1:]]
         return made, names & {*names_of_rules()}
 
     def check(self, given):

@@ -171,4 +171,4 @@ class Refusals(Folder):
         self.assertIn(b"the packages are not there", done.stderr)
 
     def test_there_is_help(self):
-        self.assertTrue(run("daemon", "--help").stdout.startswith(b"usage: tools/daemon"))
+        self.assertTrue(run("daemon", "--help").stdout.startswith(b"usage: dev/dev daemon "))

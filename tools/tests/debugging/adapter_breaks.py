@@ -4,7 +4,7 @@ import os
 import pathlib
 import shutil
 
-from llbm_tools.debugging import breakpoints, places, readable
+from llbm_tools.debugging import breakpoints, raw_entries, vertex_lines
 from tests import base
 from tests.debugging.adapter_runs import EXAMPLES, WithRun, stored_record
 
@@ -228,7 +228,7 @@ class Places(WithRun):
         text = client.ask("source", sourceReference=1)["content"]
         data = (NEWER / "definition").read_bytes()
         again = self.llbm("asm", given=text.encode())
-        self.assertEqual(places.definition.entries_of(again), places.definition.entries_of(data))
+        self.assertEqual(vertex_lines.definition.entries_of(again), vertex_lines.definition.entries_of(data))
         lines = text.splitlines()
         self.assertEqual(len([line for line in lines if line.startswith("raw ")]), 3)
         for wanted in ['#     identifier "local://project"', "#     digest %0", '#         src "/src"']:
@@ -242,10 +242,10 @@ class Places(WithRun):
         self.assertEqual(lines[frame["line"] - 1], "#     actions {")
 
     def test_an_entry_that_is_no_op_has_no_comments(self):
-        text = readable.readable("raw 0a\nop {\n}\n", [b"\n", b""])
+        text = raw_entries.readable("raw 0a\nop {\n}\n", [b"\n", b""])
         self.assertEqual((text.text, text.lines), ("raw 0a\nop {\n}\n", [(1, 1), (2, 3)]))
         entry = base.number(9, 5) + base.part(3, base.part(1, 'a"\n'))
-        text = readable.readable(f"raw {entry.hex()}\n", [entry])
+        text = raw_entries.readable(f"raw {entry.hex()}\n", [entry])
         shown = '# op {\n#   field 9: 5\n#   source {\n#     identifier "a\\"\\x0a"\n#   }\n# }\n'
         self.assertEqual(text.text, f"raw {entry.hex()}\n{shown}")
 

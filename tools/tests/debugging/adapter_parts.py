@@ -6,7 +6,7 @@ import json
 import os
 import pathlib
 
-from llbm_tools.debugging import places, trees
+from llbm_tools.debugging import shown_trees, vertex_lines
 from llbm_tools.trees import source_texts
 from tests import base
 from tests.base import Folder, command
@@ -175,7 +175,7 @@ class Order(WithAdapter):
         for name in ["configurationDone", "threads", "continue", "next", "stepBack", "pause", "evaluate", "terminate"]:
             message = client.refused(name, threadId=1, expression="0")
             self.assertEqual(message, f"{name}: initialize is done, and nothing is launched yet")
-        self.assertEqual(client.refused("attach"), "the request attach is not known")
+        self.assertEqual(client.refused("modules"), "the request modules is not known")
         self.assertEqual(client.leave(), 0)
 
 
@@ -367,13 +367,13 @@ class Texts(Folder):
 
     def test_the_lines_of_entries_are_found(self):
         text = '# a\nop {\n  file {\n    path "a {"\n  }\n\n}\n\n raw -\r\nop {\n}\n# b\n'
-        self.assertEqual(places.lines_of(text), [(2, 7), (9, 9), (10, 11)])
-        self.assertEqual(places.lines_of(""), [])
+        self.assertEqual(vertex_lines.lines_of(text), [(2, 7), (9, 9), (10, 11)])
+        self.assertEqual(vertex_lines.lines_of(""), [])
 
     def test_the_vertices_of_entries_are_found(self):
         one, two, three = base.source("local://a"), base.source("local://b"), base.source("local://c")
         end = base.merge(two, one)
-        self.assertEqual(places.vertices_by_entry([three, two, one, two, end], [1, 2, 4]), [None, 0, 1, 0, 2])
+        self.assertEqual(vertex_lines.vertices_by_entry([three, two, one, two, end], [1, 2, 4]), [None, 0, 1, 0, 2])
 
 
 class Trees(Folder):
@@ -381,20 +381,21 @@ class Trees(Folder):
 
     def tree(self, *lines):
         """Returns the root of a tree."""
-        return trees.tree_of([b"d 0755 1 2 /", *lines])
+        return shown_trees.tree_of([b"d 0755 1 2 /", *lines])
 
     def test_a_tree_is_shown_directory_by_directory(self):
         wide = "\N{GREEK SMALL LETTER ALPHA} b".encode()
         root = self.tree(b"d 0700 0 0 /a", b"f 0644 3 4 6869 /a/b", b"d 0755 0 0 /a-", b"f 0644 0 0 - /a-/" + wide)
-        self.assertEqual(trees.description_of(root), "2 names:\na/\na-/")
-        self.assertEqual(trees.summary_of(root), "0755 1:2, 2 names")
-        self.assertEqual(trees.summary_of(trees.node_at(root, "a")), "0700 0:0, 1 name")
-        self.assertEqual(trees.summary_of(trees.node_at(root, "/a/b")), "0644 3:4, text of 2 bytes: hi")
-        self.assertEqual(trees.summary_of(trees.node_at(root, f"/x/.././a-//{wide.decode()}/")), "0644 0:0, 0 bytes")
+        self.assertEqual(shown_trees.description_of(root), "2 names:\na/\na-/")
+        self.assertEqual(shown_trees.summary_of(root), "0755 1:2, 2 names")
+        self.assertEqual(shown_trees.summary_of(shown_trees.node_at(root, "a")), "0700 0:0, 1 name")
+        self.assertEqual(shown_trees.summary_of(shown_trees.node_at(root, "/a/b")), "0644 3:4, text of 2 bytes: hi")
+        node = shown_trees.node_at(root, f"/x/.././a-//{wide.decode()}/")
+        self.assertEqual(shown_trees.summary_of(node), "0644 0:0, 0 bytes")
         for path, message in [("/a/c", "nothing is at /a/c"), ("/a/b/c", "/a/b is a file")]:
-            with self.assertRaisesRegex(trees.NoPath, message):
-                trees.node_at(root, path)
-        self.assertEqual(trees.description_of(self.tree()), "0 names")
+            with self.assertRaisesRegex(shown_trees.NoPath, message):
+                shown_trees.node_at(root, path)
+        self.assertEqual(shown_trees.description_of(self.tree()), "0 names")
 
     def test_contents_are_shown_as_text_or_hexadecimal(self):
         for content, what, body in [
@@ -409,11 +410,11 @@ class Trees(Folder):
              "a" * 4095),
             (b"a" * 4096 + b"\0", "hexadecimal of 4,097 bytes, the first 4,096 shown", "61" * 4096),
         ]:
-            node = trees.Node("0644", "0:0", None, content.hex().encode())
-            self.assertEqual(trees.shown(node), (what, body))
-            self.assertEqual(trees.description_of(node), f"{what}:\n{body}")
+            node = shown_trees.Node("0644", "0:0", None, content.hex().encode())
+            self.assertEqual(shown_trees.shown(node), (what, body))
+            self.assertEqual(shown_trees.description_of(node), f"{what}:\n{body}")
 
     def test_at_most_a_thousand_names_are_shown(self):
         root = self.tree(*(b"f 0644 0 0 - /%04d" % number for number in range(1002)))
-        lines = trees.description_of(root).split("\n")
+        lines = shown_trees.description_of(root).split("\n")
         self.assertEqual((lines[:2], lines[1000:]), (["1,002 names:", "0000"], ["0999", "and 2 more"]))

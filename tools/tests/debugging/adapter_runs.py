@@ -5,6 +5,7 @@ import os
 import pathlib
 import re
 import subprocess
+import sys
 import tarfile
 import unittest
 import unittest.mock
@@ -138,6 +139,38 @@ class Reading(WithRun):
         # Three vertices, and the terminal.
         self.assertEqual((len(launched.graph.vertices), len(reads), len(set(reads))), (3, 4, 4))
 
+    def test_a_launch_costs_so_much_for_each_vertex(self):
+        counts = []
+        for vertices in (100, 400):
+            entries = [base.file_op(base.mkdir(f"/{number}")) for number in range(vertices)]
+            given = self.made(base.ending(*entries, base.merge(*entries)))
+            calls = Calls()
+            with calls:
+                launched = launching.launch({**given, "llbm": base.llbm}, lambda _: None)
+            launched.session.end()
+            self.assertEqual(len(launched.graph.vertices), vertices + 1)
+            counts.append(calls.count)
+        # What each further vertex costs is bounded, so 2,000 vertices take four times what 500 take.
+        self.assertLess(counts[1] - counts[0], 300 * 600)
+
+
+class Calls:
+    """Counts the calls of functions in Python in the thread of a test."""
+
+    def __init__(self):
+        self.count = 0
+
+    def __enter__(self):
+        sys.setprofile(self.counted)
+        return self
+
+    def __exit__(self, *_):
+        sys.setprofile(None)
+
+    def counted(self, _frame, event, _argument):
+        """Counts a call."""
+        self.count += event == "call"
+
 
 class WholeRuns(WithRun):
     """Runs from the beginning to the end."""
@@ -169,7 +202,6 @@ class WholeRuns(WithRun):
         self.move(client, "next")
         self.assertEqual(client.ask("evaluate", expression="0.0:text/tail")["result"], "text of 6 bytes:\nworld\n")
 
-    @unittest.skipUnless((TOOLS / "tree-of-tar").exists(), "tools/tree-of-tar is needed")
     def test_a_source_can_be_a_tar(self):
         self.check_success(run("directory-of-tree", self.at / "source", text=(EXAMPLES / "tour.tree").read_bytes()))
         for name, form in [("packed.tar", "w"), ("packed", "w:gz")]:
@@ -438,7 +470,8 @@ class Documented(WithRun):
         launch_file = (EXAMPLES / "launch.json").read_text().replace("${workspaceFolder}", str(ROOT))
         extension = TOOLS / "llbm_tools" / "debugging"
         known = json.loads((extension / "package.json").read_text())["contributes"]["debuggers"][0]
-        self.assertEqual((extension / known["program"]).resolve(), TOOLS / "debug-adapter")
+        self.assertEqual((extension / known["program"]).resolve(), ROOT / "llbm-tools")
+        self.assertEqual(known["args"], ["debug", "adapter"])
         attributes = set(known["configurationAttributes"]["launch"]["properties"])
         for configuration in json.loads(launch_file)["configurations"]:
             given = {name: value for name, value in configuration.items() if name not in ("type", "request", "name")}
@@ -454,5 +487,5 @@ class Documented(WithRun):
             text = (EXAMPLES / name).read_text()
             self.assertLessEqual(wanted, set(re.findall(form, text)))
             self.assertEqual([text.count(mark) for mark in "({["], [text.count(mark) for mark in ")}]"])
-            for path in re.findall(r'"/?((?:tools|examples)/[^"]*)"', text):
+            for path in re.findall(r'"/?((?:llbm-tools|examples/[^"]*))"', text):
                 self.assertTrue((ROOT / path).exists(), path)

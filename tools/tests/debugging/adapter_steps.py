@@ -292,7 +292,7 @@ class Inspection(WithRun):
         client.ask("scopes", frameId=1)
         message = client.refused("variables", variablesReference=scope)
         self.assertEqual(message, f"variablesReference {scope} is not known in this state")
-        self.assertEqual(client.refused("attach"), "the request attach is not known")
+        self.assertEqual(client.refused("modules"), "the request modules is not known")
         self.assertEqual(client.refused("configurationDone"), "configurationDone: the run is stopped")
 
 
@@ -322,7 +322,7 @@ class RandomRequests(WithRun):
 
     def test_each_request_has_one_response(self):
         moves = {"next", "stepIn", "stepOut", "stepBack", "reverseContinue", "continue", "restart"}
-        names = sorted(set(protocol.RESPONSES) - {"disconnect", "terminate"} | {"attach"})
+        names = sorted(set(protocol.RESPONSES) - {"disconnect", "terminate"} | {"modules"})
         for seed in range(4):
             chance = random.Random(seed)
             client = self.entered(stopAtEnd=True)

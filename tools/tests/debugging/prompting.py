@@ -1,10 +1,10 @@
 """Tests of `debug`, the debugger at a prompt: what its commands print, and that the run stays exact."""
 
+import importlib.util
 import os
 import pty
 import select
 import subprocess
-import sys
 import unittest
 
 from tests import base
@@ -200,16 +200,31 @@ class Refusals(Prompt):
 class Terminals(Prompt):
     """A prompt at a terminal."""
 
-    def test_a_terminal_has_a_prompt(self):
+    def started(self):
+        """Starts a debugger at a terminal, and returns the end of it, once the prompt is there, and the process."""
         master, slave = pty.openpty()
-        command = [sys.executable, base.TOOLS / "debug", "--llbm", base.llbm, TOUR, TREE]
+        command = base.command("debug", "--llbm", base.llbm, TOUR, TREE)
         child = subprocess.Popen(command, stdin=slave, stdout=slave, stderr=subprocess.PIPE, close_fds=True)
         os.close(slave)
         self.addCleanup(os.close, master)
         self.addCleanup(child.stderr.close)
         self.read_to(master, b"(llbm) ")
+        return master, child
+
+    def test_a_terminal_has_a_prompt(self):
+        master, child = self.started()
         os.write(master, b"next\n")
         self.read_to(master, b"local://source\r\n(llbm) ")
+        os.write(master, b"quit\n")
+        self.assertEqual(child.wait(GUARD), 0)
+
+    @unittest.skipUnless(importlib.util.find_spec("readline"), "there is no readline")
+    def test_commands_and_paths_are_completed(self):
+        master, child = self.started()
+        os.write(master, b"ne\t 3\n")
+        self.read_to(master, b"vertex 0 done\r\n(llbm) ")
+        os.write(master, b"tree 0.0:/te\th\t\n")
+        self.read_to(master, b"tree 0.0:/text/head")
         os.write(master, b"quit\n")
         self.assertEqual(child.wait(GUARD), 0)
 

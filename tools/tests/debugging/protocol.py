@@ -66,7 +66,8 @@ SHAPES = {
 
 # The shape of the body of the response to each request, and of each event; None if there is no body.
 RESPONSES = {
-    "initialize": "Capabilities", "launch": None, "configurationDone": None, "terminate": None, "disconnect": None,
+    "initialize": "Capabilities", "launch": None, "attach": None, "configurationDone": None, "terminate": None,
+    "disconnect": None,
     "setBreakpoints": "SetBreakpoints", "setFunctionBreakpoints": "SetBreakpoints", "restart": None,
     "breakpointLocations": "BreakpointLocations", "dataBreakpointInfo": "DataBreakpointInfo",
     "setDataBreakpoints": "SetBreakpoints", "completions": "Completions",
@@ -144,15 +145,19 @@ class Client:
     """A client of an adapter that checks the form and the order of the messages it receives."""
 
     def __init__(self, command, **settings):
-        self.child = subprocess.Popen(
-            command, stdin=subprocess.PIPE, stdout=subprocess.PIPE, stderr=subprocess.PIPE, **settings
-        )
+        self.child = self.begun(command, **settings)
         self.sent = 0
         self.received = 0
         self.waiting = {}
         self.answered = set()
         self.events = []
         self.place = 0
+
+    def begun(self, command, **settings):
+        """Starts the adapter, and returns its process."""
+        return subprocess.Popen(
+            command, stdin=subprocess.PIPE, stdout=subprocess.PIPE, stderr=subprocess.PIPE, **settings
+        )
 
     def close(self):
         """Stops the adapter if it is running."""

@@ -2,7 +2,7 @@
 
 import unittest
 
-from llbm_tools.debugging import changes, trees
+from llbm_tools.debugging import changes, shown_trees
 
 
 class Comparisons(unittest.TestCase):
@@ -10,7 +10,7 @@ class Comparisons(unittest.TestCase):
 
     def flat(self, *lines):
         """Returns a tree by path."""
-        return dict(trees.path_and_head(line) for line in [b"d 0755 0 0 /", *lines])
+        return dict(shown_trees.path_and_head(line) for line in [b"d 0755 0 0 /", *lines])
 
     def test_the_paths_of_a_difference_are_in_order(self):
         before = self.flat(b"d 0755 0 0 /a", b"f 0644 0 0 31 /a/b", b"f 0644 0 0 - /a-b", b"f 0644 0 0 - /c")

@@ -10,7 +10,7 @@ import subprocess
 import unittest
 
 from llbm_tools import paths
-from llbm_tools.definitions import adopting, adoption_rules
+from llbm_tools.definitions import adopted_ops, adoption_rules
 from llbm_tools.llb import local_names
 from llbm_tools.llb.findings import findings_of
 from llbm_tools.streams import Refused
@@ -411,12 +411,12 @@ class RandomDefinitions(base.WithProgram):
         return [linting.ops_of_all_kinds(chance) for _ in range(300)]
 
     def test_what_is_left_is_exactly_what_is_found(self):
-        settings = adopting.Settings(frozenset(adopting.DROPPED), (), adopting.RunNothing.ALL)
+        settings = adopted_ops.Settings(frozenset(adopted_ops.DROPPED), (), adopted_ops.RunNothing.ALL)
         taken = 0
         for data in self.definitions():
-            done = adopting.adopt(data, settings, base.llbm)
+            done = adopted_ops.adopt(data, settings, base.llbm)
             self.assertEqual(findings_of(done.data, base.llbm), done.left)
-            again = adopting.adopt(done.data, settings, base.llbm)
+            again = adopted_ops.adopt(done.data, settings, base.llbm)
             self.assertEqual((again.data, again.changes), (done.data, []))
             taken += not done.left
             names = {finding.rest.split(" ")[0] for finding in done.left}

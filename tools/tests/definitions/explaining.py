@@ -5,6 +5,8 @@ import os
 import random
 import re
 import shutil
+import subprocess
+import sys
 import unittest
 
 from llbm_tools.definitions import faults
@@ -15,7 +17,7 @@ from llbm_tools.llb.wire import Unreadable
 from llbm_tools.page.assets import FIELDS
 from llbm_tools.rules import explaining, program
 from llbm_tools.rules.examples import examples
-from llbm_tools.trees import maps
+from llbm_tools.trees import tree_maps
 from tests import base
 from tests.base import ROOT, TOOLS, Folder, run, run_closed, run_into
 
@@ -226,19 +228,20 @@ class Explain(Folder):
 
     def test_the_tool_runs_from_any_folder_and_by_a_link(self):
         link = os.fsdecode(self.place(b"link"))
-        os.symlink(TOOLS / "explain", link)
-        for tool in [TOOLS / "explain", link]:
-            done = run(tool, "fault", "1", cwd=self.folder)
+        os.symlink(ROOT / "llbm-tools", link)
+        for words in [[ROOT / "llbm-tools", "explain"], [link, "explain"], [TOOLS / "explain"]]:
+            done = subprocess.run([*words, "fault", "1"], cwd=self.folder, capture_output=True, timeout=base.GUARD)
             self.check_success(done, f"1: {self.sentences(1)[0]}\n".encode())
 
     def test_a_missing_page_is_reported(self):
         tools = os.path.join(os.fsdecode(self.folder), "tools")
         shutil.copytree(TOOLS / "llbm_tools", os.path.join(tools, "llbm_tools"))
-        shutil.copy(TOOLS / "explain", tools)
-        done = run(os.path.join(tools, "explain"), "fault", "1")
+        shutil.copy(ROOT / "llbm-tools", self.place(b"llbm-tools"))
+        words = [sys.executable, "-S", self.place(b"llbm-tools"), "explain", "fault", "1"]
+        done = subprocess.run(words, capture_output=True, timeout=base.GUARD)
         self.assertEqual((done.returncode, done.stdout), (2, b""))
         self.assertRegex(done.stderr, rb"\A.*/docs/FAULTS\.md: .*No such file.*\n\Z")
-        self.assertEqual(sorted(os.listdir(tools)), ["explain", "llbm_tools"])
+        self.assertEqual(sorted(os.listdir(tools)), ["llbm_tools"])
 
     def test_failing_standard_streams_are_reported(self):
         with open("/dev/full", "wb") as output:
@@ -371,7 +374,7 @@ class Notes(Folder):
             with self.subTest(one.shows):
                 words = [self.file(b"definition", one.data)]
                 for name, tree in one.sources.items():
-                    place = self.file(name.encode(), b"".join(maps.lines_of(tree)))
+                    place = self.file(name.encode(), b"".join(tree_maps.lines_of(tree)))
                     words.append(f"{name}={os.fsdecode(place)}")
                 lines = run("as-buildkit", "--llbm", base.llbm, *words).stdout.decode().splitlines()
                 texts = [text for line in lines for text in explaining.explained(line).texts]

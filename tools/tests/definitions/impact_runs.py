@@ -4,6 +4,7 @@ import json
 import os
 import unittest
 
+from llbm_tools import commands
 from tests import base
 from tests.base import Folder, run
 
@@ -148,4 +149,5 @@ class Texts(Folder):
     def test_a_foreign_definition_has_the_tool_that_adopts_it(self):
         done = run("explain-run", "--llbm", base.llbm, base.ROOT / "examples" / "foreign.llb")
         self.assertEqual((done.returncode, done.stdout), (2, b""))
-        self.assertTrue(done.stderr.endswith(b" tools/adopt rewrites what can be.\n"), done.stderr)
+        hint = f" {commands.shown('adopt')} rewrites what can be.\n"
+        self.assertTrue(done.stderr.decode().endswith(hint), done.stderr)

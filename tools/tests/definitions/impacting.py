@@ -8,9 +8,10 @@ import random
 import re
 import subprocess
 
+from llbm_tools import commands
 from llbm_tools.definitions.impacts import Comparison
-from llbm_tools.fuzzing import changed as fuzz_changed
-from llbm_tools.fuzzing import made as fuzz_made
+from llbm_tools.fuzzing import changed_inputs as fuzz_changed
+from llbm_tools.fuzzing import made_inputs as fuzz_made
 from llbm_tools.llb import definition, messages, op_reading, wire
 from llbm_tools.llb.findings import findings_of
 from llbm_tools.sessions.shows import show_of
@@ -322,7 +323,7 @@ class Refusals(Pair):
 
     def test_definitions_that_are_not_accepted_are_refused(self):
         image = base.ending(base.source("docker-image://a"))
-        cause = "fault 88 0 Source; tools/lint prints why"
+        cause = f"fault 88 0 Source; {commands.shown('lint')} prints why"
         self.check_refused(f"new: {cause}", new=image)
         self.check_refused(f"old: {cause}", old=image)
         self.check_refused("new: fault 81 1; ", new=b"\x0a")

@@ -7,11 +7,11 @@ import re
 import unittest
 
 from llbm_tools.definitions import faults
-from llbm_tools.fuzzing import applets, checks
-from llbm_tools.fuzzing import changed as fuzz_changed
-from llbm_tools.fuzzing import made as fuzz_made
-from llbm_tools.fuzzing.checks import Broken, Rules, Session, tree_fault
-from llbm_tools.fuzzing.limited import Ran
+from llbm_tools.fuzzing import applets, run_checks
+from llbm_tools.fuzzing import changed_inputs as fuzz_changed
+from llbm_tools.fuzzing import made_inputs as fuzz_made
+from llbm_tools.fuzzing.limited_runs import Ran
+from llbm_tools.fuzzing.run_checks import Broken, Rules, Session, tree_fault
 from llbm_tools.llb import definition, messages, scripts
 from llbm_tools.llb.messages import Raw, encoded, made
 from tests import base
@@ -152,14 +152,15 @@ class RunRules(unittest.TestCase):
         for status, err, listed_status, listed in [
             (2, b"fault 86 0 0\n", 2, two), (0, b"", 0, b""), (3, b"fault 182\n", 0, b""), (0, b"", 3, b""),
         ]:
-            checks.check_findings(Ran(("show",), b"", status, b"", err), Ran((), b"", listed_status, listed, b""))
+            run_checks.check_findings(Ran(("show",), b"", status, b"", err), Ran((), b"", listed_status, listed, b""))
         for status, err, listed_status, listed, cause in [
             (2, b"fault 89 1 NoKind\n", 2, two, "another fault"), (2, b"fault 86 0 0\n", 2, b"", "another fault"),
             (0, b"", 2, two, "with status 2"), (2, b"fault 86 0 0\n", 0, b"", "with status 0"),
             (0, b"", 0, two, "another"),
         ]:
             with self.assertRaisesRegex(Broken, cause):
-                checks.check_findings(Ran(("show",), b"", status, b"", err), Ran((), b"", listed_status, listed, b""))
+                ran = Ran((), b"", listed_status, listed, b"")
+                run_checks.check_findings(Ran(("show",), b"", status, b"", err), ran)
 
     def test_a_consistent_session_passes(self):
         text = b"0 ready\n1 claim 0 0 -> file 1\n0 running 0\nback 0\n0 ready\nfault 172\n0 ready\n"
@@ -185,8 +186,8 @@ class RunRules(unittest.TestCase):
         cache = made("Mount", dest="/c", mountType=3, cacheOpt=made("CacheOpt", ID="k"))
         for mounts, ids in [((cache,), [b"k"]), ((made("Mount", dest="/"),), [])]:
             op = made("Op", exec=made("ExecOp", mounts=mounts))
-            self.assertEqual(checks.caches_in(messages.definition_of([encoded(op)])), ids)
-        self.assertIsNone(checks.caches_in(b"\x0a"))
+            self.assertEqual(run_checks.caches_in(messages.definition_of([encoded(op)])), ids)
+        self.assertIsNone(run_checks.caches_in(b"\x0a"))
 
 
 class Fuzz(Folder):

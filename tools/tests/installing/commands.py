@@ -8,8 +8,9 @@ import subprocess
 import sys
 import unittest
 
+from llbm_tools.commands import old_name
 from llbm_tools.installing import installation, tool_pages
-from llbm_tools.installing.tool_parsers import Argument, Option, Tool, Value, tool_named
+from llbm_tools.installing.tool_parsers import Argument, Option, Tool, Value, tool_of
 from tests import base
 from tests.base import Folder
 
@@ -29,10 +30,10 @@ class Parsers(unittest.TestCase):
     """The parsers of the tools."""
 
     def test_every_installed_tool_has_its_own_options_and_arguments(self):
-        for name in installation.tool_names():
+        for command in installation.installed_commands():
+            name, tool = command.words, tool_of(command)
             help_page = base.run(name, "--help").stdout.decode()
-            tool = tool_named(name)
-            self.assertEqual((tool.name, tool.options[0].words), (f"llbm-{name}", ("-h", "--help")))
+            self.assertEqual((tool.name, tool.options[0].words), (command.link(), ("-h", "--help")))
             for option in tool.options:
                 self.assertIn(", ".join(option.words[:1]), help_page, name)
                 self.assertTrue(option.about, (name, option.words))
@@ -41,18 +42,18 @@ class Parsers(unittest.TestCase):
             self.assertIn("Exit status:", tool.text, name)
 
     def test_the_parser_of_a_tool_is_read_in_full(self):
-        tool = tool_named("tar-of-tree")
+        tool = tool_of(old_name("tar-of-tree"))
         words = [("-h", "--help"), ("--version",), ("--mtime",), ("--links",), ("--pack",)]
         self.assertEqual([option.words for option in tool.options], words)
         self.assertEqual(tool.options[4].values, (Value("FORM", ("gzip", "bzip2", "xz", "zstd")),))
         self.assertEqual([argument.value for argument in tool.arguments], [Value("ARCHIVE", ())])
-        between = {option.words: option for option in tool_named("dump").options}[("--between",)]
+        between = {option.words: option for option in tool_of(old_name("dump")).options}[("--between",)]
         self.assertEqual([value.shown for value in between.values], ["V", "W"])
-        self.assertEqual(tool_named("explain-run").arguments[1].value, Value("NAME=PATH", ()))
+        self.assertEqual(tool_of(old_name("explain-run")).arguments[1].value, Value("NAME=PATH", ()))
 
     def test_nothing_is_left_changed(self):
         before = argparse.ArgumentParser.parse_args, list(sys.argv)
-        tool_named("lint")
+        tool_of(old_name("lint"))
         self.assertEqual((argparse.ArgumentParser.parse_args, sys.argv), before)
 
 
@@ -90,7 +91,7 @@ class Pages(Folder):
 
     def tools(self):
         """Returns the tool of these tests and all that are installed."""
-        return [MADE, *map(tool_named, installation.tool_names())]
+        return [MADE, *map(tool_of, installation.installed_commands())]
 
     def test_words_for_zsh_and_fish_are_escaped(self):
         zsh, fish = tool_pages.for_zsh(MADE), tool_pages.for_fish(MADE)

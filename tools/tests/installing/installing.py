@@ -15,14 +15,18 @@ from unittest import mock
 from xml.etree import ElementTree
 
 from llbm_tools import common, paths
+from llbm_tools.commands import of_users
 from llbm_tools.installing import installation as made
 from tests import base
-from tests.base import ROOT, TOOLS, Folder, run
+from tests.base import ROOT, Folder, run
 from tests.debugging import protocol
 
 VERSION = f"1.0, proved with {common.PROVER}"
 PROGRAM = f"#!/bin/sh\nprintf 'fault 183\\nllbm {VERSION}\\n' >&2\nexit 2\n"
-COMMANDS = {"llbm", "llbm-build", "llbm-lint", "llbm-adopt", "llbm-explain", "llbm-debug-adapter", "llbm-tree-of-tar"}
+COMMANDS = {
+    "llbm", "llbm-tools", "llbm-build", "llbm-lint", "llbm-adopt", "llbm-explain", "llbm-debug-adapter",
+    "llbm-tree-from-tar",
+}
 OTHERS = {
     "lib/llbm/docs/FAULTS.md", "lib/llbm/examples/tour.definition", "lib/llbm/installed", "lib/llbm/program",
     "share/bash-completion/completions/llbm", "share/zsh/site-functions/_llbm",
@@ -76,15 +80,33 @@ class Install(WithFake):
 
     def test_each_tool_but_those_of_the_repository_has_a_command(self):
         self.install()
-        tools = {place.name for place in TOOLS.iterdir() if place.is_file() and not place.suffix}
-        programs = {"llbm", "llbmd", "rules"}  # llbmd and llbm-rules are there if tools/daemon has built them
+        programs = {"llbm", "llbmd", "rules"}  # llbmd and llbm-rules are there if dev/dev daemon has built them
         commands = {name.removeprefix("llbm-") for name in os.listdir(self.prefix / "bin")} - programs
-        self.assertEqual(commands, tools - made.OF_THE_REPOSITORY)
-        self.assertLessEqual(made.OF_THE_REPOSITORY, {place.name for place in TOOLS.iterdir()})
-        self.assertIn("run", commands)
+        wanted = {name for one in of_users() for name in (one.words.replace(" ", "-"), one.old)} - {"library"}
+        self.assertEqual(commands, {*wanted, "tools"})
+        # The modules that make and test what is installed are not there, and none of the others needs them.
+        packages = {place.name for place in (self.prefix / "lib" / "llbm" / "tools" / "llbm_tools").glob("*/")}
+        self.assertEqual(packages & {*made.MAINTENANCE, "tests"}, set())
         for name in sorted(commands):
-            done = subprocess.run([sys.executable, self.prefix / "bin" / f"llbm-{name}", "--help"], capture_output=True)
-            self.assertEqual((done.returncode, done.stderr), (0, b""), name)
+            words = [sys.executable, self.prefix / "bin" / f"llbm-{name}", "--help"]
+            done = subprocess.run(words, capture_output=True, text=True)
+            self.assertEqual((done.returncode, done.stderr), (0, ""), name)
+            self.assertTrue(done.stdout.startswith(f"usage: llbm-{name} "), name)
+        imports = "import importlib, pkgutil, llbm_tools; [importlib.import_module(one.name) for one in "
+        imports += "pkgutil.walk_packages(llbm_tools.__path__, 'llbm_tools.') if '.page.' not in one.name]"
+        known = {**os.environ, "PYTHONPATH": str(self.prefix / "lib" / "llbm" / "tools")}
+        self.check_success(subprocess.run([sys.executable, "-c", imports], capture_output=True, env=known))
+
+    def test_the_door_of_an_installation_has_its_commands(self):
+        self.install()
+        door = self.prefix / "bin" / "llbm-tools"
+        done = subprocess.run([sys.executable, door, "--help"], capture_output=True, text=True)
+        self.assertEqual((done.returncode, done.stderr), (0, ""))
+        self.assertIn("  tree to tar  ", done.stdout)
+        self.assertNotIn("library", done.stdout)
+        words = [sys.executable, door, "explain", "fault", "12"]
+        self.check_success(subprocess.run(words, capture_output=True), b"12: the bytes of a string are not UTF-8. "
+                           b"Write the string as UTF-8.\n")
 
     def test_programs_and_the_page_are_installed_where_they_are_built(self):
         rules, daemon, page = self.at / "rules", self.at / "daemon", self.at / "page"
@@ -112,6 +134,8 @@ class Install(WithFake):
                 self.assertIn("Version: 1.0", lines)
         others = {"include/llbm.h", "lib/llbm/bindings/go/llbmtest/llbmtest.go", "lib/llbm/bindings/rust/Cargo.toml"}
         self.assertLessEqual(others | {"lib/llbm/bindings/python/llbm/testing.py"}, set(items))
+        # Tests of the bindings stay in the repository, of which they read examples.
+        self.assertFalse([path for path in items if "/test" in path.replace("/testing.", "") or "_test." in path])
         self.assertEqual(items["include/llbm.h"].content, (ROOT / "bindings" / "llbm.h").read_bytes())
 
     @unittest.skipUnless(shutil.which("pkg-config"), "there is no pkg-config")
@@ -129,7 +153,8 @@ class Install(WithFake):
 
     def test_each_command_has_completions_and_a_page_of_the_manual(self):
         self.install()
-        for name in {*os.listdir(self.prefix / "bin")} - {"llbm-rules", "llbmd"}:
+        others = {"llbm-rules", "llbmd", *(f"llbm-{one.old}" for one in of_users() if one.old != one.words)}
+        for name in {*os.listdir(self.prefix / "bin")} - others:
             for path in (
                 f"bash-completion/completions/{name}", f"zsh/site-functions/_{name}",
                 f"fish/vendor_completions.d/{name}.fish", f"man/man1/{name}.1",
@@ -308,7 +333,7 @@ class Extension(WithFake):
             manifest = ElementTree.fromstring(archive.read("extension.vsixmanifest"))
             types = ElementTree.fromstring(archive.read("[Content_Types].xml"))
         self.assertEqual(names, sorted(names))
-        self.assertLessEqual({"extension/tools/debug-adapter", "extension/docs/FAULTS.md"}, set(names))
+        self.assertLessEqual({"extension/llbm-tools", "extension/docs/FAULTS.md"}, set(names))
         identity = next(one for one in manifest.iter() if one.tag.endswith("}Identity"))
         wanted = (package["name"], "1.0.0", package["publisher"])
         self.assertEqual(tuple(identity.get(name) for name in ("Id", "Version", "Publisher")), wanted)
@@ -328,7 +353,7 @@ class Extension(WithFake):
             archive.extractall(self.at)
         extension = self.at / "extension"
         known = json.loads((extension / "package.json").read_text())["contributes"]["debuggers"][0]
-        client = protocol.Client([sys.executable, "-S", extension / known["program"]], cwd=self.at)
+        client = protocol.Client([sys.executable, "-S", extension / known["program"], *known["args"]], cwd=self.at)
         self.addCleanup(client.close)
         client.ask("initialize", adapterID="llbm")
         examples = ROOT / "examples"

@@ -4,6 +4,7 @@ import functools
 import subprocess
 import unittest
 
+from llbm_tools import commands
 from llbm_tools.llb import messages, op_reading, rewriting, wire
 from llbm_tools.llb.ops import Op
 from tests import base
@@ -38,7 +39,7 @@ class Skipped(unittest.TestCase):
             return
         if not system_has_hypothesis():
             self.skipTest("hypothesis is needed (Debian: python3-hypothesis)")
-        words = [PYTHON_OF_THE_SYSTEM, base.TOOLS / "test", "properties"]
+        words = [PYTHON_OF_THE_SYSTEM, *commands.line_of("test", "properties")[1:]]
         done = subprocess.run(words, capture_output=True, text=True, timeout=base.GUARD)
         self.assertEqual(done.returncode, 0, done.stderr)
         self.assertRegex(done.stdout, "^.*\\n[0-9]+ passed, 0 failed, 1 skipped\\n$")

@@ -5,9 +5,9 @@ import pathlib
 import shutil
 import subprocess
 
-from llbm_tools.fuzzing.checks import tree_fault
+from llbm_tools.fuzzing.run_checks import tree_fault
 from llbm_tools.llb import definition
-from llbm_tools.measuring import go_show, scale
+from llbm_tools.measuring import go_show, largest_graphs
 from tests import base
 from tests.base import Folder, digest, number, part, run, run_closed, source
 
@@ -182,7 +182,8 @@ class Scale(Measured):
             self.assertRegex(row[1], r"^[0-9.]+ \([0-9.]+\) s, [0-9]+ MB \|$")
 
     def test_the_largest_definitions_are_near_a_limit(self):
-        counts = {kind: int(count.strip("{}")) for kind, count in (given.split(" ") for given in scale.LARGEST)}
+        given = (words.split(" ") for words in largest_graphs.LARGEST)
+        counts = {kind: int(count.strip("{}")) for kind, count in given}
         # One entry more is the terminal; merges of up to 1,024 inputs are needed for as many files and for the merges.
         merges = -(-counts["fan"] // 1_024)
         self.assertEqual({counts[kind] + 1 for kind in ("chain", "pairs", "versions")}, {65_536})

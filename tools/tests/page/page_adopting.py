@@ -9,40 +9,39 @@ import subprocess
 import unittest
 from unittest import mock
 
-from llbm_tools.definitions import adopting
-from llbm_tools.fuzzing import changed
+from llbm_tools.definitions import adopted_ops
+from llbm_tools.fuzzing import changed_inputs
 from llbm_tools.llb import wire
+from llbm_tools.llb.asking import ask
 from llbm_tools.llb.findings import findings_of
 from llbm_tools.page import assets, foreign
 from tests import base
 from tests.base import ROOT, Folder
 from tests.definitions import adopting as adopt_tests
+from tests.page import node_machine
 
 PAGE = ROOT / "page"
 CHANGED = 400
 SEED = 7
 
-SCRIPT = """
-import fs from 'node:fs';
-const [page, tables] = process.argv.slice(1);
-const from = (name) => import(`${page}/${name}`);
-(await from('tables.mjs')).fill(JSON.parse(fs.readFileSync(tables)));
+SCRIPT = node_machine.MACHINE + """
+const { entriesOf } = await from('definition.mjs');
 const { findingsOf } = await from('findings.mjs');
 const { adopted } = await from('adopting.mjs');
-const base64 = (bytes) => Buffer.from(bytes).toString('base64');
-function adoption(data) {
-  try {
-    const { data: made, changes, sources, left } = adopted(data);
-    const told = sources.map(({ name, identifier }) => [name, identifier]);
-    return [base64(made), changes.map(({ row, words }) => [row, words]), told, left.map(({ line }) => line)];
-  } catch (fault) {
-    if (fault.number === undefined && !/cycle/.test(fault.message)) throw fault;
-    return null;
-  }
-}
+const { Rows } = await from('rows.mjs');
 for (const line of fs.readFileSync(0, 'utf8').split('\\n').filter(Boolean)) {
-  const data = new Uint8Array(Buffer.from(line, 'base64'));
-  console.log(JSON.stringify([findingsOf(data).map((one) => one.line), adoption(data)]));
+  const [given, lines] = JSON.parse(line);
+  const definition = new Uint8Array(Buffer.from(given, 'base64'));
+  const machine = machineOf(lines);
+  const findings = findingsOf(machine, definition);
+  let adoption = null;
+  if (!findings.some(({ number }) => number === 81)) {
+    const rows = new Rows(entriesOf(machine, definition).rows, findings);
+    const { data, changes, sources } = adopted(definition, rows, findings, digestOf);
+    const told = sources.map(({ name, identifier }) => [name, identifier]);
+    adoption = [Buffer.from(data).toString('base64'), changes.map(({ row, words }) => [row, words]), told];
+  }
+  console.log(JSON.stringify([findings.map((one) => one.line), adoption]));
 }
 """
 
@@ -55,11 +54,11 @@ def lines_of(found):
 def adoption_of(data):
     """Returns what `adopt --all` makes of a definition, or None if it refuses to read it."""
     try:
-        made = adopting.adopt(data, foreign.ALL, base.llbm)
+        made = adopted_ops.adopt(data, foreign.ALL, base.llbm)
     except wire.Unreadable:
         return None
     told = [list(one) for one in made.sources]
-    return [base64.b64encode(made.data).decode(), [list(one) for one in made.changes], told, lines_of(made.left)]
+    return [base64.b64encode(made.data).decode(), [list(one) for one in made.changes], told]
 
 
 def examples():
@@ -75,7 +74,7 @@ def changed_definitions():
     for _ in range(CHANGED):
         data = dice.choice(found)
         for _ in range(dice.randint(1, 4)):
-            data = changed.changed_definition(dice, data)
+            data = changed_inputs.changed_definition(dice, data)
         made.append(data)
     return made
 
@@ -105,10 +104,16 @@ class Recorder:
 class LikeTheTools(Folder):
     """The page's rules beside those of the tools."""
 
+    @staticmethod
+    def line_of(data):
+        """Returns a line with a definition, and with what the program finds in it."""
+        found = ask(base.llbm, "show", "--findings", given=data).text
+        return json.dumps([base64.b64encode(data).decode(), found]) + "\n"
+
     def check_all(self, definitions):
         """Compares findings and adoptions of definitions."""
         tables = self.file(b"tables.json", assets.tables())
-        given = "".join(base64.b64encode(data).decode() + "\n" for data in definitions if data)
+        given = "".join(map(self.line_of, filter(None, definitions)))
         words = ["node", "--input-type=module", "-e", SCRIPT, PAGE.as_uri(), tables]
         done = subprocess.run(words, input=given.encode(), capture_output=True, timeout=base.GUARD)
         self.assertEqual((done.returncode, done.stderr), (0, b""))

@@ -182,6 +182,37 @@ class Words(Parts):
             found = self.node("record.mjs", f"m.wordsOf({json.dumps({**event, 'reply': reply})}, {json.dumps(entry)})")
             self.assertEqual(found, f"event 4: worker 0, vertex 1: {words}")
 
+    def test_an_event_names_the_lines_of_its_file(self):
+        entry = {"commands": ["make"], "place": "Dockerfile:3: RUN make"}
+        for kind, reply, words in [
+            ("claim", "exec 1", "worker 0 takes vertex 1"),
+            ("step", "ran 0 0", "worker 0, vertex 1: command 0: make, status 0"),
+        ]:
+            event = {"number": 4, "kind": kind, "worker": 0, "vertex": 1, "reply": reply}
+            found = self.node("record.mjs", f"m.wordsOf({json.dumps(event)}, {json.dumps(entry)})")
+            self.assertEqual(found, f"event 4: {words} (Dockerfile:3: RUN make)")
+
+    def test_a_cause_has_its_path_in_the_tree_of_its_mount(self):
+        mounts = [{"dest": "/", "selector": "", "input": 0}, {"dest": "/src/", "selector": "/sub", "input": 1}]
+        text = f"""(() => {{
+          const events = [['claim', ''], ['step', 'ran 0 0'], ['step', 'ran 1 1']];
+          let before = {{ event: null }};
+          events.forEach(([kind, reply], i) => {{
+            before = {{ before, event: {{ kind, reply, worker: 0, vertex: 2, number: i + 1 }} }};
+          }});
+          const session = (words, at) => ({{
+            ways: {{ at }}, entries: [null, null, {{ mounts: {json.dumps(mounts)} }}], to() {{}}, lines: () => [words],
+          }});
+          const found = ['there is no file /src/a', 'nothing is at /b/c', 'it always fails', 'none'].map((words) => (
+            m.causeOf(session(words, before))));
+          return [...found.map((one) => one && [one.words, one.path ?? null, one.mount?.input ?? null]),
+            m.causeOf(session('x', before.before))];
+        }})()"""
+        self.assertEqual(self.node("causes.mjs", text), [
+            ["there is no file /src/a", "/sub/a", 1], ["nothing is at /b/c", "/b/c", 0],
+            ["it always fails", None, None], None, None,
+        ])
+
     def test_a_failure_has_the_step_that_failed(self):
         text = """(() => {
           const events = [['claim', 0, ''], ['step', 0, 'ran 0 0'], ['step', 0, 'ran 1 1'], ['step', 1, 'ran 0 1'],
@@ -207,13 +238,6 @@ class Words(Parts):
             "Worker 1 can do nothing now: no vertex is ready before vertex 0 (worker 0) is settled.",
             "Worker 1 can do nothing now: no vertex is left.",
         ])
-
-    def test_a_script_has_its_commands(self):
-        files = [str(ROOT / "examples" / "tour.definition")]
-        text = f"(await import('node:fs')).readFileSync({json.dumps(files[0])})"
-        found = self.node("definition.mjs", f"m.verticesOf(new Uint8Array({text})).map(v => v.commands)")
-        self.assertEqual(found[2][:2], ["mkdir -p bin", "concat bin/all /src/head /src/tail"])
-        self.assertEqual((found[0], found[1], len(found[2])), ([], [], 6))
 
 
 class Orders(Parts):

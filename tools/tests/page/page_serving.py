@@ -7,13 +7,12 @@ import pathlib
 import re
 import signal
 import subprocess
-import sys
 from urllib.parse import quote
 
 from llbm_tools.page import server
 from llbm_tools.sessions import builds
 from tests import base
-from tests.base import ROOT, TOOLS, Folder, run
+from tests.base import ROOT, Folder, run
 
 FILES = {"index.html": b"the page", "main.mjs": b"code", "examples/list.json": b"[]"}
 TREE = b"d 0755 0 0 /\nf 0644 0 0 6869 /a\n"
@@ -194,7 +193,7 @@ class Tool(WithBuilds):
 
     def test_it_prints_links_and_ends_when_it_is_interrupted(self):
         page = self.top / "page"
-        words = [sys.executable, "-S", TOOLS / "page", "--serve", "--page", page, self.top / "kept"]
+        words = base.command("page", "--serve", "--page", page, self.top / "kept")
         with subprocess.Popen(words, stdout=subprocess.PIPE, stderr=subprocess.PIPE, cwd=ROOT) as child:
             lines = [child.stdout.readline().decode().strip() for _ in range(3)]
             child.send_signal(signal.SIGINT)

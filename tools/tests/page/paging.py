@@ -11,10 +11,13 @@ import tarfile
 import unittest
 
 from llbm_tools.compiling import library_code, unproved_code
-from llbm_tools.page import assets, faults, wasm_module
+from llbm_tools.llb import names
+from llbm_tools.llb.asking import ask
+from llbm_tools.page import assets, fault_sentences, wasm_module
 from llbm_tools.streams import Failed
 from tests import base
 from tests.base import ROOT, Folder, run
+from tests.page import node_machine
 
 PAGE = ROOT / "page"
 IMPORT = re.compile(r"""(?:from|import) '(\./[\w.]+)'""")
@@ -95,7 +98,7 @@ class Module(Folder):
         lines = done.stdout.decode().splitlines()
         self.assertEqual((done.returncode, done.stderr), (0, b""))
         skipped, why = lines[-2].split(" ", 1)
-        self.assertEqual(why, "skipped: no page is there, tools/wasm makes it")
+        self.assertEqual(why, "skipped: no page is there, dev/dev wasm makes it")
         self.assertEqual(lines[-1], f"0 passed, 0 failed, {skipped} skipped")
 
 
@@ -137,12 +140,6 @@ class InNode(Folder):
         self.assertEqual((done.returncode, done.stderr), (0, b""))
         return json.loads(done.stdout)
 
-    def test_the_examples_of_the_digest(self):
-        # The values are those of FIPS 180-4's examples.
-        digests = self.node("sha256.mjs", "['abc', ''].map(t => m.sha256(new TextEncoder().encode(t)))")
-        self.assertEqual(digests[0], "ba7816bf8f01cfea414140de5dae2223b00361a396177a9cb410ff61f20015ad")
-        self.assertEqual(digests[1], "e3b0c44298fc1c149afbf4c8996fb92427ae41e4649b934ca495991b7852b855")
-
     def test_an_archive_is_read_as_by_the_tool(self):
         made = io.BytesIO()
         with tarfile.open(fileobj=made, mode="w", format=tarfile.PAX_FORMAT) as archive:
@@ -161,7 +158,7 @@ class InNode(Folder):
         self.assertEqual(self.node("tar.mjs", read)["text"], done.stdout.decode())
 
     def test_the_sentence_of_each_fault_has_what_its_line_has(self):
-        table = faults.table()
+        table = fault_sentences.table()
         lines = ["fault 161 2 UnknownField", "fault 82 3 12", "fault 89 1 Script 71 apk", "fault 121 a b"]
         for number, row in table["causes"].items():
             words = [{"FAULT": "12"}.get(one, "7") for one in row["arguments"]]
@@ -194,11 +191,40 @@ class InNode(Folder):
         given = {"text": "op {\n}\n", "locals": [["a", "d 0755 0 0 /\n"]], "workers": 3, "lines": ["claim 0 0"]}
         self.assertEqual(self.node("share.mjs", f"m.fragmentOf({json.dumps(given)}).then(m.givenBy)"), given)
 
+    def vertices(self, file, text):
+        """Returns the values of an expression over each vertex `v` of a definition, by the program's numbers."""
+        data = file.read_bytes()
+        lines = ask(base.llbm, "show", "--plan", given=data).text.splitlines()[:-1]
+        script = node_machine.MACHINE + f"""
+          const {{ verticesOf }} = await from('definition.mjs');
+          const definition = new Uint8Array(fs.readFileSync({json.dumps(str(file))}));
+          const digests = {json.dumps([line.split()[1] for line in lines])};
+          const found = verticesOf(machineOf(''), definition, digests).map((v) => {text});
+          console.log(JSON.stringify(found));"""
+        words = ["node", "--input-type=module", "-e", script, PAGE.as_uri(), self.file(b"tables.json", assets.tables())]
+        done = subprocess.run(words, capture_output=True, timeout=base.GUARD)
+        self.assertEqual((done.returncode, done.stderr), (0, b""))
+        return json.loads(done.stdout)
+
     def test_vertices_have_their_names_and_numbers(self):
-        names = ("from-buildkit/dockerfile", "from-buildkit/exec")
-        files = [str(assets.EXAMPLES / name / "definition") for name in names]
-        read = "m.verticesOf(new Uint8Array(fs.readFileSync(file))).map(v => [v.kind, v.name])"
-        first, second = self.node("definition.mjs", f"{json.dumps(files)}.map(file => {read})")
+        shown = ("from-buildkit/dockerfile", "from-buildkit/exec", "from-buildkit/newer")
+        files = [assets.EXAMPLES / name / "definition" for name in shown]
+        first, second, newer = (self.vertices(file, "[v.kind, v.name]") for file in files)
         self.assertEqual(first[0], ["file", "[build 1/3] WORKDIR /src"])
         self.assertEqual([kind for kind, _ in second], ["source", "source", "exec"])
         self.assertEqual(second[2][1], "joins the words")
+        kinds = ask(base.llbm, "show", given=files[2].read_bytes()).text.splitlines()[:-1]
+        self.assertEqual([kind for kind, _ in newer], [line.split()[1] for line in kinds])
+
+    def test_vertices_have_their_groups_and_lines(self):
+        file = assets.EXAMPLES / "from-buildkit" / "dockerfile" / "definition"
+        named = [name for name in names.names_of_vertices(names.names_of(file.read_bytes()))]
+        found = self.vertices(file, "[v.group, v.place]")
+        self.assertEqual([group for group, _ in found], [name.group for name in named])
+        self.assertEqual([place.rpartition(": ")[0] for _, place in found], [name.place for name in named])
+        self.assertIn("Dockerfile:3: COPY . .", [place for _, place in found])
+
+    def test_a_script_has_its_commands(self):
+        found = self.vertices(ROOT / "examples" / "tour.definition", "v.commands")
+        self.assertEqual(found[2][:2], ["mkdir -p bin", "concat bin/all /src/head /src/tail"])
+        self.assertEqual((found[0], found[1], len(found[2])), ([], [], 6))

@@ -13,17 +13,17 @@ import tempfile
 import unittest
 from unittest import mock
 
+from llbm_tools.commands import old_name
 from llbm_tools.counts import Counts, total
-from llbm_tools.installing import tool_parsers
-from llbm_tools.repository import checks, parts
-from llbm_tools.repository.parts import Part
+from llbm_tools.repository import gate_parts, proof_jobs
+from llbm_tools.repository.gate_parts import Part
 from tests import base
 from tests.base import ROOT
 
 
 def loaded(name):
     """Loads a tool's module anew, so that a test can change it."""
-    spec = importlib.util.find_spec(tool_parsers.module_of(name))
+    spec = importlib.util.find_spec(f"llbm_tools.{old_name(name).module}")
     module = importlib.util.module_from_spec(spec)
     spec.loader.exec_module(module)
     return module
@@ -67,11 +67,11 @@ class Parts(base.WithPrograms):
             ([*LATE, *OTHER, RESULT.format("FAILED", 59, 2, 0), "run=no-answer proved=no"], 6, 59, 1, 1),
             ([LATE[0], OTHER[1], RESULT.format("FAILED", 60, 1, 0)], 4, 60, 1),
         ]:
-            self.assertEqual(parts.Ended(status, 0.0, lines).counts(), (*found, *[0] * (3 - len(found))), lines)
+            self.assertEqual(gate_parts.Ended(status, 0.0, lines).counts(), (*found, *[0] * (3 - len(found))), lines)
 
     def test_a_part_that_passes_has_one_line(self):
         part = Part([self.program("echo said", "echo 3 passed, 0 failed, 1 skipped")])
-        counts, lines = printed(lambda: parts.run(part))
+        counts, lines = printed(lambda: gate_parts.run(part))
         self.assertEqual(counts, (3, 0, 1))
         self.assertRegex(lines[0], r"^.*/program\S*: 3 passed, 0 failed, 1 skipped \([0-9.]+ processor minutes\)$")
         self.assertEqual(len(lines), 1)
@@ -79,20 +79,20 @@ class Parts(base.WithPrograms):
     def test_a_part_that_fails_shows_what_it_printed_but_not_what_is_expected(self):
         wants = "==7==WARNING: AddressSanitizer failed to allocate 0x100000000 bytes"
         part = Part([self.program(f"echo '{wants}' >&2", "echo wrong", "exit 3")])
-        for work in (lambda: parts.run(part), lambda: total(parts.run_together([part], 1))):
+        for work in (lambda: gate_parts.run(part), lambda: total(gate_parts.run_together([part], 1))):
             counts, lines = printed(work)
             self.assertEqual((counts, lines[1:]), ((0, 1, 0), ["    wrong"]))
 
     def test_the_time_of_a_part_is_that_of_its_processes(self):
         part = Part([sys.executable, "-c", SPINS])
-        for work in (lambda: parts.run(part), lambda: total(parts.run_together([part], 1))):
+        for work in (lambda: gate_parts.run(part), lambda: total(gate_parts.run_together([part], 1))):
             found = re.search(r"\(([0-9.]+) processor minutes\)$", printed(work)[1][-1])
             self.assertGreaterEqual(float(found[1]), 0.01)
 
     def test_parts_that_run_together_are_all_counted(self):
         says = [Part([self.program(f"echo '{number} passed, 0 failed'")]) for number in (3, 4, 5)]
         given = [*says, Part([self.program("exit 7")]), Part(["/none"])]
-        counts, lines = printed(lambda: sorted(parts.run_together(given, 2)))
+        counts, lines = printed(lambda: sorted(gate_parts.run_together(given, 2)))
         self.assertEqual(counts, [(0, 1, 0), (0, 1, 0), (3, 0, 0), (4, 0, 0), (5, 0, 0)])
         self.assertEqual(len(lines), 6)
         self.assertIn("    there is no such file or directory: /none", lines)
@@ -113,9 +113,10 @@ class Gate(base.WithPrograms):
             for program in programs:
                 self.assertIn(gate.tool("transcripts", "--llbm", program, "tests", *gate.EXAMPLES).command, commands)
             self.assertIn(gate.tool("transcripts", "--llbm", programs[0], *gate.PAGES).command, commands)
-            self.assertEqual(commands[-1][2:], ["--cases", "7", "--llbm", programs[0], "--seed", "3"])
-            daemon = gate.tool("daemon-tests", "--llbm", programs[0]).command
-            beside = gate.tool("against-buildkit", "--start", "--count", "20", "--llbm", programs[0]).command
+            self.assertEqual(commands[-1][2:], ["fuzz", "--cases", "7", "--llbm", programs[0], "--seed", "3"])
+            daemon = gate.tool("daemon tests", "--llbm", programs[0]).command
+            words = ["--start", "--count", "20", *gate.FIXED, "--llbm", programs[0]]
+            beside = gate.tool("against-buildkit", *words).command
             test = gate.tool("test", "--llbm", programs[0]).command
             self.assertEqual(sorted([daemon, beside, test], key=commands.index), [daemon, beside, test])
 
@@ -127,15 +128,15 @@ class Gate(base.WithPrograms):
             (folder / name).write_text(f"{text}\n")
         with (
             mock.patch("os.sched_getaffinity", return_value=set(range(processors))),
-            mock.patch.multiple(checks, MEMORY=folder / "meminfo", GROUPS=folder),
+            mock.patch.multiple(proof_jobs, MEMORY=folder / "meminfo", GROUPS=folder),
         ):
-            return checks.checks_at_once()
+            return proof_jobs.checks_at_once()
 
     def test_a_check_gets_a_processor_and_its_memory(self):
         for processors, free, jobs in [(4, 24, 4), (2, 24, 2), (8, 24, 4), (4, 12, 2), (4, 3, 1), (1, 24, 1)]:
             self.assertEqual(self.checks(processors, 1_000_000 * free), jobs, (processors, free))
-        with mock.patch.multiple(checks, MEMORY=pathlib.Path("/none"), GROUPS=pathlib.Path("/none")):
-            self.assertEqual(checks.checks_at_once(), len(os.sched_getaffinity(0)))
+        with mock.patch.multiple(proof_jobs, MEMORY=pathlib.Path("/none"), GROUPS=pathlib.Path("/none")):
+            self.assertEqual(proof_jobs.checks_at_once(), len(os.sched_getaffinity(0)))
 
     def test_a_control_group_limits_the_checks(self):
         period = ("cpu/cpu.cfs_period_us", "100000")
@@ -152,7 +153,7 @@ class Gate(base.WithPrograms):
         gate = loaded("gate")
         gate.PROOFS = [self.program("echo $RT_JOBS passed, 0 failed")]
         for known, jobs in [({}, 3), ({"RT_JOBS": "7"}, 7)]:
-            with mock.patch.dict(os.environ), mock.patch.object(checks, "checks_at_once", lambda: 3):
+            with mock.patch.dict(os.environ), mock.patch.object(proof_jobs, "checks_at_once", lambda: 3):
                 os.environ.pop("RT_JOBS", None)
                 os.environ.update(known)
                 counts, _ = printed(lambda: gate.run_part(gate.proofs(), []))
@@ -164,14 +165,14 @@ class Gate(base.WithPrograms):
         self.assertEqual({tuple(part.command) for part in others}, {("rt", "try", "--test")})
         self.assertEqual(sorted(part.folder.name for part in others), ["llb_examples", "llb_refusals", "llbm"])
         self.assertTrue(all(part.folder.is_dir() for part in others))
-        quick = [part.shown().split()[0] for part in gate.parts_that_are_quick(7, "3")]
-        self.assertEqual(quick, [f"tools/{name}" for name in ("transcripts", "daemon-tests", "test", "fuzz")])
+        quick = [part.shown().partition(" --")[0] for part in gate.parts_that_are_quick(7, "3")]
+        self.assertEqual(quick, [f"dev/dev {name}" for name in ("transcripts", "daemon tests", "test", "fuzz")])
         transcripts = next(gate.parts_that_are_quick(7, "3")).command
         self.assertIn("tests/actions", transcripts)
         self.assertNotIn("tests/limits", transcripts)
 
     def run_quick(self, *words):
-        """Runs the quick gate with parts that say that they pass; returns its status, its parts, and its lines."""
+        """Runs the quick gate with parts that say that they pass; returns its status, its gate_parts, and its lines."""
         gate, ran = loaded("gate"), []
 
         def run(part):
@@ -180,7 +181,7 @@ class Gate(base.WithPrograms):
 
         together = mock.Mock(side_effect=lambda given, jobs: map(run, given))
         with (
-            mock.patch.multiple(parts, run=run, run_together=together),
+            mock.patch.multiple(gate_parts, run=run, run_together=together),
             mock.patch.object(sys, "argv", ["gate", "--quick", *words]),
         ):
             status, lines = printed(gate.main)
@@ -234,7 +235,7 @@ class Scripts(unittest.TestCase):
         with tempfile.TemporaryDirectory() as folder:
             link = pathlib.Path(folder, "link")
             link.symlink_to(ROOT / "gate")
-            for place in (link, ROOT / "gate", ROOT / "tools" / "gate"):
+            for place in (link, ROOT / "gate"):
                 done = subprocess.run([place, "--help"], cwd=folder, capture_output=True, text=True, timeout=base.GUARD)
                 self.assertEqual((done.returncode, done.stderr), (0, ""), place)
                 self.assertTrue(done.stdout.startswith("usage: gate "), done.stdout)

@@ -5,14 +5,15 @@ import unittest
 from collections.abc import Iterator
 from pathlib import Path
 
-from llbm_tools.repository import proved
+from llbm_tools.repository import claims, proved
 from llbm_tools.repository.claims import first, resting
 from llbm_tools.repository.specs import Library
 from tests.base import ROOT
 
 CRATES = ROOT / "crates"
 TOP = ["README.md", "CONTRIBUTING.md", "CHANGELOG.md"]
-MOST_OF_ARCHITECTURE = 12_288
+MOST_OF_ARCHITECTURE = 10_240
+MOST_OF_ALL = 230_000
 
 LINK = re.compile(r"\[[^\]]*\]\(([^)\s]+)\)")
 HEADING = re.compile(r"(#+) (.*)")
@@ -158,6 +159,15 @@ class Named(unittest.TestCase):
                     rows += 1
         self.assertGreater(rows, 15)
 
+    def test_the_names_of_laws_and_premises_are_in_the_sources(self) -> None:
+        text = section(ROOT / "docs" / "CLAIMS.md", "Further promises")
+        named = set(re.findall(r"`([a-z]+_\w+|[A-Z][a-z]+[A-Z]\w+)`", text)) - crates().keys()
+        places = [*CRATES.glob("*/src/**/*.rt"), *CRATES.glob("*/specs/**/*.antt")]
+        places += (ROOT / "tools" / "llbm_tools").rglob("*.py")
+        words = {word for place in places for word in re.findall(r"\w+", place.read_text("utf-8"))}
+        self.assertGreater(len(named), 50)
+        self.assertEqual(named - words, set())
+
     def test_the_heads_of_the_crates_name_their_types_and_clauses(self) -> None:
         for crate in crates().keys() - proved.OUTSIDE:
             if head := head_of(crate):
@@ -174,17 +184,26 @@ class Named(unittest.TestCase):
 
 
 class Reading(unittest.TestCase):
-    """The definitions that docs/CLAIMS.md has read first."""
+    """The definitions to read first, and their questions."""
 
     def test_they_are_among_those_that_the_aim_rests_on(self) -> None:
         definitions, _ = resting(Library(), "aim")
         rests_on = {one.name: f"{one.crate}/specs/{one.file}.antt" for one in definitions}
-        text = section(ROOT / "docs" / "CLAIMS.md", "The definitions to read first")
+        text = claims.QUESTIONS.read_text("utf-8")
         names = [name for names in READ.findall(text) for name in re.findall(r"\w+", names)]
         self.assertLessEqual(set(names), rests_on.keys())
         self.assertEqual(len(names), len(set(names)))
-        self.assertIn(f"Read these {len(names)} ", text)
+        page = section(ROOT / "docs" / "CLAIMS.md", "The definitions to read first")
+        self.assertIn(f"prints the {len(names)} definitions", page)
         self.assertEqual([one.name for one, _ in first(Library())], names)
+
+
+class Sizes(unittest.TestCase):
+    """How much there is to read: README.md, CONTRIBUTING.md and the pages in docs together."""
+
+    def test_the_pages_together_are_short(self) -> None:
+        read = [ROOT / "README.md", ROOT / "CONTRIBUTING.md", *(ROOT / "docs").glob("*.md")]
+        self.assertLessEqual(sum(page.stat().st_size for page in read), MOST_OF_ALL)
 
 
 class Architecture(unittest.TestCase):

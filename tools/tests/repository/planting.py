@@ -8,7 +8,7 @@ import pathlib
 import types
 from unittest import mock
 
-from llbm_tools.repository import plant_over, plants
+from llbm_tools.repository import plant_run, plants
 from llbm_tools.streams import Refused
 from tests.base import Folder, run
 
@@ -76,7 +76,7 @@ class Plants(Folder):
 
     def test_a_part_has_each_nth_function(self):
         module = types.SimpleNamespace(chosen=lambda names, bare: (names, bare))
-        plant_over.take_part(module, 2, 3)
+        plant_run.take_part(module, 2, 3)
         self.assertEqual(module.chosen([*"abcdefgh"], [*"xyz"]), ([*"beh"], ["y"]))
         self.assertEqual(plants.part("2/3"), ["--part", "2", "3"])
         for text in ("0/1", "3/2", "2", "1/2/3", "a/b", "-1/2"):

@@ -38,7 +38,7 @@ and not
 
 nor
 
-    tools/unproved-program
+    dev/dev unproved-program
 
 nor
 

@@ -51,7 +51,7 @@ def source(name):
         file = place / "src" / BUILDKIT / "solver" / "pb" / name
         if file.is_file():
             return file.read_text("utf-8")
-    raise unittest.SkipTest(f"BuildKit's sources are needed (tools/daemon fetches them, or GOPATH): {name}")
+    raise unittest.SkipTest(f"BuildKit's sources are needed (dev/dev daemon fetches them, or GOPATH): {name}")
 
 
 def messages():

@@ -5,12 +5,12 @@ import re
 import subprocess
 import unittest
 
-from llbm_tools.definitions import adopting
+from llbm_tools.definitions import adopted_ops
 from llbm_tools.llb.findings import findings_of
 from llbm_tools.rules import notes, program
 from llbm_tools.rules.comparison import of_trees
 from llbm_tools.rules.examples import ALWAYS, examples
-from llbm_tools.trees import maps
+from llbm_tools.trees import tree_maps
 from tests import base
 from tests.base import ROOT, Folder
 
@@ -19,7 +19,7 @@ PAGE = ROOT / "docs" / "BUILDKIT.md"
 
 def compared(data, sources):
     """Returns the end of a comparison, and BuildKit's result without the root, None if there is none."""
-    end, tree = of_trees(data, {name: maps.lines_of(tree) for name, tree in sources.items()})
+    end, tree = of_trees(data, {name: tree_maps.lines_of(tree) for name, tree in sources.items()})
     return end, None if tree is None else b"".join(tree).decode().splitlines()[1:]
 
 
@@ -69,7 +69,7 @@ class Examples(Folder):
         for one in examples():
             words = []
             for name, tree in one.sources.items():
-                place = self.file(name.encode(), b"".join(maps.lines_of(tree)))
+                place = self.file(name.encode(), b"".join(tree_maps.lines_of(tree)))
                 words.append(f"{name}={os.fsdecode(place)}")
             done = subprocess.run([base.llbm, "run", *words], input=one.data, capture_output=True, timeout=base.GUARD)
             self.assertIn(done.returncode, (0, 1), done.stderr)
@@ -82,8 +82,8 @@ class Examples(Folder):
 
     def adopted(self, one, *trees):
         """Adopts an example, and returns the end of a comparison and BuildKit's result."""
-        settings = adopting.Settings(like_buildkit=True, trees=trees)
-        return compared(adopting.adopt(one.data, settings, base.llbm).data, one.sources)
+        settings = adopted_ops.Settings(like_buildkit=True, trees=trees)
+        return compared(adopted_ops.adopt(one.data, settings, base.llbm).data, one.sources)
 
     def test_adoption_makes_both_agree_where_the_example_says_so(self):
         for one in examples():
@@ -96,7 +96,7 @@ class Examples(Folder):
         for one in examples():
             places = {}
             for number, (name, tree) in enumerate(one.sources.items()):
-                places[name] = os.fsdecode(self.file(b"%d" % number, b"".join(maps.lines_of(tree))))
+                places[name] = os.fsdecode(self.file(b"%d" % number, b"".join(tree_maps.lines_of(tree))))
             end, there = self.adopted(one, *places.items())
             self.assertEqual(end.agree, bool(one.adopted) or one.buildkit == one.llbm, one.shows)
             if one.buildkit is not None:

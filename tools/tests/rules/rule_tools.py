@@ -4,11 +4,11 @@ import json
 import os
 import unittest
 
-from llbm_tools.debugging import happened, launching, views
+from llbm_tools.debugging import last_event, launching, variables
 from llbm_tools.llb import messages
 from llbm_tools.llb.messages import made
 from llbm_tools.rules.examples import examples
-from llbm_tools.trees import maps
+from llbm_tools.trees import tree_maps
 from tests import base
 from tests.base import Folder, run
 
@@ -46,7 +46,7 @@ class Without(Folder):
     def setUp(self):
         super().setUp()
         self.env = {**os.environ, "LLBM_RULES": "/none"}
-        self.missing = "LLBM_RULES names no program: /none; tools/daemon of the repository builds it\n"
+        self.missing = "LLBM_RULES names no program: /none; dev/dev daemon of the repository builds it\n"
 
     def test_lint_prints_its_findings(self):
         data = definition(made("Op", source=made("SourceOp", identifier="git://x")))
@@ -345,10 +345,11 @@ class Breaking(WithProgram):
         given = {"definition": place, "sources": {"p": self.tree}, "workers": 1, "llbm": str(base.llbm)}
         launched = launching.launch(given, lambda _: None)
         self.addCleanup(launched.session.end)
-        eyes, shown = views.Views(launched).eyes, []
+        run_scopes, shown = variables.Views(launched).run_scopes, []
         while event := launched.session.event("next"):
-            eyes.close()
-            shown += [(event.kind, event.vertex, one["value"]) for one in eyes.changed() if one["name"] == "BuildKit"]
+            run_scopes.close()
+            values = [one["value"] for one in run_scopes.changed() if one["name"] == "BuildKit"]
+            shown += [(event.kind, event.vertex, value) for value in values]
         self.assertEqual(shown, [("claim", 1, self.SHORT)])
 
 
@@ -414,7 +415,7 @@ class AsBuildkit(WithProgram):
 
     def tree(self, name, tree):
         """Writes the text of a tree, and returns its path."""
-        return self.file(name.encode(), b"".join(maps.lines_of(tree))).decode()
+        return self.file(name.encode(), b"".join(tree_maps.lines_of(tree))).decode()
 
     def test_it_names_the_path_what_is_there_and_the_rule(self):
         for shows, lines in [
@@ -500,7 +501,7 @@ class AsBuildkit(WithProgram):
     def test_a_session_that_goes_back_and_on_has_the_same_lines(self):
         one = example("merge of a tree and of one from which something was removed")
         launched = self.launched(one)
-        watch = happened.Watch(launched.session, launched.graph, one.data, launched.sources)
+        watch = last_event.Watch(launched.session, launched.graph, one.data, launched.sources)
         seen = []
         for _ in range(2):
             while launched.session.event("next"):
@@ -525,7 +526,7 @@ class AsBuildkit(WithProgram):
         given = {"definition": place, "sources": {}, "workers": 2, "llbm": str(base.llbm)}
         launched = launching.launch(given, lambda _: None)
         self.addCleanup(launched.session.end)
-        watch = happened.Watch(launched.session, launched.graph, launched.entries.data, launched.sources)
+        watch = last_event.Watch(launched.session, launched.graph, launched.entries.data, launched.sources)
         for command in ("claim 0 1", "step 0", "settle 0", "claim 0 2", "step 0"):
             launched.session.event(command)
             otherwise = watch.last().otherwise

@@ -5,6 +5,7 @@ import pty
 import subprocess
 import unittest
 
+from llbm_tools import commands
 from llbm_tools.running.program_words import Source, read_words
 from tests import base
 from tests.base import ROOT, Folder, command, run, run_closed
@@ -76,7 +77,8 @@ class Run(Folder):
         self.check_success(done, b"abc\xff")
 
     def test_a_session_at_a_terminal_says_what_it_reads(self):
-        line = b"llbm step reads a command on each line, as next, back, go or quit; tools/debug has a prompt\n"
+        said = "llbm step reads a command on each line, as next, back, go or quit"
+        line = f"{said}; {commands.shown('debug')} has a prompt\n".encode()
         ends, terminal = pty.openpty()
         try:
             os.write(ends, b"\x04")
@@ -124,7 +126,8 @@ class Run(Folder):
         data = base.ending(base.source("local://a=b"))
         lines = self.added("fault 121 a=b", "run", text=data)
         self.assertEqual(lines[:2], [
-            "without a tree: a=b (vertex 0)", "no word NAME=FILE names it, and tools/adopt gives it another name: a=b",
+            "without a tree: a=b (vertex 0)",
+            f"no word NAME=FILE names it, and {commands.shown('adopt')} gives it another name: a=b",
         ])
 
     def test_names_that_the_program_passes_over_are_named_after_its_lines(self):
@@ -164,7 +167,7 @@ class Run(Folder):
         for word in ("-h", "--help"):
             done = run("run", word)
             self.assertEqual((done.returncode, done.stderr), (0, b""))
-            usage = b"usage: run [--llbm PROGRAM] [--record FOLDER] [--no-filters] [WORD ...]\n"
+            usage = b"usage: llbm-tools run [--llbm PROGRAM] [--record FOLDER] [--no-filters] [WORD ...]\n"
             self.assertTrue(done.stdout.startswith(usage), done.stdout)
             self.assertIn(b"  asm   Writes the definition of the entries", done.stdout)
 

@@ -11,14 +11,13 @@ import sys
 import unittest
 
 from tests import base
-from tests.base import AS_NOBODY, IS_ROOT, TOOLS, Folder, command, run, run_closed, run_into
+from tests.base import AS_NOBODY, IS_ROOT, Folder, command, run, run_closed, run_into
 
 NOTHING = b"left out: nothing\n"
 
 PEAK = """
 import pathlib, re, runpy, sys
-tools, sys.argv = sys.argv[1], sys.argv[2:]
-sys.path.insert(0, tools)
+sys.argv = sys.argv[1:]
 try:
     runpy.run_path(sys.argv[0], run_name="__main__")
 finally:
@@ -355,7 +354,7 @@ class DirectoryOfTree(Folder):
         """Returns the peak memory for a text, in KiB."""
         with open(text, "rb") as given:
             done = subprocess.run(
-                [sys.executable, "-c", PEAK, TOOLS, *command("directory-of-tree", self.place(name))[2:]],
+                [sys.executable, "-c", PEAK, *command("directory-of-tree", self.place(name))[2:]],
                 stdin=given, stderr=subprocess.PIPE, timeout=base.GUARD,
             )
         self.assertEqual(done.returncode, 0, done.stderr)

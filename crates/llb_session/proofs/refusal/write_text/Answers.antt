@@ -1,5 +1,5 @@
 -- The number of a refusal, and then its argument.
-use Rattle.std.proofs.Common.{◌≡◌, ◌∙◌, List, ℕ, codes, sym, ap, subst}
+use Rattle.std.proofs.Common.{codes, sym, subst}
 use Rattle.std.specs.Fmt.{decimal}
 use Rattle.std.proofs.lemmas.Result.{err_from_is_err_and}
 use Rattle.llb_wire.specs.Sink.{TakesAll}

@@ -1,0 +1,37 @@
+/** The digests of entries, which the machine makes: it assembles a text in which an op names each of them. */
+
+import { STATUS } from './machine.mjs';
+import { entriesIn, readOp } from './op_reading.mjs';
+
+// An op has at most so many inputs. A text of so many bytes more than the largest entry is within the machine's limits.
+const MOST = 1024;
+const MOST_BYTES = 8 << 20;
+const HEX = Array.from({ length: 256 }, (_, byte) => byte.toString(16).padStart(2, '0'));
+
+function rawLine(bytes) {
+  let digits = '';
+  for (const byte of bytes) digits += HEX[byte];
+  return `raw ${digits || '-'}\n`;
+}
+
+function digestsOfPart(handle, entries) {
+  const named = entries.map((_, i) => `inputs {\ndigest %${i}\n}\n`);
+  const status = handle.asm(`${entries.map(rawLine).join('')}op {\n${named.join('')}}\n`);
+  if (status !== STATUS.done) throw new Error(handle.messages().trim() || 'no memory');
+  return readOp(entriesIn(handle.output()).at(-1)).inputs.map(({ digest }) => digest);
+}
+
+/** Returns the digests of entries, given as bytes. The handle is one that has no session. */
+export function digestsOf(handle, entries) {
+  const found = [];
+  for (let at = 0; at < entries.length;) {
+    let [end, size] = [at, 0];
+    while (end < entries.length && end - at < MOST && size < MOST_BYTES) {
+      size += entries[end].length;
+      end += 1;
+    }
+    found.push(...digestsOfPart(handle, entries.slice(at, end)));
+    at = end;
+  }
+  return found;
+}
