@@ -50,9 +50,9 @@ class Version(argparse.Action):
 class Parser(argparse.ArgumentParser):
     """A parser that takes no abbreviated options, and knows --help and --version."""
 
-    def __init__(self, **settings: Any) -> None:
+    def __init__(self, prog: str | None = None, **settings: Any) -> None:
         # (argparse would take what follows the last `/` of dev/dev)
-        super().__init__(**{"allow_abbrev": False, "prog": name_of(sys.argv[0]), **settings})
+        super().__init__(prog or name_of(sys.argv[0]), allow_abbrev=False, **settings)
         self.add_argument("--version", action=Version)
 
     def print_help(self, file: object = None) -> None:

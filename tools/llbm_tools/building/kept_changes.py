@@ -44,7 +44,8 @@ class Memory:
         last = kept_builds.load(self.place)
         if not last or not result or last.result != result:
             return None
-        return last if {**last.asked, DEFINITION: ""} == {**self.asked, DEFINITION: ""} else None
+        same = {DEFINITION: last.asked.get(DEFINITION)}
+        return last if last.asked == {**self.asked, **same} else None
 
     def store(self, build: Build) -> None:
         """Keeps what was read and made."""

@@ -27,7 +27,7 @@ import shutil
 import subprocess
 import sys
 import tempfile
-from collections.abc import Callable
+from collections.abc import Callable, Mapping
 from typing import NamedTuple
 
 from llbm_tools.command_line import Parser
@@ -54,9 +54,11 @@ class Wrong(Exception):
     """A trial failed; the argument says how."""
 
 
-def call(words: list[str], folder: pathlib.Path, text: bytes = b"", **given: str) -> bytes:
+def call(
+    words: list[str], folder: pathlib.Path, text: bytes = b"", given: Mapping[str, str] | None = None
+) -> bytes:
     """Runs a command in a folder, and returns its standard output; it has to end with status 0 in time."""
-    environment = {**os.environ, **given}
+    environment = {**os.environ, **(given or {})}
     try:
         done = subprocess.run(words, cwd=folder, input=text, capture_output=True, timeout=PATIENCE, env=environment)
     except subprocess.TimeoutExpired as fault:
@@ -92,7 +94,7 @@ def settings(top: pathlib.Path) -> dict[str, str]:
     shared = top / "out" / "libllbm.so"
     words = ["-Wl,--whole-archive", str(top / "out" / "libllbm.a"), "-Wl,--no-whole-archive"]
     call(["cc", "-shared", "-o", str(shared), *words], top)
-    program = os.environ.get("LLBM") or next((str(one) for one in (PROVED, UNPROVED) if one.is_file()), "")
+    program = os.environ.get("LLBM", "") or next((str(one) for one in (PROVED, UNPROVED) if one.is_file()), "")
     rules = {"LLBM_RULES": str(RULES)} if RULES.is_file() else {}
     return {"LIBLLBM": str(shared), "LLBM": program, "LLBM_TOOLS": str(TOOLS), **rules}
 
@@ -116,12 +118,12 @@ def try_c(top: pathlib.Path, flags: list[str], before: list[str]) -> None:
 def try_python(top: pathlib.Path) -> None:
     """Runs the tests in Python."""
     words = [sys.executable, "-m", "unittest", "test_llbm", "test_testing"]
-    call(words, top / "bindings" / "python", **settings(top))
+    call(words, top / "bindings" / "python", given=settings(top))
 
 
 def try_rust(top: pathlib.Path) -> None:
     """Runs the tests in Rust."""
-    call(["cargo", "test", "--offline", "--quiet"], top / "bindings" / "rust", **settings(top))
+    call(["cargo", "test", "--offline", "--quiet"], top / "bindings" / "rust", given=settings(top))
 
 
 def has_packages() -> bool:
@@ -134,9 +136,8 @@ def try_go(top: pathlib.Path) -> None:
     """Runs the tests in Go: with Debian's packages all of them, else those that need no other module."""
     module = top / "bindings" / "go"
     if not has_packages():
-        words, cache = ["go", "test", "-count=1", "."], str(top / "go-cache")
-        offline = {"GOPROXY": "off", "GOTOOLCHAIN": "local", "CGO_ENABLED": "1"}
-        call(words, module, GOCACHE=cache, **offline, **settings(top))
+        offline = {"GOPROXY": "off", "GOTOOLCHAIN": "local", "GOCACHE": str(top / "go-cache")}
+        call(["go", "test", "-count=1", "."], module, given={**offline, "CGO_ENABLED": "1", **settings(top)})
         return
     sources = top / "go-path" / "src"
     # The tests look for the examples where they are in the repository, two folders above them.
@@ -145,7 +146,7 @@ def try_go(top: pathlib.Path) -> None:
         shutil.copytree(place, sources / name)
     go = go_building.with_packages(debian_packages.FOLDER, top / "go-path")
     given = {**go.environment, **settings(top), "CGO_ENABLED": "1"}
-    call([go.command, "test", "-count=1", MODULE, f"{MODULE}/llbmtest", FRONTEND], sources / MODULE, **given)
+    call([go.command, "test", "-count=1", MODULE, f"{MODULE}/llbmtest", FRONTEND], sources / MODULE, given=given)
 
 
 def try_go_get(top: pathlib.Path) -> None:
@@ -163,10 +164,10 @@ def try_go_get(top: pathlib.Path) -> None:
     (user / "main.go").write_text(go_host.PROGRAM, "utf-8")
     with go_host.host(repository) as given:
         environment |= given
-        call([go, "get", f"{go_host.BINDING}@{go_host.VERSION}"], user, **environment)
+        call([go, "get", f"{go_host.BINDING}@{go_host.VERSION}"], user, given=environment)
         # What llbmtest asks for, BuildKit's client, is fetched by nobody here.
-        call([go, "mod", "download", f"{go_host.TESTING}@{go_host.VERSION}"], user, **environment)
-    said = call([go, "run", "."], user, **environment)
+        call([go, "mod", "download", f"{go_host.TESTING}@{go_host.VERSION}"], user, given=environment)
+    said = call([go, "run", "."], user, given=environment)
     if said != go_host.PRINTED:
         raise Wrong(f"the program prints another tree:\n{said.decode('utf-8', 'replace')}")
 

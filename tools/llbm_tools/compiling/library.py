@@ -110,7 +110,7 @@ def make(options: argparse.Namespace) -> int:
         library_files.link(at, new, shared)
         for made, place in ((shared, to.with_suffix(library_files.SHARED)), (new, to)):
             made.replace(place)
-            print(f"{os.path.relpath(place)}: {place.stat().st_size} bytes")
+            print(f"{os.path.relpath(place)}: {os.path.getsize(place)} bytes")
     return 0
 
 

@@ -45,6 +45,6 @@ def link(kit: pathlib.Path, archive: pathlib.Path, to: pathlib.Path) -> None:
     toolchain, exported = kit / "toolchain", archive.with_name("exported")
     names = "".join(f"{PREFIX}{name}; " for name in (*EXPORTS, "version"))
     exported.write_text(f"{{ global: {names}local: *; }};\n", "utf-8")
-    whole = ["--whole-archive", archive, "--no-whole-archive", toolchain / "lib" / "libc.so.6"]
-    words = ["-shared", "-soname", "libllbm.so", "--gc-sections", "--version-script", exported]
+    whole = ("--whole-archive", archive, "--no-whole-archive", toolchain / "lib" / "libc.so.6")
+    words = ("-shared", "-soname", "libllbm.so", "--gc-sections", "--version-script", exported)
     run([toolchain / "bin" / "ld.lld", *words, *whole, "-o", to], "the shared object")

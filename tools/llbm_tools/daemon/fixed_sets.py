@@ -50,7 +50,7 @@ def tree_of_image(archive: str) -> Tree:
     """Returns the tree of an image's only layer, in an archive of type oci or docker."""
     with tempfile.TemporaryDirectory() as folder:
         with tarfile.open(archive) as opened:
-            opened.extractall(folder, filter="data")
+            opened.extractall(folder, list(filter(tarfile.TarInfo.isfile, opened)))
         at = pathlib.Path(folder)
 
         def held(place: str) -> dict[str, list[dict[str, str]]]:
@@ -138,7 +138,8 @@ class Dockerfiles:
         self.theirs.rules.write_text(SKIP if SKIP in parts else parts.get("rules", ""), "utf-8")
         ended = []
         files = (stored_dockerfiles.without_syntax(case.data), case.data)
-        for daemon, file, further, times in zip((self.theirs.daemon, self.ours), files, ([], mine), self.times):
+        daemons: list[tuple[Daemon, list[str]]] = [(self.theirs.daemon, []), (self.ours, mine)]
+        for (daemon, further), file, times in zip(daemons, files, self.times):
             begin = time.monotonic()
             ended.append(daemon.run_dockerfile(file, case.sources["context"], *words, *further))
             times.append(time.monotonic() - begin)
@@ -148,5 +149,5 @@ class Dockerfiles:
         """Returns a line with the medians of the times."""
         if not self.times[0]:
             return "none of these Dockerfiles was built, for want of executions"
-        there, here = map(statistics.median, self.times)
+        there, here = (statistics.median(times) for times in self.times)
         return f"median of the builds of these: {there:.2f} s by BuildKit's daemon, {here:.2f} s by llbmd"

@@ -1,6 +1,7 @@
 """A fixed set of definitions with symbolic links, and with hard links, each with a name: at each place of an op where
 BuildKit follows a link, or copies it as it is. Those with executions run scripts of llbm."""
 
+from collections.abc import Iterable
 from typing import NamedTuple
 
 from llbm_tools.daemon.runs import hard_link_to, link_to
@@ -57,11 +58,13 @@ def owner() -> Message:
     return made("ChownOpt", user=made("UserOpt", byID=7), group=made("UserOpt", byID=8))
 
 
-def copy(src: str, dest: str = "/to", *patterns: tuple[int, bytes], **others: object) -> tuple[str, Message]:
+def copy(
+    src: str, dest: str = "/to", *patterns: tuple[int, bytes],
+    flags: str = "", owner: Message | None = None, mode: int = -1,
+) -> tuple[str, Message]:
     """Returns a copy from the source; `f` follows links, `w` takes wildcards, `c` copies what directories have."""
-    flags = str(others.pop("flags", ""))
     member = made(
-        "FileActionCopy", src=src, dest=dest, owner=others.pop("owner", None), mode=others.pop("mode", -1),
+        "FileActionCopy", src=src, dest=dest, owner=owner, mode=mode,
         followSymlink="f" in flags, dirCopyContents="c" in flags, createDestPath=True, allowWildcard="w" in flags,
         timestamp=-1,
     )  # fmt: skip
@@ -83,6 +86,11 @@ def rm(path: str, **others: bool) -> tuple[str, Message]:
     return "rm", made("FileActionRm", path=path, **others)
 
 
+def edges(entries: Iterable[bytes]) -> tuple[Message, ...]:
+    """Returns the inputs that name these entries."""
+    return tuple(messages.edge(entry) for entry in entries)
+
+
 class Maker:
     """Adds ops on the source to a definition."""
 
@@ -96,7 +104,7 @@ class Maker:
 
     def files(self, base: int, *actions: tuple[str, Message], on: bytes | None = None) -> bytes:
         """Adds a file op on the empty tree, the source or another entry."""
-        inputs = [self.entries[0]] + [on] * (on is not None)
+        inputs = [self.entries[0]] + ([] if on is None else [on])
         message = []
         for number, (kind, member) in enumerate(actions):
             before = (len(inputs) - 1 if on else base) if number == 0 else len(inputs) + number - 1
@@ -104,14 +112,14 @@ class Maker:
             second = 0 if kind == "copy" else -1
             message.append(made("FileAction", input=before, secondaryInput=second, output=output, **{kind: member}))
         file = made("FileOp", actions=tuple(message))
-        return self.add(made("Op", inputs=tuple(map(messages.edge, inputs)), file=file))
+        return self.add(made("Op", inputs=edges(inputs), file=file))
 
     def merge(self, *entries: bytes) -> bytes:
         """Adds a merge."""
         listed = tuple(made("MergeInput", input=number) for number in range(len(entries)))
-        return self.add(made("Op", inputs=tuple(map(messages.edge, entries)), merge=made("MergeOp", inputs=listed)))
+        return self.add(made("Op", inputs=edges(entries), merge=made("MergeOp", inputs=listed)))
 
-    def run(self, script: str, on: bytes, cwd: str = "/", **mount: object) -> bytes:
+    def run(self, script: str, on: bytes, cwd: str = "/", **mount: str) -> bytes:
         """Adds an execution on an entry, with a mount of the source if it is given."""
         mounts = [made("Mount", input=0, dest="/", output=0)]
         inputs = [on]
@@ -119,7 +127,7 @@ class Maker:
             inputs.append(self.entries[0])
             mounts.append(made("Mount", input=1, output=-1, readonly=True, **mount))
         exec_op = made("ExecOp", meta=made("Meta", args=(*SHELL, script), cwd=cwd), mounts=tuple(mounts))
-        return self.add(made("Op", inputs=tuple(map(messages.edge, inputs)), exec=exec_op))
+        return self.add(made("Op", inputs=edges(inputs), exec=exec_op))
 
     def ends(self, name: str, last: bytes, runs: bool = False, is_refused: bool = False) -> Linked:
         """Returns the case."""
@@ -243,7 +251,7 @@ def merges() -> list[Linked]:
 def mounts() -> list[Linked]:
     """Returns cases of executions with a directory or a mount through a link."""
     found = []
-    for name, script, cwd, mount in [
+    cases: list[tuple[str, str, str, dict[str, str]]] = [
         ("a selector", "cp /m/file /to", "/", {"dest": "/m", "selector": "/toward"}),
         ("a selector of an absolute link", "cp /m /to", "/", {"dest": "/m", "selector": "/absolute/inner"}),
         ("a selector of an escaping link", "cp /m/file /to", "/", {"dest": "/m", "selector": "/escaping"}),
@@ -252,7 +260,8 @@ def mounts() -> list[Linked]:
         ("an absolute link of a mount", "cp /m/absolute/file /to", "/", {"dest": "/m"}),
         ("a directory", "write new x", "/toward", {}),
         ("a directory through links", "write ../new x", "/twice/sub", {}),
-    ]:  # fmt: skip
+    ]  # fmt: skip
+    for name, script, cwd, mount in cases:
         maker = Maker()
         found.append(maker.ends(f"{name} of an execution", maker.run(script, maker.entries[0], cwd, **mount), True))
     return found

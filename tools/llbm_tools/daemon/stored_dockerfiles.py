@@ -125,9 +125,9 @@ class Layout:
 
     def manifest(self, layer: dict[str, object], config: dict[str, object], architecture: str) -> dict[str, object]:
         """Writes the manifest for a platform, and returns its descriptor."""
-        rootfs = {"type": "layers", "diff_ids": [layer["digest"]]}
         where = {"os": "linux", "architecture": architecture}
-        named = self.blob("config.v1+json", self.json({**config, **where, "rootfs": rootfs}))
+        rootfs = {"type": "layers", "diff_ids": [layer["digest"]]}
+        named = self.blob("config.v1+json", self.json({**config, **where, **{"rootfs": rootfs}}))
         held = {"schemaVersion": 2, "mediaType": OCI + "manifest.v1+json", "config": named, "layers": [layer]}
         return {**self.blob("manifest.v1+json", self.json(held)), "platform": where}
 

@@ -5,7 +5,7 @@ A tree that an execution made is not compared if its text is too long, nor is wh
 
 import functools
 from collections.abc import Mapping
-from typing import BinaryIO
+from typing import IO
 
 from llbm_tools.debugging.vertex_lines import Graph
 from llbm_tools.rules import notes, program
@@ -23,7 +23,7 @@ class BuildkitComparison:
     """A session of a definition beside BuildKit, given the files of its sources' trees. After a step back a new
     comparison begins."""
 
-    def __init__(self, session: Session, graph: Graph, data: bytes, sources: Mapping[str, BinaryIO]) -> None:
+    def __init__(self, session: Session, graph: Graph, data: bytes, sources: Mapping[str, IO[bytes]]) -> None:
         self.session = session
         self.graph = graph
         self.data = data

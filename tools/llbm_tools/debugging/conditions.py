@@ -10,6 +10,7 @@ with it is false.
 import operator
 import re
 from collections.abc import Callable
+from typing import Any
 
 from llbm_tools.sessions.session import Event, after
 
@@ -20,7 +21,7 @@ Condition = Callable[[Event, int], bool]
 
 NAMES = ("event", "kind", "worker", "vertex", "steps", "action", "command", "status", "failed")
 TOKEN = re.compile(r"\s*(?:([0-9]{1,9})|([A-Za-z_]+)|\"([^\"]*)\"|'([^']*)'|(&&|\|\||[=!<>]=|[<>!()]))")
-COMPARISONS: dict[str, Callable[[object, object], bool]] = {
+COMPARISONS: dict[str, Callable[[Any, Any], bool]] = {
     "==": operator.eq, "!=": operator.ne, "<": operator.lt, "<=": operator.le, ">": operator.gt, ">=": operator.ge,
 }  # fmt: skip
 REPLY = re.compile(r"(acted|fault|ran|skipped) ([0-9]+)(?: ([0-9]+))?")

@@ -49,8 +49,8 @@ class Watching(Breaking):
 
     def expression_of(self, name: str, reference: int) -> str:
         """Returns the expression of a variable, or an empty text."""
-        found = (one for one in self.views.variables(reference) if one["name"] == name)
-        return str(next(found, {}).get("evaluateName", ""))
+        found = [one for one in self.views.variables(reference) if one["name"] == name]
+        return str(found[0].get("evaluateName", "")) if found else ""
 
     def set_data_breakpoints(self, arguments: Object) -> Object:
         """Replaces the data breakpoints; each gets an answer."""

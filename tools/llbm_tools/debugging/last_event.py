@@ -6,7 +6,7 @@ an action is compared with the tree that the action was done on, and the worker 
 
 import re
 from collections.abc import Mapping
-from typing import BinaryIO, NamedTuple
+from typing import IO, NamedTuple
 
 from llbm_tools.debugging import changes, vertex_failures, worker_trees
 from llbm_tools.debugging.buildkit_comparison import BuildkitComparison
@@ -88,7 +88,7 @@ class Watch:
     otherwise in BuildKit."""
 
     def __init__(
-        self, session: Session, graph: Graph, data: bytes, sources: Mapping[str, BinaryIO] | None = None
+        self, session: Session, graph: Graph, data: bytes, sources: Mapping[str, IO[bytes]] | None = None
     ) -> None:
         self.session = session
         self.graph = graph

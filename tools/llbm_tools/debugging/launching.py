@@ -12,9 +12,9 @@ import re
 import shutil
 import subprocess
 import tempfile
-from collections.abc import Callable
+from collections.abc import Callable, Mapping
 from concurrent.futures import ThreadPoolExecutor
-from typing import BinaryIO, NamedTuple
+from typing import IO, NamedTuple
 
 from llbm_tools import commands
 from llbm_tools.common import program_named, shortened
@@ -65,7 +65,7 @@ class Launched(NamedTuple):
     name: str
     file: str | None
     origins: Origins
-    sources: dict[str, BinaryIO]
+    sources: Mapping[str, IO[bytes]]
 
 
 @functools.cache

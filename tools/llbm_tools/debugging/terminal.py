@@ -330,8 +330,8 @@ class Terminal(cmd.Cmd):
         if not record:
             raise Refused("the run is at its beginning: no tree is there yet")
         last = record[-1]
-        vertex = runs[last.worker].vertex if runs[last.worker] else last.vertex
-        stage = tried_commands.stage_of(self.launched, last.worker, vertex)
+        run = runs[last.worker]
+        stage = tried_commands.stage_of(self.launched, last.worker, run.vertex if run else last.vertex)
         self.some(tried_commands.tried_lines(self.launched, self.program, stage, line, self.paths))
 
     # ---- the prompt

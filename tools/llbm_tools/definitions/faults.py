@@ -160,9 +160,10 @@ class Page:
             self.failures += [Failure(bare(line), bare(name), *rest) for line, name, *rest in rows]
         elif head == "Fault":
             for number, causes, words, sentence, status, advice in rows:
-                rest = (words_of(words), sentence, status, MEMORY if advice == "-" else advice)
-                same = [Cause(bare(name), *rest) for name in causes.split(", ")]
-                self.causes.setdefault(int(number), []).extend(same)
+                what_to_do = MEMORY if advice == "-" else advice
+                self.causes.setdefault(int(number), []).extend(
+                    Cause(bare(name), words_of(words), sentence, status, what_to_do) for name in causes.split(", ")
+                )
 
     def causes_of(self, number: int) -> list[Cause]:
         """Returns the rows of a number, without repeated sentences: those that the program prints, or else all."""

@@ -45,8 +45,8 @@ def is_there(name: str) -> bool:
     """Returns whether a checker is installed, and can be started."""
     if not shutil.which(name):
         return False
-    quiet = {"stdin": subprocess.DEVNULL, "stdout": subprocess.DEVNULL, "stderr": subprocess.DEVNULL}
-    return subprocess.run([name, "--version"], env=settings(), **quiet).returncode == 0
+    done = subprocess.run([name, "--version"], env=settings(), stdin=subprocess.DEVNULL, capture_output=True)
+    return done.returncode == 0
 
 
 def outcome(command: tuple[str, ...]) -> str:

@@ -11,8 +11,8 @@ import json
 import pathlib
 import subprocess
 import tempfile
-from collections.abc import Callable, Mapping
-from typing import BinaryIO, NamedTuple
+from collections.abc import Callable, Iterator, Mapping
+from typing import IO, NamedTuple
 
 from llbm_tools.rules import program
 from llbm_tools.rules.program import Answer
@@ -57,7 +57,7 @@ class Executions(NamedTuple):
     entries: list[int] | None = None
 
 
-def path_of(file: BinaryIO) -> str:
+def path_of(file: IO[bytes]) -> str:
     """Returns the path of an open file in a program that it is passed to."""
     return f"/proc/self/fd/{file.fileno()}"
 
@@ -68,7 +68,7 @@ class Comparison:
     definition is to run, and `vertices` have its vertices by row."""
 
     def __init__(
-        self, data: bytes, sources: Mapping[str, BinaryIO], executions: Executions, paths: int = MOST_PATHS,
+        self, data: bytes, sources: Mapping[str, IO[bytes]], executions: Executions, paths: int = MOST_PATHS,
         tree: bool = False, made: Tree | None = None, further: Answer | None = None,
     ) -> None:
         self.executions = executions
@@ -188,16 +188,22 @@ class Comparison:
         return [*lines[: self.paths], more_paths(more, step.get("more", False))] if more > 0 else lines
 
 
+@contextlib.contextmanager
+def stored_trees(sources: Mapping[str, Tree]) -> Iterator[dict[str, IO[bytes]]]:
+    """Yields files with trees, by their names."""
+    with contextlib.ExitStack() as kept:
+        files = {name: kept.enter_context(tempfile.TemporaryFile()) for name in sources}
+        for name, tree in sources.items():
+            files[name].writelines(tree)
+            files[name].flush()
+        yield files
+
+
 def of_trees(data: bytes, sources: Mapping[str, Tree]) -> tuple[End, Tree | None]:
     """Returns the end of the comparison of a definition without executions, and BuildKit's tree if there is one."""
-    with contextlib.ExitStack() as kept:
-        files: dict[str, BinaryIO] = {}
-        for name, tree in sources.items():
-            file = files[name] = kept.enter_context(tempfile.TemporaryFile())
-            file.writelines(tree)
-            file.flush()
-        comparison = Comparison(data, files, Executions(lambda _: None), tree=True)
-        kept.callback(comparison.close)
+    with stored_trees(sources) as files, contextlib.closing(
+        Comparison(data, files, Executions(lambda _: None), tree=True)
+    ) as comparison:
         comparison.go()
         if comparison.end is None:
             raise Failed(f"{program.NAME} compare has not ended")

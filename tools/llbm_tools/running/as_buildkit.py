@@ -94,12 +94,12 @@ class Compared:
             place = f"vertex {vertex}" if step == WHOLE else f"vertex {vertex} action {step}"
             yield from words if vertex == NO_VERTEX else (f"{place}: {one}" for one in words)
 
-    def differences(self) -> Iterator[dict[str, object]]:
+    def differences(self) -> Iterator[objects.Members]:
         """Yields the object of each line about a vertex, an action or an entry that is no vertex."""
         for vertex, lines in sorted(self.comparison.steps.items()):
             for step, words in sorted(lines.items()):
-                place = {"vertex": None if vertex == NO_VERTEX else vertex, "action": None if step == WHOLE else step}
-                yield from ({**place, "text": one} for one in words)
+                number, action = None if vertex == NO_VERTEX else vertex, None if step == WHOLE else step
+                yield from ({"vertex": number, "action": action, "text": one} for one in words)
 
     def members(self, end: End) -> dict[str, object]:
         """Returns the members of the object of the comparison."""

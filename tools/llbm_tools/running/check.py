@@ -70,7 +70,7 @@ def junit_of(found: list[Ended], name: str) -> bytes:
             text = "\n".join(map(printable, one.lines)).translate(NO_XML)
             failure = ElementTree.SubElement(case, "failure", message=printable(one.lines[0]).translate(NO_XML))
             failure.text = text
-    return ElementTree.tostring(suite, "utf-8", xml_declaration=True) + b"\n"
+    return b"%s\n" % ElementTree.tostring(suite, "utf-8", xml_declaration=True)
 
 
 def write_junit(found: list[Ended], name: str, place: str) -> None:
