@@ -7,12 +7,11 @@ import (
 	"fmt"
 	"io"
 	"maps"
-	"os"
 	"path"
 	"slices"
 	"strings"
 
-	fstypes "github.com/tonistiigi/fsutil/types"
+	"google.golang.org/grpc/status"
 	"llbm/daemon/internal/archives"
 	"llbm/daemon/internal/contents"
 	"llbm/daemon/internal/paths"
@@ -23,10 +22,14 @@ import (
 const setGroup = 0o2000
 
 // A Folder is a directory of the source that an archive unpacks to: what it has is what the archive has in a directory for which it has
-// no entry of its own. The first one is that of the place to which the archive is unpacked.
+// no entry of its own, or in that to which it is unpacked.
 type Folder struct {
 	Name string
 	Path string // of the directory in the archive
+	// Own is whether the archive has an entry for it, whose mode and owner it has, and Late are the paths below it of directories
+	// whose entries come after others in them.
+	Own  bool
+	Late []string
 }
 
 // Archive reads what an ADD unpacks of an archive into a store, by the rules of BuildKit: an entry replaces one before it, an owner and
@@ -36,7 +39,7 @@ func Archive(ctx context.Context, store *contents.Store, from io.Reader, options
 	if err != nil {
 		return nil, nil, err
 	}
-	a := &addition{directories: map[string]bool{}}
+	a := &addition{directories: map[string]bool{}, late: map[*node]bool{}}
 	a.begin()
 	u := &unpacker{ctx: ctx, pack: pack, put: a.put, options: options, left: mostUnpacked}
 	manifest, err := sources.Collect(pack, options, func(add sources.Add) error {
@@ -78,6 +81,7 @@ func (u *unpacker) archive(from io.Reader) error {
 type addition struct {
 	parts       []*node
 	directories map[string]bool // the paths of directories that have entries
+	late        map[*node]bool  // the directories whose entries came after others in them
 	folders     []Folder
 }
 
@@ -92,8 +96,14 @@ func (a *addition) put(i *item) error {
 		return fmt.Errorf("%.80q is no path of a tree", i.header.Name)
 	case len(names) == 0 && i.is(tar.TypeDir) && path.Clean(i.header.Name) == ".":
 		return nil
-	case len(names) == 0:
+	case len(names) == 0 && !i.is(tar.TypeDir):
 		return fmt.Errorf("%.80q is the directory to which the archive is unpacked", i.header.Name)
+	case len(names) == 0:
+		if part := a.parts[len(a.parts)-1]; part.handsDown(i) {
+			a.begin()
+		}
+		a.parts[len(a.parts)-1].item = i
+		return nil
 	}
 	if i.is(tar.TypeLink) {
 		var err error
@@ -123,11 +133,14 @@ func (a *addition) putInto(part *node, names []string, i *item) (bool, error) {
 	switch {
 	case before == nil && isDir:
 		at.below[names[last]] = &node{item: i, below: map[string]*node{}}
-	case !isDir:
+	case !isDir && (before == nil || before.below == nil):
 		at.below[names[last]] = &node{item: i}
-	case before.below == nil || before.handsDown(i):
+	case !isDir || before.below == nil || before.handsDown(i):
 		return false, nil
 	default:
+		if before.item == nil {
+			a.late[before] = true
+		}
 		before.item = i
 	}
 	return true, nil
@@ -183,10 +196,38 @@ func (a *addition) at(names []string) *node {
 	return nil
 }
 
+// leadsTo returns what is where a path leads by symbolic links of the archive, and its path; nil if the archive has nothing there.
+func (a *addition) leadsTo(names []string, isFollowed bool) (*node, []string) {
+	var now []string
+	at, links := &node{below: map[string]*node{}}, 0
+	for todo := slices.Clone(names); len(todo) > 0; {
+		name := todo[0]
+		todo = todo[1:]
+		if name == ".." {
+			now = now[:max(0, len(now)-1)]
+			continue
+		}
+		now = append(now, name)
+		if at = a.at(now); at == nil {
+			return nil, nil
+		}
+		if at.item == nil || !at.item.is(tar.TypeSymlink) || len(todo) == 0 && !isFollowed {
+			continue
+		}
+		if links++; links > mostFollowed {
+			return nil, nil
+		}
+		if now = now[:len(now)-1]; path.IsAbs(at.item.header.Linkname) {
+			now = nil
+		}
+		todo = append(namesOf(at.item.header.Linkname), todo...)
+	}
+	return at, now
+}
+
 // linked returns the item of a file that gets another name, with its owner and its mode. What the name has is removed before.
 func (a *addition) linked(i *item, names []string) (*item, error) {
-	target := namesOf(path.Join("/", i.header.Linkname))
-	at := a.at(target)
+	at, target := a.leadsTo(namesOf(path.Join("/", i.header.Linkname)), false)
 	if at == nil || at.below != nil || len(target) >= len(names) && slices.Equal(target[:len(names)], names) {
 		return nil, fmt.Errorf("%.80q is a link to %.80q, which is no file of the archive", i.header.Name, i.header.Linkname)
 	}
@@ -195,10 +236,11 @@ func (a *addition) linked(i *item, names []string) (*item, error) {
 	return at.item, nil
 }
 
-// check refuses an archive if a directory is not there once all is unpacked: BuildKit sets the times of directories then.
+// check refuses an archive if a directory is not there once all is unpacked, nor what a link in its place leads to: BuildKit sets the times of
+// directories then. Where a link leads to what the archive has not, it may be there before.
 func (a *addition) check() error {
 	for _, text := range slices.Sorted(maps.Keys(a.directories)) {
-		if found := a.at(namesOf(text)); found == nil || found.below == nil && found.item.is(tar.TypeSymlink) {
+		if found, _ := a.leadsTo(namesOf(text), true); found == nil {
 			return fmt.Errorf("the directory /%.200s is replaced by a later entry", text)
 		}
 	}
@@ -229,9 +271,12 @@ type step struct {
 
 // folder hands on the entries of a folder, and returns the directories in it that are folders of their own.
 func (a *addition) folder(of step, first map[*item]string, add sources.Add) (further []step, err error) {
-	folder := Folder{fmt.Sprintf("%06d", len(a.folders)), of.path}
-	a.folders = append(a.folders, folder)
-	if err := add(&fstypes.Stat{Path: folder.Name, Mode: uint32(os.ModeDir | 0o755)}, contents.Ref{}); err != nil {
+	folder := Folder{Name: fmt.Sprintf("%06d", len(a.folders)), Path: of.path, Own: of.node.item != nil}
+	own := of.node.item
+	if own == nil {
+		own = implied()
+	}
+	if err := add(statOf(folder.Name, own, first), contents.Ref{}); err != nil {
 		return nil, err
 	}
 	var below func(at string, n *node) error
@@ -242,8 +287,11 @@ func (a *addition) folder(of step, first map[*item]string, add sources.Add) (fur
 				further = append(further, step{path.Join(of.path, inside), one})
 				continue
 			}
+			if a.late[one] {
+				folder.Late = append(folder.Late, inside)
+			}
 			if err := add(statOf(path.Join(folder.Name, inside), one.item, first), one.item.content); err != nil {
-				return err
+				return folder.unnamed(err)
 			}
 			if err := below(inside, one); err != nil {
 				return err
@@ -251,5 +299,13 @@ func (a *addition) folder(of step, first map[*item]string, add sources.Add) (fur
 		}
 		return nil
 	}
-	return further, below("", of.node)
+	err = below("", of.node)
+	a.folders = append(a.folders, folder)
+	return further, err
+}
+
+// unnamed returns an error of an entry by the entry's path in the archive.
+func (f Folder) unnamed(err error) error {
+	one := status.Convert(err)
+	return status.Errorf(one.Code(), "%s", strings.Replace(one.Message(), f.Name+"/", strings.TrimSuffix(path.Join("/", f.Path), "/")+"/", 1))
 }

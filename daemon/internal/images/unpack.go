@@ -192,8 +192,8 @@ func (u *unpacker) entry(h *tar.Header, from io.Reader) error {
 	default:
 		return fmt.Errorf("%.80q is an entry of the kind %q", h.Name, h.Typeflag)
 	}
-	if h.Uid < 0 || h.Uid > math.MaxUint32 || h.Gid < 0 || h.Gid > math.MaxUint32 {
-		return fmt.Errorf("%.80q has an owner that is not below 2^32", h.Name)
+	if h.Uid < 0 || h.Uid >= math.MaxUint32 || h.Gid < 0 || h.Gid >= math.MaxUint32 { // the last one changes nothing
+		return fmt.Errorf("%.80q has an owner that is not below 2^32-1", h.Name)
 	}
 	one := &item{header: h}
 	if h.Typeflag == tar.TypeReg && h.Size > 0 {

@@ -220,6 +220,11 @@ func (c *copier) put(target, source []string, from *Node) (err error) {
 	}
 	old, in := c.into.At(target), above(c.into, target)
 	var one *Node
+	if c.like&TakesPlace != 0 && c.folder.Late != "" {
+		if err := c.folder.checkLate(target, c.into); err != nil {
+			return err
+		}
+	}
 	if c.filter != nil && from.dir {
 		one, _, err = c.filtered(filtering{path: target, source: source, old: old, from: from, in: in, isSource: true})
 	} else {
@@ -253,7 +258,7 @@ func (c *copier) lay(path, source []string, old, from *Node, in entry, isSource 
 	}
 	one := entry{}
 	switch {
-	case old.IsDir() && (isSource || !c.like.Has(NestedDirectory)):
+	case old.IsDir() && c.keepsOld(isSource):
 		one = old.entry
 	case old.IsDir():
 		one = c.entryOf(from.entry, [2]uint32{old.user, old.group})
@@ -275,11 +280,19 @@ func (c *copier) lay(path, source []string, old, from *Node, in entry, isSource 
 	return c.laid[key], nil
 }
 
+// keepsOld is whether a directory that is there keeps its mode and its owner.
+func (c *copier) keepsOld(isSource bool) bool {
+	if isSource {
+		return !c.folder.Own || c.like&TakesPlace == 0
+	}
+	return !c.like.Has(NestedDirectory)
+}
+
 // during returns what a directory is while what is below it is copied: it gets its owner and its mode afterwards. Rule SetGroup: until then
 // it has what it was made with.
 func (c *copier) during(old *Node, from, in entry, isSource bool) entry {
 	switch {
-	case old.IsDir() && (isSource || !c.like.Has(NestedDirectory)):
+	case old.IsDir() && c.keepsOld(isSource):
 		return old.entry
 	case old.IsDir():
 		one := old.entry

@@ -15,6 +15,34 @@ type Folder struct {
 	// Names is one more than the names of that directory's path within the archive: those before them, in the dest, are the directory to
 	// which the archive is unpacked.
 	Names int `json:"names"`
+	// Own is whether it has the mode and the owner of an entry for dest itself.
+	Own bool `json:"own,omitempty"`
+	// Late has the paths below it of directories whose entries come after others in them, each after a byte 0: what is there before is no file.
+	Late string `json:"late,omitempty"`
+}
+
+// LateOf returns paths as a Folder has them.
+func LateOf(all []string) string {
+	var text strings.Builder
+	for _, one := range all {
+		text.WriteString("\x00" + one)
+	}
+	return text.String()
+}
+
+// checkLate refuses what is in the place of a directory whose entry comes after others in it: these fail below a file, and go to where a link
+// leads.
+func (f Folder) checkLate(dest []string, into *Node) error {
+	for _, one := range strings.Split(f.Late, "\x00")[1:] {
+		at := slices.Concat(dest, paths.Names(one))
+		switch there := into.At(at); {
+		case there.IsLink():
+			return fails("%s is a symbolic link to which an archive unpacks before it replaces it, which llbm does not follow", shown(at))
+		case there != nil && !there.dir:
+			return fails("%s is a file", shown(at))
+		}
+	}
+	return nil
 }
 
 // isUnpacked is whether a directory is copied as an archive is unpacked.

@@ -190,8 +190,8 @@ func randomArchive(t testing.TB, random *rand.Rand) []byte {
 				h.Typeflag, h.Linkname, h.Mode = tar.TypeLink, to.Name, to.Mode
 			}
 		case 5:
-			h.Name = pick("./", "a/.wh.f", ".wh.c")
-			if h.Name == "./" {
+			h.Name = pick("./", "/", "a/.wh.f", ".wh.c")
+			if h.Name == "./" || h.Name == "/" {
 				h.Typeflag = tar.TypeDir
 			}
 		}
@@ -245,6 +245,9 @@ func TestAnArchiveIsUnpackedIntoWhatIsThere(t *testing.T) {
 		return tar.Header{Name: name, Mode: mode, Uid: 1, Gid: 2, Typeflag: tar.TypeDir}
 	}
 	file := func(name string) tar.Header { return tar.Header{Name: name, Mode: 0o600, Typeflag: tar.TypeReg} }
+	link := func(name, target string) tar.Header {
+		return tar.Header{Name: name, Linkname: target, Typeflag: tar.TypeSymlink}
+	}
 	root := directory(t, map[string]string{"g/s/f": "old", "x/f": "old"})
 	for link, target := range map[string]string{"absolute": "/x", "above": "../../x", "gone": "nothing"} {
 		if err := os.Symlink(target, filepath.Join(root, "g", link)); err != nil {
@@ -285,8 +288,28 @@ func TestAnArchiveIsUnpackedIntoWhatIsThere(t *testing.T) {
 		"through a link that leads above": {
 			"/g", []tar.Header{file("above/n")}, links + "2775 0:9 g/s/ \"\"\n" + f + x + "0600 0:0 g/x/n \"above/n\"\n" + outside,
 		},
-		"through a link to nothing": {"/g", []tar.Header{file("gone/n")}, "/g/gone: /g/gone is a file"},
-		"paths that lead above":     {"/g/x", []tar.Header{file("../../n")}, links + "2775 0:9 g/s/ \"\"\n" + f + x + "0600 0:0 g/x/n \"../../n\"\n" + outside},
+		"through a link to nothing":                   {"/g", []tar.Header{file("gone/n")}, "/g/gone: /g/gone is a file"},
+		"the entry after others, where a file is":     {"/g/s", []tar.Header{file("f/n"), dir("f", 0o755)}, "/g/s/f is a file"},
+		"the entry after others, where a link is":     {"/g", []tar.Header{file("absolute/n"), dir("absolute", 0o755)}, "/g/absolute is a file"},
+		"a link for a directory that can not be made": {"/g/s", []tar.Header{file("f/n"), link("f", "n")}, "/g/s/f is a file"},
+		"a file for a directory that can not be made": {"/g/s", []tar.Header{file("f/n"), file("f")}, "/g/s/f is a file"},
+		"a link for a directory, which leads to another": {
+			"/g/x", []tar.Header{dir("d", 0o700), dir("d/e", 0o700), dir("o", 0o700), dir("o/e", 0o711), link("d", "o")},
+			links + "2775 0:9 g/s/ \"\"\n" + f + x + "0777 0:0 g/x/d -> o\n0700 1:2 g/x/o/ \"\"\n0711 1:2 g/x/o/e/ \"\"\n" + outside,
+		},
+		"a hard link to what a link leads to": {
+			"/g/x", []tar.Header{file("d/n"), link("l", "d"), {Name: "h", Linkname: "l/n", Mode: 0o640, Uid: 3, Typeflag: tar.TypeLink}},
+			links + "2775 0:9 g/s/ \"\"\n" + f + x + "0755 0:0 g/x/d/ \"\"\n0640 3:0 g/x/d/n \"d/n\"\n0640 3:0 g/x/h \"d/n\"\n0777 0:0 g/x/l -> d\n" + outside,
+		},
+		"an entry for the directory itself": {
+			"/g/s", []tar.Header{dir("/", 0o2711), file("n"), file("m/n")},
+			links + "2711 1:2 g/s/ \"\"\n" + f + "2755 0:0 g/s/m/ \"\"\n0600 0:0 g/s/m/n \"m/n\"\n0600 0:0 g/s/n \"n\"\n" + x + outside,
+		},
+		"an entry for the directory itself after one in it": {
+			"/g/s", []tar.Header{file("m/n"), dir("/", 0o711)},
+			links + "0711 1:2 g/s/ \"\"\n" + f + "2755 0:0 g/s/m/ \"\"\n0600 0:0 g/s/m/n \"m/n\"\n" + x + outside,
+		},
+		"paths that lead above": {"/g/x", []tar.Header{file("../../n")}, links + "2775 0:9 g/s/ \"\"\n" + f + x + "0600 0:0 g/x/n \"../../n\"\n" + outside},
 	} {
 		archive := directory(t, map[string]string{"archive": string(tarOf(t, one.entries...))})
 		info := &llb.CopyInfo{CopyDirContentsOnly: true}
@@ -353,7 +376,9 @@ func TestAnArchiveThatCanNotBeUnpackedIsRefusedByItsName(t *testing.T) {
 		"\"a\" is a link to \"a\", which is no":    tarOf(t, file("a"), tar.Header{Name: "a", Linkname: "a", Typeflag: tar.TypeLink}),
 		"\"a\" is a link to \"a/b\", which is no":  tarOf(t, file("a/b"), tar.Header{Name: "a", Linkname: "a/b", Typeflag: tar.TypeLink}),
 		"which is no file of the archive":          tarOf(t, file("a"), tar.Header{Name: "b", Linkname: "none", Typeflag: tar.TypeLink}),
-		"is the directory to which the archive is": tarOf(t, file("a"), tar.Header{Name: "/", Mode: 0o700, Typeflag: tar.TypeDir}),
+		"is the directory to which the archive is": tarOf(t, file("a"), tar.Header{Name: "/", Linkname: "a", Typeflag: tar.TypeSymlink}),
+		"\"a\" has an owner that is not below":     tarOf(t, tar.Header{Name: "a", Uid: 1<<32 - 1, Typeflag: tar.TypeReg}),
+		"/a/p is a special file":                   tarOf(t, tar.Header{Name: "a/p", Typeflag: tar.TypeFifo}),
 		"unexpected EOF":                           tarOf(t, file(strings.Repeat("long/", 15)+"name"))[:520],
 	} {
 		root := directory(t, map[string]string{"archive": string(data)})

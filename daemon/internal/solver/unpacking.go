@@ -276,7 +276,7 @@ func (u *unpacking) archive(from *input, at string) (*unpackedArchive, error) {
 func foldersOf(all []images.Folder) map[string]rules.Folder {
 	found := map[string]rules.Folder{}
 	for _, one := range all {
-		found[one.Name] = rules.Folder{Names: len(paths.Names(one.Path)) + 1}
+		found[one.Name] = rules.Folder{Names: len(paths.Names(one.Path)) + 1, Own: one.Own, Late: rules.LateOf(one.Late)}
 	}
 	return found
 }
