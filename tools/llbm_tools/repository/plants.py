@@ -41,6 +41,8 @@ PARTS = ("src", "specs", "proofs")
 KEPT = pathlib.Path("out", "plants")
 COUNTS = re.compile(r"^plants crate=\w+ (.*)$", re.M)
 PROVES = re.compile(r"^proves +(.*)$", re.M)
+# `rt plant` takes a comment `///` above a variant or a field for a part of the name, and then its bodies are no code.
+DOCUMENTS = re.compile(r"^( *)///", re.M)
 HEAD = ("Crate", "Functions planted", "Plants refused", "Not judged", "Not tried", "Prove")
 
 
@@ -100,8 +102,14 @@ def key_of(top: pathlib.Path, crate: str, given: list[str]) -> str:
     return f"{crate}-{hashlib.sha256(' '.join([digest.hexdigest(), *given]).encode()).hexdigest()[:16]}"
 
 
+def without_documents(folder: pathlib.Path) -> None:
+    """Makes each comment `///` in the code below a folder a plain one; the lines keep their numbers."""
+    for file in folder.rglob("*.rt"):
+        file.write_text(DOCUMENTS.sub(r"\1//", file.read_text("utf-8")), "utf-8")
+
+
 def lay_out(top: pathlib.Path, crate: str, folder: pathlib.Path) -> None:
-    """Makes a repository with a copy of the crate, and with links to the parts of all other crates."""
+    """Makes a repository with a copy of the crate, without documents, and with links to the parts of all other crates."""
     for name in ("crates.txt", "HANDLES"):
         shutil.copyfile(top / name, folder / name)
     for place in sorted((top / "crates").iterdir()):
@@ -112,6 +120,7 @@ def lay_out(top: pathlib.Path, crate: str, folder: pathlib.Path) -> None:
                 (here / part).symlink_to(place / part)
             elif part in PARTS:
                 shutil.copytree(place / part, here / part)
+    without_documents(folder / "crates" / crate / "src")
 
 
 def listing(top: pathlib.Path, crate: str, given: list[str]) -> str:

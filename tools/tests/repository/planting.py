@@ -101,6 +101,15 @@ class Plants(Folder):
         self.assertFalse((folder / "crates/llb_b/src").is_symlink())
         self.assertFalse((folder / "crates/llb_b/out").exists())
 
+    def test_documents_of_the_copy_are_plain_comments(self):
+        text = "//! a\nenum A {\n    /// b\n    B, // c\n}\n"
+        self.write("crates/llb_b/src/part/lib.rt", text)
+        folder = pathlib.Path(os.fsdecode(self.folder), "laid")
+        folder.mkdir()
+        plants.lay_out(self.top, "llb_b", folder)
+        self.assertEqual((folder / "crates/llb_b/src/part/lib.rt").read_text(), text.replace("///", "//"))
+        self.assertEqual((self.top / "crates/llb_b/src/part/lib.rt").read_text(), text)
+
     def test_what_is_given_wrongly_is_refused(self):
         for words in [("llb_none",), ("llb_samples",), ("--minutes", "x"), ("--nosuch",)]:
             done = run("plants", "--repository", self.top, *words)
