@@ -109,7 +109,7 @@ def without_documents(folder: pathlib.Path) -> None:
 
 
 def lay_out(top: pathlib.Path, crate: str, folder: pathlib.Path) -> None:
-    """Makes a repository with a copy of the crate, without documents, and with links to the parts of all other crates."""
+    """Makes a repository with a copy of the crate, without its documents, and with links to all other crates."""
     for name in ("crates.txt", "HANDLES"):
         shutil.copyfile(top / name, folder / name)
     for place in sorted((top / "crates").iterdir()):
