@@ -16,23 +16,35 @@ const (
 	written
 )
 
-// roles returns the words of a call that are paths which are followed to their end.
-func roles(words []string) map[int]role {
-	found := map[int]role{}
-	switch words[0] {
-	case "chmod", "test":
-		found[2] = read
-	case "write", "append", "envfile":
-		found[1] = written
-	case "listing", "sha256":
-		found[1], found[2] = read, written
-	case "concat":
-		found[1] = written
-		for word := 2; word < len(words); word++ {
-			found[word] = read
-		}
-	}
-	return found
+// An applet is what a call of it does with its words: which of them are paths that are followed to their end, and what with those after them;
+// or how it works on its paths, if it does more than that.
+type applet struct {
+	words map[int]role
+	rest  bool // whether the words after these are read
+	does  func(*call) bool
+}
+
+// applets has all applets of llbm.
+var applets = map[string]applet{
+	"true":    {},
+	"false":   {},
+	"mkdir":   {does: (*call).mkdir},
+	"rm":      {does: (*call).rm},
+	"write":   {words: map[int]role{1: written}},
+	"append":  {words: map[int]role{1: written}},
+	"cp":      {does: (*call).cp},
+	"concat":  {words: map[int]role{1: written}, rest: true},
+	"chmod":   {words: map[int]role{2: read}},
+	"test":    {words: map[int]role{2: read}},
+	"listing": {words: map[int]role{1: read, 2: written}},
+	"envfile": {words: map[int]role{1: written}},
+	"sha256":  {words: map[int]role{1: read, 2: written}},
+}
+
+// role returns what is done with a word, if it is a path.
+func (a applet) role(word int) (role, bool) {
+	how, isPath := a.words[word]
+	return how, isPath || a.rest && word > len(a.words)
 }
 
 // call replaces the paths of a call, and does what it does to the view. It returns whether it could.
@@ -41,17 +53,13 @@ func (r *resolver) call(script standins.Script, number int, words []string) bool
 		return true
 	}
 	c := &call{r, script, number, words, paths.Names(r.exec.Meta.Cwd)}
-	switch words[0] {
-	case "mkdir":
-		return c.mkdir()
-	case "rm":
-		return c.rm()
-	case "cp":
-		return len(words) != 3 || c.cp()
+	one := applets[words[0]]
+	if one.does != nil {
+		return one.does(c)
 	}
 	var made [][]string
 	for word := 1; word < len(words); word++ {
-		how, isPath := roles(words)[word]
+		how, isPath := one.role(word)
 		if !isPath {
 			continue
 		}
@@ -123,6 +131,9 @@ func (c *call) rm() bool {
 // cp reads what a link leads to, and puts it into a directory under the name that was given. Some programs write through a link that is
 // there, and others replace it, so such a cp is left.
 func (c *call) cp() bool {
+	if len(c.words) != 3 {
+		return true
+	}
 	from, err := c.view.follow(c.cwd, c.words[1], true)
 	if !c.set(1, from, err) {
 		return false

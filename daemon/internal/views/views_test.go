@@ -7,6 +7,8 @@ import (
 	"math/rand"
 	"os"
 	"path/filepath"
+	"regexp"
+	"slices"
 	"strings"
 	"syscall"
 	"testing"
@@ -250,5 +252,46 @@ func TestAPathLeadsToWhereAKernelFollowsIt(t *testing.T) {
 	}
 	if got := fmt.Sprint(found > 500, absent > 200); got != "true true" {
 		t.Error(found, absent)
+	}
+}
+
+// The applets of the program are those of its specification, whose parameters say which words of a call are paths.
+func TestEachAppletHasTheWordsThatAreItsPaths(t *testing.T) {
+	working, err := os.Getwd()
+	if err == nil {
+		working, err = filepath.EvalSymlinks(working) // it may be below a link
+	}
+	if err != nil {
+		t.Fatal(err)
+	}
+	specs := func(name string) string {
+		data, err := os.ReadFile(filepath.Join(working, "../../../crates/llb_applet/specs", name))
+		if err != nil {
+			t.Fatal(err)
+		}
+		return string(data)
+	}
+	forms, found := specs("Calls.antt"), map[string]bool{}
+	for _, match := range regexp.MustCompile(`(?m)^name_of (\w+) = codes "(\w+)"$`).FindAllStringSubmatch(specs("Applets.antt"), -1) {
+		name := match[2]
+		one, isKnown := applets[name]
+		found[name] = true
+		form := regexp.MustCompile(`(?m)^form ` + match[1] + ` ws = (?:no_words|(?:one_word|two_words) ws \(λ ([a-z ]+)\.|option_or|concat_of)`).
+			FindStringSubmatch(forms)
+		if !isKnown || form == nil {
+			t.Errorf("%s is an applet of the program: known %v, its form %q", name, isKnown, form)
+			continue
+		}
+		for i, parameter := range strings.Fields(form[1]) {
+			isPath := slices.Contains([]string{"path", "out", "from", "to"}, parameter)
+			if _, is := one.role(i + 1); is != isPath && one.does == nil {
+				t.Errorf("%s: word %d is %s, and a path: %v", name, i+1, parameter, is)
+			}
+		}
+	}
+	for name := range applets {
+		if !found[name] {
+			t.Errorf("%s is no applet of the program", name)
+		}
 	}
 }
