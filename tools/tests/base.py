@@ -11,6 +11,7 @@ import unittest
 
 from llbm_tools import commands, common
 from llbm_tools.rules import program
+from tests import forking
 
 TOOLS = pathlib.Path(__file__).resolve().parent.parent
 ROOT = TOOLS.parent
@@ -76,9 +77,10 @@ def command(tool, *words, before=()):
 
 def run(tool, *words, text=b"", before=(), **settings):
     """Runs a tool with these words, and this text on standard input."""
-    return subprocess.run(
-        command(tool, *words, before=before), input=text, capture_output=True, timeout=GUARD, **settings
-    )
+    line = command(tool, *words, before=before)
+    if not before and settings.keys() <= {"env", "cwd"} and (done := forking.run(line[2:], text, GUARD, **settings)):
+        return done
+    return subprocess.run(line, input=text, capture_output=True, timeout=GUARD, **settings)
 
 
 def run_into(output, tool, *words):

@@ -20,6 +20,7 @@ import (
 	"github.com/moby/buildkit/solver/llbsolver/ops/fileoptypes"
 	"github.com/moby/buildkit/solver/pb"
 	fsutil "github.com/tonistiigi/fsutil/copy"
+	"llbm/daemon/internal/cases"
 	"llbm/daemon/internal/rules"
 	"llbm/daemon/internal/tree"
 )
@@ -192,7 +193,7 @@ func TestBuildKitsFileBackendFollowsLinksAndTakesPatternsAsItsRulesSay(t *testin
 	defer syscall.Umask(before)
 	random := rand.New(rand.NewSource(7))
 	fails, followed := 0, 0
-	for number := range 200 {
+	for number := range cases.Of(200) {
 		base, second := randomLinks(random), randomLinks(random)
 		action := randomAction(random, number%2 == 0, base, second)
 		if leads(action) {
@@ -213,7 +214,7 @@ func TestBuildKitsFileBackendFollowsLinksAndTakesPatternsAsItsRulesSay(t *testin
 			followed++
 		}
 	}
-	if fails > 150 || followed < 10 {
+	if fails > cases.Of(150) || followed < cases.Of(10) {
 		t.Errorf("%d fail, %d follow a link", fails, followed)
 	}
 }
@@ -226,7 +227,7 @@ func TestBuildKitsFileBackendMakesWhatItsRulesSay(t *testing.T) {
 	defer syscall.Umask(before)
 	random := rand.New(rand.NewSource(4))
 	fails := 0
-	for number := range 600 {
+	for number := range cases.Of(600) {
 		base, second := randomTree(random), randomTree(random)
 		action := randomAction(random, number%2 == 0, base, second)
 		if !leads(action) && backendMakes(t, number, action, base, second) {

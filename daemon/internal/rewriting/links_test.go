@@ -8,6 +8,7 @@ import (
 	"testing"
 
 	"github.com/moby/buildkit/solver/pb"
+	"llbm/daemon/internal/cases"
 	"llbm/daemon/internal/rules"
 	"llbm/daemon/internal/tree"
 )
@@ -73,7 +74,7 @@ func randomPatterns(random *rand.Rand) []string {
 func TestByItsTreesAnOpWithLinksAndPatternsBecomesOneThatLLBMTakes(t *testing.T) {
 	random := rand.New(rand.NewSource(11))
 	left, rewritten := 0, 0
-	for number := range 800 {
+	for number := range cases.Of(800) {
 		inputs := []*rules.Node{randomLinks(random), randomLinks(random)}
 		action := randomAction(random, number%2 == 0, inputs[0], inputs[1])
 		if c := action.GetCopy(); c != nil {
@@ -104,7 +105,7 @@ func TestByItsTreesAnOpWithLinksAndPatternsBecomesOneThatLLBMTakes(t *testing.T)
 		}
 		rewritten++
 	}
-	if left > 20 || rewritten < 400 {
+	if left > cases.Of(20) || rewritten < cases.Of(400) {
 		t.Errorf("%d are left, %d are rewritten", left, rewritten)
 	}
 	t.Logf("%d are left, %d are rewritten", left, rewritten)

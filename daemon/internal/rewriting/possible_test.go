@@ -8,6 +8,7 @@ import (
 
 	"github.com/moby/buildkit/solver/pb"
 	digest "github.com/opencontainers/go-digest"
+	"llbm/daemon/internal/cases"
 	"llbm/daemon/internal/graph"
 	"llbm/daemon/internal/rules"
 )
@@ -40,7 +41,7 @@ func withSources(t *testing.T, actions ...*pb.FileAction) *graph.Graph {
 func TestEachRuleByWhichAnActionEndsOtherwiseIsPossible(t *testing.T) {
 	random, ctx := rand.New(rand.NewSource(11)), context.Background()
 	named := 0
-	for number := range 3000 {
+	for number := range cases.Of(3_000) {
 		var trees []*rules.Node
 		for range 2 { // the root of what BuildKit's client sends is 0755
 			trees = append(trees, randomTree(random).WithEntryOf(rules.Empty()))
@@ -68,7 +69,7 @@ func TestEachRuleByWhichAnActionEndsOtherwiseIsPossible(t *testing.T) {
 			}
 		}
 	}
-	if named < 500 {
+	if named < cases.Of(500) {
 		t.Error(named)
 	}
 }

@@ -9,6 +9,7 @@ import (
 
 	"github.com/moby/buildkit/solver/pb"
 	digest "github.com/opencontainers/go-digest"
+	"llbm/daemon/internal/cases"
 	"llbm/daemon/internal/rules"
 	"llbm/daemon/internal/tree"
 )
@@ -173,7 +174,7 @@ func areSame(t *testing.T, a, b []*rules.Ref, under *rules.Node) bool {
 func TestWithoutTreesNoRewritingChangesWhatBuildKitMakes(t *testing.T) {
 	random := rand.New(rand.NewSource(1))
 	rewritten, wrong, equalBefore, equalAfter := 0, 0, 0, 0
-	for number := range 8_000 {
+	for number := range cases.Of(8_000) {
 		inputs := []*rules.Node{randomTree(random), randomTree(random)}
 		action := randomAction(random, number%2 == 0, inputs[0], inputs[1])
 		given := op(action)
@@ -231,7 +232,7 @@ func randomActions(random *rand.Rand, count int, plain bool, trees []*rules.Node
 func TestWithoutTreesNoRewrittenOpChangesWhatBuildKitMakes(t *testing.T) {
 	random := rand.New(rand.NewSource(5))
 	rewritten, wrong, fail := 0, 0, 0
-	for number := range 4_000 {
+	for number := range cases.Of(4_000) {
 		inputs := []*rules.Node{randomTree(random), randomTree(random)}
 		var given *pb.Op
 		var before []*rules.Ref

@@ -14,6 +14,7 @@ import (
 
 	"github.com/moby/buildkit/solver/pb"
 	digest "github.com/opencontainers/go-digest"
+	"llbm/daemon/internal/cases"
 	"llbm/daemon/internal/graph"
 	"llbm/daemon/internal/rules"
 )
@@ -155,7 +156,7 @@ func judge(t *testing.T, number int, def *pb.Definition, trees []*rules.Node) (i
 func TestByTreesASingleActionEndsAsInBuildKit(t *testing.T) {
 	random := rand.New(rand.NewSource(2))
 	different, changed := 0, 0
-	for number := range 3_000 {
+	for number := range cases.Of(3_000) {
 		trees := []*rules.Node{randomTree(random), randomTree(random)}
 		action := randomAction(random, number%2 == 0, trees[0], trees[1])
 		def := definition(t, 2, func(inputs []*pb.Input) *pb.Op {
@@ -218,7 +219,7 @@ func randomDefinition(t *testing.T, random *rand.Rand, trees []*rules.Node, plai
 func TestByTreesADefinitionEndsAsInBuildKit(t *testing.T) {
 	random := rand.New(rand.NewSource(3))
 	different, changed, failed := 0, 0, 0
-	for number := range 1_000 {
+	for number := range cases.Of(1_000) {
 		trees := []*rules.Node{randomTree(random), randomTree(random)}
 		def := randomDefinition(t, random, trees, number%2 == 0)
 		isRewritten, differs := judge(t, number, def, trees)
@@ -288,7 +289,7 @@ func byProgram(t *testing.T, program string, def *pb.Definition, trees []*rules.
 
 func TestByTreesWhatLlbmItselfMakesIsBuildKits(t *testing.T) {
 	llbm, random := program(t), rand.New(rand.NewSource(6))
-	for number := range 100 {
+	for number := range cases.Of(100) {
 		trees := []*rules.Node{randomTree(random), randomTree(random)}
 		def := randomDefinition(t, random, trees, number%2 == 0)
 		new, rows := rewritten(t, def, trees)

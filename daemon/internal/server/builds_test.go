@@ -19,6 +19,7 @@ import (
 	spb "github.com/moby/buildkit/sourcepolicy/pb"
 	"google.golang.org/grpc/codes"
 	"google.golang.org/grpc/status"
+	"llbm/daemon/internal/cases"
 )
 
 func TestAResultIsExported(t *testing.T) {
@@ -385,7 +386,7 @@ func TestManyBuildsAtOnce(t *testing.T) {
 	dir := directory(t, map[string]string{"a": "1"})
 	var group sync.WaitGroup
 	room := make(chan bool, 40)
-	for i := 0; i < 200; i++ {
+	for i := range cases.Of(200) {
 		group.Add(1)
 		room <- true
 		go func() {

@@ -6,7 +6,8 @@ given. If they can't be had, all is skipped. The parts are:
 
 - `build`: `dev/dev daemon --clients` builds the daemon, `buildctl` and the frontend for Dockerfiles into out/;
 - `format` and `vet`: gofmt would change no file, and `go vet` finds nothing;
-- `go`: the tests in Go, of all packages of the daemon, with --order N in an order that follows from the seed N;
+- `go`: the tests in Go, of all packages of the daemon, with --order N in an order that follows from the seed N, and
+  with --short a quarter of their random cases;
 - `fuzz`, only with --fuzz SECONDS: what hostile clients send as a source, for so long, at random as Go's fuzzing makes
   it (the tests in Go have a fixed number of such cases, the same in each run);
 - `suite`: the sections `plain` and `daemon` of BuildKit's own tests.
@@ -37,6 +38,8 @@ FUZZED = (f"{MODULE}/internal/sources", "FuzzReceive")
 # Go's fuzzing sometimes takes the end of its time for a failure, mostly on a busy host; then it has found no input.
 TIME_IS_OVER = re.compile(r"^--- FAIL: \w+ \([0-9.]+s\)\n +context deadline exceeded\n(?! +Failing)", re.M)
 MINUTE = 60
+# The tests have the tags of the programs, so what both need is compiled once; `vet` is a part, and nobody debugs them.
+AS_BUILT = [*daemon.STATIC, "-vet=off", "-ldflags=-s -w"]
 # How long the tests in Go may take, on the slowest host.
 HOUR = 3600
 MOST_LINES = 100
@@ -66,7 +69,7 @@ def formatted(go: Go, _: argparse.Namespace) -> Counts:
 
 def vetted(go: Go, _: argparse.Namespace) -> Counts:
     """Lets `go vet` look for mistakes."""
-    go.call("vet", *packages())
+    go.call("vet", *daemon.STATIC, *packages())
     return Counts(1)
 
 
@@ -80,8 +83,9 @@ def tried(go: Go, options: argparse.Namespace) -> Counts:
     """Runs the tests in Go."""
     known = go._replace(environment={**go.environment, "LLBM": options.llbm})
     try:
-        words = ["test", "-v", "-count=1", f"-timeout={HOUR}s", f"-shuffle={options.order or 'off'}"]
-        return counts_in(known.call(*words, *packages(), seconds=HOUR + MINUTE))
+        words = [*AS_BUILT, "-v", "-count=1", f"-timeout={HOUR}s", f"-shuffle={options.order or 'off'}"]
+        words += ["-short"] if options.short else []
+        return counts_in(known.call("test", *words, *packages(), seconds=HOUR + MINUTE))
     except go_building.NotBuilt as fault:
         counts = counts_in(str(fault))
         lines = (line for line in str(fault).splitlines() if not UNINTERESTING.match(line))
@@ -158,6 +162,7 @@ def main() -> int:
     parser.add_argument("--offline", action="store_true", help="fetch nothing")
     parser.add_argument("--fuzz", metavar="SECONDS", type=int, default=0, help="how long random inputs are sent")
     parser.add_argument("--order", metavar="N", type=int, help="run the tests in Go in an order that follows from N")
+    parser.add_argument("--short", action="store_true", help="try a quarter of the random cases of the tests in Go")
     parser.add_argument("--only", metavar="NAME", action="append", default=[], choices=PARTS, help=", ".join(PARTS))
     options = parser.parse_args()
     if "fuzz" in options.only and not options.fuzz:

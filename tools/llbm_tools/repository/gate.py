@@ -159,7 +159,7 @@ def parts_that_are_quick(cases: int, seed: str) -> Iterator[Part]:
     program = str(paths.UNPROVED)
     folders = sorted(f"tests/{place.name}" for place in (ROOT / "tests").iterdir())
     yield tool("transcripts", "--unproved", "--llbm", program, *(name for name in folders if name != LIMITS), *EXAMPLES)
-    yield tool("daemon tests", "--llbm", program, *only("build", "format", "vet", "go"))
+    yield tool("daemon tests", "--llbm", program, "--short", *only("build", "format", "vet", "go"))
     yield tool("test", "--llbm", program, *(name for name in test.MODULES if name not in COMPILES))
     yield tool("fuzz", "--cases", str(cases), "--llbm", program, "--seed", seed)
 
@@ -171,7 +171,7 @@ def parts_with_more() -> Iterator[Part]:
     yield tool("bindings", str(library.UNPROVED), "--llbm", program)
     yield tool("test", "--llbm", program, *COMPILES)
     yield tool("transcripts", "--unproved", "--llbm", program, LIMITS)
-    yield tool("daemon tests", "--llbm", program, *only("suite"))
+    yield tool("daemon tests", "--llbm", program, *only("go", "suite"))
     yield tool("against-buildkit", "--start", "--count", str(BESIDE), *FIXED, "--llbm", program)
     yield tool("page tests", "--llbm", program)
     yield tool("transcripts", "--llbm", program, *PAGES)

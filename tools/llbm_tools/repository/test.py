@@ -113,6 +113,7 @@ MODULES = [
     "daemon.against",
     "repository.layering",
     "repository.ordering",
+    "repository.forked",
 ]
 
 PLACES = {module.rpartition(".")[2]: module for module in MODULES}
