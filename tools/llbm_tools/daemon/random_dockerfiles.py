@@ -2,13 +2,14 @@
 
 They copy from the context and from stages, with owners, also by name, modes, patterns, `--parents` and `--link`, by
 patterns and odd paths, into directories that are there and that are not, and through symbolic links; they change
-directories and users; some have a .dockerignore, some heredocs, and some add files that are no archives.
+directories and users; some have a .dockerignore, some heredocs, and some add archives, and files that are none.
 """
 
 import json
 import random
 from typing import NamedTuple
 
+from llbm_tools.daemon import random_archives
 from llbm_tools.daemon.random_definitions import TARGETS
 from llbm_tools.daemon.runs import link_to
 from llbm_tools.trees.tree_maps import Entry, Path, Tree
@@ -31,6 +32,7 @@ USERS = ["7:8", "7", "0", "app"]
 IGNORED = ["a", "*", "*/b", "**/c", "!a", "!*/a", "a/**", "# a", "b/", "[ab]", "/a", "./d"]
 EXCLUDED = ["a", "*", "*/b", "**/c", "[ab]", "a/**", "b/*"]
 QUOTED = set(' "\\[$<#')
+ARCHIVE = "archive"
 
 
 class Made(NamedTuple):
@@ -69,6 +71,8 @@ class Maker:
                 tree[path] = link_to(self.random.choice(TARGETS))
             if is_directory:
                 below.append(path)
+        if self.chance(0.2):
+            tree[(ARCHIVE.encode(),)] = Entry(0o644, 0, 0, random_archives.make(self.random).hex().encode())
         if self.chance(0.3):
             lines = "\n".join(self.random.choices(IGNORED, k=self.random.choice([1, 2, 3])))
             tree[(b".dockerignore",)] = Entry(0o644, 0, 0, lines.encode().hex().encode())
@@ -146,6 +150,8 @@ class Maker:
                     self.lines.append(f"USER {self.random.choice(USERS)}")
                 case 2:
                     self.lines.append(self.heredoc())
+                case 3 | 4 | 5 if (ARCHIVE.encode(),) in self.context:
+                    self.lines.append(f"ADD{self.flags()} {ARCHIVE} {self.dest()}")
                 case _:
                     self.lines.append(self.copy(stage))
 

@@ -399,3 +399,15 @@ class Dockerfiles(unittest.TestCase):
             self.assertNotIn(b"RUN", made.dockerfile)
             parents = {path[:-1] for path in made.context if path}
             self.assertTrue(all(made.context[path].is_directory() for path in parents))
+
+    def test_some_random_dockerfiles_add_archives(self):
+        name = random_dockerfiles.ARCHIVE.encode()
+        all_of = [random_dockerfiles.make(f"test {number}") for number in range(200)]
+        adding = [one for one in all_of if b" " + name + b" " in one.dockerfile and (name,) in one.context]
+        self.assertGreater(len(adding), 15)
+        kinds = set()
+        for one in adding:
+            data = bytes.fromhex((one.context[(name,)].content or b"").decode("ascii"))
+            with tarfile.open(fileobj=io.BytesIO(data)) as archive:
+                kinds.update(entry.type for entry in archive)
+        self.assertEqual(kinds, {tarfile.REGTYPE, tarfile.DIRTYPE, tarfile.SYMTYPE, tarfile.LNKTYPE})
