@@ -1,5 +1,7 @@
-"""Makes archives at random, as an ADD of a Dockerfile unpacks them: entries that get in each other's way, and into that of
-what is there before, hard links to entries before them, odd names, owners and modes, and each packing.
+"""Makes archives at random, as an ADD of a Dockerfile unpacks them.
+
+They have entries that get in each other's way, and into that of what is there before, hard links to entries before
+them, odd names, owners and modes; some are packed.
 """
 
 import bz2
