@@ -103,10 +103,20 @@ def skip_without_rules(case):
         case.skipTest("the program llbm-rules is needed (dev/dev daemon builds it)")
 
 
+def is_slow():
+    """Returns whether the program is compiled without proof, and so without optimization."""
+    return llbm is not None and common.is_unproved(llbm)
+
+
 def skip_if_slow(case):
-    """Skips a test that takes minutes with a program that is compiled without proof, and so without optimization."""
-    if llbm is not None and common.is_unproved(llbm):
+    """Skips a test that takes minutes with a program without proof."""
+    if is_slow():
         case.skipTest("a program without proof is too slow")
+
+
+def cases(most):
+    """Returns how many of so many random cases are tried: with a program without proof a third."""
+    return most // 3 if is_slow() else most
 
 
 class Folder(unittest.TestCase):

@@ -105,7 +105,7 @@ class Words(unittest.TestCase):
     def test_a_reader_that_leaves_is_no_cause_for_words(self):
         done = subprocess.run(
             f"{USERS} build --help | head -n 0; exit ${{PIPESTATUS[0]}}", shell=True, executable="/bin/bash",
-            capture_output=True, timeout=600,
+            capture_output=True, timeout=base.GUARD,
         )  # fmt: skip
         self.assertIn((done.returncode, done.stderr), [(0, b""), (3, b"")])
 
@@ -118,7 +118,7 @@ class Programs(Folder):
         script = f"from llbm_tools import common; print(common.program_place({word!r}))"
         known = {**{name: value for name, value in os.environ.items() if name != "LLBM"}, **environment}
         command = [shutil.which("python3") or "python3", "-c", script]
-        done = subprocess.run(command, cwd=TOOLS, env=known, capture_output=True, text=True, timeout=600)
+        done = subprocess.run(command, cwd=TOOLS, env=known, capture_output=True, text=True, timeout=base.GUARD)
         self.assertEqual((done.returncode, done.stderr), (0, ""))
         return done.stdout.strip()
 

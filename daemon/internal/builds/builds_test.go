@@ -5,6 +5,7 @@ import (
 	"errors"
 	"fmt"
 	"strings"
+	"sync"
 	"testing"
 	"time"
 
@@ -34,14 +35,26 @@ func TestABuildIsItsUsersAlone(t *testing.T) {
 	}
 }
 
+// An asked context says when its end is waited for.
+type asked struct {
+	context.Context
+	once sync.Once
+	wait chan struct{}
+}
+
+func (a *asked) Done() <-chan struct{} {
+	a.once.Do(func() { close(a.wait) })
+	return a.Context.Done()
+}
+
 func TestABuildIsWaitedFor(t *testing.T) {
-	all := New(10)
+	all, ctx := New(10), &asked{Context: context.Background(), wait: make(chan struct{})}
 	got := make(chan error)
 	go func() {
-		_, err := all.Get(context.Background(), 0, "late")
+		_, err := all.Get(ctx, 0, "late")
 		got <- err
 	}()
-	time.Sleep(10 * time.Millisecond)
+	<-ctx.wait
 	if _, err := all.Start(context.Background(), 0, "late", ""); err != nil {
 		t.Fatal(err)
 	}

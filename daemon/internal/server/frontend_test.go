@@ -47,7 +47,7 @@ func ask(ctx context.Context, c gwclient.Client) (*gwclient.Result, error) {
 			all = append(all, block)
 		}
 	case "write":
-		if err := os.WriteFile("/tmp/"+frontendName+"-was-here", []byte("x"), 0o600); err != nil {
+		if _, err := os.CreateTemp("/tmp", frontendName); err != nil {
 			text = "can't write"
 		}
 	case "rights":

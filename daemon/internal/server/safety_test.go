@@ -218,9 +218,7 @@ func TestABuildIsBounded(t *testing.T) {
 		if status.Code(unwrapped(err)) != codes.ResourceExhausted || !strings.Contains(fmt.Sprint(err), c.want) {
 			t.Errorf("%s: %v", name, err)
 		}
-		if left := d.children(t); len(left) > 0 {
-			t.Errorf("%s: %v run", name, left)
-		}
+		eventually(t, name+": no child runs", func() bool { return len(d.children(t)) == 0 })
 		d.stop()
 	}
 }

@@ -25,7 +25,7 @@ FLAGS = (
 )  # fmt: skip
 TO_BROWSER, FROM_BROWSER = 3, 4
 PIECE = 1 << 20
-MOST_SECONDS = 60.0
+MOST_SECONDS = 600.0
 PAUSE = 0.02
 KEYS = {
     "ArrowLeft": 37, "ArrowUp": 38, "ArrowRight": 39, "ArrowDown": 40, "Home": 36, "End": 35, "Enter": 13, "Tab": 9,

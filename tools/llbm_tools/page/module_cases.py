@@ -25,7 +25,7 @@ WITH_LOCALS = ("run", "step")
 COMMANDS = ("run", "show", "asm", "dis", "step")
 FORMS = {"findings": ("show", "--findings"), "plan": ("show", "--plan")}
 USUAL_WORKERS = {"run": 1, "step": 2}
-MOST_SECONDS = 120
+MOST_SECONDS = 600
 AT_A_TIME = 100
 # The fault of the program's words.
 WORDS_FAULT = "fault 183"

@@ -273,7 +273,8 @@ class Build(Builds):
         self.check_nothing_is_left()
 
     def test_a_signal_that_was_ignored_stays_ignored(self):
-        self.set_behavior('sys.stderr.write("waiting\\n")\nsys.stderr.flush()\ntime.sleep(1)\n' + PRINTS)
+        told = 'while not os.path.exists("told"):\n    time.sleep(0.01)\n'
+        self.set_behavior('sys.stderr.write("waiting\\n")\nsys.stderr.flush()\n' + told + PRINTS)
         child = subprocess.Popen(
             command("build", "--llbm", self.llbm, "definition", "out"), stderr=subprocess.PIPE, **self.settings,
             preexec_fn=lambda: signal.signal(signal.SIGHUP, signal.SIG_IGN),
@@ -282,8 +283,9 @@ class Build(Builds):
         while child.stderr.readline() not in (b"waiting\n", b""):
             pass
         child.send_signal(signal.SIGHUP)
+        (self.at / "told").touch()
         self.assertEqual(child.wait(base.GUARD), 0)
-        self.check_nothing_is_left({"out"})
+        self.check_nothing_is_left({"out", "told"})
 
 
 class Pipes(Builds):

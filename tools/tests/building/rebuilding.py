@@ -4,9 +4,8 @@ import json
 import os
 import shutil
 import stat
-import time
 
-from llbm_tools.building import exchange, kept_builds, replaced_results
+from llbm_tools.building import exchange, kept_builds, kept_changes, replaced_results
 from llbm_tools.trees import directory_states, kept_sources
 from tests import base
 from tests.base import run
@@ -33,10 +32,11 @@ class Rebuilds(Builds):
 
     def grow_old(self):
         """Gives all files of the source times that are older than any reading."""
-        for folder, _, names in os.walk(self.place(b"in")):
-            for name in names:
-                os.utime(os.path.join(folder, name), (7, 7))
-        time.sleep(0.05)
+        files = [os.path.join(folder, name) for folder, _, names in os.walk(self.place(b"in")) for name in names]
+        for file in files:
+            os.utime(file, (7, 7))
+        latest = max(os.stat(file).st_ctime_ns for file in files)
+        base.wait_until(lambda: kept_changes.now() > latest, "a later time")
 
     def replace(self, *words, result="out", source="in"):
         """Builds in the place of the result, and keeps what was read."""

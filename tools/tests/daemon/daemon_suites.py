@@ -116,7 +116,7 @@ class Processes(Folder):
         change.start()
         self.addCleanup(change.stop)
 
-    def runs(self, seconds=60, **known):
+    def runs(self, seconds=base.GUARD, **known):
         """Returns what runs tests, each for some seconds at most, with these variables."""
         options = daemon_suite.parse(["--seconds", str(seconds), "--llbm", "/llbm", "--daemon", "/llbmd"])
         with mock.patch.dict(os.environ, known):

@@ -408,7 +408,7 @@ class RandomDefinitions(base.WithProgram):
     def definitions(self):
         """Returns definitions, many of which have unsupported features."""
         chance = random.Random(3)
-        return [linting.ops_of_all_kinds(chance) for _ in range(300)]
+        return [linting.ops_of_all_kinds(chance) for _ in range(base.cases(300))]
 
     def test_what_is_left_is_exactly_what_is_found(self):
         settings = adopted_ops.Settings(frozenset(adopted_ops.DROPPED), (), adopted_ops.RunNothing.ALL)
@@ -421,18 +421,16 @@ class RandomDefinitions(base.WithProgram):
             taken += not done.left
             names = {finding.rest.split(" ")[0] for finding in done.left}
             self.assertFalse(names & {"SecretMount", "SshMount", "SecretEnv", "Unpack", "OwnerByName"})
-        self.assertGreater(taken, 10)
+        self.assertGreater(taken, base.cases(10))
 
-    def needs_program(self):
-        """Skips the test if the program is not there."""
-        if base.llbm is None:
-            raise unittest.SkipTest("the program llbm is needed (--llbm PROGRAM)")
+
+class Examples(base.WithProgram):
+    """Adopted definitions that run."""
 
     def test_the_stored_example_is_the_one_made_here(self):
         self.assertEqual((EXAMPLES / "foreign.llb").read_bytes().hex(), foreign().hex())
 
     def test_the_example_is_adopted_and_run(self):
-        self.needs_program()
         place = self.place(b"out")
         words = ["--all", "--rules", EXAMPLES / "foreign.rules", EXAMPLES / "foreign.llb", "-o", place]
         self.assertEqual(run("adopt", *words).returncode, 0)
@@ -445,7 +443,6 @@ class RandomDefinitions(base.WithProgram):
         self.check_run(done, 0, b"".join(line + b"\n" for line in text))
 
     def test_an_adopted_definition_runs(self):
-        self.needs_program()
         image = base.source(IMAGE)
         mounts = mount(output=0, given=0), mount("/s", kind=1)
         run_it = exec_of(*mounts, args=["/bin/sh", "-c", "apk add git"], on=[image])

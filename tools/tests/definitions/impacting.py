@@ -485,9 +485,9 @@ class Machine(base.WithProgram):
     def test_definitions_with_renamed_sources(self):
         dice = random.Random("renamed")
         pool = [EMPTY.encode(), *(fuzz_made.tree(dice) for _ in range(5))]
-        for _ in range(50):
+        for _ in range(base.cases(50)):
             self.compare_renamed(dice, self.made(dice), pool)
-        self.assertGreater(self.kept, 100)
+        self.assertGreater(self.kept, base.cases(100))
 
     def test_stored_definitions_and_changed_ones(self):
         dice = random.Random("stored")
@@ -504,9 +504,9 @@ class Machine(base.WithProgram):
     def test_random_definitions_and_changed_ones(self):
         dice = random.Random("random")
         pool = [EMPTY.encode(), *(fuzz_made.tree(dice) for _ in range(5))]
-        for _ in range(100):
+        for _ in range(base.cases(100)):
             old = self.made(dice)
             self.compare(dice, old, self.changed(dice, old), pool)
-        self.assertGreater(self.kept, 100)
-        self.assertGreater(self.failed, 10)
-        self.assertGreater(self.fed_apart, 5)
+        self.assertGreater(self.kept, base.cases(100))
+        self.assertGreater(self.failed, base.cases(10))
+        self.assertGreater(self.fed_apart, base.cases(5))

@@ -282,11 +282,8 @@ class Dist(WithFake):
         self.assertEqual({(member.uid, member.gid, member.mtime, member.uname) for member in members}, {(0, 0, 0, "")})
         self.assertEqual([member.name for member in members], sorted(member.name for member in members))
 
-    def test_the_digests_are_those_of_the_files(self):
-        archive, digests = self.pack("one")
-        unpacked = self.at / "one" / self.name
-        self.check_digests(digests, self.at / "one")
-        subprocess.run(["tar", "-xf", archive], cwd=self.at / "one", check=True)
+    def check_all_digests(self, unpacked):
+        """Checks that all files of an archive have their digests in it."""
         self.check_digests(unpacked / "sha256sums", unpacked)
         found = below(unpacked)
         links = {path for path in found if (unpacked / path).is_symlink()}
@@ -299,11 +296,13 @@ class Dist(WithFake):
         done = subprocess.run(command, cwd=folder, capture_output=True, timeout=base.GUARD)
         self.assertEqual((done.returncode, done.stdout, done.stderr), (0, b"", b""))
 
-    def test_the_archive_has_what_is_installed(self):
-        archive, _ = self.pack("one")
+    def test_the_archive_has_what_is_installed_with_its_digests(self):
+        archive, digests = self.pack("one")
         run("install", "--llbm", str(self.llbm), str(self.at / "prefix"))
         subprocess.run(["tar", "-xf", archive], cwd=self.at / "one", check=True)
         packed = self.at / "one" / self.name
+        self.check_digests(digests, self.at / "one")
+        self.check_all_digests(packed)
         self.assertEqual(below(packed), below(self.at / "prefix") | {"sha256sums"})
         for path in below(self.at / "prefix"):
             mine, its = packed / path, self.at / "prefix" / path

@@ -81,6 +81,9 @@ class Definitions(Folder):
         ops, graph = self.graph("files", 1100)
         self.assertEqual([len(op.file.actions) for op in ops], [512, 512, 76])
         self.assertEqual(graph.inputs, [[], [(0, 0)], [(1, 0)]])
+
+    def test_the_files_of_two_ops_are_all_made(self):
+        base.skip_if_slow(self)
         if base.llbm:
             given = run("bigdef", "files", "600").stdout
             done = subprocess.run([base.llbm], input=given, capture_output=True, timeout=base.GUARD)

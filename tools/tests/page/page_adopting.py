@@ -71,7 +71,7 @@ def changed_definitions():
     """Returns definitions that are examples with random changes."""
     dice = random.Random(SEED)
     found, made = examples(), []
-    for _ in range(CHANGED):
+    for _ in range(base.cases(CHANGED)):
         data = dice.choice(found)
         for _ in range(dice.randint(1, 4)):
             data = changed_inputs.changed_definition(dice, data)
@@ -111,29 +111,31 @@ class LikeTheTools(Folder):
         return json.dumps([base64.b64encode(data).decode(), found]) + "\n"
 
     def check_all(self, definitions):
-        """Compares findings and adoptions of definitions."""
+        """Compares findings and adoptions of definitions, and returns how many are refused."""
         tables = self.file(b"tables.json", assets.tables())
         given = "".join(map(self.line_of, filter(None, definitions)))
         words = ["node", "--input-type=module", "-e", SCRIPT, PAGE.as_uri(), tables]
         done = subprocess.run(words, input=given.encode(), capture_output=True, timeout=base.GUARD)
         self.assertEqual((done.returncode, done.stderr), (0, b""))
+        refused = 0
         for data, line in zip(filter(None, definitions), done.stdout.splitlines(), strict=True):
             found, made = json.loads(line)
             self.assertEqual(found, lines_of(findings_of(data, base.llbm)))
             self.assertEqual(made, adoption_of(data))
+            refused += bool(found)
+        return refused
 
     def test_the_examples(self):
         self.check_all(examples())
 
     def test_random_definitions(self):
         made = changed_definitions()
-        self.assertGreater(sum(bool(findings_of(data, base.llbm)) for data in made), CHANGED // 2)
-        self.check_all(made)
+        self.assertGreater(self.check_all(made), len(made) // 2)
 
     def test_the_definitions_of_the_tests_of_adopt(self):
         recorder = Recorder(adopt_tests.run)
         with mock.patch.object(adopt_tests, "run", recorder):
-            suite = unittest.defaultTestLoader.loadTestsFromModule(adopt_tests)
-            suite.run(unittest.TestResult())
+            for case in (adopt_tests.Adopt, adopt_tests.Examples):
+                unittest.defaultTestLoader.loadTestsFromTestCase(case).run(unittest.TestResult())
         self.assertGreater(len(recorder.given), 30)
         self.check_all(recorder.given)
