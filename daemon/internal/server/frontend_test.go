@@ -47,7 +47,12 @@ func ask(ctx context.Context, c gwclient.Client) (*gwclient.Result, error) {
 			all = append(all, block)
 		}
 	case "write":
-		if _, err := os.CreateTemp("/tmp", frontendName); err != nil {
+		file, err := os.CreateTemp("/tmp", frontendName)
+		if err == nil {
+			_, err = file.WriteString("x")
+			_ = os.Remove(file.Name())
+		}
+		if err != nil {
 			text = "can't write"
 		}
 	case "rights":
