@@ -35,9 +35,11 @@ func configOf(
 		return nil, err
 	}
 	created := createdOf(config, steps, when, isBound)
-	config["created"], config["history"] = created, withLayer(steps, created)
+	config["created"] = created
 	if names != nil {
 		config["history"] = withLayers(steps, names, created)
+	} else {
+		config["history"] = withLayer(steps, created)
 	}
 	config["rootfs"] = map[string]any{"type": "layers", "diff_ids": layers}
 	return config, nil

@@ -51,19 +51,19 @@ func TestConfigurationsHaveTheirLayer(t *testing.T) {
 }
 
 func TestAHistoryHasAStepForEachLayer(t *testing.T) {
-	made := []string{"one", "two"}
+	made, then := []string{"one", "two"}, time.Date(2015, 10, 21, 7, 28, 0, 0, time.UTC)
+	const two = `{"comment":"buildkit.exporter.image.v0","created":"2015-10-21T07:28:00Z","created_by":"two"}]`
 	for given, want := range map[string]string{
-		`[]`: `[{"comment":"buildkit.exporter.image.v0","created":"then","created_by":"one"},` +
-			`{"comment":"buildkit.exporter.image.v0","created":"then","created_by":"two"}]`,
-		`[{"created_by":"a"},{"created_by":"b","empty_layer":true}]`: `[{"created_by":"a"},{"created_by":"b","empty_layer":true},` +
-			`{"comment":"buildkit.exporter.image.v0","created":"then","created_by":"two"}]`,
+		`[]`: `[{"comment":"buildkit.exporter.image.v0","created":"2015-10-21T07:28:00Z","created_by":"one"},` + two,
+		`[{"created_by":"a"},{"created_by":"b","empty_layer":true}]`: `[{"created_by":"a"},{"created_by":"b","empty_layer":true},` + two,
+		`[{"created_by":"a"},{"created_by":"b"}]`:                    `[{"created_by":"a"},{"created_by":"b"}]`,
 		`[{"created_by":"a"},{"created_by":"b"},{"created_by":"c"}]`: `[{"created_by":"a"},{"created_by":"b"},{"created_by":"c","empty_layer":true}]`,
 	} {
-		var steps []map[string]any
-		if err := json.Unmarshal([]byte(given), &steps); err != nil {
+		config, err := configOf([]byte(`{"history":`+given+`}`), amd64, nil, made, then, false)
+		if err != nil {
 			t.Fatal(err)
 		}
-		got, err := json.Marshal(withLayers(steps, made, "then"))
+		got, err := json.Marshal(config["history"])
 		if err != nil || string(got) != want {
 			t.Errorf("%s: %s", given, got)
 		}
