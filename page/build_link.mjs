@@ -1,4 +1,4 @@
-/** Builds that a server of `tools/page --serve` has: a link of the page opens one, with its trees and its record. */
+/** Builds that a server, `llbm-tools page --serve`, has: a link of the page opens one, with its trees and record. */
 
 import { eventsOfRecord } from './record.mjs';
 import { definitionOf } from './reading.mjs';

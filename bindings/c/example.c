@@ -1,11 +1,11 @@
 /* Assembles a text, runs it on a local tree, and sends the lines of standard input to a session on it.
  *
- *     cc -o example example.c ../../out/libllbm.a
+ *     cc -I.. -o example example.c ../../out/libllbm.a
  *     ./example ../../examples/tour.text source ../../examples/tour.tree < ../../examples/tour.commands
  *
  * Out: the text of the result's tree, and then the reply to each line. Exit status: that of the first call that failed, 9 for a file that
  * can't be read. */
-#include "../llbm.h"
+#include <llbm.h>
 #include <stdio.h>
 #include <stdlib.h>
 #include <string.h>

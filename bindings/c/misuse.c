@@ -5,7 +5,7 @@
  *
  * Out: a line for each check that failed; a line for each call with the requests for memory that were refused in turn, and the statuses that
  * it returned then; and `N passed, M failed`. Exit status: 0 all passed; 1 some failed; 9 a file can't be read. */
-#include "../llbm.h"
+#include <llbm.h>
 #include <pthread.h>
 #include <stdio.h>
 #include <stdlib.h>

@@ -33,7 +33,7 @@ var load = sync.OnceValue(func() error {
 	path := C.CString(name)
 	defer C.free(unsafe.Pointer(path))
 	if why := C.llbm_load(path); why != nil {
-		return fmt.Errorf("%s; %s has to name the shared object that tools/library makes", C.GoString(why), Shared)
+		return fmt.Errorf("%s; %s has to name the shared object that llbm-tools library makes", C.GoString(why), Shared)
 	}
 	return nil
 })

@@ -1,5 +1,5 @@
 /* The library of llbm for C: it assembles, shows, disassembles, runs and steps through definitions of LLB.
- * Link libllbm.a, which tools/library builds. docs/EMBEDDING.md describes each call, and says what is proved of it.
+ * Link libllbm.a, which llbm-tools library builds. docs/EMBEDDING.md describes each call, and says what is proved of it.
  *
  * What a caller has to promise, since nothing checks it: A handle is a struct of zeroes until a call sets it, and then what the last call
  * left there. Its fields are neither read nor written. It may be moved (copied to another place), if the handle in the old place is not used

@@ -1,4 +1,4 @@
-"""Tests of `llbm.trees` and `llbm.testing`: LIBLLBM=libllbm.so LLBM_TOOLS=tools python3 -m unittest test_testing."""
+"""Tests of `llbm.trees` and `llbm.testing`: LIBLLBM=libllbm.so LLBM_TOOLS=llbm-tools python3 -m unittest test_testing."""
 
 import importlib.util
 import os
@@ -61,13 +61,14 @@ class Trees(unittest.TestCase):
         self.assertEqual("", other.diff(other))
 
 
-
-class Solving(unittest.TestCase):
+class WithFolder(unittest.TestCase):
     def setUp(self) -> None:
         folder = tempfile.TemporaryDirectory(prefix="llbm-testing-")
         self.addCleanup(folder.cleanup)
         self.folder = pathlib.Path(folder.name)
 
+
+class Solving(WithFolder):
     def test_what_is_made_is_checked(self) -> None:
         result = solve(mkfile("hi")).missing("/y")
         result.file("/x").equals("hi").equals(b"hi").mode(0o600).owner(7, 5)
@@ -94,7 +95,19 @@ class Solving(unittest.TestCase):
         with self.assertRaisesRegex(AssertionError, "a tree has only directories and files.*/a$"):
             solve(copied("/"), Dir("src", self.folder))
 
-    @unittest.skipUnless(testing.tool("adopt"), "there is no tool adopt")
+    def test_a_source_that_the_definition_has_not_is_an_error(self) -> None:
+        long = "src" * 60
+        solve(copied("/a", f"local://{long}"), Files(long, {"a": ""})).file("/a")
+        for name in ("sr", "src2", f"{long}s"):
+            with self.assertRaisesRegex(AssertionError, f"the definition has no local source {name}$"):
+                solve(copied("/a"), Files("src", {"a": ""}), Files(name, {}))
+
+    def test_checks_are_made_with_asserts_left_out(self) -> None:
+        text = "from llbm import testing; testing.File(testing.Entry('/x', True, 0o755)).mode(0o700)"
+        done = subprocess.run([sys.executable, "-O", "-c", text], cwd=pathlib.Path(__file__).parent, capture_output=True)
+        self.assertIn(b"/x has not the mode 0700, but 0755", done.stderr)
+
+    @unittest.skipUnless(testing.tools(), "there is no llbm-tools")
     def test_a_directory_stands_in_for_an_image(self) -> None:
         (self.folder / "a").write_text("of the image")
         definition = copied("/a", "docker-image://docker.io/library/alpine:3.19")
@@ -121,7 +134,7 @@ class Solving(unittest.TestCase):
         with self.assertRaisesRegex(AssertionError, "- /x 0600 7:5 'hi'\n\\+ /x 0600 7:5 'ho'"):
             solve(mkfile("ho")).golden(place)
 
-    @unittest.skipUnless(testing.tool("run"), "there is no tool run")
+    @unittest.skipUnless(testing.tools(), "there is no llbm-tools")
     def test_a_failure_has_its_reason(self) -> None:
         fails(copied("/b.txt"), "/b.txt", Files("src", {}))
         fails(copied("/b.txt"), "a local source has no tree")
@@ -142,22 +155,49 @@ class Solving(unittest.TestCase):
                 with self.assertRaisesRegex(unittest.SkipTest, "there is nothing to solve it with: .*LLBM names no"):
                     solve(b"")
 
-    @unittest.skipUnless(importlib.util.find_spec("pytest"), "there is no pytest")
-    def test_pytest_gets_an_option_and_fixtures(self) -> None:
-        (self.folder / "conftest.py").write_text('pytest_plugins = ["llbm.testing"]\n')
-        tests = 'def test(solve, fails):\n    solve(DATA).golden("a/r.tree")\n    fails(b"\\1", "fault 81")\n'
-        (self.folder / "test_it.py").write_text(f"DATA = {mkfile('hi')!r}\n{tests}")
-        words = [sys.executable, "-m", "pytest", "-q", "-p", "no:cacheprovider"]
-        path = os.pathsep.join([str(pathlib.Path(__file__).parent), os.environ.get("PYTHONPATH", "")])
-        for options, status in ((), 1), (("--update",), 0), ((), 0):
-            env = {**os.environ, "PYTHONPATH": path, "PYTHONDONTWRITEBYTECODE": "1"}
-            done = subprocess.run([*words, *options], cwd=self.folder, env=env, capture_output=True)
-            self.assertEqual(status, done.returncode, done.stdout)
-        self.assertEqual("d 0755 0 0 /\nf 0600 7 5 6869 /x\n", (self.folder / "a" / "r.tree").read_text())
-
     @unittest.skipUnless(os.environ.get(testing.RULES), "there is no program llbm-rules")
     def test_buildkit_makes_the_same(self) -> None:
         solve(mkfile("hi")).same_as_buildkit()
+
+
+@unittest.skipUnless(importlib.util.find_spec("pytest"), "there is no pytest")
+class Pytest(WithFolder):
+    """The option and the fixtures of pytest, in a folder as a user has it."""
+
+    def said(self, *words: str, status: int = 0, **given: str) -> str:
+        """Runs pytest in the folder, checks its status, and returns what it prints."""
+        path = os.pathsep.join([str(pathlib.Path(__file__).parent), os.environ.get("PYTHONPATH", "")])
+        env = {**os.environ, "PYTHONPATH": path, "PYTHONDONTWRITEBYTECODE": "1", **given}
+        line = [sys.executable, "-m", "pytest", "-q", "-p", "no:cacheprovider", *words]
+        done = subprocess.run(line, cwd=self.folder, env=env, capture_output=True, text=True)
+        self.assertEqual(status, done.returncode, done.stdout + done.stderr)
+        return done.stdout
+
+    def setUp(self) -> None:
+        super().setUp()
+        (self.folder / "conftest.py").write_text('pytest_plugins = ["llbm.testing"]\n')
+        (self.folder / "below").mkdir()
+        tests = 'def test_it(solve, fails):\n    fails(b"\\1", "fault 81")\n    solve(DATA).golden("a/r.tree")\n'
+        (self.folder / "below" / "test_one.py").write_text(f"DATA = {mkfile('hi')!r}\n{tests}")
+        self.golden = self.folder / "below" / "a" / "r.tree"
+
+    def test_the_option_writes_golden_trees_beside_the_test(self) -> None:
+        self.assertIn("there is no golden tree", self.said(status=1))
+        self.said("--update")
+        self.assertEqual("d 0755 0 0 /\nf 0600 7 5 6869 /x\n", self.golden.read_text())
+        self.said()
+
+    def test_a_failure_has_the_line_of_the_test_and_the_difference(self) -> None:
+        self.golden.parent.mkdir()
+        self.golden.write_text("d 0755 0 0 /\nf 0600 7 5 686f /x\n")
+        said = self.said("-vv", status=1)
+        self.assertRegex(said, r"(?m)^>       solve\(DATA\).golden\(")
+        self.assertRegex(said, r"E +- /x 0600 7:5 'ho'\nE +\+ /x 0600 7:5 'hi'\n")
+        self.assertNotIn("testing.py", said)
+
+    def test_a_test_without_library_and_program_is_skipped_by_its_name(self) -> None:
+        said = self.said("-rs", LIBLLBM="/none.so", LLBM="")
+        self.assertRegex(said, r"SKIPPED \[1\] below/test_one.py:3: there is nothing .* LLBM names no program")
 
 
 if __name__ == "__main__":

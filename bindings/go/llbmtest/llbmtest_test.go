@@ -148,8 +148,8 @@ func TestAGoldenTreeIsWrittenAndCompared(t *testing.T) {
 func TestAFailureHasItsReason(t *testing.T) {
 	missing := llb.Scratch().File(llb.Copy(llb.Local("src"), "/b.txt", "/"))
 	empty := Files("src", nil)
-	if tool("run") == "" {
-		t.Skip("there is no tool run")
+	if tools() == "" {
+		t.Skip("there is no llbm-tools")
 	}
 	Fails(t, missing, "action 0", empty)
 	Fails(t, llb.Image("alpine").File(llb.Mkdir("/a", 0o755)), "fault 88 0 Source")
@@ -176,8 +176,8 @@ func TestItIsSolvedByTheProgramWhereThereIsNoLibrary(t *testing.T) {
 }
 
 func TestBuildKitMakesTheSame(t *testing.T) {
-	if tool("as-buildkit") == "" {
-		t.Skip("there is no tool as-buildkit")
+	if tools() == "" {
+		t.Skip("there is no llbm-tools")
 	}
 	Solve(t, written("/x", "hi")).SameAsBuildKit()
 	under := llb.Scratch().File(llb.Mkfile("/a", 0o644, nil)).File(llb.Mkdir("/a", 0o755))

@@ -16,8 +16,8 @@ import (
 const (
 	// program is the variable that names the program llbm.
 	program = "LLBM"
-	// folderOfTools is the variable that names the folder of llbm's tools; by default they are commands, as llbm-run.
-	folderOfTools = "LLBM_TOOLS"
+	// programOfTools is the variable that names the program llbm-tools; by default it is on the path.
+	programOfTools = "LLBM_TOOLS"
 )
 
 // errNothing is that there is neither the library nor the program.
@@ -72,11 +72,11 @@ func (s *solving) inFolder(call func(definition string, given []string) (string,
 	return call(definition, given)
 }
 
-// tool returns the path of a tool, or nothing if it is not there.
-func tool(name string) string {
-	place := "llbm-" + name
-	if folder := os.Getenv(folderOfTools); folder != "" {
-		place = filepath.Join(folder, name)
+// tools returns the path of llbm-tools, or nothing if it is not there.
+func tools() string {
+	place := os.Getenv(programOfTools)
+	if place == "" {
+		place = "llbm-tools"
 	}
 	found, err := exec.LookPath(place)
 	if err != nil {
@@ -85,26 +85,26 @@ func tool(name string) string {
 	return found
 }
 
-// withProgram returns the words that name the program to a tool, if a variable names one.
-func withProgram() []string {
+// called returns llbm-tools with a command of it, the program where a variable names one, and further words.
+func called(tools string, command []string, words ...string) *exec.Cmd {
 	if path := os.Getenv(program); path != "" {
-		return []string{"--llbm", path}
+		command = append(command, "--llbm", path)
 	}
-	return nil
+	return exec.Command(tools, append(command, words...)...)
 }
 
-// reason returns why the graph is refused or fails: the lines of the fault and, if the tool `run` is there, what it says of them.
+// reason returns why the graph is refused or fails: the lines of the fault and, if llbm-tools is there, what it says of them.
 func (s *solving) reason(err error) string {
 	fault := (*llbm.Fault)(nil)
 	if !errors.As(err, &fault) {
 		return err.Error()
 	}
-	run := tool("run")
-	if run == "" {
-		return fmt.Sprintf("%s(llbm-run, which says why, is neither in %s nor on the path)", fault.Messages, folderOfTools)
+	path := tools()
+	if path == "" {
+		return fmt.Sprintf("%s(llbm-tools, which says why, is neither in %s nor on the path)", fault.Messages, programOfTools)
 	}
 	said, failed := s.inFolder(func(definition string, given []string) (string, error) {
-		command := exec.Command(run, append(append(withProgram(), "run"), given...)...)
+		command := called(path, []string{"run"}, append([]string{"run"}, given...)...)
 		input, err := os.Open(definition)
 		if err != nil {
 			return "", err
@@ -113,28 +113,28 @@ func (s *solving) reason(err error) string {
 		var messages bytes.Buffer
 		command.Stdin, command.Stderr = input, &messages
 		if err := command.Run(); err == nil {
-			return "", errors.New("llbm-run does not fail")
+			return "", errors.New("it does not fail there")
 		}
 		return messages.String(), nil
 	})
 	if failed != nil || !strings.Contains(said, strings.TrimSpace(fault.Messages)) {
-		return fmt.Sprintf("%s(llbm-run says nothing of it: %v)", fault.Messages, failed)
+		return fmt.Sprintf("%s(llbm-tools says nothing of it: %v)", fault.Messages, failed)
 	}
 	return said
 }
 
 // SameAsBuildKit checks that BuildKit makes the same tree of the graph, by the rules that llbm-rules has; where it does not, the
 // test has the paths that differ, each with the rule, and the notes of what has no effect here. Commands are taken to make there
-// what they make here. Without llbm-as-buildkit the test is skipped.
+// what they make here. Without llbm-tools the test is skipped.
 func (r *Result) SameAsBuildKit() *Result {
 	r.t.Helper()
-	path := tool("as-buildkit")
+	path := tools()
 	if path == "" {
-		r.t.Skipf("skipped by llbmtest: llbm-as-buildkit is neither in %s nor on the path", folderOfTools)
+		r.t.Skipf("skipped by llbmtest: llbm-tools, which has BuildKit's rules, is neither in %s nor on the path", programOfTools)
 	}
 	said, err := r.solved.inFolder(func(definition string, given []string) (string, error) {
-		words := append(append(withProgram(), definition), given...)
-		said, err := exec.Command(path, words...).CombinedOutput()
+		command := called(path, []string{"explain", "buildkit"}, append([]string{definition}, given...)...)
+		said, err := command.CombinedOutput()
 		return string(said), err
 	})
 	if err != nil {

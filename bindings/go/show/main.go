@@ -1,8 +1,8 @@
 //go:build ignore
 
 // Reads the definition on standard input with BuildKit's message types and prints a line for each row with its inputs;
-// the last line is the terminal's. It does for each entry what `llbm show` does, without its checks. tools/measure builds
-// it, and runs it beside `show`.
+// the last line is the terminal's. It does for each entry what `llbm show` does, without its checks. `dev/dev measure`
+// builds it, and runs it beside `show`.
 package main
 
 import (

@@ -1,4 +1,5 @@
-"""The library of llbm for Python, by ctypes over its shared object, which the variable LIBLLBM names.
+"""The library of llbm for Python, by ctypes over its shared object, which the variable LIBLLBM names, or else that of the
+installation around this package.
 
 A machine is used by the thread that made it. `llbm.trees` has the trees that come of runs, and `llbm.testing` what tests
 of a frontend need. docs/EMBEDDING.md of the repository describes each call.
@@ -6,10 +7,19 @@ of a frontend need. docs/EMBEDDING.md of the repository describes each call.
 
 import ctypes
 import os
+import pathlib
 import threading
 from types import TracebackType
 
-LIBRARY = os.environ.get("LIBLLBM", "libllbm.so")
+
+def library_there() -> str:
+    """Returns the shared object that LIBLLBM names, or that of the installation around this package, or its usual name."""
+    name = "libllbm.so"
+    around = [folder / name for folder in pathlib.Path(__file__).resolve().parents[4:5]]
+    return os.environ.get("LIBLLBM") or next((str(place) for place in around if place.is_file()), name)
+
+
+LIBRARY = library_there()
 
 OK, ENDED, REFUSED, NO_MEMORY, NO_SESSION = range(5)
 MOST = 2**32 - 1

@@ -7,10 +7,10 @@
 
 A definition is the bytes that a client marshals. It is solved in this process if the library is there (LIBLLBM names
 its shared object), or else by the program that LLBM names; if neither is there, the test is skipped, with these names.
-Filters of a source, images, reasons and BuildKit's rules are those of llbm's tools: LLBM_TOOLS names their folder, or
-else they are commands, as `llbm-run`. For pytest, `pytest_plugins = ["llbm.testing"]` adds the option `--update`, which
-writes golden trees anew, and the fixtures `solve` and `fails`, which take the paths of golden trees from the folder of
-the test; elsewhere the variable LLBM_UPDATE does what the option does.
+Images, reasons and BuildKit's rules are those of llbm-tools, which LLBM_TOOLS names, or else it is on the path; filters
+of a source are those of llbm-rules, which LLBM_RULES names. For pytest, `pytest_plugins = ["llbm.testing"]` adds the
+option `--update`, which writes golden trees anew, and the fixtures `solve` and `fails`, which take the paths of golden
+trees from the folder of the test; elsewhere the variable LLBM_UPDATE does what the option does.
 """
 
 import os
@@ -21,16 +21,20 @@ import subprocess
 import tempfile
 import unittest
 from collections.abc import Iterator, Mapping, Sequence
-from typing import Any, NamedTuple
+from typing import Any, NamedTuple, NoReturn
 
-from llbm import Fault, Machine
+from llbm import Fault, Machine, library_there
 from llbm.trees import Entry, Tree
 
 UPDATE = "LLBM_UPDATE"
 PROGRAM, TOOLS, RULES = "LLBM", "LLBM_TOOLS", "LLBM_RULES"
 FILTERS = (b"local.includepattern", b"local.excludepatterns", b"local.followpaths")
-IMAGE = "docker-image://"
+LOCAL, IMAGE = "local://", "docker-image://"
 REFUSED = 2
+# By these pytest and unittest show a failure at the line of the test, and no line of this module.
+__tracebackhide__ = __unittest = True
+# What skips a test; pytest has its own, which keeps the line of the test.
+_skipped: Any = unittest.SkipTest
 
 
 class Dir(NamedTuple):
@@ -59,17 +63,22 @@ class Image(NamedTuple):
 Source = Dir | Files | Image
 
 
-def tool(name: str) -> str | None:
-    """Returns the path of a tool, or None if it is not there."""
-    folder = os.environ.get(TOOLS)
-    return shutil.which(os.path.join(folder, name) if folder else f"llbm-{name}")
+def tools() -> str | None:
+    """Returns the path of llbm-tools, or None if it is not there."""
+    return shutil.which(os.environ.get(TOOLS) or "llbm-tools")
 
 
-def _needed(name: str, what: str) -> str:
-    found = tool(name)
-    if not found:
-        raise unittest.SkipTest(f"llbm-{name}, {what}, is neither in {TOOLS} nor on the path")
-    return found
+def _skip(why: str) -> NoReturn:
+    raise _skipped(why)
+
+
+def _check(is_so: bool, otherwise: str) -> None:
+    if not is_so:
+        raise AssertionError(otherwise)
+
+
+def _tools_for(what: str) -> str:
+    return tools() or _skip(f"llbm-tools, which {what}, is neither in {TOOLS} nor on the path")
 
 
 def _with_program() -> list[str]:
@@ -91,9 +100,12 @@ class _Solving:
         names = self._adopt(definition) if any(isinstance(one, Image) for one in sources) else {}
         for number, source in enumerate(sources):
             place = self._place_of(source, number)
-            name = names.get(_image_name(source.name), "") if isinstance(source, Image) else source.name
-            if not name:
-                raise AssertionError(f"the definition has no image {source.name}")
+            if isinstance(source, Image):
+                name = names.get(_image_name(source.name), "")
+                _check(name != "", f"the definition has no image {source.name}")
+            else:
+                name = source.name
+                _check(_has_source(definition, LOCAL + name), f"the definition has no local source {name}")
             paths = None if isinstance(source, Image) else self._selected(name, place)
             self.trees[name] = _tree_at(place, paths, is_made=isinstance(source, Files)).text()
 
@@ -111,10 +123,9 @@ class _Solving:
     def _adopt(self, definition: bytes) -> dict[str, str]:
         """Puts local sources in the place of images, and returns their names by those of the images."""
         adopted, sources = self.folder / "adopted", self.folder / "sources"
-        words = [_needed("adopt", "which replaces images"), "--leave", "-o", adopted, "--sources", sources, "-"]
+        words = [_tools_for("replaces images"), "adopt", "--leave", "-o", adopted, "--sources", sources, "-"]
         done = _called(words, definition)
-        if done.returncode:
-            raise AssertionError(done.stderr.decode("utf-8", "replace"))
+        _check(done.returncode == 0, done.stderr.decode("utf-8", "replace"))
         self.definition = adopted.read_bytes()
         pairs = (line.split("\t") for line in sources.read_text("utf-8").splitlines())
         return {_image_name(old.removeprefix(IMAGE)): name for name, old in pairs if old.startswith(IMAGE)}
@@ -125,10 +136,9 @@ class _Solving:
             return None
         rules = os.environ.get(RULES) or shutil.which("llbm-rules")
         if not rules:
-            raise unittest.SkipTest(f"llbm-rules, which applies filters, is neither {RULES} nor on the path")
+            _skip(f"llbm-rules, which applies filters, is neither {RULES} nor on the path")
         done = _called([rules, "select", name, place], self.definition)
-        if done.returncode:
-            raise AssertionError(done.stderr.decode("utf-8", "replace"))
+        _check(done.returncode == 0, done.stderr.decode("utf-8", "replace"))
         paths = set(map(os.fsdecode, done.stdout.split(b"\0")[:-1]))
         return None if paths == {"."} else paths
 
@@ -143,7 +153,7 @@ class _Solving:
     def run(self) -> str:
         """Returns the text of the result; Fault if there is none."""
         try:
-            machine = Machine(os.environ.get("LIBLLBM", "libllbm.so"))
+            machine = Machine(library_there())
         except OSError as fault:
             return self._run_by(os.environ.get(PROGRAM), fault)
         with machine:
@@ -153,19 +163,26 @@ class _Solving:
 
     def _run_by(self, program: str | None, fault: OSError) -> str:
         if not program:
-            raise unittest.SkipTest(f"there is nothing to solve it with: {fault}, and {PROGRAM} names no program llbm")
+            _skip(f"there is nothing to solve it with: {fault}, and {PROGRAM} names no program llbm")
         done = _called([program, "run", *self.given()], self.definition)
         if done.returncode:
             raise Fault(done.returncode, done.stderr.decode("utf-8", "replace"))
         return done.stdout.decode()
 
     def reason(self, fault: Fault) -> str:
-        """Returns why the definition is refused or fails: the fault, and what the tool `run` says of it, if it is there."""
-        run = tool("run")
-        if not run:
-            return f"{fault.messages}(llbm-run, which says why, is neither in {TOOLS} nor on the path)"
-        done = _called([run, *_with_program(), "run", *self.given()], self.definition)
+        """Returns why the definition is refused or fails: the fault, and what llbm-tools says of it, if it is there."""
+        there = tools()
+        if not there:
+            return f"{fault.messages}(llbm-tools, which says why, is neither in {TOOLS} nor on the path)"
+        done = _called([there, "run", *_with_program(), "run", *self.given()], self.definition)
         return done.stderr.decode("utf-8", "replace") or fault.messages
+
+
+def _has_source(definition: bytes, identifier: str) -> bool:
+    """Returns whether a definition has a source, an identifier after its length in one byte or two."""
+    text = identifier.encode()
+    length = [len(text)] if len(text) < 128 else [len(text) % 128 + 128, len(text) // 128]
+    return bytes(length) + text in definition
 
 
 def _image_name(name: str) -> str:
@@ -187,13 +204,12 @@ def _tree_at(folder: pathlib.Path, paths: set[str] | None, *, is_made: bool) -> 
                 continue
             found = place.lstat()
             is_directory = stat.S_ISDIR(found.st_mode)
-            if not is_directory and not stat.S_ISREG(found.st_mode):
-                raise AssertionError(f"a tree has only directories and files, not a link or the like: {place}")
+            is_taken = is_directory or stat.S_ISREG(found.st_mode)
+            _check(is_taken, f"a tree has only directories and files, not a link or the like: {place}")
             mode = (0o755 if is_directory else 0o644) if is_made else stat.S_IMODE(found.st_mode)
             yield Entry(f"/{path}", is_directory, mode, content=b"" if is_directory else place.read_bytes())
 
-    if not folder.is_dir():
-        raise AssertionError(f"there is no such directory: {folder}")
+    _check(folder.is_dir(), f"there is no such directory: {folder}")
     return Tree(*entries())
 
 
@@ -205,19 +221,22 @@ class File(NamedTuple):
     def equals(self, content: str | bytes) -> "File":
         """Checks that it is a file with this content."""
         wanted = content if isinstance(content, bytes) else content.encode()
-        assert not self.entry.is_directory, f"{self.entry.path} is a directory, not a file with {content!r}"
-        assert self.entry.content == wanted, f"{self.entry.path} has not the content {content!r}: {self.entry.shown()}"
+        _check(not self.entry.is_directory, f"{self.entry.path} is a directory, not a file with {content!r}")
+        is_so = self.entry.content == wanted
+        _check(is_so, f"{self.entry.path} has not the content {content!r}: {self.entry.shown()}")
         return self
 
     def mode(self, mode: int) -> "File":
         """Checks the mode, as 0o644."""
-        assert self.entry.mode == mode, f"{self.entry.path} has not the mode {mode:04o}, but {self.entry.mode:04o}"
+        found = self.entry.mode
+        _check(found == mode, f"{self.entry.path} has not the mode {mode:04o}, but {found:04o}")
         return self
 
     def owner(self, user: int, group: int) -> "File":
         """Checks the user and the group."""
         found = (self.entry.uid, self.entry.gid)
-        assert found == (user, group), f"{self.entry.path} has not the owner {user}:{group}, but {found[0]}:{found[1]}"
+        is_so = found == (user, group)
+        _check(is_so, f"{self.entry.path} has not the owner {user}:{group}, but {found[0]}:{found[1]}")
         return self
 
 
@@ -232,12 +251,13 @@ class Result:
 
     def file(self, path: str) -> File:
         """Returns what is at a path; AssertionError if nothing is there."""
-        assert path in self.tree, f"there is nothing at {path} in\n{self.tree.shown()}"
+        _check(path in self.tree, f"there is nothing at {path} in\n{self.tree.shown()}")
         return File(self.tree[path])
 
     def missing(self, path: str) -> "Result":
         """Checks that nothing is at a path."""
-        assert path not in self.tree, f"there is something at {path}: {self.tree[path].shown()}"
+        if path in self.tree:
+            _check(False, f"there is something at {path}: {self.tree[path].shown()}")
         return self
 
     def golden(self, file: str | os.PathLike[str]) -> "Result":
@@ -249,20 +269,20 @@ class Result:
             new.write_text(self.tree.text(), "utf-8")
             new.replace(place)
             return self
-        assert place.is_file(), f"there is no golden tree {place}; pytest --update, or the variable {UPDATE}, writes it"
+        _check(place.is_file(), f"there is no golden tree {place}; pytest --update, or the variable {UPDATE}, writes it")
         difference = Tree.parse(place.read_text("utf-8")).diff(self.tree)
-        assert not difference, f"the tree is not that of {place} (-), which --update writes anew:\n{difference}"
+        _check(not difference, f"the tree is not that of {place} (-), which --update writes anew:\n{difference}")
         return self
 
     def same_as_buildkit(self) -> "Result":
         """Checks that BuildKit makes the same tree, by the rules that llbm-rules has; the failure has the notes."""
-        words = [_needed("as-buildkit", "which has BuildKit's rules"), *_with_program()]
+        words = [_tools_for("has BuildKit's rules"), "explain", "buildkit", *_with_program()]
         with tempfile.TemporaryDirectory(prefix="llbm-testing-") as folder:
             solving = _Solving(self._definition, [], pathlib.Path(folder))
             solving.trees.update(self._trees)
             done = _called([*words, "-", *solving.given()], self._definition)
         said = (done.stdout + done.stderr).decode("utf-8", "replace")
-        assert done.returncode == 0, f"BuildKit makes another tree:\n{said}"
+        _check(done.returncode == 0, f"BuildKit makes another tree:\n{said}")
         return self
 
 
@@ -282,15 +302,17 @@ def _solved(
 def solve(definition: bytes, *sources: Source, folder: pathlib.Path | None = None) -> Result:
     """Returns what a definition makes; AssertionError with the reason if it is refused or fails."""
     result, reason = _solved(definition, sources, folder)
-    assert result, f"llbm: {reason}"
+    if not result:
+        raise AssertionError(f"llbm: {reason}")
     return result
 
 
 def fails(definition: bytes, words: str, *sources: Source) -> None:
     """Checks that a definition is refused or fails, with a reason that has these words."""
     result, reason = _solved(definition, sources, None)
-    assert not result, f"it does not fail with {words!r}, but makes\n{result.tree.shown() if result else ''}"
-    assert words in reason, f"it does not fail with {words!r}, but with\n{reason}"
+    if result:
+        raise AssertionError(f"it does not fail with {words!r}, but makes\n{result.tree.shown()}")
+    _check(words in reason, f"it does not fail with {words!r}, but with\n{reason}")
 
 
 def pytest_addoption(parser: Any) -> None:
@@ -299,7 +321,9 @@ def pytest_addoption(parser: Any) -> None:
 
 
 def pytest_configure(config: Any) -> None:
-    """Takes the option of pytest."""
+    """Takes the option of pytest, and skips tests as pytest does."""
+    global _skipped
+    _skipped = pytest.skip.Exception
     if config.getoption("--update"):
         os.environ[UPDATE] = "1"
 

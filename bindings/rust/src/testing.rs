@@ -10,9 +10,9 @@
 //! ```
 //!
 //! A definition is the bytes that a client marshals. It is solved in this process if the library is linked, or else by the program that the
-//! variable LLBM names; if neither is there, the test fails, with these names. Filters of a source, images, reasons and BuildKit's rules are
-//! those of llbm's tools: LLBM_TOOLS names their folder, or else they are commands, as `llbm-run`; LLBM_RULES names the program llbm-rules.
-//! With the variable LLBM_UPDATE golden trees are written anew. Each check panics if it is not so.
+//! variable LLBM names; if neither is there, the test fails, with these names. Images, reasons and BuildKit's rules are those of llbm-tools,
+//! which LLBM_TOOLS names, or else it is on the path; filters of a source are those of llbm-rules, which LLBM_RULES names. With the variable
+//! LLBM_UPDATE golden trees are written anew. Each check panics if it is not so.
 
 use crate::trees::{Entry, Tree};
 use crate::Fault;
@@ -30,6 +30,7 @@ const PROGRAM: &str = "LLBM";
 const TOOLS: &str = "LLBM_TOOLS";
 const RULES: &str = "LLBM_RULES";
 const FILTERS: [&str; 3] = ["local.includepattern", "local.excludepatterns", "local.followpaths"];
+const LOCAL: &str = "local://";
 const IMAGE: &str = "docker-image://";
 
 /// A tree for a local source, or in the place of an image.
@@ -126,10 +127,9 @@ impl Outcome {
     /// Checks that BuildKit makes the same tree, by the rules that llbm-rules has; the failure has the notes.
     #[track_caller]
     pub fn same_as_buildkit(&self) -> &Outcome {
-        let tool = needed("as-buildkit", "which has BuildKit's rules");
         let folder = Folder::new();
-        let mut command = Command::new(tool);
-        command.args(with_program()).arg("-").args(folder.given(&self.trees));
+        let mut command = Command::new(tools_for("has BuildKit's rules"));
+        command.args(["explain", "buildkit"]).args(with_program()).arg("-").args(folder.given(&self.trees));
         let done = called(&mut command, &self.definition);
         assert!(done.status.success(), "BuildKit makes another tree:\n{}{}", lossy(&done.stdout), lossy(&done.stderr));
         self
@@ -177,6 +177,8 @@ fn solved(definition: &[u8], sources: &[Source]) -> Result<Outcome, String> {
     let (definition, images) = if sources.iter().any(|one| one.is_image) { adopted(definition, &folder) } else { (definition.to_vec(), BTreeMap::new()) };
     let mut trees = BTreeMap::new();
     for (number, source) in sources.iter().enumerate() {
+        let is_there = source.is_image || has_source(&definition, &source.name);
+        assert!(is_there, "the definition has no local source {}", source.name);
         let place = source.place(&folder, number);
         let name = if source.is_image { images.get(&image_name(&source.name)) } else { Some(&source.name) };
         let name = name.unwrap_or_else(|| panic!("the definition has no image {}", source.name));
@@ -210,12 +212,12 @@ fn run(definition: &[u8], trees: &BTreeMap<String, String>, folder: &Folder) -> 
     }
 }
 
-// Returns the fault, and what the tool `run` says of it, if it is there.
+// Returns the fault, and what llbm-tools says of it, if it is there.
 fn reason(fault: &Fault, definition: &[u8], trees: &BTreeMap<String, String>, folder: &Folder) -> String {
-    let Some(tool) = tool("run") else {
-        return format!("{}(llbm-run, which says why, is neither in {TOOLS} nor on the path)", fault.messages);
+    let Some(tools) = tools() else {
+        return format!("{}(llbm-tools, which says why, is neither in {TOOLS} nor on the path)", fault.messages);
     };
-    let done = called(Command::new(tool).args(with_program()).arg("run").args(folder.given(trees)), definition);
+    let done = called(Command::new(tools).arg("run").args(with_program()).arg("run").args(folder.given(trees)), definition);
     if done.stderr.is_empty() { fault.messages.clone() } else { lossy(&done.stderr) }
 }
 
@@ -223,8 +225,8 @@ fn reason(fault: &Fault, definition: &[u8], trees: &BTreeMap<String, String>, fo
 #[track_caller]
 fn adopted(definition: &[u8], folder: &Folder) -> (Vec<u8>, BTreeMap<String, String>) {
     let (made, sources) = (folder.0.join("adopted"), folder.0.join("sources"));
-    let mut command = Command::new(needed("adopt", "which replaces images"));
-    command.arg("--leave").arg("-o").arg(&made).arg("--sources").arg(&sources).arg("-");
+    let mut command = Command::new(tools_for("replaces images"));
+    command.args(["adopt", "--leave"]).arg("-o").arg(&made).arg("--sources").arg(&sources).arg("-");
     let done = called(&mut command, definition);
     assert!(done.status.success(), "{}", lossy(&done.stderr));
     let list = fs::read_to_string(sources).unwrap();
@@ -244,6 +246,15 @@ fn selected(definition: &[u8], name: &str, place: &Path) -> Option<HashSet<Strin
     assert!(done.status.success(), "{}", lossy(&done.stderr));
     let paths: HashSet<String> = lossy(&done.stdout).split_terminator('\0').map(str::to_string).collect();
     if paths.len() == 1 && paths.contains(".") { None } else { Some(paths) }
+}
+
+// Returns whether a definition has a local source, an identifier after its length in one byte or two.
+fn has_source(definition: &[u8], name: &str) -> bool {
+    let text = [LOCAL, name].concat();
+    let length = text.len();
+    let mut bytes = if length < 128 { vec![length as u8] } else { vec![(length % 128 + 128) as u8, (length / 128) as u8] };
+    bytes.extend_from_slice(text.as_bytes());
+    definition.windows(bytes.len()).any(|part| part == bytes)
 }
 
 // Returns the name and the tag of an image, without what is added to them by default, and without a digest.
@@ -350,19 +361,19 @@ fn lossy(bytes: &[u8]) -> String {
     String::from_utf8_lossy(bytes).into_owned()
 }
 
-// Returns the path of a tool, if it is there.
-fn tool(name: &str) -> Option<PathBuf> {
-    if let Some(folder) = env::var_os(TOOLS) {
-        return Some(Path::new(&folder).join(name)).filter(|place| place.is_file());
+// Returns the path of llbm-tools, if it is there.
+fn tools() -> Option<PathBuf> {
+    if let Some(place) = env::var_os(TOOLS) {
+        return Some(PathBuf::from(place)).filter(|place| place.is_file());
     }
     let places = env::var_os("PATH").unwrap_or_default();
-    let found = env::split_paths(&places).map(|folder| folder.join(format!("llbm-{name}"))).find(|place| place.is_file());
+    let found = env::split_paths(&places).map(|folder| folder.join("llbm-tools")).find(|place| place.is_file());
     found
 }
 
 #[track_caller]
-fn needed(name: &str, what: &str) -> PathBuf {
-    tool(name).unwrap_or_else(|| panic!("llbm-{name}, {what}, is neither in {TOOLS} nor on the path"))
+fn tools_for(what: &str) -> PathBuf {
+    tools().unwrap_or_else(|| panic!("llbm-tools, which {what}, is neither in {TOOLS} nor on the path"))
 }
 
 fn with_program() -> Vec<OsString> {

@@ -1,4 +1,4 @@
-//! Tests of `llbm::testing`, which need the library: LLBM_TOOLS and LLBM_RULES name what llbm's tools are asked for.
+//! Tests of `llbm::testing`, which need the library: LLBM_TOOLS and LLBM_RULES name llbm-tools and llbm-rules, which are asked.
 #![cfg(llbm_library)]
 
 use llbm::testing::{dir, fails, files, image, solve};
@@ -70,6 +70,17 @@ fn sources_are_given() {
     std::os::unix::fs::symlink("b", folder.join("c")).unwrap();
     assert_says(|| { solve(&copied("/", "local://src", &[]), &[dir("src", &folder)]); }, "a tree has only directories and files");
     fs::remove_dir_all(folder).unwrap();
+}
+
+#[test]
+fn a_source_that_the_definition_has_not_is_an_error() {
+    let definition = copied("/a", "local://src", &[]);
+    let given = |name: &str| [files("src", &[("a", "")]), files(name, &[])];
+    for name in ["sr", "src2", &"src".repeat(60)] {
+        assert_says(|| { solve(&definition, &given(name)); }, &format!("the definition has no local source {name}"));
+    }
+    let long = "src".repeat(60);
+    solve(&copied("/a", &format!("local://{long}"), &[]), &[files(&long, &[("a", "")])]).file("/a");
 }
 
 #[test]

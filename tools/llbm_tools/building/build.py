@@ -24,9 +24,9 @@ source has the byte 255, with which tokens begin. A source whose text is too lon
 runs. A result whose contents have more than --largest BYTES, 16 GiB by default, is refused before it is written.
 
 Out: RESULT, which must not exist yet, or which --replace exchanges with the new one if it is of the same kind: an
-archive as `tar-of-tree` makes it if its name ends like one, packed as its name says; or, if it ends in .oci, an image
+archive as `tree to tar` makes it if its name ends like one, packed as its name says; or, if it ends in .oci, an image
 as docs/FORMATS.md says, with the configuration in the file of --config, in JSON as frontends return it; else a
-directory with owners and modes as `directory-of-tree` sets them. A name with another ending is refused unless `/`
+directory with owners and modes as `tree to directory` sets them. A name with another ending is refused unless `/`
 follows it. `-` or /dev/stdout as RESULT is an archive that is not packed, on standard output. The time of all entries
 is that of --mtime, or else, in an archive or an image, that of SOURCE_DATE_EPOCH or 0. On standard error there is a
 line for each phase, the messages of the tools and the program, and an explanation after a fault or a failure of the

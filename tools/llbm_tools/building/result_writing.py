@@ -180,7 +180,7 @@ class DirectoryWriter:
 
 
 def write_archive(text: str, place: str, table: Table | None, time: int, most: int | None = None) -> None:
-    """Writes the text of a result as a new plain archive, the same as `tar-of-tree`; the text is checked before."""
+    """Writes the text of a result as a new plain archive, the same as `tree to tar`; the text is checked before."""
     copier = Copier(table)
     with open(text, "rb") as lines:
         checked = Checked(copier.size, most)

@@ -11,6 +11,8 @@ program --llbm PROGRAM or that of the repository, and out/llbm-rules.
 - `valgrind`: the same, under valgrind, which finds no fault and no leak.
 - `python`, `rust`, `go`: their tests, without a network. A shared object is linked for Python and Go. Go is that of
   Debian's packages, if `dev/dev daemon` has unpacked them, and then the tests with BuildKit's client are run too.
+- `pytest`: the tests in Python again, by the command `pytest`, and with the option and the fixtures for it.
+- `installed`: in the layout of an installation the example in C, Python and Rust find the library without a variable.
 - `go-get`: `go get` fetches the binding and llbmtest from a host of git in this process, and a program runs with it.
 
 Out: on standard output a line for each that passed or was skipped, since its compiler is not there, and the output of
@@ -31,11 +33,12 @@ from collections.abc import Callable, Mapping
 from typing import NamedTuple
 
 from llbm_tools.command_line import Parser
+from llbm_tools.commands import USERS_DOOR
 from llbm_tools.compiling import go_host
 from llbm_tools.compiling.library import ARCHIVE
 from llbm_tools.counts import Counts
 from llbm_tools.daemon import debian_packages, go_building
-from llbm_tools.paths import PROVED, ROOT, RULES, TOOLS, UNPROVED
+from llbm_tools.paths import PROVED, ROOT, RULES, UNPROVED
 from llbm_tools.streams import Refused, exit_status
 
 PATIENCE = 3000
@@ -96,7 +99,7 @@ def settings(top: pathlib.Path) -> dict[str, str]:
     call(["cc", "-shared", "-o", str(shared), *words], top)
     program = os.environ.get("LLBM", "") or next((str(one) for one in (PROVED, UNPROVED) if one.is_file()), "")
     rules = {"LLBM_RULES": str(RULES)} if RULES.is_file() else {}
-    return {"LIBLLBM": str(shared), "LLBM": program, "LLBM_TOOLS": str(TOOLS), **rules}
+    return {"LIBLLBM": str(shared), "LLBM": program, "LLBM_TOOLS": str(ROOT / USERS_DOOR), **rules}
 
 
 def try_c(top: pathlib.Path, flags: list[str], before: list[str]) -> None:
@@ -104,8 +107,9 @@ def try_c(top: pathlib.Path, flags: list[str], before: list[str]) -> None:
     folder = top / "bindings" / "c"
     examples = top / "examples"
     archive = str(top / "out" / "libllbm.a")
-    call(["cc", *WARNINGS, *flags, "-o", "example", "example.c", archive], folder)
-    call(["cc", *WARNINGS, *flags, *REFUSING, "-o", "misuse", "misuse.c", archive], folder)
+    compiler = ["cc", *WARNINGS, *flags, "-I.."]
+    call([*compiler, "-o", "example", "example.c", archive], folder)
+    call([*compiler, *REFUSING, "-o", "misuse", "misuse.c", archive], folder)
     given = [str(examples / "tour.text"), str(examples / "tour.tree")]
     said = call([*before, "./example", given[0], "source", given[1]], folder, (examples / "tour.commands").read_bytes())
     answers = (examples / "tour.answers").read_bytes()
@@ -121,9 +125,44 @@ def try_python(top: pathlib.Path) -> None:
     call(words, top / "bindings" / "python", given=settings(top))
 
 
+def try_pytest(top: pathlib.Path) -> None:
+    """Runs the tests in Python by pytest, whose Python may be another one."""
+    words = ["pytest", "-q", "-rs", "-p", "no:cacheprovider", "test_llbm.py", "test_testing.py"]
+    said = call(words, top / "bindings" / "python", **settings(top))
+    if b"there is no pytest" in said:
+        raise Wrong(f"pytest does not find itself:\n{said.decode('utf-8', 'replace')}")
+
+
 def try_rust(top: pathlib.Path) -> None:
     """Runs the tests in Rust."""
     call(["cargo", "test", "--offline", "--quiet"], top / "bindings" / "rust", given=settings(top))
+
+
+# What a user of an installation writes: it prints the version of the library.
+IN_PYTHON = "import llbm; print(llbm.version())"
+IN_RUST = 'fn main() { println!("{}", llbm::version()); }\n'
+USER = '[package]\nname = "user"\nversion = "0.1.0"\nedition = "2021"\n\n[dependencies]\nllbm = { path = "%s" }\n'
+
+
+def try_installed(top: pathlib.Path) -> None:
+    """Lays the files out as an installation has them, and calls the library there from C, Python and Rust."""
+    there, user = top / "installed", top / "of-user"
+    settings(top)
+    shutil.copytree(top / "bindings", there / "lib" / "llbm" / "bindings", ignore=shutil.ignore_patterns("target"))
+    for place in ((there / "include"), user / "src"):
+        place.mkdir(parents=True)
+    shutil.copy(top / HEADERS[0], there / "include")
+    for name in ("libllbm.a", "libllbm.so"):
+        shutil.copy(top / "out" / name, there / "lib")
+    shutil.copy(top / "bindings" / "c" / "example.c", user)
+    call(["cc", *WARNINGS, f"-I{there}/include", "-o", "example", "example.c", f"-L{there}/lib", "-lllbm"], user)
+    (user / "Cargo.toml").write_text(USER % (there / "lib" / "llbm" / "bindings" / "rust"), "utf-8")
+    (user / "src" / "main.rs").write_text(IN_RUST, "utf-8")
+    without = {"LIBLLBM": "", "PYTHONPATH": str(there / "lib" / "llbm" / "bindings" / "python")}
+    said = [call([sys.executable, "-c", IN_PYTHON], user, **without)]
+    said.append(call(["env", "-u", "LLBM_LIB", "cargo", "run", "--offline", "--quiet"], user))
+    if said[0] != said[1] or not said[0].startswith(b"llbm "):
+        raise Wrong(f"these are no versions of one library: {said}")
 
 
 def has_packages() -> bool:
@@ -191,7 +230,9 @@ TRIALS = [
     Trial("sanitizer", ["cc"], lambda top: try_c(top, SANITIZED, [])),
     Trial("valgrind", ["cc", "valgrind"], lambda top: try_c(top, [], VALGRIND)),
     Trial("python", ["cc"], try_python),
+    Trial("pytest", ["cc", "pytest"], try_pytest),
     Trial("rust", ["cc", "cargo", "rustc"], try_rust),
+    Trial("installed", ["cc", "cargo", "rustc"], try_installed),
     Trial("go", ["cc", "go"], try_go),
     Trial("go-get", ["cc", "git", "go"], try_go_get),
 ]

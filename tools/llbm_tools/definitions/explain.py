@@ -2,7 +2,7 @@
 
 In: a line as words of the command line, as in `explain fault 82 3 12`, or lines on standard input if no words are
 given; empty lines are skipped. A line is a fault, a failure, a finding or a note of `lint` (`note 3 Platform`), a line
-of `as-buildkit` (`vertex 3 action 0: .. : MkfileOver`), a line `BuildKit: ..` of `explain-run`, or a warning or a
+of `explain buildkit` (`vertex 3 action 0: .. : MkfileOver`), a line `BuildKit: ..` of `explain run`, or a warning or a
 refusal of llbmd as its clients show it (`WARN: ..`, `llbm: fault ..`); a name after a tab is skipped in those of
 `lint`. The page is docs/FAULTS.md beside the tools. --definition FILE names the definition that the lines come from.
 

@@ -39,7 +39,7 @@ premise, that no two unequal entries have one digest, is checked. With --json th
 `vertex`, `output`, `impact` (a word, or `other`) and `old` (OLD's result); `vertices`, an array of objects with
 `number`, `kind`, `digest`, `name`, `impact` (the word), `old` (the vertex of OLD that matches or else has the digest,
 or null), `changed` (the changed sources at or before it) and `cached`; `counts` by word; `gone`, the vertices of OLD
-that NEW does not have; `changed`, all changed sources; and `laws`. `graph-of-show --impact FILE` colors a picture by
+that NEW does not have; `changed`, all changed sources; and `laws`. `show dot --impact FILE` colors a picture by
 such an object.
 
 Exit status: 0 the output is written; 2 the command line, a definition or a tree is refused, and nothing is written; 3 a

@@ -15,7 +15,7 @@ In: KIND and COUNT. The kinds:
   seeds   COUNT executions, each with a locked cache of one ID that starts from the output of the one before.
   ids     the same with COUNT IDs.
 
-The following use the local trees p and q (texts by `bigtree`); source, rm, wipe, copy, lay and graft ignore COUNT:
+The following use the local trees p and q (texts by `large tree`); source, rm, wipe, copy, lay and graft ignore COUNT:
 
   source  the tree p.
   rm      p without all its files, which one pattern removes.
@@ -25,9 +25,9 @@ The following use the local trees p and q (texts by `bigtree`); source, rm, wipe
   layers  COUNT mkdir vertices, each on the one before, the first on p.
   builds  the same, with executions that write a file.
   reads   COUNT executions that each list p, mounted read-only, into a file, and a merge of them.
-  hashes  COUNT executions that each hash the one file of p (`bigtree 1 1 BYTES`) four times, and a merge of them.
+  hashes  COUNT executions that each hash the one file of p (`large tree 1 1 BYTES`) four times, and a merge of them.
   caches  COUNT executions, each on the one before, with 8 commands on one locked cache that starts from p.
-  wipe    p without the files of its one directory (`bigtree FILES 1`), which one pattern removes.
+  wipe    p without the files of its one directory (`large tree FILES 1`), which one pattern removes.
   mkdirs  one execution that makes COUNT directories in the one directory of p.
   binds   one execution that shows p at COUNT places, read-only but for the root.
   outputs  COUNT executions that each write a file into p, and merges of their outputs.

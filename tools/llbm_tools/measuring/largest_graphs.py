@@ -6,7 +6,7 @@ from collections.abc import Callable
 
 from llbm_tools.common import say
 
-# The kinds of `bigdef`, with the most that a definition can have: 65,536 entries, 67,108,864 bytes, 1,024 records.
+# The kinds of `large definition`, with the most that one can have: 65,536 entries, 67,108,864 bytes, 1,024 records.
 LARGEST = ("chain {65535}", "pairs {65535}", "fan {65470}", "versions {65535}", "files {16160}", "mounts {1024}")
 WORKERS = (1, 2, 4, 8, 16, 32, 64)
 TO_THE_END = b"go\n"

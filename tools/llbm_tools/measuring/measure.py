@@ -2,7 +2,7 @@
 
 In: the measurements in the table in this file, or only those named NAME .. . The program is --llbm PROGRAM, or else
 crates/llbm/out/llbm of the repository, or else its out/llbm-unproved, which is named on standard error as not proved
-(it is much slower). Inputs are made by `bigdef` and `bigtree`, in a temporary folder that is removed
+(it is much slower). Inputs are made by `large definition` and `large tree`, in a temporary folder that is removed
 at the end. Each pair runs --runs N times (5 by default), the two runs one after the other; --part N makes all counts N
 times smaller, for a quick look or a slow machine. --list prints the names and runs nothing. The pairs chain-go,
 pairs-go and fan-go compare `show` with a program in Go, which `go_show` builds; where it can't, they are skipped.
@@ -41,7 +41,7 @@ RUNS = 5
 
 
 class Side(NamedTuple):
-    """One of two runs: arguments of `bigdef`, the program's words, and arguments of `bigtree` for each local source.
+    """One of two runs: words of `large definition`, of the program, and of `large tree` for each local source.
 
     Numbers that --part makes smaller are in braces. With `in_go` the program in Go runs in place of llbm.
     """

@@ -1,4 +1,4 @@
-"""What ends otherwise in BuildKit in a build that the page opens, as `as-buildkit` prints it, by vertex and step."""
+"""What ends otherwise in BuildKit in a build that the page opens, as `explain buildkit` prints it, by vertex, step."""
 
 import pathlib
 import re
@@ -25,7 +25,7 @@ def definition_of(build: Build, program: str, folder: str) -> pathlib.Path | Non
 
 
 def lines_of(build: Build, program: str) -> list[str]:
-    """Returns the lines of `as-buildkit`; none if it can't tell, as for a definition that llbm refuses."""
+    """Returns the lines of `explain buildkit`; none if it can't tell, as for a definition that llbm refuses."""
     with tempfile.TemporaryDirectory(prefix="llbm-page-") as folder:
         definition = definition_of(build, program, folder)
         trees = {name: build.place(file) for name, file in build.trees.items()}

@@ -10,7 +10,7 @@ Out: without --serve a line for each build: its name, a tab, the local sources t
 there is a record. With --serve the link to the page, and a link to each build; then the page is served until the tool
 is interrupted, at 127.0.0.1 and --port N (by default one that is free), and nothing can be changed through it. A path
 that cannot be guessed is part of the links, since others who use this machine can connect too. When the page opens a
-build, `as-buildkit` looks for what would end otherwise in BuildKit, with --llbm PROGRAM or the usual program.
+build, `explain buildkit` looks for what would end otherwise in BuildKit, with --llbm PROGRAM or the usual program.
 
 Exit status: 0 the builds are listed; 2 the command line is refused, or there is no build; 3 a read or a write failed,
 or the port is taken; 130 interrupted.

@@ -1,5 +1,5 @@
-"""Explains lines about BuildKit: the notes of `lint`, the lines of `as-buildkit` and of `explain-run`, and the warnings
-of the daemon, as its clients show them.
+"""Explains lines about BuildKit: the notes of `lint`, the lines of `explain buildkit` and of `explain run`, and the
+warnings of the daemon, as its clients show them.
 
 Such a line names fields, rules or other notes; the program `llbm-rules` has what is said of each.
 """
@@ -12,7 +12,7 @@ from llbm_tools.rules import program
 from llbm_tools.rules.notes import ATTRIBUTE
 from llbm_tools.rules.rule_words import INHERITED
 
-# What is before a line in the output of `explain-run`, of buildctl and of docker-buildx.
+# What is before a line in the output of `explain run`, of buildctl and of docker-buildx.
 LEAD = re.compile(r"\s*(?:BuildKit: |(?:=> )*(?:#\d+ )?WARN: |- )?")
 NOTE = re.compile(r"note (\d+) (\S+)(?: (.*))?")
 STEP = re.compile(r"(?:vertex (\d+)(?: action (\d+))?|action (\d+)|entry (\d+) input (\d+)): (.*)")
@@ -38,10 +38,10 @@ VERDICTS = {
 }
 # What a comparison says of itself, and what is said of it.
 OTHERS = [
-    (re.compile(r"not compared: .*"), "a tree of this step is too long to be compared; `as-buildkit` compares it"),
+    (re.compile(r"not compared: .*"), "a tree of this step is too long to be compared; `explain buildkit` compares it"),
     (
         re.compile(r"not all was compared with what BuildKit would make: .*"),
-        "llbmd gave the comparison up; the result is whole. `as-buildkit` compares a build that is kept (`-keep`)",
+        "llbmd gave the comparison up; the result is whole. `explain buildkit` compares a build that is kept (`-keep`)",
     ),
     (
         re.compile(r"the definition has a field that BuildKit's library does not know, .*"),

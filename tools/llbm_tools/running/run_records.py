@@ -1,4 +1,4 @@
-"""Keeps a run in a folder of its own, which the page, `explain-run` and `trace-of-record` take.
+"""Keeps a run in a folder of its own, which the page, `explain run` and `record trace` take.
 
 The folder has `definition`; N.tree, the text of the tree of each local source, counted from 0; `sources`, a line
 NAME=PATH for each of them; and `record`, the lines of a session that does the run on one thread to its end. It appears

@@ -2,9 +2,9 @@
 
 In: FIRST and SECOND, each a directory, an archive (a path that is not a directory and ends in .tar, .tar.gz, .tgz,
 .tar.bz2, .tar.xz or .tar.zst), or else a file with the text of a tree; `-` is a text on standard input. Directories and
-archives are read by `tree-of-directory` and `tree-of-tar`, or by `tree-of-image` if they are an image; these name on
-standard error what cannot be in a tree, and with --strict that is refused. With --owner every entry of a directory or
-an archive gets that owner.
+archives are read by `tree from directory` and `tree from tar`, or by `tree from image` if they are an image; these name
+on standard error what cannot be in a tree, and with --strict that is refused. With --owner every entry of a directory
+or an archive gets that owner.
 
 Out: on standard output a line for each path that differs, in path order, once both trees are read:
 

@@ -7,7 +7,7 @@ Out: the directory with all entries of the text and their modes; the root's line
 only if the tool runs as root. With --mtime every entry has that time, else that of its writing. The whole text is
 checked before anything is written; its first faulty line is named on standard error with `line N` at its end, counted
 from 1, and nothing after it is read. The text is processed line by line with an unnamed temporary file (in TMPDIR), so
-the memory needed depends only on the longest line. With --links a file whose content `tree-of-directory --links` and
+the memory needed depends only on the longest line. With --links a file whose content `tree from directory --links` and
 the like write for a symbolic link becomes that link; no path leads through one, and it has no mode of its own.
 
 Exit status: 0 the directory is written; 2 the text, the directory or the command line is refused, and nothing is

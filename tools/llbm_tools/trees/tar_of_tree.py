@@ -8,7 +8,7 @@ header of its own for a name of over 100 bytes. Entries are in path order, the r
 without a leading `/`. Each has the mode, the user and the group of its line, no user names, and the time of --mtime, or
 else of the environment variable SOURCE_DATE_EPOCH, or else 0. The archive is packed if the name of ARCHIVE ends in
 .tar.gz, .tgz, .tar.bz2, .tar.xz or .tar.zst, or as --pack says (gzip, bzip2, xz or zstd, the last by the program `zstd`
-if this Python cannot). ARCHIVE appears complete, at the end. With --links a file whose content `tree-of-tar --links`
+if this Python cannot). ARCHIVE appears complete, at the end. With --links a file whose content `tree from tar --links`
 and the like write for a symbolic link is an entry of that link.
 
 Exit status: 0 the archive is written; 2 the text or the command line is refused, or ARCHIVE already exists; 3 a read or

@@ -10,7 +10,7 @@ names, and the output file itself. Extended attributes are named, and their entr
 label `security.selinux` is passed over, which a system puts on every file. The last line there counts what was left out
 by cause, or is `left out: nothing`. There is a warning for a text of more than 67,108,864 bytes, which the program
 refuses. With --strict the text is written only once all of the directory is read and nothing was left out. With --links
-symbolic links are taken, as `tree-of-tar` takes them.
+symbolic links are taken, as `tree from tar` takes them.
 
 Exit status: 0 the text is written; 1 something could not be read: it is named on standard error, and left out with
 everything below it; with --strict nothing is written; 2 the command line or the directory is refused, or, with

@@ -1,7 +1,7 @@
 """Writes the tree text of an image to standard output.
 
 In: IMAGE, a directory with an OCI layout, or an archive of an OCI layout or of `docker save`, which may be packed as
-`tree-of-tar` reads it; standard input if none or `-` is named. --name NAME and --platform OS/ARCHITECTURE[/VARIANT]
+`tree from tar` reads it; standard input if none or `-` is named. --name NAME and --platform OS/ARCHITECTURE[/VARIANT]
 pick one of several images: NAME is a tag of `docker save`, or the reference of an index's entry (the annotations
 `org.opencontainers.image.ref.name` and `io.containerd.image.name`). With --owner every entry gets that owner.
 
@@ -10,8 +10,8 @@ is below; `.wh.NAME` removes NAME, and `.wh..wh..opq` what lower layers have in 
 paths of parents are followed inside the image. Layers may be packed by gzip, bzip2, xz or zstd. The digests and sizes
 of manifests, configurations and layers are checked, and the digests of unpacked layers.
 
-Out: the text, and on standard error which image is read and what cannot be in a tree, as with `tree-of-tar`; with
---strict that is refused. With --links symbolic links are taken, as `tree-of-tar` takes them.
+Out: the text, and on standard error which image is read and what cannot be in a tree, as with `tree from tar`; with
+--strict that is refused. With --links symbolic links are taken, as `tree from tar` takes them.
 
 Exit status: 0 the text is written; 2 the command line or the image is refused, there is none or there are several, or,
 with --strict, something was left out: standard error says why, and nothing is written; 3 a read or a write failed; 130
