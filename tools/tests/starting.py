@@ -68,6 +68,16 @@ class Script(Folder):
         self.check_run(self.run_it(*words), 3, b"unproved;run;a b;;*;--workers;2;c=d;input", b"error\n")
         self.check_run(self.run_it(), 3, b"input", b"error\n")
 
+    def test_on_a_terminal_a_line_says_what_step_reads(self):
+        self.put(UNPROVED, "#!/bin/sh\n")
+        said = b"llbm step reads a command on each line, as next, back, go or quit; llbm-tools debug has a prompt\n"
+        for word, lines in (("step", said), ("run", b"")):
+            master, child = os.openpty()
+            with open(master, "wb"), open(child, "rb") as terminal:
+                words = [self.top / "llbm", word]
+                done = subprocess.run(words, stdin=terminal, capture_output=True, timeout=base.GUARD)
+            self.check_success(done, b"", lines)
+
     def test_it_is_found_through_a_link_and_from_every_folder(self):
         self.put_program(UNPROVED, "unproved")
         link = pathlib.Path(os.fsdecode(self.place(b"link")))

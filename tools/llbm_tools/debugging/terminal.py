@@ -62,6 +62,12 @@ def tree_in(text: str) -> tuple[str, str | None]:
     raise Refused("tree TREE: V.I:/path, work W I:/path or cache K I:/path")
 
 
+def words_for(words: list[str], text: str) -> list[str]:
+    """Returns the words that begin so; one alone has a space after it, as in a shell."""
+    found = [word for word in words if word.startswith(text)]
+    return [f"{found[0]} "] if len(found) == 1 else found
+
+
 class Terminal(cmd.Cmd):
     """A prompt on a run. Each command is a method `do_NAME`, whose argument is the rest of the line."""
 
@@ -373,16 +379,15 @@ class Terminal(cmd.Cmd):
 
     def completenames(self, text: str, *_: object) -> list[str]:
         """Returns the commands that begin so; methods that are no commands for a person are left out."""
-        return [name for name in super().completenames(text) if name != "EOF"]
+        return words_for([name for name in super().completenames(text) if name != "EOF"], text)
 
     def complete_break(self, text: str, *_: object) -> list[str]:
         """Returns the words after `break` that begin so: names and numbers of vertices, and the other forms."""
-        words = ["line", "path", "failures", *self.breaks.names()]
-        return [word for word in words if word.startswith(text)]
+        return words_for(["line", "path", "failures", *self.breaks.names()], text)
 
     def complete_list(self, text: str, *_: object) -> list[str]:
         """Returns the vertices whose names or numbers begin so."""
-        return [word for word in self.breaks.names() if word.startswith(text)]
+        return words_for(self.breaks.names(), text)
 
     complete_why = complete_list
 

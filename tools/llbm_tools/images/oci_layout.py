@@ -46,8 +46,10 @@ MORE_OF_CONFIG = {
     "Image", "MacAddress", "Memory", "MemorySwap", "NetworkDisabled", "OnBuild", "OpenStdin", "Shell", "StdinOnce",
     "StopTimeout", "Tty",
 }  # fmt: skip
+HEALTH = "Healthcheck"
 PLACES = {
     "": {*MEMBERS, *MORE}, "config": {*MEMBERS_OF_CONFIG, *MORE_OF_CONFIG}, "history": {*MEMBERS_OF_STEP},
+    HEALTH: {"Test", "Interval", "Timeout", "StartPeriod", "StartInterval", "Retries"},
 }  # fmt: skip
 
 Object = dict[str, object]
@@ -100,7 +102,10 @@ def config_in(data: bytes, where: str) -> bytes:
         raise Refused(f"not JSON: {where}: {fault}") from fault
     config = checked(held, MEMBERS, where)
     if "config" in config:
-        config["config"] = checked(config["config"], MEMBERS_OF_CONFIG, where, "config")
+        inner = checked(config["config"], MEMBERS_OF_CONFIG, where, "config")
+        config["config"] = inner
+        if HEALTH in inner:
+            checked(inner[HEALTH], {}, where, HEALTH)
     if "history" in config:
         steps = cast(list[object], config["history"])
         config["history"] = [checked(step, MEMBERS_OF_STEP, where, "history") for step in steps]

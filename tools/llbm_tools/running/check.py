@@ -97,7 +97,8 @@ def check(options: argparse.Namespace) -> int:
     """Runs the cases, writes how they ended, and returns the exit status."""
     folders = stored_cases.folders_below(options.folder, options.only)
     if not folders:
-        raise Refused(f"there is no case, a folder with a file {stored_cases.ARGS}, below: {options.folder}")
+        only = f" whose path has the text {options.only!r}" if options.only else ""
+        raise Refused(f"there is no case, a folder with a file {stored_cases.ARGS}{only}, below: {options.folder}")
     found = all_ended(options, folders)
     if options.junit:
         write_junit(found, options.folder, options.junit)

@@ -223,6 +223,8 @@ class Terminals(Prompt):
         master, child = self.started()
         os.write(master, b"ne\t 3\n")
         self.read_to(master, b"vertex 0 done\r\n(llbm) ")
+        os.write(master, b"bre\tpa\t/text\n")
+        self.read_to(master, b"breakpoint 1: path /text\r\n(llbm) ")
         os.write(master, b"tree 0.0:/te\th\t\n")
         self.read_to(master, b"tree 0.0:/text/head")
         os.write(master, b"quit\n")

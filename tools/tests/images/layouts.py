@@ -136,6 +136,8 @@ class Layout(Folder):
             ({"cmd": []}, "'cmd' here; it is written Cmd and it belongs into config: FILE"),
             ({"config": {"os": "linux"}}, "'os' here; it belongs into the outer object: FILE: config"),
             ({"history": [{"a": 1}]}, "'a' here: FILE: history"),
+            ({"config": {"Healthcheck": {"Tst": []}}}, "'Tst' here: FILE: Healthcheck"),
+            ({"config": {"Test": []}}, "'Test' here; it belongs into Healthcheck: FILE: config"),
         ]:
             with self.assertRaises(Refused) as caught:
                 oci_layout.config_in(json.dumps(given).encode(), "FILE")

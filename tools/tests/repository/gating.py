@@ -245,4 +245,4 @@ class Scripts(unittest.TestCase):
             for place in (link, ROOT / "gate"):
                 done = subprocess.run([place, "--help"], cwd=folder, capture_output=True, text=True, timeout=base.GUARD)
                 self.assertEqual((done.returncode, done.stderr), (0, ""), place)
-                self.assertTrue(done.stdout.startswith("usage: gate "), done.stdout)
+                self.assertTrue(done.stdout.startswith("usage: dev/dev gate "), done.stdout)

@@ -141,7 +141,11 @@ class Refusals(Check):
 
     def test_a_folder_without_cases_is_refused(self):
         self.check_run(run("check", "--llbm", base.llbm, "/none"), 2, b"", b"there is no such directory: /none\n")
-        cause = b"there is no case, a folder with a file args, below: " + self.folder + b"\n"
+        cause = b"there is no case, a folder with a file args, below: " + self.place(b"none") + b"\n"
+        os.mkdir(self.place(b"none"))
+        self.check_run(run("check", "--llbm", base.llbm, self.place(b"none")), 2, b"", cause)
+        cause = b"there is no case, a folder with a file args whose path has the text 'nothing', below: "
+        cause += self.folder + b"\n"
         self.check_run(run("check", "--llbm", base.llbm, self.folder, "--only", "nothing"), 2, b"", cause)
         self.assertEqual(run("check", "--jobs", "0", self.folder).returncode, 2)
 
