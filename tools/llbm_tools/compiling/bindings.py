@@ -128,7 +128,7 @@ def try_python(top: pathlib.Path) -> None:
 def try_pytest(top: pathlib.Path) -> None:
     """Runs the tests in Python by pytest, whose Python may be another one."""
     words = ["pytest", "-q", "-rs", "-p", "no:cacheprovider", "test_llbm.py", "test_testing.py"]
-    said = call(words, top / "bindings" / "python", **settings(top))
+    said = call(words, top / "bindings" / "python", given=settings(top))
     if b"there is no pytest" in said:
         raise Wrong(f"pytest does not find itself:\n{said.decode('utf-8', 'replace')}")
 
@@ -149,7 +149,7 @@ def try_installed(top: pathlib.Path) -> None:
     there, user = top / "installed", top / "of-user"
     settings(top)
     shutil.copytree(top / "bindings", there / "lib" / "llbm" / "bindings", ignore=shutil.ignore_patterns("target"))
-    for place in ((there / "include"), user / "src"):
+    for place in (there / "include", user / "src"):
         place.mkdir(parents=True)
     shutil.copy(top / HEADERS[0], there / "include")
     for name in ("libllbm.a", "libllbm.so"):
@@ -159,7 +159,7 @@ def try_installed(top: pathlib.Path) -> None:
     (user / "Cargo.toml").write_text(USER % (there / "lib" / "llbm" / "bindings" / "rust"), "utf-8")
     (user / "src" / "main.rs").write_text(IN_RUST, "utf-8")
     without = {"LIBLLBM": "", "PYTHONPATH": str(there / "lib" / "llbm" / "bindings" / "python")}
-    said = [call([sys.executable, "-c", IN_PYTHON], user, **without)]
+    said = [call([sys.executable, "-c", IN_PYTHON], user, given=without)]
     said.append(call(["env", "-u", "LLBM_LIB", "cargo", "run", "--offline", "--quiet"], user))
     if said[0] != said[1] or not said[0].startswith(b"llbm "):
         raise Wrong(f"these are no versions of one library: {said}")
