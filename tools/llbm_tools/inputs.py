@@ -74,6 +74,17 @@ def reading(place: str) -> Iterator[None]:
         raise of_place(fault, place) from fault
 
 
+@contextlib.contextmanager
+def named(place: str | None) -> Iterator[None]:
+    """Names a place in the refusal of what is there, unless the refusal does."""
+    try:
+        yield
+    except Refused as fault:
+        if f": {shown(place)}" in str(fault):
+            raise
+        raise Refused(f"{fault}: {shown(place)}") from fault
+
+
 def check_there(place: str) -> None:
     """Refuses a place at which there is nothing."""
     with reading(place):

@@ -23,6 +23,9 @@ BAD, OUT, LLBM = "{bad}", "{out}", "{llbm}"
 # Tools that leave it to the program to read the texts of trees.
 BY_PROGRAM = ("explain-run", "as-buildkit", "debug")
 
+# Tools that name what is no definition.
+READ_DEFINITIONS = ("as-buildkit", "build", "debug", "dump", "explain-run", "impact")
+
 # What an input is: a file; an archive or nothing else; a tree in any form; a definition whose faults are findings; the
 # program llbm.
 FILE, TEXT, ANY_TREE, FINDINGS, PROGRAM = "file", "text", "any tree", "findings", "program"
@@ -172,6 +175,26 @@ class Table(base.WithProgram):
                 if kind != PROGRAM and (tool not in BY_PROGRAM or kind == FILE):
                     self.assertIn(b"permission denied: " + place, done.stderr, tool)
 
+    def test_a_folder_that_may_not_be_written(self):
+        above = self.place(b"above")
+        os.mkdir(above, 0o555)
+        os.chmod(self.folder, 0o755)
+        before = ["-c", AS_NOBODY] if IS_ROOT else []
+        for tool, *words in [
+            ("build", "--llbm", self.llbm, FIRST, b"%b/out" % above), ("adopt", "--all", FIRST, "-o", b"%b/out" % above),
+        ]:
+            done = run(tool, *words, before=before)
+            self.check_refused(done, 2, [tool])
+            self.assertRegex(done.stderr, rb"(^|\n)permission denied: " + above + rb"(/out)?\n", tool)
+
+    def test_a_tree_that_is_too_long(self):
+        place = self.file(b"long", b"")
+        os.truncate(place, 67_108_865)
+        for tool in BY_PROGRAM if base.llbm else ():
+            done = run(tool, "--llbm", base.llbm, TOUR, b"source=" + place)
+            cause = b"too long: " + place + b", 67,108,865 bytes (the local source source)\n"
+            self.check_run(done, 2, b"", cause)
+
     def test_bytes_that_are_nothing(self):
         for data in [b"\x00\xff\xfe" * 700, b""]:
             place = self.file(b"bytes", data)
@@ -179,8 +202,11 @@ class Table(base.WithProgram):
                 done = run(tool, *self.words(words, place), text=SHOWN)
                 if kind == FINDINGS:
                     self.assertEqual((done.returncode, len(done.stdout.splitlines())), (1, 1), tool)
-                elif data or not (tool == "dump" or "--rules" in words):
+                elif data or "--rules" not in words:
                     self.check_refused(done, 2, [tool])
+                names_it = kind in (TEXT, FINDINGS) or kind == ANY_TREE and tool not in BY_PROGRAM
+                if names_it or kind == FILE and tool in READ_DEFINITIONS:
+                    self.assertIn(b": " + place, done.stderr, tool)
 
     def test_a_program_that_does_not_start_or_is_another(self):
         given = {

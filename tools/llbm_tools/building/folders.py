@@ -12,6 +12,7 @@ import tempfile
 
 from llbm_tools.building import child_processes
 from llbm_tools.common import say
+from llbm_tools.streams import of_place
 
 # The folder of the texts, in TMPDIR, and the one that becomes the result, beside it; and their names at first.
 TEXTS, RESULT = "llbm-build-", ".llbm-build-"
@@ -22,7 +23,10 @@ OPEN = os.O_RDONLY | os.O_DIRECTORY | os.O_NOFOLLOW | os.O_CLOEXEC
 
 def made(prefix: str, above: str) -> str:
     """Returns a new folder, which is locked until this process ends; where the file system has no locks it is not."""
-    begun = tempfile.mkdtemp(prefix=f"{prefix.partition('llbm')[0]}{BEGUN}", dir=above)
+    try:
+        begun = tempfile.mkdtemp(prefix=f"{prefix.partition('llbm')[0]}{BEGUN}", dir=above)
+    except OSError as fault:
+        raise of_place(fault, above) from fault
     descriptor = os.open(begun, OPEN)
     with contextlib.suppress(OSError):
         fcntl.flock(descriptor, fcntl.LOCK_EX)

@@ -32,7 +32,7 @@ from llbm_tools.sessions.session import Refusal, Session, SessionFailed
 from llbm_tools.sessions.shows import Show
 from llbm_tools.streams import Refused, why_not
 from llbm_tools.trees.source_files import source_words
-from llbm_tools.trees.trees import checked_at
+from llbm_tools.trees.trees import check_length, checked_at
 
 ARGUMENTS = (
     "build", "definition", "text", "sources", "files", "workers", "stopOnEntry", "stopAtEnd", "noDebug", "llbm",
@@ -45,7 +45,7 @@ EDITOR_ARGUMENTS = (
 
 UNNAMED = "fault 121 "
 # The faults of trees' texts, and those of rows, which adopting can mend.
-OF_A_TEXT = re.compile(r"fault 3[0-9] ")
+OF_A_TEXT = re.compile(r"fault (?:3[0-9] |185\b)")
 ADOPTED = re.compile(r"fault (?:86|88|89) ")
 MOST_OF_A_CAUSE = 300
 MOST_WORKERS = 64
@@ -89,8 +89,13 @@ def cause_of(words: list[str], otherwise: str, entries: faults.Entries | None = 
     if not words:
         return otherwise
     meaning = explained(words[0], entries)
-    adopt = f" {commands.shown('adopt')} rewrites what can be." if ADOPTED.match(words[0]) else ""
-    return f"{words[0]}: {shortened(' '.join(meaning), MOST_OF_A_CAUSE)}{adopt}" if meaning else words[0]
+    if not meaning:
+        return words[0]
+    if ADOPTED.match(words[0]):
+        adopt, lint = commands.shown("adopt"), commands.shown("lint")
+        named = [text for text in meaning if text.startswith(faults.ENTRY_NAME)][:1]
+        meaning = [faults.sentence_of(page(), words[0]), *named, f"({lint} prints all, {adopt} rewrites what can be)"]
+    return f"{words[0]}: {shortened(' '.join(meaning), MOST_OF_A_CAUSE)}"
 
 
 def program_of(arguments: Object, argument_name: str) -> str:
@@ -137,6 +142,7 @@ def definition_of(program: str, arguments: Object) -> tuple[bytes, bytes | None]
     data = data_in(file)
     if text is None and no_definition.is_text(data):
         return given_definitions.assembled(program, data, file), data
+    no_definition.check(data, file)
     if text is not None and entries_of(assembled, text_file) != entries_of(data, file):
         raise Refused(f"not the text of {file}: {text_file}")
     return data, text
@@ -211,6 +217,7 @@ def check_texts(cause: str, words: list[str]) -> None:
     """Refuses the first text of a source that is none, with its file and line, if that is why a run did not begin."""
     for name, _, place in (word.partition("=") for word in words if OF_A_TEXT.match(cause)):
         try:
+            check_length(place)
             with opened_file(place) as file:
                 for _ in checked_at(place, file):
                     pass

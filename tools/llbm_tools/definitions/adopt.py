@@ -39,7 +39,7 @@ from llbm_tools.definitions import adopted_ops, adoption_rules
 from llbm_tools.llb import no_definition
 from llbm_tools.llb.findings import Finding
 from llbm_tools.llb.wire import Unreadable
-from llbm_tools.streams import Refused, exit_status, program_to_ask
+from llbm_tools.streams import Refused, exit_status, of_place, program_to_ask
 from llbm_tools.trees.source_files import source_of
 
 OPTIONS = {kind: f"--without-{kind}" for kind in adopted_ops.DROPPED} | {adopted_ops.RUN_NOTHING: "--run-nothing"}
@@ -117,7 +117,11 @@ def files_written(texts: dict[str, bytes]) -> Iterator[None]:
             beside = f"{place}.{os.getpid()}.part"
             if not os.path.isdir(os.path.dirname(place)):
                 raise Refused(f"there is no such directory to write it in: {given}")
-            with open(beside, "xb") as opened:
+            try:
+                opened = open(beside, "xb")
+            except OSError as fault:
+                raise of_place(fault, given) from fault
+            with opened:
                 parts[beside] = place
                 opened.write(text)
         yield
@@ -151,6 +155,7 @@ def adopt(options: argparse.Namespace) -> None:
     llbm = program_to_ask(options.llbm)
     settings = settings_from(options, llbm)
     data = inputs.data_at(options.definition)
+    no_definition.check(data, options.definition)
     try:
         adopted = adopted_ops.adopt(data, settings, llbm)
     except Unreadable as fault:

@@ -103,8 +103,7 @@ def member_lines(members: Object, level: int) -> Iterator[str]:
 def refusals(lines: Iterable[str], page: faults.Page) -> Iterator[str]:
     """Yields the lines of what is refused, each with the most specific sentence about it."""
     for line in lines:
-        name = line.rpartition(" ")[2]
-        yield f"refused: {line}: {faults.answer_to(page, line).texts[-1].removeprefix(f'{name}: ')}"
+        yield f"refused: {line}: {faults.sentence_of(page, line)}"
 
 
 def entry_lines(entry: Entry, inspected: Inspected, metadata: bytes, page: faults.Page) -> Iterator[str]:

@@ -45,6 +45,7 @@ MOST_FAULTS = 8
 MOST_ACTIONS = 16
 BAD_NAME = 26
 ALSO = "also refused: "
+ENTRY_NAME = "named: "
 
 
 class NoPage(Refused):
@@ -339,6 +340,11 @@ def answer_to(page: Page, line: str) -> Answer:
     return Answer(texts, reader.place)
 
 
+def sentence_of(page: Page, line: str) -> str:
+    """Returns the most specific sentence about a line of the program, without its name."""
+    return answer_to(page, line).texts[-1].removeprefix(f"{line.rpartition(' ')[2]}: ")
+
+
 def one(word: str, texts: list[str], number: int) -> list[str]:
     """Returns the text with this number, if there is one."""
     return [f"{word} {number}: {text}" for text in texts[number : number + 1]]
@@ -440,7 +446,7 @@ class Entries:
         if row >= len(self.entries):
             raise Unreadable(f"it has no row {row}")
         prefix = f"{prefix}: {definition.digest_of(self.entries[row])}"
-        named = [f"named: {self.shown[row]}"] if self.shown[row] else []
+        named = [f"{ENTRY_NAME}{self.shown[row]}"] if self.shown[row] else []
         try:
             op = op_reading.read_op(self.entries[row])
         except Unreadable as fault:

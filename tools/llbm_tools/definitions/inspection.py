@@ -75,6 +75,7 @@ def edges_of(op: Op | None, entry: bytes) -> list[tuple[str, int]]:
 
 def inspected(data: bytes, place: str | None, program: str) -> Inspected:
     """Reads the definition of a place, in which the program finds faults; raises Refused if the bytes are none."""
+    no_definition.check(data, place)
     try:
         entries = definition.entries_of(data)
         named = names.names_of(data)

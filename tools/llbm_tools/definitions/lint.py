@@ -31,7 +31,7 @@ from llbm_tools.llb import names, no_definition
 from llbm_tools.llb.findings import Finding, findings_of
 from llbm_tools.llb.wire import Unreadable
 from llbm_tools.rules import notes, program
-from llbm_tools.streams import exit_status, program_to_ask
+from llbm_tools.streams import Refused, exit_status, program_to_ask
 
 
 def names_in(data: bytes) -> list[str]:
@@ -101,8 +101,10 @@ def lint(options: argparse.Namespace) -> int:
     """Prints the findings, and returns the exit status."""
     llbm, data = program_to_ask(options.llbm), inputs.data_at(options.definition)
     faults, noted = lines_of(data, llbm, options.like_buildkit)
-    if no_definition.is_text(data):
-        common.say(no_definition.text_line(options.definition))
+    try:
+        no_definition.check(data, options.definition)
+    except Refused as fault:
+        common.say(str(fault))
     common.check_open(sys.stdout, "standard output")
     sys.stdout.buffer.write(text_of(faults, noted, is_json=options.json).encode("utf-8", "backslashreplace"))
     sys.stdout.flush()

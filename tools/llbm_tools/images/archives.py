@@ -1,7 +1,8 @@
 """Tar archives as the tools read them, entry by entry up to the first damaged header.
 
-This refuses what Python's tarfile accepts silently: a damaged header after the first entry, and an archive that is cut
-off at the end of an entry.
+This refuses what Python's tarfile accepts silently: a damaged header after the first entry, an archive that is cut off
+at the end of an entry, and what begins with zeros but is no archive without an entry: that has zeros alone, and at most
+as many as GNU tar writes.
 """
 
 import contextlib
@@ -23,12 +24,20 @@ NOT_HERE = b"N"
 # Errors of tarfile that its types do not have.
 END: type[tarfile.HeaderError] = getattr(tarfile, "EOFHeaderError")
 EMPTY: type[tarfile.HeaderError] = getattr(tarfile, "EmptyHeaderError")
+# The size of an archive without an entry, as GNU tar writes it; others write less.
+MOST_OF_NO_ENTRY = 10_240
 UNREADABLE = (ArithmeticError, AttributeError, LookupError, RecursionError, TypeError, ValueError)
 
 
 def is_archive(place: str) -> bool:
     """Returns whether a path is read as an archive: by its name, unless it is a directory."""
     return place.endswith(ENDINGS) and not os.path.isdir(place)
+
+
+def check_no_entry(rest: bytes) -> None:
+    """Refuses what begins with zeros, and then has these bytes, if it is no archive without an entry."""
+    if len(rest) > MOST_OF_NO_ENTRY - tarfile.BLOCKSIZE or rest.strip(b"\0"):
+        raise Refused("not an archive: it begins with zeros")
 
 
 class Member(tarfile.TarInfo):
@@ -53,10 +62,13 @@ class Member(tarfile.TarInfo):
     @classmethod
     def fromtarfile(cls, archive: tarfile.TarFile) -> "Member":
         """Returns the entry at the current position of the archive."""
-        place = cast(BinaryIO, archive.fileobj).tell()
+        file = cast(BinaryIO, archive.fileobj)
+        place = file.tell()
         try:
             member = super().fromtarfile(archive)
         except END:
+            if place == 0:
+                check_no_entry(file.read(MOST_OF_NO_ENTRY))
             raise
         except EMPTY as fault:
             raise Refused("the archive has no end" if place else "the archive is empty") from fault

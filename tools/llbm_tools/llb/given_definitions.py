@@ -18,6 +18,12 @@ def assembled(program: str, text: bytes, place: str | None) -> bytes:
 
 
 def definition_at(place: str | None, program: Callable[[], str]) -> bytes:
-    """Returns the bytes of the definition at a place; `program` returns the program, which only a text needs."""
+    """Returns the bytes of the definition at a place; `program` returns the program, which only a text needs.
+
+    Bytes that are no definition are refused.
+    """
     data = data_at(place)
-    return assembled(program(), data, shown(place)) if no_definition.is_text(data) else data
+    if no_definition.is_text(data):
+        return assembled(program(), data, shown(place))
+    no_definition.check(data, place)
+    return data

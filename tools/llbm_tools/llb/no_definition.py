@@ -28,3 +28,13 @@ def text_line(place: str | None) -> str:
 def refusal(fault: Unreadable, data: bytes, place: str | None) -> Refused:
     """Returns the refusal of the bytes at a place, which are no definition because of this fault."""
     return Refused(text_line(place) if is_text(data) else f"not a definition: {fault}: {shown(place)}")
+
+
+def check(data: bytes, place: str | None) -> None:
+    """Refuses the bytes at a place if they are no definition, or none at all."""
+    if not data:
+        raise Refused(f"not a definition: there are no bytes: {shown(place)}")
+    try:
+        op_reading.read_definition(data)
+    except Unreadable as fault:
+        raise refusal(fault, data, place) from fault

@@ -70,9 +70,7 @@ def of_sources(run: Run, number: int) -> Iterator[str]:
     """Yields the first file that the program could not use, for the faults 31 to 33, 181 and 185."""
     look = tree_text if number in TREES else unread_file
     for name, file in run.words.sources:
-        is_long = number == TOO_LONG and os.path.isfile(file) and os.path.getsize(file) > MOST_BYTES
-        cause = f"too long: {file}, {os.path.getsize(file):,} bytes" if is_long else ""
-        cause = cause if number == TOO_LONG else look(file)
+        cause = trees.too_long(file) if number == TOO_LONG else look(file)
         if cause:
             yield f"{cause} (the local source {name})"
             return

@@ -191,12 +191,10 @@ class Source:
         if kind == TEXT:
             self.read_text(place, shown or place)
             return True
-        try:
+        with inputs.named(shown or place):
             if kind == DIRECTORY:
                 return self.read_directory(place, hidden, record, selected)
             (self.read_image if kind == IMAGE else self.read_archive)(place)
-        except Refused as fault:
-            raise fault if place in str(fault) else Refused(f"{fault}: {shown or place}") from fault
         return True
 
 

@@ -22,7 +22,7 @@ import argparse
 
 from llbm_tools.command_line import Parser
 from llbm_tools.images import unpacking
-from llbm_tools.inputs import is_standard_input, standard_input
+from llbm_tools.inputs import is_standard_input, named, standard_input
 from llbm_tools.streams import exit_status
 from llbm_tools.trees import archive_texts
 from llbm_tools.trees.trees import owner_word
@@ -32,7 +32,7 @@ def read_image(options: argparse.Namespace) -> None:
     """Reads the image that the command line names, and writes its text."""
     is_input = is_standard_input(options.image)
     given = unpacking.files_in(standard_input()) if is_input else unpacking.files_at(options.image)
-    with given as files, unpacking.tree_of(files, options.name, options.platform) as entries:
+    with named(options.image), given as files, unpacking.tree_of(files, options.name, options.platform) as entries:
         archive_texts.write_text(entries, options.owner, options.strict, options.links)
 
 

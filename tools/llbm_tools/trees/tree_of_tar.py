@@ -27,7 +27,7 @@ from typing import BinaryIO
 from llbm_tools.command_line import Parser
 from llbm_tools.images import archives, packing
 from llbm_tools.images.archive_entries import entries_of
-from llbm_tools.inputs import is_standard_input, opened_file, standard_input
+from llbm_tools.inputs import named, opened
 from llbm_tools.streams import exit_status, temporary_file
 from llbm_tools.trees import archive_texts
 from llbm_tools.trees.trees import owner_word
@@ -42,10 +42,7 @@ def write_text(given: BinaryIO, options: argparse.Namespace) -> None:
 
 def read_archive(options: argparse.Namespace) -> None:
     """Reads the archive that the command line names, and writes its text."""
-    if is_standard_input(options.archive):
-        write_text(standard_input(), options)
-        return
-    with opened_file(options.archive) as file:
+    with named(options.archive), opened(options.archive) as file:
         write_text(file, options)
 
 

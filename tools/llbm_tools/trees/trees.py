@@ -151,6 +151,18 @@ def warn_of_length(count: int, say: Callable[[str], None] = say) -> None:
         say(f"the text has {count:,} bytes: the program refuses more than {MOST_BYTES:,} (fault 185)")
 
 
+def too_long(place: str) -> str:
+    """Returns a line that says of a file that its text is too long for the program; empty if it is not."""
+    size = os.path.getsize(place) if os.path.isfile(place) else 0
+    return f"too long: {place}, {size:,} bytes" if size > MOST_BYTES else ""
+
+
+def check_length(place: str) -> None:
+    """Refuses a file whose text is too long for the program."""
+    if cause := too_long(place):
+        raise Refused(cause)
+
+
 def owner_word(text: str) -> tuple[int, ...]:
     """Parses `UID:GID`."""
     parts = re.fullmatch(r"(0|[1-9][0-9]{0,9}):(0|[1-9][0-9]{0,9})", text)

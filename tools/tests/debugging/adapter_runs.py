@@ -420,7 +420,7 @@ class Failures(WithRun):
         client = self.opened()
         local, remote = base.source("local://src"), base.source("git://src")
         for entries, message in [
-            ([], "fault 83: 83: there are fewer than two distinct rows. "),
+            ([], "not a definition: there are no bytes: "),
             ([local, base.inputs(local)], "fault 121 src: 121 (NAME = src): "),
             ([remote, base.inputs(remote)], "fault 88 0 Source: "),
         ]:

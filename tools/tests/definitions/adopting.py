@@ -366,7 +366,7 @@ class Adopt(base.WithProgram):
 
     def test_faulty_definitions_are_refused(self):
         self.check_refused(b"\x0a", ["not a definition: the bytes end inside a record: standard input"])
-        self.check_refused(b"", ["not adopted: fault 83", "nothing is written"])
+        self.check_refused(b"", ["not a definition: there are no bytes: standard input"])
         self.check_refused(base.definition(self.local, b"\x0b"), ["not adopted: fault 82 1 4", "nothing is written"])
         unknown = base.definition(self.local, base.inputs(b"x"))
         self.check_refused(unknown, ["not adopted: fault 86 1 0", "nothing is written"])

@@ -79,10 +79,12 @@ class Images(Folder):
         self.check_success(done, self.text([ROOT, *lines]), self.text([shown, *errors]))
 
     def check_refused(self, given, cause, *words):
-        """Checks that an image is refused, with this cause on the last line."""
+        """Checks that an image is refused, with this cause and the place on the last line."""
         done = run("tree-of-image", *words, given)
         self.assertEqual((done.returncode, done.stdout), (2, b""), done.stderr)
-        self.assertRegex(done.stderr.decode().splitlines()[-1], cause)
+        last, place = done.stderr.decode().splitlines()[-1], f": {os.fsdecode(given)}"
+        self.assertIn(place, last)
+        self.assertRegex(last.removesuffix(place), cause)
 
 
 class Layers(Images):
@@ -254,7 +256,7 @@ class Forms(Images):
         for index in [b"[", b"[]", b"{}", b'{"manifests": [1]}', b'{"manifests": [{"digest": "x", "size": 1}]}']:
             done = run("tree-of-image", text=image_parts.archive({**files, "index.json": index}))
             self.assertEqual((done.returncode, done.stdout, done.stderr.count(b"\n")), (2, b"", 1), index)
-        self.check_refused(self.place(b"none"), "^there is no such file or directory: ")
+        self.check_refused(self.place(b"none"), "^there is no such file or directory$")
 
 
 class Readers(Images):

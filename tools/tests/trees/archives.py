@@ -66,10 +66,12 @@ class TreeOfTar(Folder):
         self.check_success(self.read_tar(given, *words), self.text(lines), errors)
 
     def check_refused(self, given, cause, words=()):
-        """Checks that the archive is refused, with this cause on the last line."""
+        """Checks that the archive is refused, with this cause and its place on the last line."""
         done = self.read_tar(given, *words)
         self.assertEqual((done.returncode, done.stdout), (2, b""), done.stderr)
-        self.assertRegex(done.stderr.decode().splitlines()[-1], cause)
+        last, place = done.stderr.decode().splitlines()[-1], ": standard input"
+        self.assertTrue(last.endswith(place), last)
+        self.assertRegex(last.removesuffix(place), cause)
 
     def test_entries_can_be_in_any_order(self):
         given = tar(
@@ -131,7 +133,7 @@ class TreeOfTar(Folder):
 
     def test_a_strict_run_refuses_an_archive_with_other_kinds(self):
         given, errors = self.no_files()
-        self.check_run(self.read_tar(given, "--strict"), 2, b"", errors + b"refused: something was left out\n")
+        self.check_run(self.read_tar(given, "--strict"), 2, b"", errors + b"refused: something was left out: standard input\n")
         self.check_text(tar(entry("a", b"a")), ["d 0755 0 0 /", "f 0644 0 0 61 /a"], words=["--strict"])
 
     def test_extended_attributes_are_left_out(self):
@@ -246,7 +248,8 @@ class TreeOfTar(Folder):
     @unittest.skipIf(importlib.util.find_spec("compression"), "this Python has zstd")
     def test_an_unsupported_form_of_packing_is_refused(self):
         done = run("tree-of-tar", text=b"\x28\xb5\x2f\xfd" + bytes(100), env={**os.environ, "PATH": ""})
-        self.check_run(done, 2, b"", b"neither this Python nor a program `zstd` packs or unpacks it: zstd\n")
+        cause = b"neither this Python nor a program `zstd` packs or unpacks it: zstd: standard input\n"
+        self.check_run(done, 2, b"", cause)
 
     @unittest.skipUnless(shutil.which("tar"), "there is no tar")
     def test_archives_of_another_program_are_read(self):
@@ -265,6 +268,15 @@ class TreeOfTar(Folder):
         self.check_refused(b"", "^the archive is empty$")
         self.check_refused(b"d 0755 0 0 /\n", "^not a header of an entry: byte 0: truncated header$")
         self.check_refused(b"x" * 2000, "^not a header of an entry: byte 0: ")
+
+    def test_zeros_are_an_archive_without_an_entry_if_they_are_few(self):
+        for count in [BLOCK, 2 * BLOCK, 20 * BLOCK]:
+            self.check_text(bytes(count), ["d 0755 0 0 /"])
+        for given in [bytes(20 * BLOCK + 1), bytes(2 * BLOCK) + b"\1"]:
+            self.check_refused(given, "^not an archive: it begins with zeros$")
+        for tool in ["tree-of-tar", "tree-of-image"]:
+            place = self.file(b"zeros", bytes(1 << 20))
+            self.check_run(run(tool, place), 2, b"", b"not an archive: it begins with zeros: " + place + b"\n")
 
     def test_damage_after_the_first_entry_is_refused(self):
         given = tar(entry("a", b"a" * 700), entry("b", b"b"))
