@@ -12,6 +12,7 @@ from llbm_tools.building.build_requests import Ended
 from llbm_tools.building.child_processes import ended
 from llbm_tools.common import say, shortened
 from llbm_tools.sessions import shows
+from llbm_tools.sessions.dialog import Closed
 from llbm_tools.streams import FAILED
 
 MOST_OF_A_NAME = 100
@@ -66,7 +67,7 @@ class Program:
         with open(causes, "wb") as words, open(result, "wb") as text:
             command = self.words("step", self.definition, "--looks", "--ends", workers=workers or "1")
             child = self.start(command, stdin=subprocess.PIPE, stdout=subprocess.PIPE, stderr=words)
-            failures = self.follow(progress.Session(child), text, is_shown, ran)
+            failures = self.follow(progress.BuildSession(child), text, is_shown, ran)
             status = ended(child)
             is_empty = not text.tell()
         with open(causes, "rb") as given:
@@ -78,11 +79,11 @@ class Program:
             raise Ended(FAILED, "the session ended before the result was out")
         return result
 
-    def follow(self, session: progress.Session, text: BinaryIO, is_shown: bool, ran: Ran | None) -> list[bytes]:
+    def follow(self, session: progress.BuildSession, text: BinaryIO, is_shown: bool, ran: Ran | None) -> list[bytes]:
         """Runs a session to its end, and writes the result's text, or returns a line for each failure."""
         failures: list[bytes] = []
         try:
-            with contextlib.suppress(progress.Closed):
+            with contextlib.suppress(Closed):
                 show = session.graph()
                 is_well = self.print_progress(session, show) if is_shown else session.run()
                 if ran:
@@ -96,7 +97,7 @@ class Program:
         session.close()
         return failures
 
-    def print_progress(self, session: progress.Session, show: shows.Show | None) -> bool:
+    def print_progress(self, session: progress.BuildSession, show: shows.Show | None) -> bool:
         """Prints a line for each vertex as it settles, and returns whether none failed."""
         names = progress.names_in(pathlib.Path(self.definition).read_bytes())
         failed = False

@@ -1,7 +1,7 @@
-"""A stepping session of the program, as in docs/FORMATS.md: sends commands, and reads each answer to its end.
+"""A session of the program with its record: does events and undoes them, and reads what is there between them.
 
-The program is run with `--looks` and `--ends`: an empty line ends each answer. The commands `break`, `clear` and `go`
-are not used: without them a run can be paused between any two events, and breakpoints work backwards too.
+The commands `break`, `clear` and `go` are not used: without them a run can be paused between any two events, and
+breakpoints work backwards too.
 """
 
 import contextlib
@@ -9,13 +9,14 @@ import re
 import subprocess
 import tempfile
 from collections.abc import Iterator
-from typing import BinaryIO, NamedTuple, cast
+from typing import NamedTuple
 
+from llbm_tools.sessions import dialog
+from llbm_tools.sessions.dialog import Closed, Dialog
 from llbm_tools.sessions.shows import Show, show_of
 from llbm_tools.streams import Refused
 
-LINE = re.compile(r"([0-9]+) (claim|step|settle|cancel) ([0-9]+)(?: ([0-9]+))? -> (.+)")
-EVENT = re.compile(f"{LINE.pattern}|end")
+EVENT = re.compile(f"{dialog.EVENT.pattern}|end")
 BACK = re.compile("back [0-9]+")
 
 
@@ -85,28 +86,20 @@ class Session:
         # What is ended and removed with the session.
         self.kept = contextlib.ExitStack()
         self.child = subprocess.Popen(command, stdin=subprocess.PIPE, stdout=subprocess.PIPE, stderr=self.words)
-        self.given, self.printed = cast(BinaryIO, self.child.stdin), cast(BinaryIO, self.child.stdout)
+        self.dialog = Dialog(self.child)
 
-    def send(self, command: str) -> None:
-        """Sends a command to the program."""
-        try:
-            self.given.write(f"{command}\n".encode("ascii"))
-            self.given.flush()
-        except OSError as fault:
-            raise self.ended() from fault
-
-    def raw(self) -> bytes:
+    def line(self) -> bytes:
         """Returns the program's next line, without its line end."""
-        line = self.printed.readline()
-        if not line.endswith(b"\n"):
-            raise self.ended()
-        return line[:-1]
+        try:
+            return self.dialog.line()
+        except Closed as fault:
+            raise self.ended() from fault
 
     def answer(self, command: str) -> Iterator[bytes]:
         """Sends a command, and yields the lines of its answer as they come."""
-        self.send(command)
+        self.dialog.send(command)
         is_first = True
-        while line := self.raw():
+        while line := self.line():
             if is_first and line.startswith(b"fault "):
                 self.check_end()
                 raise Refusal(line.decode("utf-8", "backslashreplace"))
@@ -115,7 +108,7 @@ class Session:
 
     def check_end(self) -> None:
         """Checks that an answer has no more lines."""
-        if line := self.raw():
+        if line := self.line():
             raise self.broken(line.decode("utf-8", "backslashreplace"))
 
     def ask(self, command: str, form: re.Pattern[str]) -> str:
@@ -136,7 +129,7 @@ class Session:
 
     def added(self, line: str) -> Event:
         """Adds the event on a line to the record, and returns it."""
-        match = LINE.fullmatch(line)
+        match = dialog.EVENT.fullmatch(line)
         if not match or int(match[1]) != len(self.record) + 1 or int(match[3]) >= len(self.runs):
             raise self.broken(line)
         worker, before = int(match[3]), self.runs[int(match[3])]
@@ -191,7 +184,7 @@ class Session:
     def redo(self, event: Event) -> None:
         """Does an event that was undone, and checks that its line is the same."""
         try:
-            line = self.ask(event.command, LINE)
+            line = self.ask(event.command, dialog.EVENT)
         except Refusal as refusal:
             raise self.broken(str(refusal)) from refusal
         if self.added(line) != event:
@@ -252,8 +245,7 @@ class Session:
         """Stops the program. It writes no files, so nothing is left half done. It may be called twice."""
         if self.child.poll() is None:
             self.child.kill()
-        with contextlib.suppress(OSError):
-            self.given.close()
-        self.printed.close()
+        self.dialog.close()
+        self.dialog.answers.close()
         self.kept.close()
         return self.child.wait()
