@@ -10,8 +10,6 @@ from llbm_tools.paths import ROOT
 PROGRAMS = ("crates/llbm/out/llbm", "out/llbm-unproved")
 
 CHANGE = re.compile(r"\(cd ([\w./-]+) && ")
-PRINTS = re.compile(r"(?:which )?prints\b(?: `([^`]+)`)?")
-SAID_STATUS = re.compile(r"\bstatus ([0-9]+)\b")
 STATUS = re.compile(r"status ([0-9]+)")
 HERE = re.compile(r"<<(-?)\s*(['\"]?)(\w+)\2")
 INPUT = re.compile(r"cat > \S+ <<")
@@ -161,27 +159,8 @@ def is_block_of_commands(lines: list[str]) -> bool:
 
 def shown_by(parts: list[Part]) -> Iterator[Shown]:
     """Yields the commands that a page shows, in order."""
-    place = 0
-    while place < len(parts):
-        part = parts[place]
-        place += 1
-        if not part.is_block:
-            continue
-        if part.lines[0].startswith(PROMPT):
+    for part in parts:
+        if part.is_block and part.lines[0].startswith(PROMPT):
             yield from prompted(part)
-        elif is_block_of_commands(part.lines):
-            yield with_output(part, parts[place : place + 2])
-
-
-def with_output(part: Part, below: list[Part]) -> Shown:
-    """Returns a block of commands with the output below it."""
-    paragraph = "" if not below or below[0].is_block else " ".join(below[0].lines)
-    prints, status = PRINTS.match(paragraph), SAID_STATUS.search(paragraph)
-    printed = None
-    if prints and prints[1]:
-        printed = prints[1] + "\n"
-    elif prints and len(below) > 1 and below[1].is_block:
-        printed = ended(below[1].lines)
-    is_error = printed is not None and "on standard error" in paragraph
-    output, errors = (None, printed) if is_error else (printed, None)
-    return Shown(part.number, "\n".join(part.lines), output, errors, int(status[1]) if printed and status else 0)
+        elif part.is_block and is_block_of_commands(part.lines):
+            yield Shown(part.number, "\n".join(part.lines), None, None, 0)

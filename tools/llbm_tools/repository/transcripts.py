@@ -9,10 +9,8 @@ by bash. A command is one of these:
   typed to it when it has printed what is above the line; what it then prints is below.
 - In another block (lines indented by four spaces, or between lines of ```), a line that begins with the path of a
   program of this repository, such as `dev/dev` or `./llbm`, or with such a path after `(cd DIRECTORY && `; before
-  the first one the block may have lines that begin with `mkdir`. The output of such a block of commands is shown below
-  it, by a paragraph that begins with `prints` or `which prints`: the text between backquotes right after that word, or
-  else the block below the paragraph, which may also say `on standard error`, and `status N`. If no output is shown, the
-  commands have to exit with status 0.
+  the first one the block may have lines that begin with `mkdir`. No output of such a block of commands is shown; they
+  have to exit with status 0.
 
 On the path are `llbm-tools` and, as `llbm`, --llbm PROGRAM, or else the first one of the repository that exists. A file
 below a folder `tests` has an empty folder of its own, in which its commands make their inputs; with --unproved what it

@@ -14,23 +14,15 @@ PAGE = """# A page
 
 A text with `./llbm none` in it.
 
-    ./llbm one < /dev/null
-
-prints
-
+    $ ./llbm one < /dev/null
     one
 
     and more
 
-and
+and, of which nothing is shown,
 
     ./llbm two
     ./llbm three
-
-which prints `two`
-in any case. The next prints nothing that is shown:
-
-    ./llbm quiet
 
 and not
 
@@ -51,11 +43,9 @@ $ llbm five | cat
 five
 ```
 
-    ./llbm wrong
-
-prints on standard error, with status 3,
-
-    wrong
+    $ ./llbm wrong
+    ! wrong
+    status 3
 
 A block of no command:
 
@@ -138,9 +128,9 @@ class Transcripts(base.WithPrograms):
     def test_all_forms_of_a_page_are_run(self):
         status, lines = self.transcripts(self.page(PAGE))
         *lines, last = lines
-        self.assertEqual((status, last), (0, "6 passed, 0 failed, 3 skipped"), lines)
+        self.assertEqual((status, last), (0, "5 passed, 0 failed, 3 skipped"), lines)
         self.assertEqual([line.split(": ", 1)[1].split(",")[0] for line in lines], ["left out"] * 3)
-        self.assertIn(":25: left out", lines[0])
+        self.assertIn(":17: left out", lines[0])
 
     def test_all_forms_of_a_file_of_tests_are_run(self):
         self.page(TEST, "tests", "one")
@@ -152,11 +142,10 @@ class Transcripts(base.WithPrograms):
 
     def test_pages_that_lie_are_found(self):
         self.check_causes([
-            ("    ./llbm two\n\nprints `three`\n", "prints 'two\\n', not 'three\\n'"),
+            ("    $ ./llbm two\n    three\n", "prints 'two\\n', not 'three\\n'"),
             ("    ./llbm bad\n", "status 1, not 0"),
             ("    ./llbm wrong\n", "status 3, not 0 (standard error: 'wrong\\n')"),
-            ("    ./llbm wrong\n\nprints on standard error\n\n    wrong\n",
-             "status 3, not 0 (standard error: 'wrong\\n')"),
+            ("    $ ./llbm wrong\n    ! wrong\n", "status 3, not 0 (standard error: 'wrong\\n')"),
             ("```\n$ ./llbm two\n```\n", "prints 'two\\n', not ''"),
         ])
 
@@ -195,7 +184,7 @@ class Transcripts(base.WithPrograms):
         self.assertFalse((ROOT / name).exists())
 
     def test_a_program_that_is_not_proved_has_its_own_place(self):
-        page = self.page("    ./llbm\n\nprints `out/llbm-unproved`\n")
+        page = self.page("    $ ./llbm 2> /dev/null\n    out/llbm-unproved\n")
         version = "llbm 1.0, not proved, compiled with x"
         program = self.file(b"unproved", f"#!/bin/sh\necho \"${{0#./}}\"; echo '{version}' >&2\n".encode())
         os.chmod(program, 0o755)
