@@ -18,7 +18,7 @@ use Rattle.llb_commands.specs.declared.words.Command.{Command}
 use Rattle.llb_commands.specs.declared.words.Command.TheVariants.{Run, Show, Step, Assemble, Disassemble}
 use Rattle.llb_commands.specs.declared.words.Line.{Line}
 use Rattle.llb_commands.specs.declared.words.Shows.{Shows}
-use Rattle.llb_commands.specs.declared.words.Shows.TheVariants.{Graph, Findings, Plan, Matches, Several}
+use Rattle.llb_commands.specs.declared.words.Shows.TheVariants.{Graph, Findings, Plan, Matches, Ops, Several}
 use Rattle.llb_commands.specs.declared.words.Local.{Local}
 use Rattle.llb_commands.specs.declared.words.WordsFault.{WordsFault}
 use Rattle.llb_commands.specs.declared.words.WordsFault.TheVariants.{Words, Memory}
@@ -67,13 +67,17 @@ plan_rule = record (new_rule (codes "plan")) { long = Some (codes "plan"); actio
 abbrev pub matches_rule : Rule
 matches_rule = record (new_rule (codes "matches")) { long = Some (codes "matches"); action = Some Set; value_names = 1 }
 
+-- the rule by which `clap` reads the option `--ops`, which takes no value
+abbrev pub ops_rule : Rule
+ops_rule = record (new_rule (codes "ops")) { long = Some (codes "ops"); action = Some SetTrue }
+
 -- `clap`'s description of the command `run`
 abbrev pub run_app : App
 run_app = with_rule (with_rule (new_app (codes "run")) workers_rule) local_rule
 
 -- `clap`'s description of the command `show`
 abbrev pub show_app : App
-show_app = with_rule (with_rule (with_rule (new_app (codes "show")) findings_rule) plan_rule) matches_rule
+show_app = with_rule (with_rule (with_rule (with_rule (new_app (codes "show")) findings_rule) plan_rule) matches_rule) ops_rule
 
 -- `clap`'s description of the command `step` with its options alone
 abbrev pub step_options_app : App
@@ -177,18 +181,20 @@ abbrev pub IsEnds : Command → List Row → Bool → Type 0
 IsEnds Step rows ends = ends ≡ is_set (first_of (codes "ends") rows)
 IsEnds _ rows ends = ends ≡ false
 
--- what `show` prints, by whether the words have the options `--findings`, `--plan` and `--matches`
-abbrev pub shows_by : Bool → Bool → Bool → Shows
-shows_by false false false = Graph
-shows_by true false false = Findings
-shows_by false true false = Plan
-shows_by false false true = Matches
-shows_by _ _ _ = Several
+-- what `show` prints, by whether the words have the options `--findings`, `--plan`, `--matches` and `--ops`
+abbrev pub shows_by : Bool → Bool → Bool → Bool → Shows
+shows_by false false false false = Graph
+shows_by true false false false = Findings
+shows_by false true false false = Plan
+shows_by false false true false = Matches
+shows_by false false false true = Ops
+shows_by _ _ _ _ = Several
 
 -- the words of `show` have no option, or the one by which it prints this, or several; for any other command what `show` prints is the text of the graph
 abbrev pub IsShows : Command → List Row → Shows → Type 0
 IsShows Show rows shows =
     shows ≡ shows_by (is_set (first_of (codes "findings") rows)) (is_set (first_of (codes "plan") rows)) (is_some (first_of (codes "matches") rows))
+    (is_set (first_of (codes "ops") rows))
 IsShows _ rows shows = shows ≡ Graph
 
 -- the file is the file that the words of `step` name, or that of the older definition that the words of `show` name; for any other command there is no file

@@ -8,7 +8,7 @@ use Rattle.llb_commands.specs.ProgramOutput.{Runs, Draws, IsRefused}
 use Rattle.llb_commands.specs.Running.{TellsRefusal}
 use Rattle.llb_commands.specs.Faults.{Tells}
 use Rattle.llb_commands.specs.declared.fault.ProgramFault.{ProgramFault}
-use Rattle.llb_commands.specs.Assembly.{Assembles, Disassembles}
+use Rattle.llb_commands.specs.Assembly.{Assembles, Describes, Disassembles}
 use Rattle.llb_commands.specs.CommandLine.{llbm_app, named_local_words, IsByWords, Says, TellsWords}
 use Rattle.llb_commands.specs.CallStreams.{Io, IsKept}
 use Rattle.llb_commands.specs.FindingLines.{Lists}
@@ -22,7 +22,7 @@ use Rattle.llb_commands.specs.declared.words.Command.{Command}
 use Rattle.llb_commands.specs.declared.words.Command.TheVariants.{Run, Show, Step, Assemble, Disassemble}
 use Rattle.llb_commands.specs.declared.words.Line.{Line}
 use Rattle.llb_commands.specs.declared.words.Shows.{Shows}
-use Rattle.llb_commands.specs.declared.words.Shows.TheVariants.{Graph, Findings, Plan, Matches}
+use Rattle.llb_commands.specs.declared.words.Shows.TheVariants.{Graph, Findings, Plan, Matches, Ops}
 use Rattle.llb_commands.specs.declared.words.WordsFault.{WordsFault}
 use Rattle.llb_commands.specs.declared.words.WordsFault.TheVariants.{Words}
 
@@ -54,6 +54,7 @@ ShowsAs files Graph file io status = Draws io status
 ShowsAs files Findings file io status = Lists io status
 ShowsAs files Plan file io status = Plans io status
 ShowsAs files Matches (Some file) io status = MatchesWith (files file.now) io status
+ShowsAs files Ops file io status = Describes io status
 ShowsAs files _ file io status = IsNotAsked io status
 
 -- how a command ends, with the workers, the options of a session, what `show` prints and the file that the words name

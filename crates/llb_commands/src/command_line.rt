@@ -16,6 +16,7 @@ ghost use Rattle.llb_commands.specs.CommandLine.{
   findings_rule,
   plan_rule,
   matches_rule,
+  ops_rule,
   local_rule,
   file_rule,
   workers_rule,
@@ -143,6 +144,17 @@ fn matches_arg<'a>(alloc: Global) -> Arg<'a>
         .action(ArgAction::Set)
 }
 
+// Returns `clap`'s description of the option by which `show` prints ops.
+fn ops_arg<'a>(alloc: Global) -> Arg<'a>
+    ensures rule { rule_of result ≡ ops_rule }
+    ensures plain { result.global ≡ false }
+{
+    Arg::new(alloc, "ops")
+        .long("ops")
+        .help("Print the ops of all entries that can be read instead")
+        .action(ArgAction::SetTrue)
+}
+
 // Returns `clap`'s description of the command `run`.
 fn run_command<'a>(alloc: Global) -> Result<clap::Command<'a>, AllocError>
     ensures app { IfOk result (λ c. app_of c ≡ run_app) }
@@ -163,7 +175,8 @@ fn show_command<'a>(alloc: Global) -> Result<clap::Command<'a>, AllocError>
         .about("Prints the graph of the definition on standard input")
         .arg(findings_arg(alloc))?
         .arg(plan_arg(alloc))?
-        .arg(matches_arg(alloc))
+        .arg(matches_arg(alloc))?
+        .arg(ops_arg(alloc))
 }
 
 // Returns `clap`'s description of the command `step` with its options alone.
@@ -320,14 +333,15 @@ fn ends_in(command: Command, matches: &ArgMatches<'_>) -> bool
 }
 
 // Returns what `show` prints, by which of its options the words have.
-fn shows_by(findings: bool, plan: bool, matches: bool) -> Shows
-    ensures { result ≡ shows_by findings plan matches }
+fn shows_by(findings: bool, plan: bool, matches: bool, ops: bool) -> Shows
+    ensures { result ≡ shows_by findings plan matches ops }
 {
-    match (findings, plan, matches) {
-        (false, false, false) => Shows::Graph,
-        (true, false, false) => Shows::Findings,
-        (false, true, false) => Shows::Plan,
-        (false, false, true) => Shows::Matches,
+    match (findings, plan, matches, ops) {
+        (false, false, false, false) => Shows::Graph,
+        (true, false, false, false) => Shows::Findings,
+        (false, true, false, false) => Shows::Plan,
+        (false, false, true, false) => Shows::Matches,
+        (false, false, false, true) => Shows::Ops,
         _ => Shows::Several,
     }
 }
@@ -341,6 +355,7 @@ fn shows_in(command: Command, matches: &ArgMatches<'_>) -> Shows
             is_set(matches.get_str("findings")),
             is_set(matches.get_str("plan")),
             matches.get_str("matches").is_some(),
+            is_set(matches.get_str("ops")),
         ),
         _ => Shows::Graph,
     }

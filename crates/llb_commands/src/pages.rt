@@ -52,6 +52,7 @@ Options:
       --findings       Print all faults of the definition instead
       --plan           Print for each vertex whether what it reads goes by value
       --matches <OLD>  Print for each vertex which vertex of the definition OLD it matches
+      --ops            Print the ops of all entries that can be read instead
   -h, --help           Print help
 ";
 

@@ -36,6 +36,8 @@ pub enum Shows {
     Plan,
     /// For each vertex which vertex of an older definition it matches.
     Matches,
+    /// The ops of its entries.
+    Ops,
     /// The words ask for more than one of these; they are refused.
     Several,
 }

@@ -17,8 +17,13 @@ returns-in-Show c =
     let plan = c.is_set-in-Show.ensures ∙ ap is_set (c.get_str-in-Show.ensures ∙ first_value-rows found (codes "plan")) in
     let old = c.is_some.ensures ∙ same_some (λ w. w.now) c.get_str-in-Show-2.result
     ∙ ap is_some (c.get_str-in-Show-2.ensures ∙ first_value-rows found (codes "matches")) in
+    let ops = c.is_set-in-Show-2.ensures ∙ ap is_set (c.get_str-in-Show-3.ensures ∙ first_value-rows found (codes "ops")) in
+    let first = is_set (first_of (codes "findings") rows) in
+    let second = is_set (first_of (codes "plan") rows) in
+    let third = is_some (first_of (codes "matches") rows) in
     subst (λ k. IsShows k rows c.shows_by.result) (sym c.in-Show.is)
     (c.shows_by.ensures
-    ∙ ap (λ (b : Bool). shows_by b c.is_set-in-Show.result c.is_some.result) findings
-    ∙ ap (λ (b : Bool). shows_by (is_set (first_of (codes "findings") rows)) b c.is_some.result) plan
-    ∙ ap (λ (b : Bool). shows_by (is_set (first_of (codes "findings") rows)) (is_set (first_of (codes "plan") rows)) b) old)
+    ∙ ap (λ (b : Bool). shows_by b c.is_set-in-Show.result c.is_some.result c.is_set-in-Show-2.result) findings
+    ∙ ap (λ (b : Bool). shows_by first b c.is_some.result c.is_set-in-Show-2.result) plan
+    ∙ ap (λ (b : Bool). shows_by first second b c.is_set-in-Show-2.result) old
+    ∙ ap (λ (b : Bool). shows_by first second third b) ops)
