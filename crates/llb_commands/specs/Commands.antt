@@ -9,7 +9,7 @@ use Rattle.llb_commands.specs.ProgramOutput.{Runs, Draws, IsRefused}
 use Rattle.llb_commands.specs.Running.{TellsRefusal}
 use Rattle.llb_commands.specs.Faults.{Tells}
 use Rattle.llb_commands.specs.declared.fault.ProgramFault.{ProgramFault}
-use Rattle.llb_commands.specs.Assembly.{Assembles, Disassembles}
+use Rattle.llb_commands.specs.Assembly.{Assembles, Describes, Disassembles}
 use Rattle.llb_commands.specs.CommandLine.{llbm_app, named_local_words, IsByWords, Says, TellsWords}
 use Rattle.llb_commands.specs.CallStreams.{Io, IsKept}
 use Rattle.llb_commands.specs.FindingLines.{Lists}
@@ -24,7 +24,7 @@ use Rattle.llb_commands.specs.declared.words.Command.{Command}
 use Rattle.llb_commands.specs.declared.words.Command.TheVariants.{Run, Show, Step, Assemble, Disassemble}
 use Rattle.llb_commands.specs.declared.words.Line.{Line}
 use Rattle.llb_commands.specs.declared.words.Shows.{Shows}
-use Rattle.llb_commands.specs.declared.words.Shows.TheVariants.{Graph, Findings, Plan, Matches, Agrees}
+use Rattle.llb_commands.specs.declared.words.Shows.TheVariants.{Graph, Findings, Plan, Matches, Ops, Agrees}
 use Rattle.llb_commands.specs.declared.words.WordsFault.{WordsFault}
 use Rattle.llb_commands.specs.declared.words.WordsFault.TheVariants.{Words}
 
@@ -63,6 +63,7 @@ ShowsAs files Graph file locals io status = Draws io status
 ShowsAs files Findings file locals io status = Lists io status
 ShowsAs files Plan file locals io status = Plans io status
 ShowsAs files Matches (Some file) locals io status = MatchesWith (files file.now) io status
+ShowsAs files Ops file locals io status = Describes io status
 ShowsAs files Agrees (Some file) locals io status = AgreesWith (files file.now) locals io status
 ShowsAs files _ file locals io status = IsNotAsked io status
 

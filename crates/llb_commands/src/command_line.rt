@@ -17,6 +17,7 @@ ghost use Rattle.llb_commands.specs.CommandLine.{
   findings_rule,
   plan_rule,
   matches_rule,
+  ops_rule,
   agrees_rule,
   local_rule,
   file_rule,
@@ -146,6 +147,17 @@ fn matches_arg<'a>(alloc: Global) -> Arg<'a>
         .action(ArgAction::Set)
 }
 
+// Returns `clap`'s description of the option by which `show` prints ops.
+fn ops_arg<'a>(alloc: Global) -> Arg<'a>
+    ensures rule { rule_of result ≡ ops_rule }
+    ensures plain { result.global ≡ false }
+{
+    Arg::new(alloc, "ops")
+        .long("ops")
+        .help("Print the ops of all entries that can be read instead")
+        .action(ArgAction::SetTrue)
+}
+
 // Returns `clap`'s description of the option for the newer tree.
 fn agrees_arg<'a>(alloc: Global) -> Arg<'a>
     ensures rule { rule_of result ≡ agrees_rule }
@@ -179,6 +191,7 @@ fn show_options<'a>(alloc: Global) -> Result<clap::Command<'a>, AllocError>
         .arg(findings_arg(alloc))?
         .arg(plan_arg(alloc))?
         .arg(matches_arg(alloc))?
+        .arg(ops_arg(alloc))?
         .arg(agrees_arg(alloc))
 }
 
@@ -344,15 +357,23 @@ fn ends_in(command: Command, matches: &ArgMatches<'_>) -> bool
 }
 
 // Returns what `show` prints, by which of its options the words have, and by whether they have local sources.
-fn shows_by(findings: bool, plan: bool, matches: bool, agrees: bool, named: bool) -> Shows
-    ensures { result ≡ shows_by findings plan matches agrees named }
+fn shows_by(
+    findings: bool,
+    plan: bool,
+    matches: bool,
+    ops: bool,
+    agrees: bool,
+    named: bool,
+) -> Shows
+    ensures { result ≡ shows_by findings plan matches ops agrees named }
 {
-    match (findings, plan, matches, agrees, named) {
-        (false, false, false, false, false) => Shows::Graph,
-        (true, false, false, false, false) => Shows::Findings,
-        (false, true, false, false, false) => Shows::Plan,
-        (false, false, true, false, false) => Shows::Matches,
-        (false, false, false, true, true) => Shows::Agrees,
+    match (findings, plan, matches, ops, agrees, named) {
+        (false, false, false, false, false, false) => Shows::Graph,
+        (true, false, false, false, false, false) => Shows::Findings,
+        (false, true, false, false, false, false) => Shows::Plan,
+        (false, false, true, false, false, false) => Shows::Matches,
+        (false, false, false, true, false, false) => Shows::Ops,
+        (false, false, false, false, true, true) => Shows::Agrees,
         _ => Shows::Several,
     }
 }
@@ -366,6 +387,7 @@ fn shows_in(command: Command, matches: &ArgMatches<'_>) -> Shows
             is_set(matches.get_str("findings")),
             is_set(matches.get_str("plan")),
             matches.get_str("matches").is_some(),
+            is_set(matches.get_str("ops")),
             matches.get_str("agrees").is_some(),
             matches.get_strs("local").is_some(),
         ),

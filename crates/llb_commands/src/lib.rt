@@ -42,7 +42,7 @@ pub use agreement_text::agreements_over;
 pub use assembling::asm_over;
 pub use bounded::{ReadFault, read_bounded};
 pub use command_line::{command_of, llbm_command};
-pub use disassembling::dis_over;
+pub use disassembling::{dis_over, ops_over};
 pub use fault::{OutputFault, ProgramFault, refusal};
 pub use finding_lines::findings_over;
 pub use match_text::matches_over;

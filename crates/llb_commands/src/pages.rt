@@ -55,6 +55,7 @@ Options:
       --findings       Print all faults of the definition instead
       --plan           Print for each vertex whether what it reads goes by value
       --matches <OLD>  Print for each vertex which vertex of the definition OLD it matches
+      --ops            Print the ops of all entries that can be read instead
       --agrees <NEW>   Print for each vertex whether it reads the same of each NAME and of NEW
   -h, --help           Print help
 ";

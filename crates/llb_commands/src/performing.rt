@@ -8,7 +8,7 @@ ghost use Rattle.llb_commands.specs.Running.{Opens, TellsRefusal};
 use crate::agreement_text::agreements_over;
 use crate::assembling::asm_over;
 use crate::command_line::line_or_page;
-use crate::disassembling::dis_over;
+use crate::disassembling::{dis_over, ops_over};
 use crate::fault::{ProgramFault, refusal};
 use crate::finding_lines::findings_over;
 use crate::match_text::{definition_in, matches_over};
@@ -126,6 +126,7 @@ fn show_by<S: Sources, R: Read, W: Write, E: Write>(
         (Shows::Graph, _) => show_over(alloc, input, out, err),
         (Shows::Findings, _) => findings_over(alloc, input, out, err),
         (Shows::Plan, _) => plan_over(alloc, input, out, err),
+        (Shows::Ops, _) => ops_over(alloc, input, out, err),
         (Shows::Matches, Some(file)) => match_by(alloc, file, sources, input, out, err),
         (Shows::Agrees, Some(file)) => agree_by(alloc, file, locals, sources, input, out, err),
         _ => words_refusal(&WordsFault::Words(None), err),

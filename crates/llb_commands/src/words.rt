@@ -36,6 +36,8 @@ pub enum Shows {
     Plan,
     /// For each vertex which vertex of an older definition it matches.
     Matches,
+    /// The ops of its entries.
+    Ops,
     /// For each vertex whether it reads the same of local sources that have a newer tree.
     Agrees,
     /// The words ask for more than one of these, or for one that has no use for trees of local sources, or lacks them; they are refused.

@@ -10,8 +10,8 @@ same_some : {A B : Type 0} (f : A → B) (o : Option A) → is_some o ≡ is_som
 same_some f None = refl
 same_some f (Some x) = refl
 
-same_five : (a a' b b' d d' e e' f f' : Bool) → a ≡ a' → b ≡ b' → d ≡ d' → e ≡ e' → f ≡ f' → shows_by a b d e f ≡ shows_by a' b' d' e' f'
-same_five a a' b b' d d' e e' f f' p q r s t = λ i. shows_by (p i) (q i) (r i) (s i) (t i)
+same_six : (a a' b b' d d' e e' f f' g g' : Bool) → a ≡ a' → b ≡ b' → d ≡ d' → e ≡ e' → f ≡ f' → g ≡ g' → shows_by a b d e f g ≡ shows_by a' b' d' e' f' g'
+same_six a a' b b' d d' e e' f f' g g' p q r s t u = λ i. shows_by (p i) (q i) (r i) (s i) (t i) (u i)
 
 pub returns-in-Show : goal.returns-in-Show
 returns-in-Show c =
@@ -21,9 +21,10 @@ returns-in-Show c =
     let plan = c.is_set-in-Show.ensures ∙ ap is_set (c.get_str-in-Show.ensures ∙ first_value-rows found (codes "plan")) in
     let old = c.is_some.ensures ∙ same_some (λ w. w.now) c.get_str-in-Show-2.result
     ∙ ap is_some (c.get_str-in-Show-2.ensures ∙ first_value-rows found (codes "matches")) in
-    let newer = c.is_some-in-Show.ensures ∙ same_some (λ w. w.now) c.get_str-in-Show-3.result
-    ∙ ap is_some (c.get_str-in-Show-3.ensures ∙ first_value-rows found (codes "agrees")) in
+    let ops = c.is_set-in-Show-2.ensures ∙ ap is_set (c.get_str-in-Show-3.ensures ∙ first_value-rows found (codes "ops")) in
+    let newer = c.is_some-in-Show.ensures ∙ same_some (λ w. w.now) c.get_str-in-Show-4.result
+    ∙ ap is_some (c.get_str-in-Show-4.ensures ∙ first_value-rows found (codes "agrees")) in
     let named = c.is_some-in-Show-2.ensures ∙ same_some (λ s. map (λ v. v.now) s.now) c.get_strs.result
     ∙ ap is_some (c.get_strs.ensures ∙ words_in_rows found (codes "local")) in
     subst (λ k. IsShows k rows c.shows_by.result) (sym c.in-Show.is)
-    (c.shows_by.ensures ∙ same_five _ _ _ _ _ _ _ _ _ _ findings plan old newer named)
+    (c.shows_by.ensures ∙ same_six _ _ _ _ _ _ _ _ _ _ _ _ findings plan old ops newer named)
