@@ -79,13 +79,13 @@ agrees_rule = record (new_rule (codes "agrees")) { long = Some (codes "agrees");
 abbrev pub run_app : App
 run_app = with_rule (with_rule (new_app (codes "run")) workers_rule) local_rule
 
--- `clap`'s description of the command `show` with its options alone
+-- `clap`'s description of the command `show` with the options that need no tree
 abbrev pub show_options_app : App
-show_options_app = with_rule (with_rule (with_rule (with_rule (with_rule (new_app (codes "show")) findings_rule) plan_rule) matches_rule) ops_rule) agrees_rule
+show_options_app = with_rule (with_rule (with_rule (with_rule (new_app (codes "show")) findings_rule) plan_rule) matches_rule) ops_rule
 
 -- `clap`'s description of the command `show`
 abbrev pub show_app : App
-show_app = with_rule show_options_app local_rule
+show_app = with_rule (with_rule show_options_app agrees_rule) local_rule
 
 -- `clap`'s description of the command `step` with its options alone
 abbrev pub step_options_app : App

@@ -181,7 +181,7 @@ fn run_command<'a>(alloc: Global) -> Result<clap::Command<'a>, AllocError>
         .arg(local_arg(alloc))
 }
 
-// Returns `clap`'s description of the command `show` with its options alone.
+// Returns `clap`'s description of the command `show` with the options that need no tree.
 fn show_options<'a>(alloc: Global) -> Result<clap::Command<'a>, AllocError>
     ensures app { IfOk result (λ c. app_of c ≡ show_options_app) }
     ensures plain { IfOk result (λ c. (fields_of c).has_globals ≡ false) }
@@ -191,8 +191,7 @@ fn show_options<'a>(alloc: Global) -> Result<clap::Command<'a>, AllocError>
         .arg(findings_arg(alloc))?
         .arg(plan_arg(alloc))?
         .arg(matches_arg(alloc))?
-        .arg(ops_arg(alloc))?
-        .arg(agrees_arg(alloc))
+        .arg(ops_arg(alloc))
 }
 
 // Returns `clap`'s description of the command `show`.
@@ -200,7 +199,9 @@ fn show_command<'a>(alloc: Global) -> Result<clap::Command<'a>, AllocError>
     ensures app { IfOk result (λ c. app_of c ≡ show_app) }
     ensures plain { IfOk result (λ c. (fields_of c).has_globals ≡ false) }
 {
-    show_options(alloc)?.arg(local_arg(alloc))
+    show_options(alloc)?
+        .arg(agrees_arg(alloc))?
+        .arg(local_arg(alloc))
 }
 
 // Returns `clap`'s description of the command `step` with its options alone.
