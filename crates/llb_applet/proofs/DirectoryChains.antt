@@ -166,7 +166,7 @@ module _ (t : TreeMap) (tree : IsTree t) (p ns : List (List ℕ)) (c new : TreeM
           by_answer (Err e) gives in' out s has done granted = λ other.
               let e : ◌≡◌ {A = Result TreeMap TreeFault} (Ok (with_tree t p c)) (Err e) = sym granted ∙ gives other in absurd cc
 
--- nothing is there
+-- where a lookup finds nothing, there is no entry
 pub not_there : {X : Type 0} (f : X → Entry) (o : Option X) (e : Option Entry) (b : Bool) → b ≡ is_some o → b ≡ false → option_map f o ≡ e → e ≡ None
 not_there f None e b is without same = sym same
 not_there f (Some x) e b is without same = absurd (true≢false (sym is ∙ without))

@@ -66,7 +66,7 @@ stands_later : (o : Option ℕ) (ls : List (Option ℕ)) (l : ℕ) → o ≢ Som
 stands_later o ls l apart (zero, at) = absurd (apart (let same : o ≡ Some l = cc in same))
 stands_later o ls l apart (suc w, at) = (w, at)
 
--- where each has a place of its own in a list, there are no more
+-- if the number of each lease is in a list, there are at most as many leases as the list is long
 few_by : (ls : List (Option ℕ)) (out : Leases) → ((l : ℕ) (ps : List Instance) → cache.Has out l ps → Stands ls l) → leases out ≤ length ls
 few_by [] out whose = let none = nothing_out out (λ l ps at. let w = whose l ps at in cc (w.1)) in omega (arith, none)
 few_by (None ∷ ls) out whose =

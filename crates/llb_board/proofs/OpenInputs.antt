@@ -38,7 +38,7 @@ pub count_same : (p q : ℕ → Bool) (n : ℕ) → ((u : ℕ) → u < n → p u
 count_same p q zero same = refl
 count_same p q (suc n) same = λ i. (if same n (omega arith) i then 1 else 0) + count_same p q n (λ u low. same u (omega (arith, low))) i
 
--- one number more passes
+-- if exactly one more number below n passes, the count is one more
 pub count_one : (p q : ℕ → Bool) (n u : ℕ) → u < n → p u ≡ false → q u ≡ true → ((w : ℕ) → w ≢ u → p w ≡ q w) → count_below q n ≡ 1 + count_below p n
 count_one p q zero u low out passes same = absurd (omega (arith, low))
 count_one p q (suc n) u low out passes same = elim (cases_eq u n) [

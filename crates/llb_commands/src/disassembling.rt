@@ -1,7 +1,7 @@
 //! The command `dis`, and the option `--ops` of the command `show`: each reads a definition, and writes the text of its entries.
 
 ghost use Rattle.std.specs.Prelude.{◌≡◌, List};
-ghost use Rattle.llb_asm.specs.DisassembledText.{Formed, plain_text};
+ghost use Rattle.llb_asm.specs.DisassembledText.{Formed, AreFormed, AreWorded, plain_text};
 ghost use Rattle.llb_commands.specs.Assembly.{Describes, Disassembles, IsTextBy, IsUnread};
 ghost use Rattle.llb_commands.specs.AssemblyParts.{entries_fault, AreBy, AreEntriesIn, EndsIn};
 ghost use Rattle.llb_commands.specs.WrittenPrefix.{PrintsOut};
@@ -45,6 +45,22 @@ fn entries_from<R: Read>(alloc: Global, input: &mut R) -> Result<Entries, Progra
     }
 }
 
+// Writes the text of entries to a writer, as `dis` does.
+fn entries_over<W: Write>(alloc: Global, entries: &Entries, out: &mut W) -> Result<(), AsmFault>
+    ensures { (xs : List Formed) × AreFormed entries.now xs × PrintsOut (W.contents out.old) (W.contents out.new) (plain_text xs) result }
+{
+    let mut sink = Over::new(out);
+    disassemble(alloc, entries, &mut sink)
+}
+
+// Writes the ops of entries to a writer.
+fn words_over<W: Write>(alloc: Global, entries: &Entries, out: &mut W) -> Result<(), AsmFault>
+    ensures { (xs : List Formed) × AreWorded entries.now xs × PrintsOut (W.contents out.old) (W.contents out.new) (plain_text xs) result }
+{
+    let mut sink = Over::new(out);
+    describe(alloc, entries, &mut sink)
+}
+
 // Writes the text of entries to a writer.
 fn text_over<W: Write>(
     alloc: Global,
@@ -54,10 +70,9 @@ fn text_over<W: Write>(
 ) -> Result<(), AsmFault>
     ensures { (xs : List Formed) × AreBy written entries.now xs × PrintsOut (W.contents out.old) (W.contents out.new) (plain_text xs) result }
 {
-    let mut sink = Over::new(out);
     match written {
-        Written::Entries => disassemble(alloc, entries, &mut sink),
-        Written::Ops => describe(alloc, entries, &mut sink),
+        Written::Entries => entries_over(alloc, entries, out),
+        Written::Ops => words_over(alloc, entries, out),
     }
 }
 

@@ -1,6 +1,6 @@
 //! Laws of digests and of contents: what no result depends on. Vertices with the same digest, or that do the same on equal inputs, have the same outcome, also
 //! in two graphs; so work that was done in one run can be used in another. And if the local trees of two runs differ only in the contents of files, and these
-//! contents are related by a relation that appending keeps, then the outcomes differ only in related contents. `tools/build` relies on the laws of contents: it
+//! contents are related by a relation that appending keeps, then outcomes differ only in related contents. `llbm-tools build` uses the laws of contents: it
 //! gives the program a short token in place of each content. Besides the laws the crate has calls that test or prove their premises, and some functions that
 //! use them. The crate is built on `llb_stepper`, for the lines that are printed.
 //!

@@ -32,7 +32,7 @@ pub record IsWaiting (g : List (List ℕ)) (start : ℕ) (done : List Bool) (b :
   pub edge : HasEdge g w.row b
   pub blocked : IsFresh done b
 
--- `IsReady`, by the marks
+-- `IsReady`, said by the marks of the rows that are done
 pub record IsOpenRow (g : List (List ℕ)) (start : ℕ) (done : List Bool) (k : ℕ) : Type 0 where
   pub reached : Reached g start k
   pub fresh : IsFresh done k

@@ -68,7 +68,7 @@ fold_apart front (p ∷ ps) h a =
     ∙ fold_apart (front ++ p ∷ []) ps (All-append (λ f. AllByRecursion (λ q. same q.0 f.0 ≡ false) ps) front (p ∷ []) (tails front p ps h) (a.0, tt)) a.1
     ∙ append_assoc front (p ∷ []) ps
 
--- attributes with keys of their own settle as they are
+-- attributes no two of which have one key are all kept, in their order
 pub settles_again : (ps : List Held) → Apart ps → settled (map entry_of ps) ≡ ps
 unfolding settled
 settles_again ps a = fold_apart [] ps tt a

@@ -34,7 +34,7 @@ AreInnerFew (number row v rest) = AreInnerFew rest
 AreInnerFew (bytes row held rest) = AreInnerFew rest
 AreInnerFew (message row inner rest) = NoneOften (numbers_of inner) × AreInnerFew inner × AreInnerFew rest
 
--- ---- what is counted together is counted after one another
+-- ---- the count that a reader carries from one field to the next
 
 -- no number occurs too often among these and those before, where the last has occurred `count` times
 abbrev HasRoom : ℕ → ℕ → List ℕ → Type 0

@@ -12,7 +12,7 @@ use Rattle.llb_model.proofs.ProgramPrefixes.{finished_whole}
 none_before : (n : ℕ) → 0 + n ≡ n
 none_before n = omega arith
 
--- the first n micro-steps leave what n further ones leave of the work that is begun with
+-- the first n micro-steps leave what n steps leave that begin with the initial work
 first_are : (steps : List MicroStep) (work : Work) (n : ℕ) → further steps 0 (part steps work 0) n ≡ part steps work n
 unfolding part
 first_are steps work zero = refl

@@ -316,7 +316,7 @@ spells line text (Some x) same is =
     let (row, stands, own, parts) = line_gives text (parts_seen x) (sym is) in
     (row, stands, sym same ∙ own, parts)
 
--- bytes that are no row's line, whatever follows it, begin with no row
+-- bytes that are, for no row, its line and then further bytes, begin with no row
 pub begins_none : (bytes : List ℕ) → ((row : Pair) (later : List ℕ) → IsRow row → bytes ≢ line_of row ++ later) → (row : Pair) → ¬ Begins bytes row
 begins_none bytes none row begins = none row begins.1.0 begins.0 begins.1.1
 

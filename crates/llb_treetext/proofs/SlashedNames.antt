@@ -82,7 +82,7 @@ last_slash [] (c ∷ b) x y nx ny same = absurd (none_inside b y x nx cc)
 last_slash (c ∷ a) [] x y nx ny same = let rest : y ≡ a ++ 47 ∷ x = cc in absurd (none_inside a x y ny rest)
 last_slash (c ∷ a) (d ∷ b) x y nx ny same = let one : c ≡ d = cc in let rest = last_slash a b x y nx ny cc in λ i. one i ∷ rest i
 
--- ---- names before names
+-- ---- when the text of names begins with the text of other names
 
 head_not : (b : ℕ) (m s t : List ℕ) → NoSlash (b ∷ m) → IsTail s → s ≡ b ∷ t → ⊥
 head_not b m s t none (inl nil) same = let e : ◌≡◌ {A = List ℕ} [] (b ∷ t) = sym nil ∙ same in absurd cc
