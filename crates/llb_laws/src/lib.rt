@@ -15,6 +15,7 @@
 //! definitions.
 //! `copies::copies_alike`: a copy depends on the tree that it copies from only at and below what it copies. `copies::reads_end_alike`: so does the outcome of a
 //! file op, and of all that follows from it, also in two graphs. `copies::agree_below` and `copies::agree_for`: whether two trees are the same there.
+//! `reads::vertex_agrees` and `reads::agreements`: whether a vertex reads the same of two trees of a source.
 //! `graphs::parts_are_not_refused`: a part of a loaded definition that has what its result reaches is refused for no cause. `load_renamed`: whether a
 //! definition is another one with local sources renamed. `load_matched`: which vertices of two definitions do the same on inputs that match, and that no more
 //! do. `open_on_kept`: a board that goes on from outputs of an earlier board, which local sources replace. `run_twice`: two runs of one definition, of which
