@@ -66,6 +66,7 @@ pub mod on_tokens;
 mod parts;
 mod plain;
 pub mod plan;
+pub mod reads;
 mod renaming;
 mod spelling;
 mod twice;

@@ -20,7 +20,8 @@ than the model says (not counting those with an execution), and for each Dockerf
 those that llbmd refuses by a link, with the seed that makes it; then the counts, among them how many Dockerfiles ended
 well on both, and how many failed on both, by BuildKit's reason. What fails on both shows little: if fewer than a third
 of the Dockerfiles end well on both, a line says so, and counts as a failure. --keep FOLDER stores the cases that have a
-line, and their trees. With --start the last line is `N passed, M failed, K skipped`; if the packages are not there, or
+line, and their trees. With --start the last line is `N passed, M failed, K skipped`; skipped are cases with executions
+where the daemon runs none, for want of runc or of rights for it, as a line says. If the packages are not there, or
 the daemon can't be built, can't be run here or does not copy and merge, since the host forbids mounts for example, or
 llbmd is not there, a line says so, and that is all: one skipped.
 
@@ -48,7 +49,7 @@ from llbm_tools.counts import Counts
 from llbm_tools.daemon import daemon as daemons
 from llbm_tools.daemon import debian_packages, fixed_sets, project_dockerfiles, random_definitions, random_dockerfiles
 from llbm_tools.daemon import runs, started_daemon
-from llbm_tools.daemon.cases import Case, Lines, Verdict, lines_of
+from llbm_tools.daemon.cases import NO_EXECUTION, Case, Lines, Verdict, lines_of
 from llbm_tools.daemon.runs import LINKED, MOST_SECONDS, Daemon, DaemonBusy, DaemonLost, Ran
 from llbm_tools.daemon.started_daemon import Started
 from llbm_tools.definitions import adopted_ops
@@ -237,18 +238,18 @@ def verdicts(one: Comparison, options: argparse.Namespace) -> Iterator[tuple[Cas
 
 
 def fixed(theirs: Started, ours: Daemon, options: argparse.Namespace) -> Iterator[tuple[Case, Verdict]]:
-    """Yields the cases of the fixed sets that are asked for; those with executions if the daemon is this program's."""
+    """Yields the cases of the fixed sets that are asked for."""
     if options.links:
         yield from fixed_sets.of_exporters(theirs.daemon, ours)
-        yield from fixed_sets.of_links(theirs.daemon, ours, options.start, rules_that_warn())
+        yield from fixed_sets.of_links(theirs, ours, rules_that_warn())
     if options.dockerfiles:
         files = fixed_sets.Dockerfiles(theirs, ours)
         yield from files.verdicts()
         print(files.line(), flush=True)
 
 
-def compare_all(theirs: Started, ours: Daemon, options: argparse.Namespace) -> tuple[int, int]:
-    """Compares all cases, prints what was found, and returns how many had none, and how many had something."""
+def compare_all(theirs: Started, ours: Daemon, options: argparse.Namespace) -> Counts:
+    """Compares all cases, prints what was found, and counts those with nothing to say as passed."""
     counts: collections.Counter[str] = collections.Counter()
     cases, found = 0, 0
     try:
@@ -265,7 +266,7 @@ def compare_all(theirs: Started, ours: Daemon, options: argparse.Namespace) -> t
         raise Refused(f"a daemon died: {fault}") from fault
     for what in sorted(counts):
         print(f"{what}: {counts[what]:,}")
-    return cases - found, found + has_too_few(counts)
+    return Counts(cases - found, found + has_too_few(counts), counts[NO_EXECUTION])
 
 
 @contextlib.contextmanager
@@ -296,7 +297,7 @@ def against(options: argparse.Namespace) -> int:
         raise Refused(cause)
     try:
         with ours(options, buildctl) as daemon:
-            return int(compare_all(Started(theirs, pathlib.Path(os.devnull)), daemon, options)[1] > 0)
+            return compare_all(Started(theirs, pathlib.Path(os.devnull), False), daemon, options).status()
     except started_daemon.NoDaemon as fault:
         raise Refused(str(fault)) from fault
 
@@ -305,12 +306,12 @@ def against_started(options: argparse.Namespace) -> int:
     """Compares all cases with a daemon of this program's own, prints counts, and returns the status."""
     try:
         with started_daemon.started(options.packages) as theirs, ours(options, theirs.daemon.command[0]) as daemon:
-            passed, failed = compare_all(theirs, daemon, options)
+            counts = compare_all(theirs, daemon, options)
     except (started_daemon.NoDaemon, program.Missing) as fault:
         print(f"skipped: {fault}\n{Counts(skipped=1).line()}")
         return 0
-    print(Counts(passed, failed).line())
-    return int(failed > 0)
+    print(counts.line())
+    return counts.status()
 
 
 def parse_options() -> argparse.Namespace:

@@ -10,17 +10,15 @@ import contextlib
 import json
 import os
 import pathlib
-import platform
 import re
 import shlex
-import shutil
 import subprocess
 import sys
 import time
 from collections.abc import Iterator
 
 from llbm_tools import paths
-from llbm_tools.daemon import daemon, debian_packages, go_building
+from llbm_tools.daemon import daemon, go_building, runc
 from llbm_tools.daemon.debian_packages import Missing
 from llbm_tools.daemon.go_building import BUILDKIT, DAEMON, OUT, Go, NotBuilt
 
@@ -84,36 +82,17 @@ def systemd_of(packages: pathlib.Path) -> pathlib.Path:
     return FOLDER / "path"
 
 
-def runc_of_host(offline: bool) -> pathlib.Path:
-    """Returns the path of runc: that of this host, or of this host's release of Debian.
+def build(packages: pathlib.Path) -> None:
+    """Builds the daemon and buildctl, if they are not there, and puts runc beside it.
 
-    Offline, where there is none, it is a program that fails: the daemon starts with it, and executions fail.
+    Nothing is fetched: if runc is not there, the daemon's executions fail.
     """
-    found = shutil.which("runc")
-    if found:
-        return pathlib.Path(found)
-    if offline:
-        failing = FOLDER / "runc-that-fails"
-        failing.write_text("#!/bin/sh\nexit 1\n", "utf-8")
-        return failing
-    release = platform.freedesktop_os_release().get("VERSION_CODENAME", "")
-    if not release:
-        raise Missing("there is no such program, and this host is no release of Debian: runc")
-    root = debian_packages.unpacked(paths.CACHE / "debian-runc", ["runc"], release)
-    return root / "usr" / "sbin" / "runc"
-
-
-def build(packages: pathlib.Path, offline: bool = False) -> None:
-    """Builds the daemon, which needs runc beside it, and buildctl, if they are not there."""
-    if PROGRAM.exists() and (OUT / "buildctl").exists():
-        return
-    go: Go = go_building.with_packages(packages, systemd_of(packages), STUBS)
-    assert go.code is not None
-    shutil.copyfile(runc_of_host(offline), FOLDER / "runc")
-    go.build(f"{BUILDKIT}/cmd/buildkitd", PROGRAM, *TAGS, f"-overlay={overlay_of(go.code)}")
-    (FOLDER / "runc").replace(PROGRAM.with_name("runc"))
-    PROGRAM.with_name("runc").chmod(0o755)
-    daemon.build_clients(go, OUT)
+    if not (PROGRAM.exists() and (OUT / "buildctl").exists()):
+        go: Go = go_building.with_packages(packages, systemd_of(packages), STUBS)
+        assert go.code is not None
+        go.build(f"{BUILDKIT}/cmd/buildkitd", PROGRAM, *TAGS, f"-overlay={overlay_of(go.code)}")
+        daemon.build_clients(go, OUT)
+    runc.put(PROGRAM.with_name("runc"))
 
 
 def scripted_runc(packages: pathlib.Path, folder: pathlib.Path) -> pathlib.Path:
@@ -155,7 +134,7 @@ def end(child: subprocess.Popen[bytes]) -> None:
 
 
 @contextlib.contextmanager
-def running(folder: pathlib.Path, runc: pathlib.Path | None = None) -> Iterator[tuple[str, int]]:
+def running(folder: pathlib.Path, instead: pathlib.Path | None = None) -> Iterator[tuple[str, int]]:
     """Runs the daemon with its state in a folder, and yields its address and its process; only root can do this.
 
     The path of the folder has to be short: a socket is below it. In memory the daemon does not wait for a disk. Another
@@ -167,7 +146,7 @@ def running(folder: pathlib.Path, runc: pathlib.Path | None = None) -> Iterator[
     settings.write_text(SETTINGS, "utf-8")
     address = f"unix://{folder}/socket"
     words = [str(PROGRAM), "--config", str(settings), "--root", str(folder / "state"), "--addr", address]
-    words += [f"--oci-worker-binary={runc}"] if runc else []
+    words += [f"--oci-worker-binary={instead}"] if instead else []
     known = {"HOME": str(folder), "TMPDIR": str(folder), "PATH": f"{PROGRAM.parent}:/usr/sbin:/usr/bin:/sbin:/bin"}
     with (
         open(folder / "printed", "wb") as printed,

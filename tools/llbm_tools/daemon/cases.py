@@ -7,6 +7,9 @@ from llbm_tools.trees.tree_maps import Tree
 
 Lines = list[bytes] | None
 
+# What is counted of a case with an execution where BuildKit's daemon runs none.
+NO_EXECUTION = "left out: an execution, which BuildKit's daemon does not run here"
+
 
 class Case(NamedTuple):
     """A definition with the trees of its sources, and a name by which it can be made again."""

@@ -7,7 +7,8 @@ daemon is built from them. Nothing is installed, and root is not needed. With --
 used.
 
 Out: the daemon, out/llbmd or -o FILE, and llbm-rules beside it. With --clients also BuildKit's `buildctl` and its
-frontend for Dockerfiles beside it, built from Debian's packages; docker-buildx is in
+frontend for Dockerfiles beside it, built from Debian's packages, and for BuildKit's own daemon, which `dev/dev
+against-buildkit` builds, runc is fetched if this host has none; docker-buildx is in
 FOLDER/usr/libexec/docker/cli-plugins. Builds are kept in out/go-cache, for the next one.
 
 Exit status: 0 the programs are built; 1 one does not compile; 2 the command line is refused, or there are no modules
@@ -20,7 +21,7 @@ import pathlib
 
 from llbm_tools import common, paths
 from llbm_tools.command_line import Parser
-from llbm_tools.daemon import debian_packages, go_building
+from llbm_tools.daemon import debian_packages, go_building, runc
 from llbm_tools.daemon.go_building import BUILDKIT, MODULE, OUT, Go
 from llbm_tools.streams import Refused, exit_status
 
@@ -60,6 +61,14 @@ def build_clients(go: Go, folder: pathlib.Path) -> None:
             go.build(package, folder / name, *STATIC)
 
 
+def fetch_runc() -> None:
+    """Fetches runc for BuildKit's own daemon, or says why that will run no executions."""
+    try:
+        runc.fetched()
+    except debian_packages.Missing as fault:
+        common.say(f"runc can't be had: {fault}; dev/dev against-buildkit will leave executions out")
+
+
 def make(options: argparse.Namespace) -> int:
     """Builds what is asked for, and returns the exit status."""
     try:
@@ -68,6 +77,7 @@ def make(options: argparse.Namespace) -> int:
         build_daemon(go, options.o.absolute())
         if options.clients:
             build_clients(go, options.o.absolute().parent)
+            fetch_runc()
     except debian_packages.Missing as fault:
         raise Refused(f"the packages can't be had: {fault}") from fault
     except go_building.NotBuilt as fault:

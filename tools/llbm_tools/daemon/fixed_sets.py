@@ -11,7 +11,7 @@ import time
 from collections.abc import Iterator
 
 from llbm_tools.daemon import link_cases, runs, stored_dockerfiles
-from llbm_tools.daemon.cases import Case, Verdict, lines_of
+from llbm_tools.daemon.cases import NO_EXECUTION, Case, Verdict, lines_of
 from llbm_tools.daemon.runs import LINKED, Daemon, Ran
 from llbm_tools.daemon.scripted_runc import SKIP
 from llbm_tools.daemon.started_daemon import Started
@@ -85,14 +85,14 @@ def of_exporters(theirs: Daemon, ours: Daemon) -> Iterator[tuple[Case, Verdict]]
         yield case, Verdict(["links"], [] if is_same else [f"{case.name}: {said[0]}"])
 
 
-def of_links(theirs: Daemon, ours: Daemon, runs_scripts: bool, rules: frozenset[str]) -> Iterator[tuple[Case, Verdict]]:
+def of_links(theirs: Started, ours: Daemon, rules: frozenset[str]) -> Iterator[tuple[Case, Verdict]]:
     """Yields how each case with links ends; those with executions only where the daemon runs scripts of llbm."""
     for one in link_cases.cases():
         case = Case(f"links: {one.name}", one.data, {link_cases.NAME: link_cases.tree()}, is_modelled=False)
-        if one.runs and not runs_scripts:
-            yield case, Verdict(["links that are left out: executions"], [])
+        if one.runs and not theirs.runs_scripts:
+            yield case, Verdict([NO_EXECUTION], [])
             continue
-        there, here = (daemon.run(case.data, case.sources) for daemon in (theirs, ours))
+        there, here = (daemon.run(case.data, case.sources) for daemon in (theirs.daemon, ours))
         yield case, Verdict(["links"], fault_of(case.name, one.is_refused, there, here, rules))
 
 
@@ -118,6 +118,9 @@ class Dockerfiles:
         """Yields how each one ends."""
         for name, parts in stored_dockerfiles.stored():
             case = Case(name, parts["Dockerfile"].encode(), {"context": stored_dockerfiles.context_of(parts)}, True)
+            if not self.theirs.runs_scripts:
+                yield case, Verdict([NO_EXECUTION], [])
+                continue
             with tempfile.TemporaryDirectory(prefix="llbm-images-") as folder:
                 there, here = self.both(case, parts, pathlib.Path(folder))
             is_same = lines_of(there.tree) == lines_of(here.tree) and there.tree is not None
@@ -143,5 +146,7 @@ class Dockerfiles:
 
     def line(self) -> str:
         """Returns a line with the medians of the times."""
+        if not self.times[0]:
+            return "none of these Dockerfiles was built, for want of executions"
         there, here = map(statistics.median, self.times)
         return f"median of the builds of these: {there:.2f} s by BuildKit's daemon, {here:.2f} s by llbmd"

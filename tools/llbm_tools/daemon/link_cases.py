@@ -277,6 +277,12 @@ def after_executions() -> list[Linked]:
     return found
 
 
+def least() -> Linked:
+    """Returns a case by which a daemon shows that it runs scripts of llbm."""
+    maker = Maker()
+    return maker.ends("an execution", maker.run("write /new x", maker.entries[0]), True)
+
+
 def exported() -> Linked:
     """Returns the definition of which all exporters make the same: links, among them two names of one file."""
     maker = Maker()

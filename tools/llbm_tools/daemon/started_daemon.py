@@ -10,7 +10,8 @@ import tempfile
 from collections.abc import Iterator
 from typing import NamedTuple
 
-from llbm_tools.daemon import buildkitd, debian_packages
+from llbm_tools import common
+from llbm_tools.daemon import buildkitd, debian_packages, link_cases
 from llbm_tools.daemon import daemon as daemons
 from llbm_tools.daemon.go_building import OUT, NotBuilt
 from llbm_tools.daemon.runs import Daemon, DaemonBusy, DaemonLost
@@ -50,17 +51,28 @@ def build(packages: pathlib.Path) -> None:
     """Builds the daemon and its client, without fetching anything, or raises NoDaemon."""
     try:
         daemons.check_offline(packages)
-        buildkitd.build(packages, offline=True)
+        buildkitd.build(packages)
     except (debian_packages.Missing, NotBuilt, OSError) as fault:
         last = str(fault).strip().splitlines()[-1:]
         raise NoDaemon(f"buildkitd is not built: {''.join(last)}") from fault
 
 
 class Started(NamedTuple):
-    """A daemon that builds; its executions are scripts of llbm, or have stand-ins by the rules in a file."""
+    """A daemon that builds; if it runs scripts of llbm, these are its executions, or stand-ins by the rules in a file.
+    """
 
     daemon: Daemon
     rules: pathlib.Path
+    runs_scripts: bool
+
+
+def runs_scripts(daemon: Daemon) -> bool:
+    """Returns whether the daemon runs scripts of llbm, and prints why not: for want of runc, or of rights for it."""
+    least = link_cases.least()
+    ran = daemon.run(least.data, {link_cases.NAME: link_cases.tree()})
+    if ran.tree is None:
+        print(f"executions are left out: buildkitd runs none here: {common.printable(ran.said)}", flush=True)
+    return ran.tree is not None
 
 
 @contextlib.contextmanager
@@ -79,7 +91,7 @@ def started(packages: pathlib.Path) -> Iterator[Started]:
             raise NoDaemon(f"buildkitd does not start here: {fault}") from fault
         daemon = Daemon(str(OUT / "buildctl"), address, NO_CACHE)
         check(daemon)
-        yield Started(daemon, folder / buildkitd.RULES)
+        yield Started(daemon, folder / buildkitd.RULES, runs_scripts(daemon))
 
 
 @contextlib.contextmanager

@@ -17,9 +17,9 @@ Exit status: 0 all tests pass; 1 some fail; 2 the command line is refused; 130 i
 
 import argparse
 import collections
+import concurrent.futures
 import io
 import multiprocessing
-import multiprocessing.pool
 import os
 import random
 import shutil
@@ -204,22 +204,24 @@ def counts_of(result: unittest.TestResult) -> Counts:
     return Counts(max(0, result.testsRun - len(wrong) - len(skipped)), len(wrong), len(skipped))
 
 
-def pool_of(jobs: int) -> multiprocessing.pool.Pool:
-    """Starts the processes that run tests, which SIGTERM ends from their start on."""
-    handler = signal.signal(signal.SIGTERM, signal.SIG_DFL)
-    try:
-        return multiprocessing.get_context("fork").Pool(jobs)
-    finally:
-        signal.signal(signal.SIGTERM, handler)
-
-
 def run_groups(jobs: int) -> Iterator[GroupResult]:
-    """Runs all groups in this many processes, and yields their results as they end."""
+    """Runs all groups in this many processes, and yields their results as they end.
+
+    A process that dies is an error, and none is waited for longer than its groups take: they end by themselves if all
+    went well, and else by SIGKILL, since a test may leave a handler for any other signal.
+    """
     if jobs == 1:
         yield from map(run_group, range(len(groups)))
         return
-    with pool_of(jobs) as pool:
-        yield from pool.imap_unordered(run_group, range(len(groups)))
+    forked = multiprocessing.get_context("fork")
+    with concurrent.futures.ProcessPoolExecutor(jobs, forked, signal.signal, (signal.SIGTERM, signal.SIG_DFL)) as pool:
+        try:
+            tasks = [pool.submit(run_group, number) for number in range(len(groups))]
+            yield from (task.result() for task in concurrent.futures.as_completed(tasks))
+        except BaseException:
+            for child in multiprocessing.active_children():
+                child.kill()
+            raise
 
 
 def known(word: str) -> str:

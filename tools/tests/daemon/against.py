@@ -17,7 +17,7 @@ import unittest
 from unittest import mock
 
 from llbm_tools.daemon import (
-    against_buildkit, daemon, fixed_sets, link_cases, project_dockerfiles, random_definitions, random_dockerfiles, runs,
+    against_buildkit, cases, daemon, fixed_sets, link_cases, project_dockerfiles, random_definitions, random_dockerfiles, runs,
     scripted_runc, started_daemon, stored_dockerfiles,
 )  # fmt: skip
 from llbm_tools.rules import examples
@@ -147,7 +147,7 @@ class Against(unittest.TestCase):
         @contextlib.contextmanager
         def start(_):
             started_daemon.check(there)
-            yield started_daemon.Started(there, pathlib.Path(os.devnull))
+            yield started_daemon.Started(there, pathlib.Path(os.devnull), True)
 
         with (
             mock.patch.object(started_daemon, "started", start),
@@ -203,7 +203,7 @@ class Against(unittest.TestCase):
         played = Played(runs.Ran(FILE))
         played.exported = lambda *_: "no exporter"
         with tempfile.TemporaryDirectory() as folder, mock.patch.object(started_daemon, "check", lambda _: None):
-            started = started_daemon.Started(played, pathlib.Path(folder, "rules"))
+            started = started_daemon.Started(played, pathlib.Path(folder, "rules"), True)
             given = options(start=True, links=True, dockerfiles=True)
             found, lines = called(lambda: list(against_buildkit.fixed(started, played, given)))
         refused = [one for one in link_cases.cases() if one.is_refused]
@@ -214,6 +214,33 @@ class Against(unittest.TestCase):
         self.assertRegex(lines[-1], medians)
         with self.assertRaisesRegex(Refused, "^--dockerfiles needs --start"):
             against_buildkit.against(options(dockerfiles=True))
+
+    def test_what_has_an_execution_is_left_out_where_the_daemon_runs_none(self):
+        played = Played(runs.Ran(None, "error: process .. did not complete successfully: exit code: 1"))
+        runs_scripts, said = called(started_daemon.runs_scripts, played)
+        self.assertFalse(runs_scripts)
+        self.assertRegex(said[0], "^executions are left out: buildkitd runs none here: error: process")
+        started = started_daemon.Started(played, pathlib.Path("none"), False)
+        with mock.patch.object(fixed_sets, "of_exporters", lambda *_: []):
+            given = options(start=True, links=True, dockerfiles=True)
+            found, lines = called(lambda: list(against_buildkit.fixed(started, played, given)))
+        left_out = [case.name for case, verdict in found if verdict == ([cases.NO_EXECUTION], [])]
+        executions = [f"links: {one.name}" for one in link_cases.cases() if one.runs]
+        self.assertEqual(left_out, [*executions, *(name for name, _ in stored_dockerfiles.stored())])
+        self.assertEqual(lines, ["none of these Dockerfiles was built, for want of executions"])
+
+    def test_what_is_left_out_counts_as_skipped(self):
+        played = Played(runs.Ran(FILE))
+        case = cases.Case("a", b"", {})
+        some = [(case, cases.Verdict([name], lines)) for name, lines in
+                [(cases.NO_EXECUTION, []), ("links", []), ("links", ["wrong"]), ("left out: busy", [])]]  # fmt: skip
+        with (
+            mock.patch.object(against_buildkit, "fixed", lambda *_: some),
+            mock.patch.object(against_buildkit, "verdicts", lambda *_: []),
+        ):
+            started = started_daemon.Started(played, pathlib.Path("none"), False)
+            counts, _ = called(against_buildkit.compare_all, started, played, options())
+        self.assertEqual(counts, (1, 1, 1))
 
     def test_all_is_skipped_without_llbmd(self):
         with self.assertRaisesRegex(started_daemon.NoDaemon, "there is no program nowhere/llbmd: `dev/dev daemon"):

@@ -2,10 +2,11 @@
 
 import os
 import pathlib
+import subprocess
 from unittest import mock
 
 from llbm_tools import paths
-from llbm_tools.daemon import buildkitd, debian_packages, go_building
+from llbm_tools.daemon import buildkitd, debian_packages, go_building, runc
 from tests import base
 from tests.base import Folder, run
 
@@ -118,6 +119,48 @@ class Names(Folder):
     def test_no_host_is_named(self):
         for place in (debian_packages.__file__, go_building.__file__, debian_packages.NAMES):
             self.assertNotIn("://", pathlib.Path(place).read_text("utf-8"), place)
+
+
+class Runc(Folder):
+    """runc, which is the host's, or Debian's, or a program that fails."""
+
+    def setUp(self):
+        super().setUp()
+        self.at = pathlib.Path(os.fsdecode(self.folder))
+        unpacked = self.at / "unpacked"
+        for name, value in [("FOLDER", unpacked), ("UNPACKED", unpacked / "runc")]:
+            change = mock.patch.object(runc, name, value)
+            change.start()
+            self.addCleanup(change.stop)
+
+    def put(self, host=None):
+        """Puts it beside a daemon, on a host that has this one; returns what it prints, and its status."""
+        place = self.at / "put"
+        with mock.patch.object(runc.shutil, "which", lambda _: host):
+            runc.put(place)
+        done = subprocess.run([place], capture_output=True, text=True)
+        self.assertEqual([one.name for one in self.at.iterdir() if one.name.startswith("put")], ["put"])
+        return done.stdout + done.stderr, done.returncode
+
+    def test_the_host_s_comes_before_debian_s(self):
+        (self.at / "host").write_text("#!/bin/sh\necho host\n", "utf-8")
+        self.assertEqual(self.put(), ("there is no runc here\n", 1))
+        (self.at / "unpacked").mkdir()
+        (self.at / "unpacked" / "runc").write_text("#!/bin/sh\necho unpacked\n", "utf-8")
+        self.assertEqual(self.put()[1], 1)
+        (self.at / "unpacked" / debian_packages.STAMP).write_text("runc\n", "utf-8")
+        self.assertEqual(self.put(), ("unpacked\n", 0))
+        self.assertEqual(self.put(str(self.at / "host")), ("host\n", 0))
+
+    def test_it_is_fetched_where_there_is_none(self):
+        fetched = mock.Mock()
+        with (
+            mock.patch.object(runc.shutil, "which", lambda _: None),
+            mock.patch.object(debian_packages, "unpacked", fetched),
+            mock.patch.object(runc.platform, "freedesktop_os_release", lambda: {"VERSION_CODENAME": "bookworm"}),
+        ):
+            self.assertEqual(runc.fetched(), runc.UNPACKED)
+        fetched.assert_called_once_with(runc.FOLDER, ["runc"], "bookworm")
 
 
 class Modules(Folder):

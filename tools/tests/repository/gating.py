@@ -51,6 +51,15 @@ def printed(work):
     return found, out.getvalue().splitlines()
 
 
+def ended(gate):
+    """Runs a gate, whose handler of SIGTERM is gone afterwards; returns its status and its lines."""
+    handler = signal.getsignal(signal.SIGTERM)
+    try:
+        return printed(gate.main)
+    finally:
+        signal.signal(signal.SIGTERM, handler)
+
+
 class Parts(base.WithPrograms):
     """Parts that are run, and their counts."""
 
@@ -184,7 +193,7 @@ class Gate(base.WithPrograms):
             mock.patch.multiple(gate_parts, run=run, run_together=together),
             mock.patch.object(sys, "argv", ["gate", "--quick", *words]),
         ):
-            status, lines = printed(gate.main)
+            status, lines = ended(gate)
         return status, ran, lines
 
     def test_more_adds_parts(self):
@@ -204,10 +213,8 @@ class Gate(base.WithPrograms):
         gate.parts_of = lambda options: whole
         gate.run_part = lambda part, table: table.extend(part[3:]) or Counts(*part[:3])
         gate.keep_receipt = lambda: receipts.append("receipt")
-        handler = signal.getsignal(signal.SIGTERM)
         with mock.patch.object(sys, "argv", ["gate", *words]):
-            status, lines = printed(gate.main)
-        signal.signal(signal.SIGTERM, handler)
+            status, lines = ended(gate)
         return status, lines, receipts
 
     def test_the_last_line_has_the_sums(self):

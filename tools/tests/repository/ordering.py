@@ -1,9 +1,14 @@
-"""Tests of `test`: the order of the tests, their counts, and those that get no answer."""
+"""Tests of `test`: the order of the tests, their counts, those that get no answer, and the processes that run them."""
 
 import io
+import multiprocessing
+import os
 import random
+import signal
 import subprocess
 import unittest
+from concurrent.futures.process import BrokenProcessPool
+from unittest import mock
 
 from llbm_tools.repository import test as tested
 from tests import base
@@ -28,6 +33,12 @@ class Sample(unittest.TestCase):
 
     def is_cut_off(self):
         raise subprocess.TimeoutExpired(["llbm"], 600)
+
+    def ignores_a_signal(self):
+        signal.signal(signal.SIGTERM, signal.SIG_IGN)
+
+    def dies(self):
+        os.kill(os.getpid(), signal.SIGKILL)
 
 
 class Run(unittest.TestCase):
@@ -58,3 +69,19 @@ class Run(unittest.TestCase):
         self.assertEqual(order("7"), order("7"))
         self.assertNotEqual(order("7"), order("8"))
         self.assertEqual(sorted(map(sorted, order("7"))), sorted(map(sorted, order("8"))))
+
+    def run_in_two(self, *names):
+        """Runs groups of one test each in two processes, and returns their results; no process is left."""
+        with mock.patch.object(tested, "groups", [unittest.TestSuite([Sample(name)]) for name in names]):
+            try:
+                return list(tested.run_groups(2))
+            finally:
+                self.assertEqual(multiprocessing.active_children(), [])
+
+    def test_the_processes_end_whatever_a_test_leaves(self):
+        results = self.run_in_two(*["ignores_a_signal"] * 6)
+        self.assertEqual([one.counts for one in results], [(1, 0, 0)] * 6)
+
+    def test_a_process_that_dies_is_an_error(self):
+        with self.assertRaises(BrokenProcessPool):
+            self.run_in_two("passes", "dies", "ignores_a_signal")
