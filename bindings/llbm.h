@@ -53,6 +53,10 @@ uint8_t llb_show(llb *it, const uint8_t *definition, size_t length);
 uint8_t llb_asm(llb *it, const uint8_t *text, size_t length);
 uint8_t llb_dis(llb *it, const uint8_t *definition, size_t length);
 
+/* Writes the ops of a definition's entries, as `llbm show --ops`, to the output: each entry that can be read, whatever its encoding is, in the words
+ * of llb_dis. */
+uint8_t llb_ops(llb *it, const uint8_t *definition, size_t length);
+
 /* Writes a line for each fault of a definition, as `llbm show --findings`, to the output: 0 if there is none, 2 if there is any. At 2 the
  * messages are empty. */
 uint8_t llb_findings(llb *it, const uint8_t *definition, size_t length);

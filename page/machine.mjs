@@ -145,6 +145,11 @@ export class Handle {
     return this.call('plan', [definition]);
   }
 
+  /** Writes the ops of a definition's entries, in the words of `dis`, and returns the status. */
+  ops(definition) {
+    return this.call('ops', [definition]);
+  }
+
   /** Writes for each vertex of a definition which vertex of an older definition it matches, and returns the status. */
   matches(old, definition) {
     return this.call('matches', [old, definition]);

@@ -183,6 +183,7 @@ static uint8_t call_matches(llb *it) { return llb_matches(it, definition, defini
 static uint8_t call_script(llb *it) { return llb_script(it, (const uint8_t *)"true", 4); }
 static uint8_t call_asm(llb *it) { return llb_asm(it, text, text_length); }
 static uint8_t call_dis(llb *it) { return llb_dis(it, definition, definition_length); }
+static uint8_t call_ops(llb *it) { return llb_ops(it, definition, definition_length); }
 static uint8_t call_next(llb *it) { return line(it, "next"); }
 static uint8_t call_status(llb *it) { return line(it, "status"); }
 
@@ -254,6 +255,7 @@ int main(int count, char **words) {
     refuse("llb_script", call_script, NULL);
     refuse("llb_asm", call_asm, NULL);
     refuse("llb_dis", call_dis, NULL);
+    refuse("llb_ops", call_ops, NULL);
     refuse("llb_line next", call_next, "2 claim 1 1 -> file 1\n");
     refuse("llb_line status", call_status, STEPPED);
     printf("%d passed, %d failed\n", passed, failed);

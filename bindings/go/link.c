@@ -17,6 +17,7 @@ static struct {
     __typeof__(llb_script) *script;
     __typeof__(llb_asm) *assemble;
     __typeof__(llb_dis) *disassemble;
+    __typeof__(llb_ops) *ops;
     __typeof__(llb_output) *output;
     __typeof__(llb_messages) *messages;
     __typeof__(llb_version) *version;
@@ -38,7 +39,7 @@ const char *llbm_load(const char *path) {
         {"llb_messages", (void **)&calls.messages}, {"llb_close", (void **)&calls.close},
         {"llb_version", (void **)&calls.version},   {"llb_findings", (void **)&calls.findings},
         {"llb_plan", (void **)&calls.plan},         {"llb_matches", (void **)&calls.matches},
-        {"llb_script", (void **)&calls.script},
+        {"llb_script", (void **)&calls.script},     {"llb_ops", (void **)&calls.ops},
     };
     for (size_t i = 0; i < sizeof names / sizeof *names; i++) {
         *names[i].at = dlsym(library, names[i].name);
@@ -76,6 +77,8 @@ WEAK uint8_t llb_script(llb *it, const uint8_t *text, size_t length) { return ca
 WEAK uint8_t llb_asm(llb *it, const uint8_t *text, size_t length) { return calls.assemble(it, text, length); }
 
 WEAK uint8_t llb_dis(llb *it, const uint8_t *definition, size_t length) { return calls.disassemble(it, definition, length); }
+
+WEAK uint8_t llb_ops(llb *it, const uint8_t *definition, size_t length) { return calls.ops(it, definition, length); }
 
 WEAK size_t llb_output(llb *it, uint8_t *out, size_t room) { return calls.output(it, out, room); }
 

@@ -146,6 +146,12 @@ func (m *Machine) Disassemble(definition []byte) (string, error) {
 	return string(output), err
 }
 
+// Ops returns the ops of the entries of a definition: each that can be read, in the words of Disassemble, whatever its encoding is.
+func (m *Machine) Ops(definition []byte) (string, error) {
+	_, output, err := m.do(func(it *C.llb) C.uint8_t { return C.llb_ops(it, first(definition), size(definition)) })
+	return string(output), err
+}
+
 // Open opens a session on a definition and the local trees, in the place of the one that was open.
 func (m *Machine) Open(definition []byte, workers int) error {
 	// A number that does not fit is handed in as the largest that does, and is refused like it.

@@ -111,6 +111,9 @@ func TestResult(t *testing.T) {
 	if err != nil || text != string(example(t, "tour.text")) {
 		t.Error("another text", err)
 	}
+	if ops, err := m.Ops(definition); err != nil || ops != text {
+		t.Error("other ops", err)
+	}
 	result, err := m.Run(definition)
 	if err != nil || !strings.Contains(result, "f 0644 0 0 4c414e473d430a /out/env\n") {
 		t.Errorf("the result is %q, %v", result, err)

@@ -32,6 +32,7 @@ class Definitions(unittest.TestCase):
         definition = self.machine.assemble(TEXT)
         self.assertEqual((EXAMPLES / "tour.definition").read_bytes(), definition)
         self.assertEqual(TEXT, self.machine.disassemble(definition))
+        self.assertEqual(TEXT, self.machine.ops(definition))
         self.assertEqual(
             "0 source steps 1 outputs 1 inputs -\n1 file steps 1 outputs 1 inputs -\n"
             "2 exec steps 6 outputs 1 inputs 1.0 0.0\nresult 2.0\n",

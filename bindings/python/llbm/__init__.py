@@ -114,6 +114,11 @@ class Machine:
         self._checked(self._call("llb_dis", definition))
         return self._output().decode()
 
+    def ops(self, definition: bytes) -> str:
+        """Returns the ops of the entries of a definition: each that can be read, in the words of `disassemble`."""
+        self._checked(self._call("llb_ops", definition))
+        return self._output().decode()
+
     def open(self, definition: bytes, workers: int = 2) -> None:
         """Opens a session on a definition and the local trees, in the place of the one that was open."""
         # A number that does not fit is handed in as the largest that does, and is refused like it.

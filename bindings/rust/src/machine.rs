@@ -24,6 +24,7 @@ extern "C" {
     fn llb_script(it: *mut Handle, text: *const u8, n: usize) -> u8;
     fn llb_asm(it: *mut Handle, text: *const u8, n: usize) -> u8;
     fn llb_dis(it: *mut Handle, definition: *const u8, n: usize) -> u8;
+    fn llb_ops(it: *mut Handle, definition: *const u8, n: usize) -> u8;
     fn llb_output(it: *mut Handle, out: *mut u8, room: usize) -> usize;
     fn llb_messages(it: *mut Handle, out: *mut u8, room: usize) -> usize;
     fn llb_close(it: *mut Handle);
@@ -109,6 +110,12 @@ impl Machine {
     /// Returns the text of the entries of a definition.
     pub fn disassemble(&mut self, definition: &[u8]) -> Result<String, Fault> {
         let status = unsafe { llb_dis(&mut self.0, definition.as_ptr(), definition.len()) };
+        self.text(status)
+    }
+
+    /// Returns the ops of the entries of a definition: each that can be read, in the words of `disassemble`, whatever its encoding is.
+    pub fn ops(&mut self, definition: &[u8]) -> Result<String, Fault> {
+        let status = unsafe { llb_ops(&mut self.0, definition.as_ptr(), definition.len()) };
         self.text(status)
     }
 

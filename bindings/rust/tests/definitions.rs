@@ -41,6 +41,7 @@ fn texts_and_definitions() -> Result<(), Fault> {
     let definition = machine.assemble(&text("tour.text"))?;
     assert_eq!(definition, example("tour.definition"));
     assert_eq!(machine.disassemble(&definition)?, text("tour.text"));
+    assert_eq!(machine.ops(&definition)?, text("tour.text"));
     assert!(machine.show(&definition)?.ends_with("result 2.0\n"));
     Ok(())
 }

@@ -1,7 +1,7 @@
 -- Each entry has a form, and how one more entry is written.
-use Rattle.std.proofs.Common.{◌≡◌, refl, sym, ap, subst, ◌∙◌, ℕ, ◌+◌, ◌<◌, Bool, true, false, cond, List, [], ◌∷◌, ◌++◌, map, drop, length, get_or}
-use Rattle.std.proofs.Common.{Option, Some, None, Result, Ok, Err}
-use Rattle.std.proofs.Common.{inl, inr, arith, true≢false, ◌≤◌, zero, suc}
+use Rattle.std.proofs.Common.{◌≡◌, refl, sym, ap, subst, ◌∙◌, ℕ, ◌+◌, ◌<◌, Bool, true, false, List, [], ◌∷◌, ◌++◌, map, drop, length, get_or}
+use Rattle.std.proofs.Common.{Option, Result, Ok, Err}
+use Rattle.std.proofs.Common.{arith, true≢false, zero, suc}
 use Rattle.std.specs.Result.{IsErrAnd}
 use Rattle.std.specs.Io.KnownBytes.{Appends}
 use Rattle.std.proofs.Math.Numerals.{add-one}
@@ -9,21 +9,20 @@ use Rattle.llb_wire.specs.Sink.{PartOut}
 use Rattle.llb_wire.proofs.ConsecutiveTexts.{part_then, part_after}
 use Rattle.llb_asm.specs.declared.fault.AsmFault.{AsmFault}
 use Rattle.llb_asm.specs.declared.fault.AsmFault.TheVariants as fault
-use Rattle.llb_asm.specs.PrintedPrefix.{Prints}
-use Rattle.std.proofs.lemmas.Bool.{cases_lt, lt-ltb}
+use Rattle.llb_asm.specs.PrintedPrefix.{Prints, HasBy}
 use Rattle.std.proofs.lemmas.Slice.Eq.{bytes_eq-Decides}
 use Rattle.std.proofs.lemmas.Grind.{flat_map-append}
 use Rattle.std.specs.Str.{bytes_eq}
 use Rattle.llb_wire.specs.Digest.{digest_text}
 use Rattle.llb_ops.specs.declared.op.Op.{Op}
 use Rattle.llb_ops.specs.declared.fault.OpFault.{OpFault}
-use Rattle.llb_ops.specs.declared.fault.OpFault.TheVariants.{OverLimit}
-use Rattle.llb_ops.specs.Limits.{entry_limit}
-use Rattle.llb_ops.specs.Messages.{op_of, op_message_of}
+use Rattle.llb_ops.specs.Messages.{op_of}
 use Rattle.llb_ops.specs.Writing.{op_bytes}
 use Rattle.llb_ops.specs.CanonicalFields.{EntryHasFields}
-use Rattle.llb_asm.specs.TextGrammar.{canonical_of}
-use Rattle.llb_asm.specs.DisassembledText.{IsStructured, Form, structured, raw, HasForm, Formed, HaveForms, AreFormed, entry_lines, plain_lines, text_of_lines}
+use Rattle.llb_asm.specs.DisassembledText.{IsStructured, Form, structured, raw, HasForm, Formed, HaveForms, AreFormedBy, entry_lines, plain_lines}
+use Rattle.llb_asm.specs.DisassembledText.{text_of_lines, HasWords}
+use Rattle.llb_asm.specs.declared.print.Wording.{Wording}
+use Rattle.llb_asm.specs.declared.print.Wording.TheVariants.{Exact, Any}
 use Rattle.llb_asm.specs.DisassembledText.{line_text}
 
 -- ---- forms
@@ -50,25 +49,7 @@ other_bytes entry op is other (op', is', same) =
 not_read : (entry : List ℕ) (f : OpFault) → op_of entry ≡ Err f → ¬ IsStructured entry
 not_read entry f is (op, read, same) = no_op op f (sym read ∙ is)
 
--- the canonical bytes of what is read of an entry decide whether it is so written
-pub structured_by : (entry bytes : List ℕ) (b : Bool) → Some bytes ≡ canonical_of (op_of entry) → b ≡ bytes_eq bytes entry
-    → (b ≡ true → IsStructured entry) × (IsStructured entry → b ≡ true)
-structured_by entry bytes b = go (op_of entry) refl
-  where
-    go : (o : Result Op OpFault) → op_of entry ≡ o → Some bytes ≡ canonical_of o → b ≡ bytes_eq bytes entry
-        → (b ≡ true → IsStructured entry) × (IsStructured entry → b ≡ true)
-    go (Err f) is some test = absurd cc
-    go (Ok op) is some test =
-        let same : bytes ≡ op_bytes op = cc in (
-          λ yes. (op, is, sym same ∙ (bytes_eq-Decides bytes entry).0 (sym test ∙ yes)),
-          λ (op', is', written). test ∙ (bytes_eq-Decides bytes entry).1 (same ∙ ap op_bytes (one_op op op' (sym is ∙ is')) ∙ written),
-        )
-
--- an entry that is not read as an op is not written as one
-pub unread_raw : (entry : List ℕ) → None ≡ canonical_of (op_of entry) → ¬ IsStructured entry
-unread_raw entry none (op, is, written) = let some : canonical_of (op_of entry) ≡ Some (op_bytes op) = ap canonical_of is in cc
-
-pub form_of : (entry : List ℕ) → EntryHasFields entry → (form : Form) × HasForm entry form
+form_of : (entry : List ℕ) → EntryHasFields entry → (form : Form) × HasForm entry form
 form_of entry law = go (op_of entry) refl
   where
     same : (op : Op) → op_of entry ≡ Ok op → (b : Bool) → bytes_eq (op_bytes op) entry ≡ b → (form : Form) × HasForm entry form
@@ -79,62 +60,66 @@ form_of entry law = go (op_of entry) refl
     go (Ok op) is = same op is (bytes_eq (op_bytes op) entry) refl
     go (Err f) is = (raw, not_read entry f is)
 
--- an entry that is read is short
-pub read_short : (entry : List ℕ) (op : Op) → op_of entry ≡ Ok op → length entry ≤ entry_limit
-unfolding op_of
-read_short entry op is = elim (cases_lt entry_limit (length entry)) [
-  | inl long ↦ absurd (no_op op OverLimit (sym is ∙ ap (λ b. cond b (refusal OverLimit) (op_message_of entry)) (lt-ltb entry_limit (length entry) long)))
-  | inr short ↦ short
-]
+words_of : (entry : List ℕ) → EntryHasFields entry → (form : Form) × HasWords entry form
+words_of entry law = go (op_of entry) refl
+  where
+    go : (o : Result Op OpFault) → op_of entry ≡ o → (form : Form) × HasWords entry form
+    go (Ok op) is = (structured op (law op is), is)
+    go (Err f) is = (raw, λ op read. no_op op f (sym read ∙ is))
 
-have_more : (xs : List Formed) (x : Formed) → HaveForms xs → HasForm x.0 x.1 → HaveForms (xs ++ x ∷ [])
-have_more [] x all h = (h, tt)
-have_more (y ∷ ys) x all h = (all.0, have_more ys x all.1 h)
+-- each entry has a form
+pub form_by : (w : Wording) (entry : List ℕ) → EntryHasFields entry → (form : Form) × HasBy w entry form
+form_by Exact entry law = form_of entry law
+form_by Any entry law = words_of entry law
 
-map_more : (xs : List Formed) (x : Formed) → map (λ x. x.0) (xs ++ x ∷ []) ≡ map (λ x. x.0) xs ++ x.0 ∷ []
-map_more [] x = refl
-map_more (y ∷ ys) x = ap (λ l. y.0 ∷ l) (map_more ys x)
+module _ (Has : List ℕ → Form → Type 0) where
+  have_more : (xs : List Formed) (x : Formed) → HaveForms Has xs → Has x.0 x.1 → HaveForms Has (xs ++ x ∷ [])
+  have_more [] x all h = (h, tt)
+  have_more (y ∷ ys) x all h = (all.0, have_more ys x all.1 h)
 
--- entries in their forms have forms with one entry more
-pub formed_more : (entries : List (List ℕ)) (xs : List Formed) (entry : List ℕ) → AreFormed entries xs → EntryHasFields entry
-    → (ys : List Formed) × AreFormed (entries ++ entry ∷ []) ys
-formed_more entries xs entry are law =
-    let (form, has) = form_of entry law in (
-      xs ++ (entry, form) ∷ [],
-      record {
-        same = map_more xs (entry, form) ∙ ap (λ l. l ++ entry ∷ []) are.same;
-        forms = have_more xs (entry, form) are.forms has;
-      },
-    )
+  map_more : (xs : List Formed) (x : Formed) → map (λ x. x.0) (xs ++ x ∷ []) ≡ map (λ x. x.0) xs ++ x.0 ∷ []
+  map_more [] x = refl
+  map_more (y ∷ ys) x = ap (λ l. y.0 ∷ l) (map_more ys x)
 
--- ---- how the entries are written
+  -- entries in their forms have forms with one entry more
+  pub formed_more : (entries : List (List ℕ)) (xs : List Formed) (entry : List ℕ) → AreFormedBy Has entries xs → (form : Form) × Has entry form
+      → (ys : List Formed) × AreFormedBy Has (entries ++ entry ∷ []) ys
+  formed_more entries xs entry are (form, has) = (
+    xs ++ (entry, form) ∷ [],
+    record {
+      same = map_more xs (entry, form) ∙ ap (λ l. l ++ entry ∷ []) are.same;
+      forms = have_more xs (entry, form) are.forms has;
+    },
+  )
 
--- the entry at a place has a form
-pub record Next (xs : List Formed) (k : ℕ) (entry : List ℕ) : Type 0 where
-  pub form : Form
-  pub has : HasForm entry form
-  pub is : drop k xs ≡ (entry, form) ∷ drop (k + 1) xs
+  -- ---- how the entries are written
 
-next_in : (xs : List Formed) (k : ℕ) (d : List ℕ) → HaveForms xs → k < length (map (λ x. x.0) xs) → Next xs k (get_or (map (λ x. x.0) xs) k d)
-next_in [] k d all less = absurd (omega arith)
-next_in (x ∷ xs) zero d all less = record { form = x.1; has = all.0; is = refl }
-next_in (x ∷ xs) (suc k) d all less =
-    let y = next_in xs k d all.1 (omega arith) in
-    let later : drop (suc k + 1) (x ∷ xs) ≡ drop (k + 1) xs = ap (λ n. drop n (x ∷ xs)) (add-one (suc k)) ∙ sym (ap (λ n. drop n xs) (add-one k)) in
-    record { form = y.form; has = y.has; is = y.is ∙ ap (λ l. (get_or (map (λ x. x.0) xs) k d, y.form) ∷ l) (sym later) }
+  -- the entry at a place has a form
+  pub record Next (xs : List Formed) (k : ℕ) (entry : List ℕ) : Type 0 where
+    pub form : Form
+    pub has : Has entry form
+    pub is : drop k xs ≡ (entry, form) ∷ drop (k + 1) xs
 
--- in entries with their forms, the one at a place has the form at that place
-pub next_form : (entries : List (List ℕ)) (xs : List Formed) (k : ℕ) (entry : List ℕ) → AreFormed entries xs → k < length entries
-    → entry ≡ get_or entries k entry → Next xs k entry
-next_form entries xs k entry are less is =
-    let y = next_in xs k entry are.forms (subst (λ es. k < length es) (sym are.same) less) in
-    subst (Next xs k) (ap (λ es. get_or es k entry) are.same ∙ sym is) y
+  next_in : (xs : List Formed) (k : ℕ) (d : List ℕ) → HaveForms Has xs → k < length (map (λ x. x.0) xs) → Next xs k (get_or (map (λ x. x.0) xs) k d)
+  next_in [] k d all less = absurd (omega arith)
+  next_in (x ∷ xs) zero d all less = record { form = x.1; has = all.0; is = refl }
+  next_in (x ∷ xs) (suc k) d all less =
+      let y = next_in xs k d all.1 (omega arith) in
+      let later : drop (suc k + 1) (x ∷ xs) ≡ drop (k + 1) xs = ap (λ n. drop n (x ∷ xs)) (add-one (suc k)) ∙ sym (ap (λ n. drop n xs) (add-one k)) in
+      record { form = y.form; has = y.has; is = y.is ∙ ap (λ l. (get_or (map (λ x. x.0) xs) k d, y.form) ∷ l) (sym later) }
+
+  -- in entries with their forms, the one at a place has the form at that place
+  pub next_form : (entries : List (List ℕ)) (xs : List Formed) (k : ℕ) (entry : List ℕ) → AreFormedBy Has entries xs → k < length entries
+      → entry ≡ get_or entries k entry → Next xs k entry
+  next_form entries xs k entry are less is =
+      let y = next_in xs k entry are.forms (subst (λ es. k < length es) (sym are.same) less) in
+      subst (Next xs k) (ap (λ es. get_or es k entry) are.same ∙ sym is) y
 
 module _ (text done : List ℕ) (labels : List (List ℕ)) (xs : List Formed) (k : ℕ) (split : text ≡ done ++ text_of_lines (plain_lines labels (drop k xs))) where
   -- an entry more is done, and others are left
-  pub entry_done : (entry : List ℕ) (next : Next xs k entry)
+  pub entry_done : (Has : List ℕ → Form → Type 0) (entry : List ℕ) (next : Next Has xs k entry)
       → text ≡ done ++ (text_of_lines (entry_lines labels entry next.form) ++ text_of_lines (plain_lines (labels ++ digest_text entry ∷ []) (drop (k + 1) xs)))
-  entry_done entry next =
+  entry_done Has entry next =
       split ∙ ap (λ l. done ++ text_of_lines (plain_lines labels l)) next.is
       ∙ ap (λ l. done ++ l) (flat_map-append line_text (entry_lines labels entry next.form) (plain_lines (labels ++ digest_text entry ∷ []) (drop (k + 1) xs)))
 

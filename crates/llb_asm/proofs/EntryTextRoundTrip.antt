@@ -214,7 +214,7 @@ module _ (earlier : List (List ℕ)) (entry : List ℕ) (few : length earlier < 
 
 -- ---- entries have their places
 
-parts_are : (earlier : List (List ℕ)) (xs : List Formed) → AllByRecursion AreBytes (map entry_of xs) → HaveForms xs
+parts_are : (earlier : List (List ℕ)) (xs : List Formed) → AllByRecursion AreBytes (map entry_of xs) → HaveForms HasForm xs
     → length earlier + length xs ≤ entries_limit → AllByRecursion (λ e. length e ≤ entry_limit) (map entry_of xs)
     → length (definition_bytes (earlier ++ map entry_of xs)) ≤ definition_limit → AreEntries earlier (parts_of earlier xs)
 parts_are earlier [] bytes forms count short small = tt

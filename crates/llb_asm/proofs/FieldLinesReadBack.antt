@@ -139,7 +139,7 @@ module _ (labels : List (List ℕ)) (small : length labels < 2 ^ 64) where
   behind_it : (hand : Hand) (next : Here) (b more : List ℕ) → HasRoom hand (length (b ++ more)) → HasRoom (beyond hand next b) (length more)
   behind_it hand next b more room = room_behind hand next b (length more) (length (b ++ more)) (omega (arith, length-append b more)) room
 
-  -- in a message that is a field of this number
+  -- inside a field that is a message there is room for its bytes
   in_it : (hand : Hand) (n : ℕ) (sub : MessageName) (inner more : List ℕ) → HasRoom hand (length (set_bytes n inner ++ more))
       → HasRoom (within hand n sub) (length inner)
   in_it hand n sub inner more room k below =

@@ -233,7 +233,7 @@ entry_are labels entry (structured op has) few are is =
     )
 entry_are labels entry raw few are is = (item_is (codes "raw") (hex_text entry) refl (bytes_solid entry are), tt)
 
-lines_are : (labels : List (List ℕ)) (xs : List Formed) → length labels + length xs ≤ 2 ^ 64 → AllByRecursion AreBytes (map (λ x. x.0) xs) → HaveForms xs
+lines_are : (labels : List (List ℕ)) (xs : List Formed) → length labels + length xs ≤ 2 ^ 64 → AllByRecursion AreBytes (map (λ x. x.0) xs) → HaveForms HasForm xs
     → AreContents (plain_lines labels xs)
 lines_are labels [] few are have = tt
 lines_are labels (x ∷ xs) few are have =

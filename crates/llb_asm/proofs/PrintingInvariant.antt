@@ -140,7 +140,7 @@ module _ (labels : List (List ℕ)) (depth : ℕ) where
   row_is m row row' n known same e = let at = ap (λ k. by_number k (rows_of m)) same in cc
 
   pub head : (m : MessageName) (last : ℕ) (set : Bool) (fs : Fields) (all : List ℕ) (front : Front) (row : Row) → AreFields m last set fs → all ≡ bytes_of fs
-      → length all < 2 ^ 62 → Finds all (Some front) → row_numbered m front.number ≡ Some row → Head m row front fs
+      → length all < 2 ^ 64 → Finds all (Some front) → row_numbered m front.number ≡ Some row → Head m row front fs
   head m last set (extra []) all front row un is small finds e = absurd (next_nothing all front is finds)
   head m last set (extra (b ∷ more)) all front row un is small finds e =
       let x = unnamed_first m b more un in
@@ -191,7 +191,7 @@ module _ (labels : List (List ℕ)) (depth : ℕ) where
       }
 
   -- nothing is found only where there are no bytes
-  no_bytes : (m : MessageName) (last : ℕ) (set : Bool) (fs : Fields) (rest : List ℕ) → AreFields m last set fs → rest ≡ bytes_of fs → length rest < 2 ^ 62
+  no_bytes : (m : MessageName) (last : ℕ) (set : Bool) (fs : Fields) (rest : List ℕ) → AreFields m last set fs → rest ≡ bytes_of fs → length rest < 2 ^ 64
       → Finds rest None → rest ≡ []
   no_bytes m last set (extra []) rest un is small none = is
   no_bytes m last set (extra (b ∷ more)) rest un is small none = let x = unnamed_first m b more un in absurd (none x.field (ap (λ k. next_field k 0) is
@@ -241,7 +241,7 @@ module _ (labels : List (List ℕ)) (depth : ℕ) where
       cc
 
   only_extra : (m : MessageName) (last : ℕ) (set : Bool) (fs : Fields) (rest : List ℕ) (o : Option Front) → AreFields m last set fs → rest ≡ bytes_of fs
-      → length rest < 2 ^ 62
+      → length rest < 2 ^ 64
       → IsLast m rest o → fields_text labels depth fs ≡ text_of_lines (extra_lines depth rest)
   only_extra m last set (extra more) rest o un is small end = ap (λ b. text_of_lines (extra_lines depth b)) (sym is)
   only_extra m last set (number row v later) rest o (next, of, some, are) is small end =
@@ -259,17 +259,17 @@ module _ (labels : List (List ℕ)) (depth : ℕ) where
       (bytes_is_record row.1.number (bytes_of inner) (named_number m row next.known) size) split)
 
   -- what is left where no named field is left
-  pub left_extra : (m : MessageName) (whole rest written before : List ℕ) (o : Option Front) → Keeps m whole rest written before → length whole < 2 ^ 62
+  pub left_extra : (m : MessageName) (whole rest written before : List ℕ) (o : Option Front) → Keeps m whole rest written before → length whole < 2 ^ 64
       → IsLast m rest o
       → (last : ℕ) (set : Bool) (fs : Fields) → AreFields m last set fs → whole ≡ bytes_of fs
       → written ++ text_of_lines (extra_lines depth rest) ≡ before ++ fields_text labels depth fs
   left_extra m whole rest written before o keeps small end last set fs are is =
       let left = keeps.goes last set fs are is in
-      let short : length rest < 2 ^ 62 = omega (arith, keeps.short, small) in
+      let short : length rest < 2 ^ 64 = omega (arith, keeps.short, small) in
       ap (λ l. written ++ l) (sym (only_extra m left.last left.set left.later rest o left.are left.bytes short end)) ∙ left.all
 
   -- and where nothing is left
-  pub left_none : (m : MessageName) (whole rest written before : List ℕ) → Keeps m whole rest written before → length whole < 2 ^ 62 → Finds rest None
+  pub left_none : (m : MessageName) (whole rest written before : List ℕ) → Keeps m whole rest written before → length whole < 2 ^ 64 → Finds rest None
       → (last : ℕ) (set : Bool) (fs : Fields) → AreFields m last set fs → whole ≡ bytes_of fs → written ≡ before ++ fields_text labels depth fs
   left_none m whole rest written before keeps small none last set fs are is =
       let left = keeps.goes last set fs are is in
@@ -279,7 +279,7 @@ module _ (labels : List (List ℕ)) (depth : ℕ) where
 
   -- one field more is written
   pub goes_on : (m : MessageName) (whole rest written before written' : List ℕ) (front : Front) (row : Row) → Keeps m whole rest written before
-      → length whole < 2 ^ 62
+      → length whole < 2 ^ 64
       → Finds rest (Some front) → row_numbered m front.number ≡ Some row → length front.after.now < length rest
       → ((text later : List ℕ) → HeadText row.1.kind row front.value front.payload.now text later → written' ++ later ≡ written ++ text)
       → Keeps m whole front.after.now written' before

@@ -55,7 +55,7 @@ is_taken text n line is e = ap kept_of (numbered_next text n line is) ∙ (rw e 
 pub none_left : (text : List ℕ) (n : ℕ) → n ≡ length (pieces text) → kept_behind n text ≡ []
 none_left text n e = ap (λ l. kept_of (numbered (n + 1) l)) (drop_of_length-le (pieces text) (omega (arith, e)))
 
--- ---- what the lines lead to
+-- ---- the reading after the remaining lines
 
 -- a line that is not refused leads on to the other lines, from where it leaves the reading
 pub goes_on : (last n : ℕ) (p q : Progress) (line : List ℕ) (lines : List Line) → step_of p line ≡ Ok q

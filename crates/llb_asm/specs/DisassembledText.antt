@@ -1,5 +1,5 @@
 -- The one text that is written for a list of entries.
-use Rattle.std.specs.Prelude.{◌≡◌, ℕ, ◌+◌, ◌*◌, if◌then◌else◌, List, [], ◌∷◌, ◌++◌, map, codes, position, replicate, Option, Some, None, Ok}
+use Rattle.std.specs.Prelude.{◌≡◌, ◌≢◌, ℕ, ◌+◌, ◌*◌, if◌then◌else◌, List, [], ◌∷◌, ◌++◌, map, codes, position, replicate, Option, Some, None, Ok}
 use Rattle.std.specs.List.{flat_map}
 use Rattle.llb_wire.specs.Digest.{digest_text}
 use Rattle.llb_wire.specs.Hexadecimal.{hex_text}
@@ -88,6 +88,11 @@ abbrev pub HasForm : List ℕ → Form → Type 0
 HasForm entry (structured op has) = (op_of entry ≡ Ok op) × (op_bytes op ≡ entry)
 HasForm entry raw = ¬ IsStructured entry
 
+-- an entry has the words of an op if it is read as this op, whatever its bytes are; it has the form `raw` if it can't be read as an op
+abbrev pub HasWords : List ℕ → Form → Type 0
+HasWords entry (structured op has) = op_of entry ≡ Ok op
+HasWords entry raw = (op : Op) → op_of entry ≢ Ok op
+
 -- the lines of an entry: `op {`, the op's fields (in entries of maps, empty keys and values are left out), and `}`; or `raw` and the entry's bytes
 abbrev pub entry_lines : List (List ℕ) → List ℕ → Form → List PlainLine
 entry_lines labels entry (structured op has) = item_line 0 (codes "op") opening ∷ (field_lines labels 1 (without_empty has.fields) ++ (closing_line 0 ∷ []))
@@ -97,15 +102,23 @@ entry_lines labels entry raw = item_line 0 (codes "raw") (hex_text entry) ∷ []
 abbrev pub Formed : Type 0
 Formed = List ℕ × Form
 
--- each of these entries has the form (an op, or raw bytes) with which it is paired
-abbrev pub HaveForms : List Formed → Type 0
-HaveForms [] = Unit {0}
-HaveForms (x ∷ xs) = HasForm x.0 x.1 × HaveForms xs
+-- each of these entries has, by the rule `Has`, the form (an op, or raw bytes) with which it is paired
+abbrev pub HaveForms : (List ℕ → Form → Type 0) → List Formed → Type 0
+HaveForms Has [] = Unit {0}
+HaveForms Has (x ∷ xs) = Has x.0 x.1 × HaveForms Has xs
 
--- `xs` has the entries in their order, each with the form in which it is written
-pub record AreFormed (entries : List (List ℕ)) (xs : List Formed) : Type 0 where
+-- `xs` has the entries in their order, each with the form that it has by the rule `Has`
+pub record AreFormedBy (Has : List ℕ → Form → Type 0) (entries : List (List ℕ)) (xs : List Formed) : Type 0 where
   pub same : map (λ x. x.0) xs ≡ entries
-  pub forms : HaveForms xs
+  pub forms : HaveForms Has xs
+
+-- `xs` has the entries in their order, each with the form in which it is disassembled
+abbrev pub AreFormed : List (List ℕ) → List Formed → Type 0
+AreFormed = AreFormedBy HasForm
+
+-- `xs` has the entries in their order, each with its op if it can be read: its words are those that are written for the op's canonical bytes
+abbrev pub AreWorded : List (List ℕ) → List Formed → Type 0
+AreWorded = AreFormedBy HasWords
 
 -- the lines of entries, given the digest texts of the entries before them; a label may name any earlier entry
 abbrev pub plain_lines : List (List ℕ) → List Formed → List PlainLine

@@ -2,7 +2,8 @@
 //!
 //! Types: `AsmFault` (161 to 164) and `Rule` (what is wrong with a line).
 //! Promise: `assemble` returns the entries that the text spells, or the first faulty line with its first fault. What a text spells is defined without
-//! reference to the code. `disassemble` (`prints`, `some`) writes the entries as the text that the rule `plain_text` makes. Laws: a text is read in at most
+//! reference to the code. `disassemble` (`prints`, `some`) writes the entries as the text that the rule `plain_text` makes; `describe`
+//! writes in the same words each entry that can be read, whatever its encoding is. Laws: a text is read in at most
 //! one way (`one_answer`), and a text that was written is read as the same entries (`reads_back`).
 //!
 //! A caller:
@@ -28,4 +29,4 @@ mod values;
 pub use assembling::assemble;
 pub use fault::{AsmFault, Rule};
 pub use laws::{one_answer, reads_back};
-pub use print::disassemble;
+pub use print::{describe, disassemble};

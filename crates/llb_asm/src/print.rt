@@ -10,8 +10,8 @@ ghost use Rattle.llb_ops.specs.Table.{row_seen};
 ghost use Rattle.llb_ops.specs.declared.table.MessageName.TheVariants as named;
 ghost use Rattle.llb_asm.specs.FieldValueTexts.{number_text};
 ghost use Rattle.llb_asm.specs.DisassembledText.{string_for, held_text, item_line, closing_line, opening, extra_lines, field_lines, line_text, text_of_lines};
-ghost use Rattle.llb_asm.specs.DisassembledText.{IsStructured, Form, HasForm, entry_lines, Formed, AreFormed, plain_lines, plain_text};
-ghost use Rattle.llb_asm.specs.PrintedPrefix.{Prints, Finds, held_lines};
+ghost use Rattle.llb_asm.specs.DisassembledText.{Form, entry_lines, Formed, AreFormed, AreFormedBy, AreWorded, plain_lines, plain_text};
+ghost use Rattle.llb_asm.specs.PrintedPrefix.{Prints, Finds, HasBy, bytes_by, held_lines, is_op_by};
 
 use crate::entry::canonical;
 use crate::fault::AsmFault;
@@ -29,6 +29,13 @@ struct Front<'a> {
     value: u64,
     payload: &'a [u8],
     after: &'a [u8],
+}
+
+/// Which entries are written as ops: those that are canonical, or any that can be read.
+#[derive(Clone, Copy)]
+enum Wording {
+    Exact,
+    Any,
 }
 
 fn front_of(bytes: &[u8]) -> Option<Front<'_>>
@@ -54,7 +61,6 @@ fn front_of(bytes: &[u8]) -> Option<Front<'_>>
 
 // Begins a line: appends two spaces for each level, and then a name.
 fn push_name(out: &mut Vec<u8>, depth: usize, name: &[u8]) -> Result<(), Memory>
-    requires { depth < 2 ^ 62 }
     ensures { OnOk result (out.new.items ≡ out.old.items ++ (replicate (2 * depth) 32 ++ name.now)) }
 {
     for _ in 0..depth {
@@ -66,7 +72,6 @@ fn push_name(out: &mut Vec<u8>, depth: usize, name: &[u8]) -> Result<(), Memory>
 
 // Appends the line that opens a message.
 fn push_opening(out: &mut Vec<u8>, depth: usize, name: &str) -> Result<(), Memory>
-    requires { depth < 2 ^ 62 }
     ensures { OnOk result (out.new.items ≡ out.old.items ++ line_text (item_line depth name.now opening)) }
 {
     push_name(out, depth, name.as_bytes())?;
@@ -76,7 +81,6 @@ fn push_opening(out: &mut Vec<u8>, depth: usize, name: &str) -> Result<(), Memor
 
 // Appends the line that closes a message.
 fn push_closing(out: &mut Vec<u8>, depth: usize) -> Result<(), Memory>
-    requires { depth < 2 ^ 62 }
     ensures { OnOk result (out.new.items ≡ out.old.items ++ line_text (closing_line depth)) }
 {
     push_name(out, depth, b"}".as_slice())?;
@@ -92,7 +96,6 @@ fn push_number_line(
     row: &FieldRow,
     number: u64,
 ) -> Result<(), Memory>
-    requires { depth < 2 ^ 62 }
     ensures { OnOk result (out.new.items ≡ out.old.items ++ line_text (item_line depth row.now.name.now (number_text row.now.field.kind number))) }
 {
     push_name(out, depth, row.name.as_bytes())?;
@@ -149,7 +152,6 @@ fn push_held_line(
     row: &FieldRow,
     held: &[u8],
 ) -> Result<(), Memory>
-    requires { depth < 2 ^ 62 }
     ensures { IsBytesOf row.now.field.kind held.now → OnOk result
         (out.new.items ≡ out.old.items ++ text_of_lines (held_lines labels.now depth (row_seen row.now) held.now)) }
 {
@@ -165,7 +167,6 @@ fn push_held_line(
 
 // Appends the line of the extra bytes, if there are any.
 fn push_extra(alloc: Global, out: &mut Vec<u8>, depth: usize, extra: &[u8]) -> Result<(), Memory>
-    requires { depth < 2 ^ 62 }
     ensures { OnOk result (out.new.items ≡ out.old.items ++ text_of_lines (extra_lines depth extra.now)) }
 {
     if extra.is_empty() {
@@ -186,7 +187,7 @@ fn push_fields(
     depth: usize,
     bytes: &[u8],
 ) -> Result<(), Memory>
-    requires { depth + length bytes.now < 2 ^ 62 }
+    requires { depth + length bytes.now < 2 ^ 64 }
     ensures { (last : ℕ) (set : Bool) (fs : Fields) → AreFields message last set fs → bytes.now ≡ bytes_of fs
         → OnOk result (out.new.items ≡ out.old.items ++ text_of_lines (field_lines labels.now depth (without_empty fs))) }
 {
@@ -217,7 +218,7 @@ fn push_fields(
 
 // Appends the lines of an op with these canonical bytes.
 fn push_op(alloc: Global, out: &mut Vec<u8>, labels: &Labels, bytes: &[u8]) -> Result<(), Memory>
-    requires { length bytes.now < 2 ^ 32 }
+    requires { length bytes.now + 1 < 2 ^ 64 }
     ensures { (fs : Fields) → AreFields named.Op 0 false fs → bytes.now ≡ bytes_of fs
         → OnOk result (out.new.items ≡ out.old.items ++ text_of_lines
         (item_line 0 (codes "op") opening ∷ (field_lines labels.now 1 (without_empty fs) ++ (closing_line 0 ∷ [])))) }
@@ -237,35 +238,67 @@ fn push_raw(alloc: Global, out: &mut Vec<u8>, entry: &[u8]) -> Result<(), Memory
     Ok(())
 }
 
-// Returns whether an entry is the canonical bytes of the op that it is read as.
-fn is_structured(alloc: Global, entry: &[u8]) -> Result<bool, Memory>
-    ensures { IfOk result (λ yes. IsTrue yes ↔ IsStructured entry.now) }
+// Returns whether an entry is written as the op that it is read as, given the op's canonical bytes.
+fn is_op_by(wording: Wording, bytes: &[u8], entry: &[u8]) -> bool
+    ensures { result ≡ is_op_by wording bytes.now entry.now }
 {
-    match canonical(alloc, entry)? {
-        Some(bytes) => Ok(bytes.as_slice() == entry),
-        None => Ok(false),
+    match wording {
+        Wording::Exact => bytes == entry,
+        Wording::Any => true,
     }
 }
 
-// Returns the text of an entry.
-fn entry_text(alloc: Global, labels: &Labels, entry: &[u8]) -> Result<Vec<u8>, Memory>
-    ensures { (form : Form) → HasForm entry.now form → IfOk result (λ text. text.items ≡ text_of_lines (entry_lines labels.now entry.now form)) }
+// Returns the canonical bytes of the op as which an entry is written; `None` if it is written as raw bytes.
+fn op_by(alloc: Global, wording: Wording, entry: &[u8]) -> Result<Option<Bytes>, Memory>
+    ensures { (form : Form) → HasBy wording entry.now form → IfOk result (λ o. o ≡ bytes_by form) }
+{
+    match canonical(alloc, entry)? {
+        Some(bytes) if is_op_by(wording, bytes.as_slice(), entry) => Ok(Some(bytes)),
+        _ => Ok(None),
+    }
+}
+
+// Returns the text of an entry, given the canonical bytes of the op as which it is written, if it is.
+fn text_by(
+    alloc: Global,
+    labels: &Labels,
+    entry: &[u8],
+    op: Option<Bytes>,
+) -> Result<Vec<u8>, Memory>
+    ensures { (form : Form) → op ≡ bytes_by form → IfOk result (λ text. text.items ≡ text_of_lines (entry_lines labels.now entry.now form)) }
 {
     let mut text = Vec::new(alloc);
-    if is_structured(alloc, entry)? {
-        push_op(alloc, &mut text, labels, entry)?;
-    } else {
-        push_raw(alloc, &mut text, entry)?;
+    match op {
+        Some(bytes) => push_op(alloc, &mut text, labels, bytes.as_slice())?,
+        None => push_raw(alloc, &mut text, entry)?,
     }
     Ok(text)
 }
 
+// Returns the text of an entry.
+fn entry_text(
+    alloc: Global,
+    wording: Wording,
+    labels: &Labels,
+    entry: &[u8],
+) -> Result<Vec<u8>, Memory>
+    ensures { (form : Form) → HasBy wording entry.now form → IfOk result (λ text. text.items ≡ text_of_lines (entry_lines labels.now entry.now form)) }
+{
+    let op = op_by(alloc, wording, entry)?;
+    text_by(alloc, labels, entry, op)
+}
+
 // Returns the text of an entry, and appends the entry's digest text to the digest texts of the earlier entries.
-fn labelled_text(alloc: Global, labels: &mut Labels, entry: &[u8]) -> Result<Vec<u8>, Memory>
-    ensures text { (form : Form) → HasForm entry.now form → IfOk result (λ text. text.items ≡ text_of_lines (entry_lines labels.old entry.now form)) }
+fn labelled_text(
+    alloc: Global,
+    wording: Wording,
+    labels: &mut Labels,
+    entry: &[u8],
+) -> Result<Vec<u8>, Memory>
+    ensures text { (form : Form) → HasBy wording entry.now form → IfOk result (λ text. text.items ≡ text_of_lines (entry_lines labels.old entry.now form)) }
     ensures labels { OnOk result (labels.new ≡ labels.old ++ digest_text entry.now ∷ []) }
 {
-    let text = entry_text(alloc, labels, entry)?;
+    let text = entry_text(alloc, wording, labels, entry)?;
     labels.push(alloc, entry)?;
     Ok(text)
 }
@@ -273,16 +306,17 @@ fn labelled_text(alloc: Global, labels: &mut Labels, entry: &[u8]) -> Result<Vec
 // Writes an entry to a sink.
 fn print_entry<W: Sink>(
     alloc: Global,
+    wording: Wording,
     labels: &mut Labels,
     entry: &Bytes,
     out: &mut W,
 ) -> Result<(), AsmFault>
-    ensures prints { (form : Form) → HasForm entry.now form → Prints (W.taken out.old) (W.taken out.new) (W.failed out.new)
+    ensures prints { (form : Form) → HasBy wording entry.now form → Prints (W.taken out.old) (W.taken out.new) (W.failed out.new)
         (text_of_lines (entry_lines labels.old entry.now form)) result }
     ensures labels { OnOk result (labels.new ≡ labels.old ++ digest_text entry.now ∷ []) }
     ensures same { W.lender out.new ≡ W.lender out.old }
 {
-    let Ok(text) = labelled_text(alloc, labels, entry.as_slice()) else {
+    let Ok(text) = labelled_text(alloc, wording, labels, entry.as_slice()) else {
         return Err(AsmFault::Memory);
     };
     match write_all(out, text.as_slice()) {
@@ -294,27 +328,45 @@ fn print_entry<W: Sink>(
 // Writes entries to a sink.
 fn print_entries<W: Sink>(
     alloc: Global,
+    wording: Wording,
     labels: &mut Labels,
     entries: &[Bytes],
     out: &mut W,
 ) -> Result<(), AsmFault>
-    ensures prints { (xs : List Formed) → AreFormed entries.now xs → Prints (W.taken out.old) (W.taken out.new) (W.failed out.new)
+    ensures prints { (xs : List Formed) → AreFormedBy (HasBy wording) entries.now xs → Prints (W.taken out.old) (W.taken out.new) (W.failed out.new)
         (text_of_lines (plain_lines labels.old xs)) result }
     ensures same { W.lender out.new ≡ W.lender out.old }
 {
     for entry in entries {
-        print_entry(alloc, labels, entry, out)?;
+        print_entry(alloc, wording, labels, entry, out)?;
     }
     Ok(())
 }
 
 // Proves that each entry has a form in which it is written.
-fn entries_have_forms(entries: &[Bytes])
-    ensures { (xs : List Formed) × AreFormed entries.now xs }
+fn entries_have_forms(wording: Wording, entries: &[Bytes])
+    ensures { (xs : List Formed) × AreFormedBy (HasBy wording) entries.now xs }
 {
     for entry in entries {
         entry_has_fields(entry.as_slice());
     }
+}
+
+// Writes the text of entries to a sink, one entry at a time.
+fn print_text<W: Sink>(
+    alloc: Global,
+    wording: Wording,
+    entries: &[Bytes],
+    out: &mut W,
+) -> Result<(), AsmFault>
+    ensures prints { (xs : List Formed) → AreFormedBy (HasBy wording) entries.now xs → Prints (W.taken out.old) (W.taken out.new) (W.failed out.new)
+        (plain_text xs) result }
+    ensures some { (xs : List Formed) × AreFormedBy (HasBy wording) entries.now xs }
+    ensures same { W.lender out.new ≡ W.lender out.old }
+{
+    entries_have_forms(wording, entries);
+    let mut labels = Labels::new(alloc);
+    print_entries(alloc, wording, &mut labels, entries, out)
 }
 
 /// Writes the text of entries to a sink, one entry at a time. An entry that is the canonical bytes of an op is written as
@@ -327,7 +379,17 @@ pub fn disassemble<W: Sink>(alloc: Global, entries: &Entries, out: &mut W) -> Re
     ensures some { (xs : List Formed) × AreFormed entries.now xs }
     ensures same { W.lender out.new ≡ W.lender out.old }
 {
-    entries_have_forms(entries.as_slice());
-    let mut labels = Labels::new(alloc);
-    print_entries(alloc, &mut labels, entries.as_slice(), out)
+    print_text(alloc, Wording::Exact, entries.as_slice(), out)
+}
+
+/// Writes the ops of entries to a sink, one entry at a time: an entry that can be read as an op, however it is encoded, as `disassemble` writes the op's
+/// canonical bytes, and any other entry as `raw` and its bytes. A label names an earlier entry by the digest of the entry's own bytes.
+///
+/// Fails as `disassemble` does.
+pub fn describe<W: Sink>(alloc: Global, entries: &Entries, out: &mut W) -> Result<(), AsmFault>
+    ensures prints { (xs : List Formed) → AreWorded entries.now xs → Prints (W.taken out.old) (W.taken out.new) (W.failed out.new) (plain_text xs) result }
+    ensures some { (xs : List Formed) × AreWorded entries.now xs }
+    ensures same { W.lender out.new ≡ W.lender out.old }
+{
+    print_text(alloc, Wording::Any, entries.as_slice(), out)
 }

@@ -7,7 +7,7 @@ use Rattle.llb_asm.specs.TextGrammar as asm
 use Rattle.llb_asm.specs.TextGrammar.{SpellsEntries}
 use Rattle.llb_asm.specs.declared.fault.AsmFault.{AsmFault}
 use Rattle.llb_asm.specs.declared.fault.AsmFault.TheVariants.{Line, UnknownLabel, Memory, Write}
-use Rattle.llb_asm.specs.DisassembledText.{Formed, AreFormed, plain_text}
+use Rattle.llb_asm.specs.DisassembledText.{Formed, AreFormed, AreWorded, plain_text}
 use Rattle.llb_loader.specs.LocalSources.{Local}
 use Rattle.llb_commands.specs.ProgramOutput.{Yields}
 use Rattle.llb_ops.specs.declared.fault.OpFault.TheVariants.{OverLimit}
@@ -39,13 +39,21 @@ HasFaultyLine p text = (e : AsmFault) × (refuses_a_line e ≡ true) × asm.Asse
 abbrev pub IsNoText : ProgramFault → List ℕ → Type 0
 IsNoText p text = ((limit < length text) × (p ≡ fault.TooLong)) ⊎ HasFaultyLine p text
 
--- `text` is what is written for the entries of the definition with these bytes
-pub record IsDisassembled (definition text : List ℕ) : Type 0 where
+-- `text` is what is written for the entries of the definition with these bytes, each in the form that it has by the rule `Are`
+pub record IsTextBy (Are : List (List ℕ) → List Formed → Type 0) (definition text : List ℕ) : Type 0 where
   pub entries : List (List ℕ)
   pub read : definition_of definition ≡ Ok entries
   pub forms : List Formed
-  pub are : AreFormed entries forms
+  pub are : Are entries forms
   pub same : text ≡ plain_text forms
+
+-- the text has the entries that are canonical as ops
+abbrev pub IsDisassembled : List ℕ → List ℕ → Type 0
+IsDisassembled = IsTextBy AreFormed
+
+-- the text has all entries that can be read as ops
+abbrev pub IsDescribed : List ℕ → List ℕ → Type 0
+IsDescribed = IsTextBy AreWorded
 
 -- the bytes are no definition, and the fault says why: it is the fault of reading them; or 81 13, if there are more bytes than the program reads
 abbrev pub IsUnread : ProgramFault → List ℕ → Type 0
@@ -75,6 +83,10 @@ Assembles = Ends IsAssembled IsNoText
 -- how disassembling ends: it writes the text of a definition's entries
 abbrev pub Disassembles : Io → ℕ → Type 0
 Disassembles = Ends IsDisassembled IsUnread
+
+-- how `show --ops` ends: it writes the ops of a definition's entries
+abbrev pub Describes : Io → ℕ → Type 0
+Describes = Ends IsDescribed IsUnread
 
 -- Take the definition that a text is assembled to, and any bytes whose entries are the entries of the text. If runs of both by one worker, on the same local
 -- trees, yield a text of the result, then they yield the same text.

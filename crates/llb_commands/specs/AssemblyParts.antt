@@ -3,10 +3,13 @@ use Rattle.std.specs.Prelude.{◌≡◌, ◌⊎◌, ℕ, List, Option, Result, O
 use Rattle.llb_ops.specs.declared.fault.OpFault.{OpFault}
 use Rattle.llb_ops.specs.Faults as ops
 use Rattle.llb_ops.specs.Definition.{definition_of}
+use Rattle.llb_asm.specs.DisassembledText.{Formed, AreFormed, AreWorded}
 use Rattle.llb_asm.specs.declared.fault.AsmFault.{AsmFault}
 use Rattle.llb_asm.specs.declared.fault.AsmFault.TheVariants as asm
 use Rattle.llb_commands.specs.declared.bounded.ReadFault.{ReadFault}
 use Rattle.llb_commands.specs.declared.bounded.ReadFault.TheVariants as reading
+use Rattle.llb_commands.specs.declared.disassembling.Written.{Written}
+use Rattle.llb_commands.specs.declared.disassembling.Written.TheVariants as written
 use Rattle.llb_commands.specs.declared.fault.ProgramFault.{ProgramFault}
 use Rattle.llb_commands.specs.declared.fault.ProgramFault.TheVariants as fault
 use Rattle.llb_commands.specs.CallStreams.{Stream, IsKept}
@@ -50,3 +53,8 @@ IsDefinitionIn input (Err e) = TellsRefusal IsNoText input e
 abbrev pub AreEntriesIn : Option (List ℕ) → Result (List (List ℕ)) ProgramFault → Type 0
 AreEntriesIn input (Ok entries) = IfSome input (λ bytes. definition_of bytes ≡ Ok entries)
 AreEntriesIn input (Err e) = TellsRefusal IsUnread input e
+
+-- the rule by which entries have their forms: as they are disassembled, or with all their ops
+abbrev pub AreBy : Written → List (List ℕ) → List Formed → Type 0
+AreBy written.Entries = AreFormed
+AreBy written.Ops = AreWorded

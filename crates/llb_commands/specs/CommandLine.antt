@@ -18,7 +18,7 @@ use Rattle.llb_commands.specs.declared.words.Command.{Command}
 use Rattle.llb_commands.specs.declared.words.Command.TheVariants.{Run, Show, Step, Assemble, Disassemble}
 use Rattle.llb_commands.specs.declared.words.Line.{Line}
 use Rattle.llb_commands.specs.declared.words.Shows.{Shows}
-use Rattle.llb_commands.specs.declared.words.Shows.TheVariants.{Graph, Findings, Plan, Matches, Several}
+use Rattle.llb_commands.specs.declared.words.Shows.TheVariants.{Graph, Findings, Plan, Matches, Ops, Agrees, Several}
 use Rattle.llb_commands.specs.declared.words.Local.{Local}
 use Rattle.llb_commands.specs.declared.words.WordsFault.{WordsFault}
 use Rattle.llb_commands.specs.declared.words.WordsFault.TheVariants.{Words, Memory}
@@ -67,13 +67,25 @@ plan_rule = record (new_rule (codes "plan")) { long = Some (codes "plan"); actio
 abbrev pub matches_rule : Rule
 matches_rule = record (new_rule (codes "matches")) { long = Some (codes "matches"); action = Some Set; value_names = 1 }
 
+-- the rule by which `clap` reads the option `--ops`, which takes no value
+abbrev pub ops_rule : Rule
+ops_rule = record (new_rule (codes "ops")) { long = Some (codes "ops"); action = Some SetTrue }
+
+-- the rule by which `clap` reads the option `--agrees`: the file of the newer tree
+abbrev pub agrees_rule : Rule
+agrees_rule = record (new_rule (codes "agrees")) { long = Some (codes "agrees"); action = Some Set; value_names = 1 }
+
 -- `clap`'s description of the command `run`
 abbrev pub run_app : App
 run_app = with_rule (with_rule (new_app (codes "run")) workers_rule) local_rule
 
+-- `clap`'s description of the command `show` with the options that need no tree
+abbrev pub show_options_app : App
+show_options_app = with_rule (with_rule (with_rule (with_rule (new_app (codes "show")) findings_rule) plan_rule) matches_rule) ops_rule
+
 -- `clap`'s description of the command `show`
 abbrev pub show_app : App
-show_app = with_rule (with_rule (with_rule (new_app (codes "show")) findings_rule) plan_rule) matches_rule
+show_app = with_rule (with_rule show_options_app agrees_rule) local_rule
 
 -- `clap`'s description of the command `step` with its options alone
 abbrev pub step_options_app : App
@@ -92,7 +104,7 @@ abbrev pub graph_app : App
 graph_app = with_subcommand (with_subcommand (with_subcommand base_app run_app.top) show_app.top) step_app.top
 
 -- `clap`'s description of the program: `run` takes workers and local sources, `step` takes these, a file, whether it answers looks and whether an empty line
--- ends each reply, `show` takes what it prints in place of the graph, and the other commands take no words
+-- ends each reply, `show` takes what it prints in place of the graph and local sources, and the other commands take no words
 abbrev pub llbm_app : App
 llbm_app = with_plain (with_plain graph_app (codes "asm")) (codes "dis")
 
@@ -177,24 +189,34 @@ abbrev pub IsEnds : Command → List Row → Bool → Type 0
 IsEnds Step rows ends = ends ≡ is_set (first_of (codes "ends") rows)
 IsEnds _ rows ends = ends ≡ false
 
--- what `show` prints, by whether the words have the options `--findings`, `--plan` and `--matches`
-abbrev pub shows_by : Bool → Bool → Bool → Shows
-shows_by false false false = Graph
-shows_by true false false = Findings
-shows_by false true false = Plan
-shows_by false false true = Matches
-shows_by _ _ _ = Several
+-- what `show` prints, by whether the words have the options `--findings`, `--plan`, `--matches`, `--ops` and `--agrees`, and any words for local sources
+abbrev pub shows_by : Bool → Bool → Bool → Bool → Bool → Bool → Shows
+shows_by false false false false false false = Graph
+shows_by true false false false false false = Findings
+shows_by false true false false false false = Plan
+shows_by false false true false false false = Matches
+shows_by false false false true false false = Ops
+shows_by false false false false true true = Agrees
+shows_by _ _ _ _ _ _ = Several
 
--- the words of `show` have no option, or the one by which it prints this, or several; for any other command what `show` prints is the text of the graph
+-- the words of `show` have no option, or the one by which it prints this, or are refused (`Several`); for any other command what `show` prints is the text of
+-- the graph
 abbrev pub IsShows : Command → List Row → Shows → Type 0
 IsShows Show rows shows =
     shows ≡ shows_by (is_set (first_of (codes "findings") rows)) (is_set (first_of (codes "plan") rows)) (is_some (first_of (codes "matches") rows))
+    (is_set (first_of (codes "ops") rows)) (is_some (first_of (codes "agrees") rows)) (is_some (all_of (codes "local") rows))
 IsShows _ rows shows = shows ≡ Graph
 
--- the file is the file that the words of `step` name, or that of the older definition that the words of `show` name; for any other command there is no file
+-- the first of two texts, if there is one, or else the second
+abbrev pub either : Option Text → Option Text → Option Text
+either (Some text) other = Some text
+either None other = other
+
+-- the file is the file that the words of `step` name, or that of the older definition, or else that of the newer tree, that the words of `show` name; for any
+-- other command there is no file
 abbrev pub IsFile : Command → List Row → Option (Bor Text) → Type 0
 IsFile Step rows file = option_map (λ w. w.now) file ≡ first_of (codes "file") rows
-IsFile Show rows file = option_map (λ w. w.now) file ≡ first_of (codes "matches") rows
+IsFile Show rows file = option_map (λ w. w.now) file ≡ either (first_of (codes "matches") rows) (first_of (codes "agrees") rows)
 IsFile _ rows file = file ≡ None
 
 -- the line has the command of this name, and the number of workers, the looks, the ends of replies, what `show` prints, the file and the local sources that

@@ -2,27 +2,29 @@
 use Rattle.std.specs.Prelude.{◌≡◌, ◌⊎◌, ℕ, List, [], Option, Some, None, Ok, Err, IfSome}
 use Rattle.std.specs.Borrow.{Bor}
 use Rattle.clap.specs.Words.{Text, fault_of, subcommand_of}
+use Rattle.llb_tree.specs.Tree.{TreeMap}
 use Rattle.llb_loader.specs.LocalSources.{Local}
 use Rattle.llb_session.specs.declared.session.Options.{Options}
 use Rattle.llb_commands.specs.ProgramOutput.{Runs, Draws, IsRefused}
 use Rattle.llb_commands.specs.Running.{TellsRefusal}
 use Rattle.llb_commands.specs.Faults.{Tells}
 use Rattle.llb_commands.specs.declared.fault.ProgramFault.{ProgramFault}
-use Rattle.llb_commands.specs.Assembly.{Assembles, Disassembles}
+use Rattle.llb_commands.specs.Assembly.{Assembles, Describes, Disassembles}
 use Rattle.llb_commands.specs.CommandLine.{llbm_app, named_local_words, IsByWords, Says, TellsWords}
 use Rattle.llb_commands.specs.CallStreams.{Io, IsKept}
 use Rattle.llb_commands.specs.FindingLines.{Lists}
+use Rattle.llb_commands.specs.AgreementText as agreement
 use Rattle.llb_commands.specs.MatchText as matching
 use Rattle.llb_commands.specs.PlanText.{Plans}
 use Rattle.llb_commands.specs.HelpPages.{HasPage, TellsWithPage}
-use Rattle.llb_commands.specs.Sources.{Gathers, TellsSource}
+use Rattle.llb_commands.specs.Sources.{Gathers, Reads, TellsSource}
 use Rattle.llb_commands.specs.Stepping.{Steps}
 use Rattle.llb_commands.specs.declared.sources.SourceFault.{SourceFault}
 use Rattle.llb_commands.specs.declared.words.Command.{Command}
 use Rattle.llb_commands.specs.declared.words.Command.TheVariants.{Run, Show, Step, Assemble, Disassemble}
 use Rattle.llb_commands.specs.declared.words.Line.{Line}
 use Rattle.llb_commands.specs.declared.words.Shows.{Shows}
-use Rattle.llb_commands.specs.declared.words.Shows.TheVariants.{Graph, Findings, Plan, Matches}
+use Rattle.llb_commands.specs.declared.words.Shows.TheVariants.{Graph, Findings, Plan, Matches, Ops, Agrees}
 use Rattle.llb_commands.specs.declared.words.WordsFault.{WordsFault}
 use Rattle.llb_commands.specs.declared.words.WordsFault.TheVariants.{Words}
 
@@ -48,18 +50,27 @@ MatchesWith file io status =
     ((old : List ℕ) × IfSome file (λ bytes. old ≡ bytes) × matching.Matches old io status)
     ⊎ (IsKept io.output × ((e : ProgramFault) × TellsRefusal IsRefused file e × Tells io.errors.before io.errors.after e status))
 
--- how `show` ends, by what it prints and by the file that the words name
-abbrev pub ShowsAs : Shelf → Shows → Option (Bor (List ℕ)) → Io → ℕ → Type 0
-ShowsAs files Graph file io status = Draws io status
-ShowsAs files Findings file io status = Lists io status
-ShowsAs files Plan file io status = Plans io status
-ShowsAs files Matches (Some file) io status = MatchesWith (files file.now) io status
-ShowsAs files _ file io status = IsNotAsked io status
+-- How `show --agrees` ends on these trees of local sources, with the bytes of the file of the newer tree, if they are known. Either these are read as a tree,
+-- and it ends as `Agrees` says. Or the file can't be read as a tree, and the line that says why is written.
+abbrev pub AgreesWith : Option (List ℕ) → List Local → Io → ℕ → Type 0
+AgreesWith file ls io status =
+    ((u : TreeMap) × Reads file (Ok u) × agreement.Agrees ls u io status)
+    ⊎ (IsKept io.output × ((e : SourceFault) × Reads file (Err e) × TellsSource io.errors.before io.errors.after e status))
+
+-- how `show` ends, by what it prints, by the file that the words name and by the trees of local sources
+abbrev pub ShowsAs : Shelf → Shows → Option (Bor (List ℕ)) → List Local → Io → ℕ → Type 0
+ShowsAs files Graph file locals io status = Draws io status
+ShowsAs files Findings file locals io status = Lists io status
+ShowsAs files Plan file locals io status = Plans io status
+ShowsAs files Matches (Some file) locals io status = MatchesWith (files file.now) io status
+ShowsAs files Ops file locals io status = Describes io status
+ShowsAs files Agrees (Some file) locals io status = AgreesWith (files file.now) locals io status
+ShowsAs files _ file locals io status = IsNotAsked io status
 
 -- how a command ends, with the workers, the options of a session, what `show` prints and the file that the words name
 abbrev pub PerformsAs : Shelf → Command → Line → List Local → Io → ℕ → Type 0
 PerformsAs files Run line locals io = Runs line.workers locals io
-PerformsAs files Show line locals io = ShowsAs files line.shows line.file io
+PerformsAs files Show line locals io = ShowsAs files line.shows line.file locals io
 PerformsAs files Step line locals io = StepsAt files line.file (record { looks = line.looks; ends = line.ends }) line.workers locals io
 PerformsAs files Assemble line locals io = Assembles io
 PerformsAs files Disassemble line locals io = Disassembles io

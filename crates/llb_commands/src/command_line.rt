@@ -1,5 +1,5 @@
 //! The command line, which `clap` reads. `run` takes the number of workers, and local sources as NAME=FILE; `step` takes these, the file of a definition, and
-//! whether looks are answered and whether an empty line ends each reply; `show` takes what it prints in place of the graph; `asm` and `dis` take no words. No
+//! whether looks are answered and whether an empty line ends each reply; `show` takes what it prints in place of the graph, and local sources; `asm` and `dis` take no words. No
 //! words at all mean `run`. The texts of the pages of help are in `pages`.
 
 ghost use Rattle.std.specs.Prelude.{◌≡◌, false, map, option_map, IfOk, IfErr};
@@ -11,11 +11,14 @@ ghost use Rattle.llb_commands.specs.CommandLine.{
   graph_app,
   run_app,
   show_app,
+  show_options_app,
   step_app,
   step_options_app,
   findings_rule,
   plan_rule,
   matches_rule,
+  ops_rule,
+  agrees_rule,
   local_rule,
   file_rule,
   workers_rule,
@@ -31,6 +34,7 @@ ghost use Rattle.llb_commands.specs.CommandLine.{
   looks_by,
   is_set,
   IsShows,
+  either,
   shows_by,
   IsWorkers,
   name_of,
@@ -143,6 +147,29 @@ fn matches_arg<'a>(alloc: Global) -> Arg<'a>
         .action(ArgAction::Set)
 }
 
+// Returns `clap`'s description of the option by which `show` prints ops.
+fn ops_arg<'a>(alloc: Global) -> Arg<'a>
+    ensures rule { rule_of result ≡ ops_rule }
+    ensures plain { result.global ≡ false }
+{
+    Arg::new(alloc, "ops")
+        .long("ops")
+        .help("Print the ops of all entries that can be read instead")
+        .action(ArgAction::SetTrue)
+}
+
+// Returns `clap`'s description of the option for the newer tree.
+fn agrees_arg<'a>(alloc: Global) -> Arg<'a>
+    ensures rule { rule_of result ≡ agrees_rule }
+    ensures plain { result.global ≡ false }
+{
+    Arg::new(alloc, "agrees")
+        .long("agrees")
+        .value_name("NEW")
+        .help("Print for each vertex whether it reads the same of each NAME and of NEW")
+        .action(ArgAction::Set)
+}
+
 // Returns `clap`'s description of the command `run`.
 fn run_command<'a>(alloc: Global) -> Result<clap::Command<'a>, AllocError>
     ensures app { IfOk result (λ c. app_of c ≡ run_app) }
@@ -154,16 +181,27 @@ fn run_command<'a>(alloc: Global) -> Result<clap::Command<'a>, AllocError>
         .arg(local_arg(alloc))
 }
 
-// Returns `clap`'s description of the command `show`.
-fn show_command<'a>(alloc: Global) -> Result<clap::Command<'a>, AllocError>
-    ensures app { IfOk result (λ c. app_of c ≡ show_app) }
+// Returns `clap`'s description of the command `show` with the options that need no tree.
+fn show_options<'a>(alloc: Global) -> Result<clap::Command<'a>, AllocError>
+    ensures app { IfOk result (λ c. app_of c ≡ show_options_app) }
     ensures plain { IfOk result (λ c. (fields_of c).has_globals ≡ false) }
 {
     clap::Command::new(alloc, "show")
         .about("Prints the graph of the definition on standard input")
         .arg(findings_arg(alloc))?
         .arg(plan_arg(alloc))?
-        .arg(matches_arg(alloc))
+        .arg(matches_arg(alloc))?
+        .arg(ops_arg(alloc))
+}
+
+// Returns `clap`'s description of the command `show`.
+fn show_command<'a>(alloc: Global) -> Result<clap::Command<'a>, AllocError>
+    ensures app { IfOk result (λ c. app_of c ≡ show_app) }
+    ensures plain { IfOk result (λ c. (fields_of c).has_globals ≡ false) }
+{
+    show_options(alloc)?
+        .arg(agrees_arg(alloc))?
+        .arg(local_arg(alloc))
 }
 
 // Returns `clap`'s description of the command `step` with its options alone.
@@ -319,15 +357,24 @@ fn ends_in(command: Command, matches: &ArgMatches<'_>) -> bool
     }
 }
 
-// Returns what `show` prints, by which of its options the words have.
-fn shows_by(findings: bool, plan: bool, matches: bool) -> Shows
-    ensures { result ≡ shows_by findings plan matches }
+// Returns what `show` prints, by which of its options the words have, and by whether they have local sources.
+fn shows_by(
+    findings: bool,
+    plan: bool,
+    matches: bool,
+    ops: bool,
+    agrees: bool,
+    named: bool,
+) -> Shows
+    ensures { result ≡ shows_by findings plan matches ops agrees named }
 {
-    match (findings, plan, matches) {
-        (false, false, false) => Shows::Graph,
-        (true, false, false) => Shows::Findings,
-        (false, true, false) => Shows::Plan,
-        (false, false, true) => Shows::Matches,
+    match (findings, plan, matches, ops, agrees, named) {
+        (false, false, false, false, false, false) => Shows::Graph,
+        (true, false, false, false, false, false) => Shows::Findings,
+        (false, true, false, false, false, false) => Shows::Plan,
+        (false, false, true, false, false, false) => Shows::Matches,
+        (false, false, false, true, false, false) => Shows::Ops,
+        (false, false, false, false, true, true) => Shows::Agrees,
         _ => Shows::Several,
     }
 }
@@ -341,18 +388,31 @@ fn shows_in(command: Command, matches: &ArgMatches<'_>) -> Shows
             is_set(matches.get_str("findings")),
             is_set(matches.get_str("plan")),
             matches.get_str("matches").is_some(),
+            is_set(matches.get_str("ops")),
+            matches.get_str("agrees").is_some(),
+            matches.get_strs("local").is_some(),
         ),
         _ => Shows::Graph,
     }
 }
 
-// Returns the file that `clap` found for the command `step`, or that of the older definition for `show`; `None` for any other command.
+// Returns the first of two texts, if there is one, or else the second.
+fn either<'a>(first: Option<&'a str>, second: Option<&'a str>) -> Option<&'a str>
+    ensures { option_map (λ w. w.now) result ≡ either (option_map (λ w. w.now) first.entry) (option_map (λ w. w.now) second.entry) }
+{
+    match first {
+        Some(text) => Some(text),
+        None => second,
+    }
+}
+
+// Returns the file that `clap` found for the command `step`, or that of the older definition or of the newer tree for `show`; `None` for any other command.
 fn file_in<'a>(command: Command, matches: &ArgMatches<'a>) -> Option<&'a str>
     ensures { IsFile command (rows_of (found_of matches.now)) result }
 {
     match command {
         Command::Step => matches.get_str("file"),
-        Command::Show => matches.get_str("matches"),
+        Command::Show => either(matches.get_str("matches"), matches.get_str("agrees")),
         _ => None,
     }
 }

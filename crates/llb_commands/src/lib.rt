@@ -15,6 +15,7 @@
 //!     Some((status, out))
 #![tactic(auto)]
 
+mod agreement_text;
 mod assembling;
 mod bounded;
 mod command_line;
@@ -37,10 +38,11 @@ mod stepping;
 mod text_output;
 mod words;
 
+pub use agreement_text::agreements_over;
 pub use assembling::asm_over;
 pub use bounded::{ReadFault, read_bounded};
 pub use command_line::{command_of, llbm_command};
-pub use disassembling::dis_over;
+pub use disassembling::{dis_over, ops_over};
 pub use fault::{OutputFault, ProgramFault, refusal};
 pub use finding_lines::findings_over;
 pub use match_text::matches_over;

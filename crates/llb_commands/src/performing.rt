@@ -1,13 +1,14 @@
 //! Does the command that a command line asks for, on the program's streams and the local trees. `program` also reads the words and the local sources.
 
 ghost use Rattle.std.specs.Prelude.{◌≡◌, map, IfOk, IfErr, IfSome};
-ghost use Rattle.llb_commands.specs.Commands.{IsProgram, MatchesWith, Performs, ShowsAs};
+ghost use Rattle.llb_commands.specs.Commands.{AgreesWith, IsProgram, MatchesWith, Performs, ShowsAs};
 ghost use Rattle.llb_commands.specs.ProgramOutput.{IsRefused};
 ghost use Rattle.llb_commands.specs.Running.{Opens, TellsRefusal};
 
+use crate::agreement_text::agreements_over;
 use crate::assembling::asm_over;
 use crate::command_line::line_or_page;
-use crate::disassembling::dis_over;
+use crate::disassembling::{dis_over, ops_over};
 use crate::fault::{ProgramFault, refusal};
 use crate::finding_lines::findings_over;
 use crate::match_text::{definition_in, matches_over};
@@ -15,7 +16,7 @@ use crate::opening::open_over;
 use crate::plan_text::plan_over;
 use crate::run::run_many_over;
 use crate::show::show_over;
-use crate::sources::{Sources, locals_of, source_refusal};
+use crate::sources::{Sources, locals_of, source_refusal, tree_in};
 use crate::stepping::session_over;
 use crate::words::{Command, Line, Shows, WordsFault, tell_refusal, words_refusal};
 use llb_board::Board;
@@ -83,16 +84,39 @@ fn match_by<S: Sources, R: Read, W: Write, E: Write>(
     }
 }
 
-// Prints what the words of `show` ask for. If they ask for several things, the program writes `fault 183` and the status is 2.
-fn show_by<S: Sources, R: Read, W: Write, E: Write>(
+// Prints which vertices of a definition read the same of these trees and of the tree in a file.
+fn agree_by<S: Sources, R: Read, W: Write, E: Write>(
     alloc: Global,
-    line: &Line<'_>,
+    file: &str,
+    locals: &Locals,
     sources: &S,
     input: &mut R,
     out: &mut W,
     err: &mut E,
 ) -> u8
-    ensures { ShowsAs (S.bytes sources.now) line.now.shows line.now.file (record {
+    ensures { AgreesWith (S.bytes sources.now file.now) locals.now (record {
+      input = record { before = R.remaining input.old; after = R.remaining input.new };
+      output = record { before = W.contents out.old; after = W.contents out.new };
+      errors = record { before = E.contents err.old; after = E.contents err.new };
+    }) result }
+{
+    match tree_in(alloc, sources, file) {
+        Ok(newer) => agreements_over(alloc, locals, &newer, input, out, err),
+        Err(fault) => source_refusal(&fault, err),
+    }
+}
+
+// Prints what the words of `show` ask for. If they ask for several things, the program writes `fault 183` and the status is 2.
+fn show_by<S: Sources, R: Read, W: Write, E: Write>(
+    alloc: Global,
+    line: &Line<'_>,
+    locals: &Locals,
+    sources: &S,
+    input: &mut R,
+    out: &mut W,
+    err: &mut E,
+) -> u8
+    ensures { ShowsAs (S.bytes sources.now) line.now.shows line.now.file locals.now (record {
       input = record { before = R.remaining input.old; after = R.remaining input.new };
       output = record { before = W.contents out.old; after = W.contents out.new };
       errors = record { before = E.contents err.old; after = E.contents err.new };
@@ -102,7 +126,9 @@ fn show_by<S: Sources, R: Read, W: Write, E: Write>(
         (Shows::Graph, _) => show_over(alloc, input, out, err),
         (Shows::Findings, _) => findings_over(alloc, input, out, err),
         (Shows::Plan, _) => plan_over(alloc, input, out, err),
+        (Shows::Ops, _) => ops_over(alloc, input, out, err),
         (Shows::Matches, Some(file)) => match_by(alloc, file, sources, input, out, err),
+        (Shows::Agrees, Some(file)) => agree_by(alloc, file, locals, sources, input, out, err),
         _ => words_refusal(&WordsFault::Words(None), err),
     }
 }
@@ -128,7 +154,7 @@ fn perform<T: Threads + Wait + Sync, S: Sources, R: Read, W: Write, E: Write>(
     let Streams { input, out, err } = streams;
     match line.command {
         Command::Run => run_many_over(rt, alloc, input, out, err, locals, line.workers),
-        Command::Show => show_by(alloc, line, sources, input, out, err),
+        Command::Show => show_by(alloc, line, &locals, sources, input, out, err),
         Command::Step => {
             let Some(file) = line.file else {
                 return words_refusal(&WordsFault::Words(None), err);

@@ -92,8 +92,8 @@ fn push_marks(line: &mut String, actions: &[Action]) -> Result<(), OutputFault>
     Ok(())
 }
 
-// Returns whether a place has a mark; false past the end.
-fn is_marked(marks: &[bool], place: usize) -> bool
+/// Returns whether a place has a mark; false past the end.
+pub(crate) fn is_marked(marks: &[bool], place: usize) -> bool
     ensures { result ≡ slice_index_or marks.now place false }
 {
     match marks.get(place) {

@@ -104,6 +104,16 @@ pub fn add_local<R: Read>(
     }
 }
 
+/// Reads a file as a tree. Fails with 31 to 34, 181, 184 or 185.
+pub(crate) fn tree_in<F: Sources>(alloc: Global, files: &F, file: &str) -> Result<Tree, SourceFault>
+    ensures { Reads (F.bytes files.now file.now) result }
+{
+    match files.open(file) {
+        Ok(mut input) => local_from(alloc, &mut input),
+        Err(_) => Err(SourceFault::Read),
+    }
+}
+
 // Reads the file of a local source as a tree, and adds the tree to the local trees under the source's name.
 fn add_file<F: Sources>(
     alloc: Global,

@@ -36,7 +36,11 @@ pub enum Shows {
     Plan,
     /// For each vertex which vertex of an older definition it matches.
     Matches,
-    /// The words ask for more than one of these; they are refused.
+    /// The ops of its entries.
+    Ops,
+    /// For each vertex whether it reads the same of local sources that have a newer tree.
+    Agrees,
+    /// The words ask for more than one of these, or for one that has no use for trees of local sources, or lacks them; they are refused.
     Several,
 }
 
@@ -59,7 +63,7 @@ pub struct Line<'a> {
     pub ends: bool,
     /// What `show` prints; the text of the graph for every other command.
     pub shows: Shows,
-    /// The file of the definition for `step`; that of the older definition for `show`, if the words name one.
+    /// The file of the definition for `step`; that of the older definition or of the newer tree for `show`, if the words name one.
     pub file: Option<&'a str>,
     /// The local sources, in the order of the words.
     pub locals: Many<Local<'a>>,

@@ -18,7 +18,7 @@ use Rattle.llb_commands.specs.FindingLines.{Lists}
 use Rattle.llb_commands.specs.MatchText.{Matches}
 use Rattle.llb_commands.specs.PlanText.{Plans}
 use Rattle.llb_commands.specs.ScriptLine.{Judges}
-use Rattle.llb_commands.specs.Assembly.{Assembles, Disassembles}
+use Rattle.llb_commands.specs.Assembly.{Assembles, Describes, Disassembles}
 use Rattle.llb_commands.specs.CommandLine.{TellsWords}
 use Rattle.llb_commands.specs.Faults.{Tells, TellsWhy}
 use Rattle.llb_commands.specs.Sources.{ReadsTree, TellsSource}
@@ -66,6 +66,10 @@ Planned = EndsBy Plans
 -- a line is written for each vertex of a definition: which vertex of an older definition it matches, as `llbm show --matches` does
 abbrev pub Matched : List ℕ → List ℕ → Held → Held → ℕ → Type 0
 Matched old = EndsBy (Matches old)
+
+-- the ops of a definition's entries are written, as `llbm show --ops` does
+abbrev pub Described : List ℕ → Held → Held → ℕ → Type 0
+Described = EndsBy Describes
 
 -- a text is assembled, as `llbm asm` does
 abbrev pub Assembled : List ℕ → Held → Held → ℕ → Type 0

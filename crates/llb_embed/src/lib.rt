@@ -16,7 +16,7 @@
 ghost use Rattle.std.specs.Prelude.{◌≡◌, length, None};
 ghost use Rattle.llb_embed.specs.BufferCopies.{copied};
 ghost use Rattle.llb_embed.specs.Handle.{held_in, messages_in, output_in, Calls, IsSound};
-ghost use Rattle.llb_embed.specs.HandleCalls.{Added, Opened, Replied, Ran, Shown, Listed, Planned, Matched, Judged, Assembled, Disassembled};
+ghost use Rattle.llb_embed.specs.HandleCalls.{Added, Opened, Replied, Ran, Shown, Listed, Planned, Matched, Judged, Assembled, Described, Disassembled};
 
 mod handle;
 mod held;
@@ -27,7 +27,8 @@ pub use handle::Llb;
 use handle::{put, start, take};
 use std::alloc::Global;
 use working::{
-    assemble, copy_out, disassemble, list, local, match_old, open, plan, reply, run, script, show,
+    assemble, copy_out, describe, disassemble, list, local, match_old, open, plan, reply, run,
+    script, show,
 };
 
 /// The status if memory for the value that a handle holds was refused.
@@ -191,6 +192,22 @@ pub extern "C" fn llb_asm(alloc: Global, it: &mut Llb, text: &[u8]) -> u8
         return NO_MEMORY;
     };
     let status = assemble(alloc, held.as_mut(), text);
+    put(it, held);
+    status
+}
+
+/// Writes the ops of a definition's entries to the output: each that can be read, however it is encoded, in the words of `llb_dis`, and any other as raw bytes.
+/// Returns the status of `llbm show --ops`: 0, 2 or 3.
+#[unsafe(no_mangle)]
+pub extern "C" fn llb_ops(alloc: Global, it: &mut Llb, definition: &[u8]) -> u8
+    requires { IsSound it.old }
+    ensures sound { IsSound it.new }
+    ensures described { Calls (Described definition.now) (held_in it.old) (held_in it.new) result }
+{
+    let Some(mut held) = start(it, alloc) else {
+        return NO_MEMORY;
+    };
+    let status = describe(alloc, held.as_mut(), definition);
     put(it, held);
     status
 }

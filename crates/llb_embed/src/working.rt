@@ -2,13 +2,13 @@
 
 ghost use Rattle.std.specs.Prelude.{◌≡◌, ◌<◌, ◌+◌, ◌^◌, length, []};
 ghost use Rattle.llb_embed.specs.BufferCopies.{copied};
-ghost use Rattle.llb_embed.specs.HandleCalls.{Added, Opened, Replied, Refused, Ran, Shown, Listed, Planned, Matched, Judged, Assembled, Disassembled};
+ghost use Rattle.llb_embed.specs.HandleCalls.{Added, Opened, Replied, Refused, Ran, Shown, Listed, Planned, Matched, Judged, Assembled, Described, Disassembled};
 
 use crate::held::Held;
 use llb_commands::{
     ProgramFault, SourceFault, WordsFault, add_local, asm_over, dis_over, findings_over,
-    matches_over, open_over, plan_over, refusal, run_over, script_over, show_over, source_refusal,
-    words_refusal,
+    matches_over, open_over, ops_over, plan_over, refusal, run_over, script_over, show_over,
+    source_refusal, words_refusal,
 };
 use llb_session::{Looks, Options, Session, respond};
 use llb_stepper::{Stepper, StepperFault};
@@ -210,4 +210,13 @@ pub(crate) fn disassemble(alloc: Global, held: &mut Held, definition: &[u8]) -> 
     clear(held);
     let mut input = definition;
     dis_over(alloc, &mut input, &mut held.output, &mut held.messages)
+}
+
+/// Writes the ops of a definition's entries to the output, and returns the status of `llbm show --ops`.
+pub(crate) fn describe(alloc: Global, held: &mut Held, definition: &[u8]) -> u8
+    ensures { Described definition.now held.old held.new result }
+{
+    clear(held);
+    let mut input = definition;
+    ops_over(alloc, &mut input, &mut held.output, &mut held.messages)
 }

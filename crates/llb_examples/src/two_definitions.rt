@@ -104,7 +104,7 @@ const MATCHINGS: &str = r#"
     2 = 1
     "#;
 
-// A copy between the local sources `a=b` and `b`; the same after `tools/adopt` has renamed `a=b`, which no word NAME=FILE can name, to `a-b`; and after the
+// A copy between the local sources `a=b` and `b`; the same after `llbm-tools adopt` renamed `a=b`, which no word NAME=FILE can name, to `a-b`; and after the
 // daemon has renamed it to `source-0`. Tests of the tools and of the daemon read these definitions from here.
 const BEFORE_RENAMING: &str = concat!(
     "0a0f1a0d0a0b6c6f63616c3a2f2f613d620a0d1a0b0a096c6f63616c3a2f2f620ab1010a490a477368613235363a393437393132383735313834393366373639383137343761",

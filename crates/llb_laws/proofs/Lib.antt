@@ -27,6 +27,7 @@ mod Vertices
 mod EntryInclusion
 mod Matches
 mod TreesBelow
+mod AgreedSources
 mod CopiedPaths
 mod FileOpReads
 mod OpsOfOneKind

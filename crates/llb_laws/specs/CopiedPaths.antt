@@ -51,13 +51,17 @@ pub record ReadsAlike (i : ℕ) (t u : TreeMap) (a : Action) : Type 0 where
   pub base : a.input ≡ pos i → t ≡ u
   pub copied : (c : CopyFile) → a.kind ≡ Some (action.Copy c) → a.secondary_input ≡ pos i → AgreeFor c t u
 
+-- all of these actions read the same of input number i, whether the input's tree is t or u
+abbrev pub AllReadAlike : List Action → ℕ → TreeMap → TreeMap → Type 0
+AllReadAlike actions i t u = (k : ℕ) (a : Action) → slice_get actions k ≡ Some a → ReadsAlike i t u a
+
 -- two edges lead to trees of which these actions read the same, as input number i
 pub record LeadAlike (b c : Build) (actions : List Action) (i : ℕ) (e f : Edge) : Type 0 where
   pub first : TreeMap
   pub second : TreeMap
   pub first_there : output_at b e ≡ Some first
   pub second_there : output_at c f ≡ Some second
-  pub read : (k : ℕ) (a : Action) → slice_get actions k ≡ Some a → ReadsAlike i first second a
+  pub read : AllReadAlike actions i first second
 
 -- these inputs, of which the first has number i, match pairwise (`EdgesMatch`), or lead to trees of which the actions read the same (`LeadAlike`)
 abbrev pub InputsAgree : Build → Build → (ℕ → ℕ → Type 0) → List Action → ℕ → List Edge → List Edge → Type 0

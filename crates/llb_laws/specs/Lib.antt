@@ -1,6 +1,7 @@
 -- There are two subjects. Of what results do not depend on, read Digests first (what vertices with the same digest have in common), then BoardOutcomes (how
 -- such vertices end on two boards) and Jobs (their jobs). Matchings is about vertices that do the same on inputs that match, whatever their digests are, and
--- MatchingMarks about how they are found; CopiedPaths is about what copies read, and so about inputs that need not match; RenamedAndKeptSources has two uses of
+-- MatchingMarks about how they are found; CopiedPaths is about what copies read, and so about inputs that need not match, and
+-- AgreedSources about the test of it on two trees of a source; RenamedAndKeptSources has two uses of
 -- it, and KeptOutputs is about boards that go on from outputs of others. Definitions is about whole definitions, Renaming about those whose sources have other
 -- names, DefinitionParts about parts that can be loaded, and Keys about outputs that are kept for later runs. TwoRuns says of two runs of one definition that
 -- the premises of these laws hold. Refusals says with which fault a call of this crate is refused.
@@ -14,6 +15,7 @@ pub mod BoardOutcomes
 pub mod Jobs
 pub mod Matchings
 pub mod CopiedPaths
+pub mod AgreedSources
 pub mod MatchingMarks
 pub mod RenamedAndKeptSources
 pub mod KeptOutputs

@@ -1,6 +1,6 @@
 //! Laws of digests and of contents: what no result depends on. Vertices with the same digest, or that do the same on equal inputs, have the same outcome, also
 //! in two graphs; so work that was done in one run can be used in another. And if the local trees of two runs differ only in the contents of files, and these
-//! contents are related by a relation that appending keeps, then the outcomes differ only in related contents. `tools/build` relies on the laws of contents: it
+//! contents are related by a relation that appending keeps, then outcomes differ only in related contents. `llbm-tools build` uses the laws of contents: it
 //! gives the program a short token in place of each content. Besides the laws the crate has calls that test or prove their premises, and some functions that
 //! use them. The crate is built on `llb_stepper`, for the lines that are printed.
 //!
@@ -15,6 +15,7 @@
 //! definitions.
 //! `copies::copies_alike`: a copy depends on the tree that it copies from only at and below what it copies. `copies::reads_end_alike`: so does the outcome of a
 //! file op, and of all that follows from it, also in two graphs. `copies::agree_below` and `copies::agree_for`: whether two trees are the same there.
+//! `reads::vertex_agrees` and `reads::agreements`: whether a vertex reads the same of two trees of a source.
 //! `graphs::parts_are_not_refused`: a part of a loaded definition that has what its result reaches is refused for no cause. `load_renamed`: whether a
 //! definition is another one with local sources renamed. `load_matched`: which vertices of two definitions do the same on inputs that match, and that no more
 //! do. `open_on_kept`: a board that goes on from outputs of an earlier board, which local sources replace. `run_twice`: two runs of one definition, of which
@@ -66,6 +67,7 @@ pub mod on_tokens;
 mod parts;
 mod plain;
 pub mod plan;
+pub mod reads;
 mod renaming;
 mod spelling;
 mod twice;

@@ -1,5 +1,5 @@
 //! This crate has only tests. A test makes the same call again and again, and each time another growth (another request for memory) of the call fails. A
-//! library, which `tools/refuse` loads into the tests, makes the growths fail. Without the library each test makes each call once, and no growth fails. In the
+//! library, which `dev/dev refuse` loads into the tests, makes growths fail. Without the library each test makes each call once, and no growth fails. In the
 //! tests of `sessions` every growth of a call fails.
 #![tactic(auto)]
 

@@ -4,8 +4,8 @@ use super::growths::{MOST, Row, Trial, are_refused, is_lack, print_count, refuse
 use super::printed::{is_same, printed_bytes, printed_text, say};
 use super::written::{definition_of, entries_text, locals_of};
 use llb_commands::{
-    asm_over, dis_over, findings_over, look_over, matches_over, plan_over, run_many_over, run_over,
-    script_over, show_over, step_over,
+    asm_over, dis_over, findings_over, look_over, matches_over, ops_over, plan_over, run_many_over,
+    run_over, script_over, show_over, step_over,
 };
 use llb_loader::Locals;
 use llb_samples::tree_text;
@@ -130,6 +130,7 @@ fn other(alloc: Global, call: &str, mut input: &[u8], ran: &mut Ran) {
         "asm_over" => asm_over(alloc, &mut input, out, err),
         "dis_over" => dis_over(alloc, &mut input, out, err),
         "findings_over" => findings_over(alloc, &mut input, out, err),
+        "ops_over" => ops_over(alloc, &mut input, out, err),
         "plan_over" => plan_over(alloc, &mut input, out, err),
         "matches_over" => matches_over(alloc, input, &mut input, out, err),
         "script_over" => script_over(alloc, str::from_utf8(input).unwrap_or(""), out, err),
@@ -395,6 +396,12 @@ const ROWS: &[Row] = &[
         A_MERGE,
         "3 fault 184 and 3 fault 14 and 3 fault 163",
         MERGE_TEXT,
+    ),
+    (
+        "ops_over",
+        "raw b20000",
+        "3 fault 184 and 3 fault 14 and 3 fault 163",
+        "op {\n  merge {\n  }\n}\n",
     ),
     (
         SESSION,

@@ -3,7 +3,7 @@
 use super::growths::{Row, Trial, are_refused};
 use super::printed::{path_of, printed_fault, printed_path, printed_text, printed_tree, say};
 use super::written::{entries_of, entries_text, printed_entries, tree_named};
-use llb_asm::{AsmFault, assemble, disassemble};
+use llb_asm::{AsmFault, assemble, describe, disassemble};
 use llb_fileop::{ActFault, resolve};
 use llb_glob::{Pattern, PatternFault};
 use llb_ops::Entries;
@@ -72,6 +72,11 @@ fn write(alloc: Global, entries: &Entries, out: &mut Vec<u8>) -> Answer {
     Answer::Disassembled(disassemble(alloc, entries, &mut Over::new(out)))
 }
 
+fn write_ops(alloc: Global, entries: &Entries, out: &mut Vec<u8>) -> Answer {
+    out.clear();
+    Answer::Disassembled(describe(alloc, entries, &mut Over::new(out)))
+}
+
 impl OnText {
     fn printed_value(&self, rt: &impl Abort, alloc: Global) -> Option<String> {
         match &self.answer {
@@ -110,6 +115,7 @@ impl OnText {
         match self.call {
             "print_tree" => print(alloc, &self.tree, &mut self.out),
             "disassemble" => write(alloc, &self.entries, &mut self.out),
+            "describe" => write_ops(alloc, &self.entries, &mut self.out),
             "read_tree" => Answer::Tree(read_tree(alloc, text.as_bytes())),
             "tree_digest" => Answer::Digest(tree_digest(alloc, &self.tree)),
             "Pattern::read" => Answer::Pattern(Pattern::read(alloc, text)),
@@ -127,7 +133,7 @@ impl Trial for OnText {
             _ => "EMPTY",
         };
         let entries = match call {
-            "assemble" | "disassemble" => on,
+            "assemble" | "disassemble" | "describe" => on,
             _ => "raw 00",
         };
         let text = match call {
@@ -170,6 +176,9 @@ impl Trial for OnText {
 // A merge of one input, the empty tree, with a platform and constraints.
 const MERGE: &str = "raw 320d0a0b08ffffffffffffffffff01520e0a05616d64363412056c696e75785a00";
 
+// The same op with its fields in another order.
+const MERGE_LAST: &str = "raw 520e0a05616d64363412056c696e75785a00320d0a0b08ffffffffffffffffff01";
+
 const MERGE_DEFINITION: &str =
     "0a21320d0a0b08ffffffffffffffffff01520e0a05616d64363412056c696e75785a00";
 
@@ -198,6 +207,8 @@ const ROWS: &[Row] = &[
     ("assemble", "MAKES_A", "163", A_DEFINITION),
     ("disassemble", MERGE, "163", MERGE_TEXT),
     ("disassemble", "raw b20000", "163", "raw b20000\n"),
+    ("describe", MERGE_LAST, "163", MERGE_TEXT),
+    ("describe", "raw 3201", "163", "raw 3201\n"),
 ];
 
 #[test]

@@ -14,7 +14,7 @@ from typing import NamedTuple
 from llbm_tools.streams import Failed, Refused
 
 CRATE = "llb_embed"
-CALLS = ("local", "open", "line", "run", "show", "findings", "plan", "matches", "script", "asm", "dis")
+CALLS = ("local", "open", "line", "run", "show", "findings", "plan", "matches", "script", "asm", "dis", "ops")
 EXPORTS = (*CALLS, "output", "messages", "close")
 PREFIX = "llb_"
 USUAL = "x86_64-unknown-linux-gnu"

@@ -39,6 +39,7 @@ fn main(rt: HostRuntime) {
     let _script = llb_script(alloc, &mut it, &bytes);
     let _asm = llb_asm(alloc, &mut it, &bytes);
     let _dis = llb_dis(alloc, &mut it, &bytes);
+    let _ops = llb_ops(alloc, &mut it, &bytes);
     let _output = llb_output(alloc, &mut it, &mut room);
     let _messages = llb_messages(alloc, &mut it, &mut room);
     llb_close(alloc, &mut it);

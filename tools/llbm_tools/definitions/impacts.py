@@ -3,17 +3,15 @@
 Both definitions have to be ones that the program accepts. The laws are those of the crate `llb_laws`: vertices that
 do the same on inputs that match have one plain outcome, whatever their digests and the names of sources are, and an
 outcome depends on no other sources than those at or before the vertex. Of a source that a file op only copies from, it
-depends only on what is at and below the paths that are copied. That no two unequal entries have one digest is checked
-here.
+depends only on what is at and below the paths that are copied; the program says whether that is the same in two trees.
+That no two unequal entries have one digest is checked here.
 """
 
-import collections
 from collections.abc import Iterable, Iterator, Mapping
 from typing import NamedTuple
 
 from llbm_tools import commands
-from llbm_tools.definitions import copied_paths
-from llbm_tools.definitions.copied_paths import Agreement, Paths
+from llbm_tools.definitions.agreed_vertices import agreed, trees_of
 from llbm_tools.definitions.matched_vertices import NotAccepted, Words, matches_of, with_names
 from llbm_tools.llb import definition, names, op_reading
 from llbm_tools.llb.findings import findings_of
@@ -50,8 +48,7 @@ NO_PLACES: Places = {}, {}
 class Vertex(NamedTuple):
     """A vertex: its digest, its kind, and its inputs (vertices with outputs).
 
-    `source` is its name if it is a local source, `has_cache` whether it mounts a cache. `copied` has for each input the
-    paths at and below which a file op copies from it, or None if the vertex may read all of it.
+    `source` is its name if it is a local source, `has_cache` whether it mounts a cache.
     """
 
     digest: str
@@ -59,7 +56,6 @@ class Vertex(NamedTuple):
     inputs: list[tuple[int, int]]
     source: str | None
     has_cache: bool
-    copied: list[Paths | None]
 
 
 class Result(NamedTuple):
@@ -92,8 +88,7 @@ def vertex_of(entry: bytes, inputs: list[tuple[int, int]]) -> Vertex:
     is_local = op.source is not None and op.source.identifier.startswith(LOCAL)
     source = op.source.identifier.removeprefix(LOCAL) if op.source and is_local else None
     has_cache = op.exec is not None and any(mount.mount_type == CACHE for mount in op.exec.mounts)
-    copied = [copied_paths.copied_from(op, number) for number in range(len(inputs))]
-    return Vertex(definition.digest_of(entry), op.kind or "no kind", inputs, source, has_cache, copied)
+    return Vertex(definition.digest_of(entry), op.kind or "no kind", inputs, source, has_cache)
 
 
 class Read:
@@ -154,28 +149,21 @@ def caches_before(vertices: list[Vertex]) -> list[bool]:
     return found
 
 
-def copied_only(vertices: list[Vertex], changed: Names) -> Iterator[tuple[str, Paths]]:
-    """Yields the changed sources that a vertex only copies from, with the paths at and below which it does."""
-    for vertex in vertices:
-        for (number, _), paths in zip(vertex.inputs, vertex.copied, strict=True):
-            source = vertices[number].source
-            if paths is not None and source in changed and source is not None:
-                yield source, paths
+def copied_sources(vertices: list[Vertex]) -> Names:
+    """Returns the local sources that are an input of a file op, which may only copy from them."""
+    read = (vertices[number] for vertex in vertices if vertex.kind == "file" for number, _ in vertex.inputs)
+    return sources_of(read)
 
 
-def unfed(vertices: list[Vertex], changed: Names, places: Places) -> list[bool]:
+def unfed(vertices: list[Vertex], changed: Names, same: Mapping[str, list[bool]]) -> list[bool]:
     """Returns for each vertex whether it reads the same in both definitions, if the older one has all these vertices.
 
-    A changed source does not, and a vertex on one does if it only copies from it what is the same in both trees.
+    A changed source does not. `same` says of sources which vertices read the same of them, whichever tree they have.
     """
-    wanted: dict[str, set[copied_paths.Path]] = collections.defaultdict(set)
-    for source, paths in copied_only(vertices, changed):
-        wanted[source] |= paths
-    agreement = Agreement(places, wanted)
     found: list[bool] = []
-    for vertex in vertices:
-        inputs = zip(vertex.inputs, vertex.copied, strict=True)
-        reads = (found[number] or agreement.covers(vertices[number].source, paths) for (number, _), paths in inputs)
+    for number, vertex in enumerate(vertices):
+        sources = ((before, same.get(vertices[before].source or "")) for before, _ in vertex.inputs)
+        reads = (found[before] or (agree is not None and agree[number]) for before, agree in sources)
         found.append(vertex.source not in changed and all(reads))
     return found
 
@@ -248,6 +236,15 @@ class Comparison:
         numbers = {digest: number for number, digest in reversed(list(enumerate(olds)))}
         return [numbers.get(matches.get(digest, "")) for digest in news]
 
+    def agreements(self, changed: Names, places: Places) -> dict[str, list[bool]]:
+        """Returns for each changed source with two known trees which vertices of the newer definition read the same of
+        both."""
+        known = {name: trees_of(name, places) for name in changed & copied_sources(self.new)}
+        words = {name: str(number) for number, name in enumerate(sorted(sources_of(self.new)))}
+        data, digests = self.read[1].named(words) if any(known.values()) else (b"", [])
+        found = {name: agreed(data, words[name], trees, self.program) for name, trees in known.items() if trees}
+        return {name: [digest in agree for digest in digests] for name, agree in found.items()}
+
     def impacts(
         self, changed: Names, before: Words = EMPTY, after: Words = EMPTY, places: Places = NO_PLACES
     ) -> Iterator[Impact]:
@@ -257,7 +254,7 @@ class Comparison:
         `places` has where these trees are, if it may be asked in what they differ.
         """
         found = self.matched(changed, before, after)
-        caches, reads = caches_before(self.new), unfed(self.new, changed, places)
+        caches, reads = caches_before(self.new), unfed(self.new, changed, self.agreements(changed, places))
         befores = zip(self.new, found, changed_before(self.new, changed), caches, reads, strict=True)
         for vertex, matched, fed, cached, is_unfed in befores:
             digested = self.numbers.get(vertex.digest)

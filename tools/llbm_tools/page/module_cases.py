@@ -23,7 +23,7 @@ RUNNER = pathlib.Path(__file__).with_name("module_answers.mjs")
 MACHINE = assets.STATIC / "machine.mjs"
 WITH_LOCALS = ("run", "step")
 COMMANDS = ("run", "show", "asm", "dis", "step")
-FORMS = {"findings": ("show", "--findings"), "plan": ("show", "--plan")}
+FORMS = {"findings": ("show", "--findings"), "plan": ("show", "--plan"), "ops": ("show", "--ops")}
 USUAL_WORKERS = {"run": 1, "step": 2}
 MOST_SECONDS = 600
 AT_A_TIME = 100
@@ -125,7 +125,7 @@ def example_cases(program: str) -> Iterator[Case]:
         if found.definition.suffix == ".text":
             definition = program_answer(program, Case("", "asm", text, [], 1, b"")).out
             yield Case(f"{example.name}: asm", "asm", text, [], 1, b"")
-        for command in ("show", "findings", "plan", "dis", "run"):
+        for command in ("show", "findings", "plan", "ops", "dis", "run"):
             yield Case(f"{example.name}: {command}", command, definition, given, 1, b"")
         yield Case(f"{example.name}: run without trees", "run", definition, [], 1, b"")
         sessions = {"go": b"go\nback\nback\nstatus\nnext\nfoo\ngo\nquit\nnext\n", "looks": looks, "tour": tour}

@@ -8,7 +8,7 @@ from typing import NamedTuple
 
 COMMANDS = ("run", "show", "step", "asm", "dis")
 SOLVING = ("run", "step")
-FLAGS = {"show": ("--findings", "--plan"), "step": ("--looks", "--ends")}
+FLAGS = {"show": ("--findings", "--plan", "--ops"), "step": ("--looks", "--ends")}
 VALUES = {"run": ("--workers",), "step": ("--workers",), "show": ("--matches",)}
 MOST_OF_A_NUMBER = 1 << 32
 HELP = ("-h", "--help")

@@ -232,10 +232,10 @@ class Copies(Pair):
             self.assertEqual(self.words_after(change, upper=self.op(copied("/a"))), ["fed by left"] * 2)
             self.assertEqual(self.words_after(change, upper=self.op(copied("/b"))), ["fed by left", "kept"])
 
-    def test_of_a_pattern_the_names_before_the_first_wildcard_count(self):
+    def test_of_a_pattern_the_paths_count_that_match_in_either_tree(self):
         change = ("61 /a/f", "62 /a/f")
-        for path, word in [("/b/*", "kept"), ("/a/*", "fed by left"), ("/*/f", "fed by left"), ("/b?", "fed by left"),
-                           ("/[b]", "fed by left"), ("/\\b", "fed by left"), ("/b", "kept")]:
+        for path, word in [("/b/*", "kept"), ("/a/*", "fed by left"), ("/*/f", "fed by left"), ("/b?", "kept"),
+                           ("/[b]", "kept"), ("/\\b", "kept"), ("/b", "kept"), ("/[ab]", "fed by left")]:
             words = self.words_after(change, upper=self.op(copied(path, pattern=True)))
             self.assertEqual(words, ["fed by left", word], path)
         self.assertEqual(self.words_after(change, upper=self.op(copied("/a*"))), ["fed by left", "kept"])

@@ -24,8 +24,8 @@ class CommandLine(unittest.TestCase):
         session = read_words(["step", "--workers=4294967295", "d", "a=x"])
         self.assertEqual((session.file, session.sources, session.refused), ("d", (Source("a", "x"),), ""))
         for given in [
-            [], ["show"], ["show", "--findings"], ["show", "--plan"], ["show", "--matches", "d"], ["asm"], ["dis"],
-            ["run"], ["step", "d"],
+            [], ["show"], ["show", "--findings"], ["show", "--plan"], ["show", "--matches", "d"], ["show", "--ops"], ["asm"],
+            ["dis"], ["run"], ["step", "d"],
         ]:
             self.assertEqual(read_words(given).refused, "", given)
         for given in [["--help"], ["-V"], ["run", "--help"], ["step", "-h"]]:

@@ -15,7 +15,7 @@ returns t c =
 
 pub returns-in_default-field_numbered : goal.returns-in_default-field_numbered
 returns-in_default-field_numbered t c = λ last set fs are is.
-    let small : length c.args.bytes.now < 2 ^ 62 = (let b = c.requires in omega (arith, b)) in
+    let small : length c.args.bytes.now < 2 ^ 64 = (let b = c.requires in omega (arith, b)) in
     let none : row_numbered c.args.message c.in-Some.front.number ≡ None =
     sym c.field_numbered.ensures ∙ ap (λ o. option_map row_seen o) c.in_default-field_numbered.is in
     subst (λ x. OnOk c.push_extra.result (c.push_extra.new.out.items ≡ x))
@@ -27,7 +27,7 @@ returns-in_default-field_numbered t c = λ last set fs are is.
 pub loop-front-preserved : goal.loop-front-preserved
 loop-front-preserved t c =
     let row = c.in-Some-field_numbered.row in
-    let small : length c.args.bytes.now < 2 ^ 62 = (let b = c.requires in omega (arith, b)) in
+    let small : length c.args.bytes.now < 2 ^ 64 = (let b = c.requires in omega (arith, b)) in
     let named : row_numbered c.args.message c.in-Some.front.number ≡ Some (row_seen row) =
     sym c.field_numbered.ensures ∙ ap (λ o. option_map row_seen o) c.in-Some-field_numbered.is in
     goes_on c.args.labels.now c.args.depth c.args.message c.args.bytes.now c.loop-front.rest.now c.loop-front.out.items c.args.out.now.items

@@ -2,6 +2,7 @@ use Rattle.std.proofs.Common.{inl, inr}
 use Rattle.std.proofs.KnownBytes.{Keeps-refl}
 use Rattle.std.proofs.lemmas.Result.{err_from_is_err_and}
 use Rattle.llb_commands.proofs.RunOutput.{stream}
+use Rattle.llb_commands.specs.AssemblyParts.{AreBy}
 use Rattle.llb_commands.proofs.EntryTextOutput.{part, whole, unflushed}
 use Rattle.llb_commands.proofs.disassembling.disassembled.Goals as goal
 
@@ -11,7 +12,7 @@ returns-in-Err g c =
     let left = g.R.Read.remaining c.args.input.now in
     inr (
       λ h. h,
-      part left c.in_ok-entries.entries c.in_ok-entries.ensures text.0 text.1
+      part (AreBy c.args.written) left c.in_ok-entries.entries c.in_ok-entries.ensures text.0 text.1
           (stream (g.W.Write.contents c.args.out.now) (g.W.Write.contents c.text_over.new.out)) text.2,
     )
 
@@ -19,7 +20,7 @@ pub returns-in-Ok-flush : goal.returns-in-Ok-flush
 returns-in-Ok-flush g c =
     let text = c.in-Ok.ensures in
     let left = g.R.Read.remaining c.args.input.now in
-    whole left c.in_ok-entries.entries c.in_ok-entries.ensures text.0 text.1 (g.W.Write.contents c.args.out.now) (g.W.Write.contents c.text_over.new.out)
+    whole (AreBy c.args.written) left c.in_ok-entries.entries c.in_ok-entries.ensures text.0 text.1 (g.W.Write.contents c.args.out.now) (g.W.Write.contents c.text_over.new.out)
     (g.W.Write.contents c.flush.new.self) text.2 c.flush.ensures.bytes
 
 pub returns : goal.returns
@@ -28,7 +29,7 @@ returns g c =
     let left = g.R.Read.remaining c.args.input.now in
     inr (
       λ h. h,
-      unflushed left c.in_ok-entries.entries c.in_ok-entries.ensures text.0 text.1 (g.W.Write.contents c.args.out.now) (g.W.Write.contents c.text_over.new.out)
+      unflushed (AreBy c.args.written) left c.in_ok-entries.entries c.in_ok-entries.ensures text.0 text.1 (g.W.Write.contents c.args.out.now) (g.W.Write.contents c.text_over.new.out)
           (g.W.Write.contents c.flush.new.self) text.2 c.flush.ensures.bytes,
     )
 
