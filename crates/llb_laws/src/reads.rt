@@ -133,7 +133,15 @@ pub fn vertex_agrees(
     ensures { IfOk result (λ is. IsTrue is ↔ VertexAgrees vertices.now locals.now newer.now vertex.now) }
 {
     for (number, edge) in vertex.inputs.as_slice().iter().enumerate() {
-        if !edge_agrees(alloc, vertices, locals, newer, &vertex.op.kind, number, *edge)? {
+        if !edge_agrees(
+            alloc,
+            vertices,
+            locals,
+            newer,
+            &vertex.op.kind,
+            number,
+            *edge,
+        )? {
             return Ok(false);
         }
     }
