@@ -4,8 +4,8 @@ use super::growths::{MOST, Row, Trial, are_refused, is_lack, print_count, refuse
 use super::printed::{is_same, printed_bytes, printed_text, say};
 use super::written::{definition_of, entries_text, locals_of};
 use llb_commands::{
-    asm_over, dis_over, findings_over, look_over, matches_over, ops_over, plan_over, run_many_over,
-    run_over, script_over, show_over, step_over,
+    agreements_over, asm_over, dis_over, findings_over, look_over, matches_over, ops_over, plan_over,
+    run_many_over, run_over, script_over, show_over, step_over,
 };
 use llb_loader::Locals;
 use llb_samples::tree_text;
@@ -123,6 +123,22 @@ fn look(alloc: Global, mut file: &[u8], commands: &str, handed: &mut Vec<Locals>
     }
 }
 
+// Says which vertices agree on the tree of the source `q`, which is the newer tree too.
+fn agree(alloc: Global, mut input: &[u8], handed: &[Locals], ran: &mut Ran) {
+    if let Some(locals) = handed.first() {
+        if let Some(newer) = locals.get("q") {
+            ran.status = agreements_over(
+                alloc,
+                locals,
+                newer,
+                &mut input,
+                &mut ran.out,
+                &mut ran.err,
+            );
+        }
+    }
+}
+
 // Calls a command that takes no local trees. `matches_over` has the definition also as the older one.
 fn other(alloc: Global, call: &str, mut input: &[u8], ran: &mut Ran) {
     let Ran { status, out, err } = ran;
@@ -183,6 +199,7 @@ impl Trial for OnInput {
         match *call {
             "run_over" => run(alloc, input.as_slice(), locals, ran),
             "step_over" => step(alloc, input.as_slice(), commands.as_str(), locals, ran),
+            "agreements_over" => agree(alloc, input.as_slice(), locals.as_slice(), ran),
             "look_over" => look(alloc, input.as_slice(), commands.as_str(), locals, ran),
             _ => other(alloc, call, input.as_slice(), ran),
         }
@@ -248,6 +265,11 @@ const PLANNED: &str =
 const MATCHED: &str =
     "0 sha256:17d299b0a332287e9d0f57a4a7f23e97dbf1203cd154f7157e30471c769cda1b matches 0 \
     sha256:17d299b0a332287e9d0f57a4a7f23e97dbf1203cd154f7157e30471c769cda1b\n";
+
+const AGREED: &str =
+    "0 sha256:c3bd776dc8ada86b35db79645f2b8763c39de02249922098ee9c7a6d8ca1146f agrees yes\n\
+    1 sha256:d948e81ac9a822b1476ce022c71143ca71644a402c16687fe4555b4d0da1340f agrees yes\n\
+    2 sha256:ae520fd9677b5f47046ce9ae521872fd25d33bad3ee71cf3021cb8c86ee4347f agrees yes\n";
 
 const A_MERGE: &str = "raw 320d0a0b08ffffffffffffffffff01520e0a05616d64363412056c696e75785a00";
 
@@ -383,6 +405,12 @@ const ROWS: &[Row] = &[
         ONE_FILE,
         "3 fault 184 and 3 fault 91",
         MATCHED,
+    ),
+    (
+        "agreements_over",
+        "SOURCE_P; SOURCE_Q; CHANGES_0_BY_1; RESULT 2 on q=F",
+        "3 fault 184 and 3 fault 91",
+        AGREED,
     ),
     ("script_over", "gzip /a", "3 fault 184", "fault 71 gzip\n"),
     (

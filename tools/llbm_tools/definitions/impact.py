@@ -7,8 +7,9 @@ that have a tree on one side only. PLACE is a directory, an archive (a path that
 .tar.gz, .tgz, .tar.bz2, .tar.xz or .tar.zst), an image or the text of a tree. Directories and archives get the owner
 0:0, as `build` reads them, and what cannot be in a tree is named on standard error. A digest is the program's, the
 SHA-256 of the text. All other sources are taken to have the same trees for both. The program (--llbm PROGRAM, else that
-of the installation or repository) finds the vertices that match (`show --matches`). With --run it also runs both
-definitions, and each local source needs a tree for each definition that has it.
+of the installation or repository) finds the vertices that match (`show --matches`), and those that read the same of
+both trees of a source (`show --agrees`). With --run it also runs both definitions, and each local source needs a tree
+for each definition that has it.
 
 Out: on standard output a line for the result, and then one for each vertex of NEW, by number:
 

@@ -3,8 +3,8 @@
 In: the sources in crates/. `dev/dev claims STATEMENT` prints every definition that a statement depends on, nearest
 first, each with its file and line, then the types of src/ that they name, and the number of lines in each file;
 STATEMENT is a column of the table in docs/CLAIMS.md: aim, load, assemble, disassemble, describe, run, show, findings,
-plan, matches, ops, asm, dis, step or program. `--first` prints the definitions to read first, in the order of questions.md here,
-each below its question. `--bodies` prints the wrong bodies that the prover refuses, each with its file and its
+plan, matches, agrees, ops, asm, dis, step or program. `--first` prints the definitions to read first, in the order of
+questions.md here, each below its question. `--bodies` prints the wrong bodies that the prover refuses, each with its file and its
 function. `--write` writes the tables in docs/CLAIMS.md from the sources: for each statement the number of definitions
 and lines to read, and the number of wrong bodies. `--check` compares the page with the sources.
 
@@ -43,6 +43,7 @@ STATEMENTS = {
     "findings": ("llb_commands", "finding_lines.rt", "findings_over"),
     "plan": ("llb_commands", "plan_text.rt", "plan_over"),
     "matches": ("llb_commands", "match_text.rt", "matches_over"),
+    "agrees": ("llb_commands", "agreement_text.rt", "agreements_over"),
     "ops": ("llb_commands", "disassembling.rt", "ops_over"),
     "asm": ("llb_commands", "assembling.rt", "asm_over"),
     "dis": ("llb_commands", "disassembling.rt", "dis_over"),

@@ -50,6 +50,7 @@ FINDINGS = Option("findings", "", "", "Print all faults of the definition instea
 PLAN = Option("plan", "", "", "Print for each vertex whether what it reads goes by value")
 MATCHES = Option("matches", "", "OLD", "Print for each vertex which vertex of the definition OLD it matches")
 OPS = Option("ops", "", "", "Print the ops of all entries that can be read instead")
+AGREES = Option("agrees", "", "NEW", "Print for each vertex whether it reads the same of each NAME and of NEW")
 HELP = Option("help", "h", "", "Print help")
 VERSION = Option("version", "V", "", "Print version")
 LOCAL = Argument("[NAME=FILE]...", "The tree of the local source NAME, as its text in FILE")
@@ -60,7 +61,10 @@ COMMANDS = (
     Command(
         "run", "Runs the definition on standard input, and prints the tree of its result", (workers(1), HELP), (LOCAL,)
     ),
-    Command("show", "Prints the graph of the definition on standard input", (FINDINGS, PLAN, MATCHES, OPS, HELP)),
+    Command(
+        "show", "Prints the graph of the definition on standard input",
+        (FINDINGS, PLAN, MATCHES, OPS, AGREES, HELP), (LOCAL,),
+    ),
     Command(
         "step", "Steps through the run of a definition, by commands on standard input", (workers(2), LOOKS, ENDS, HELP),
         (FILE, LOCAL),

@@ -7,9 +7,10 @@ import re
 from typing import NamedTuple
 
 COMMANDS = ("run", "show", "step", "asm", "dis")
-SOLVING = ("run", "step")
+# The commands that take local sources; `show` takes them with --agrees alone.
+WITH_SOURCES = ("run", "show", "step")
 FLAGS = {"show": ("--findings", "--plan", "--ops"), "step": ("--looks", "--ends")}
-VALUES = {"run": ("--workers",), "step": ("--workers",), "show": ("--matches",)}
+VALUES = {"run": ("--workers",), "step": ("--workers",), "show": ("--matches", "--agrees")}
 MOST_OF_A_NUMBER = 1 << 32
 HELP = ("-h", "--help")
 PAGES = (*HELP, "-V", "--version")
@@ -79,7 +80,7 @@ class Reader:
 
     def argument(self, word: str) -> str:
         """Reads a word that is no option, and returns why it is refused; empty if it is not."""
-        if self.command not in SOLVING:
+        if self.command not in WITH_SOURCES:
             return f"{word!r} is one word too many: {self.command} takes none"
         if self.command == "step" and self.file is None:
             self.file = word
@@ -99,6 +100,8 @@ class Reader:
                 return cause
         if self.command == "show" and len(self.given) > 1:
             return f"show takes one option: {' or '.join(sorted(self.given))}"
+        if self.command == "show" and bool(self.sources) != ("--agrees" in self.given):
+            return "show takes --agrees and local sources together"
         return "step needs the FILE of a definition" if self.command == "step" and self.file is None else ""
 
 

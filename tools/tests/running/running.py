@@ -24,8 +24,8 @@ class CommandLine(unittest.TestCase):
         session = read_words(["step", "--workers=4294967295", "d", "a=x"])
         self.assertEqual((session.file, session.sources, session.refused), ("d", (Source("a", "x"),), ""))
         for given in [
-            [], ["show"], ["show", "--findings"], ["show", "--plan"], ["show", "--matches", "d"], ["show", "--ops"], ["asm"],
-            ["dis"], ["run"], ["step", "d"],
+            [], ["show"], ["show", "--findings"], ["show", "--plan"], ["show", "--matches", "d"], ["show", "--ops"],
+            ["show", "--agrees", "t", "a=x"], ["asm"], ["dis"], ["run"], ["step", "d"],
         ]:
             self.assertEqual(read_words(given).refused, "", given)
         for given in [["--help"], ["-V"], ["run", "--help"], ["step", "-h"]]:
@@ -35,7 +35,10 @@ class CommandLine(unittest.TestCase):
         for given, cause in [
             (["frob"], "the first word 'frob' is no command: run, show, step, asm or dis"),
             (["a=x"], "the first word 'a=x' is no command: run, show, step, asm or dis"),
-            (["show", "x"], "'x' is one word too many: show takes none"),
+            (["show", "x"], "'x' has no `=`: a local source is given as NAME=FILE"),
+            (["asm", "x"], "'x' is one word too many: asm takes none"),
+            (["show", "a=x"], "show takes --agrees and local sources together"),
+            (["show", "--agrees", "t"], "show takes --agrees and local sources together"),
             (["dis", "--workers", "2"], "'--workers' is no option of dis"),
             (["run", "--frob"], "'--frob' is no option of run"),
             (["run", "--findings"], "'--findings' is no option of run"),
@@ -94,7 +97,7 @@ class Run(Folder):
         self.check_success(run("run", "--llbm", self.program("", 0), "step", "definition"), b"")
 
     def test_the_word_that_is_refused_is_named(self):
-        self.assertEqual(self.added("fault 183", "show", "x")[0], "'x' is one word too many: show takes none")
+        self.assertEqual(self.added("fault 183", "asm", "x")[0], "'x' is one word too many: asm takes none")
 
     def test_the_file_that_cannot_be_read_is_named(self):
         none, tree = os.fsdecode(self.place(b"none")), os.fsdecode(self.file(b"tree", TREE))
