@@ -19,7 +19,7 @@ DOUBLINGS = 20
 # The forms of the command line, as the pages of --help have them.
 COMMAND_LINES = [
     "run [--workers N] [NAME=FILE ...]", "show", "show --findings", "show --plan", "show --matches OLD", "show --ops",
-    "show --agrees NEW NAME=FILE [NAME=FILE ...]",
+    "show --agrees NEW --older NAME=OLD [--older NAME=OLD ...]",
     "step [--workers N] [--looks] [--ends] FILE [NAME=FILE ...]", "asm", "dis", "[run|show|step|asm|dis] --help",
     "--version",
 ]  # fmt: skip

@@ -75,6 +75,10 @@ ops_rule = record (new_rule (codes "ops")) { long = Some (codes "ops"); action =
 abbrev pub agrees_rule : Rule
 agrees_rule = record (new_rule (codes "agrees")) { long = Some (codes "agrees"); action = Some Set; value_names = 1 }
 
+-- the rule by which `clap` reads the options `--older`, each with a local source and the file of its older tree
+abbrev pub older_rule : Rule
+older_rule = record (new_rule (codes "local")) { long = Some (codes "older"); action = Some Append; value_names = 1 }
+
 -- `clap`'s description of the command `run`
 abbrev pub run_app : App
 run_app = with_rule (with_rule (new_app (codes "run")) workers_rule) local_rule
@@ -85,7 +89,7 @@ show_options_app = with_rule (with_rule (with_rule (with_rule (new_app (codes "s
 
 -- `clap`'s description of the command `show`
 abbrev pub show_app : App
-show_app = with_rule (with_rule show_options_app agrees_rule) local_rule
+show_app = with_rule (with_rule show_options_app agrees_rule) older_rule
 
 -- `clap`'s description of the command `step` with its options alone
 abbrev pub step_options_app : App

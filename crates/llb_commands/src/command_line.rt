@@ -19,6 +19,7 @@ ghost use Rattle.llb_commands.specs.CommandLine.{
   matches_rule,
   ops_rule,
   agrees_rule,
+  older_rule,
   local_rule,
   file_rule,
   workers_rule,
@@ -166,8 +167,20 @@ fn agrees_arg<'a>(alloc: Global) -> Arg<'a>
     Arg::new(alloc, "agrees")
         .long("agrees")
         .value_name("NEW")
-        .help("Print for each vertex whether it reads the same of each NAME and of NEW")
+        .help("Print for each vertex whether it reads the same of the tree NEW and of each OLD")
         .action(ArgAction::Set)
+}
+
+// Returns `clap`'s description of the option for an older tree of a local source.
+fn older_arg<'a>(alloc: Global) -> Arg<'a>
+    ensures rule { rule_of result ≡ older_rule }
+    ensures plain { result.global ≡ false }
+{
+    Arg::new(alloc, "local")
+        .long("older")
+        .value_name("NAME=OLD")
+        .help("The older tree of the local source NAME, with --agrees")
+        .action(ArgAction::Append)
 }
 
 // Returns `clap`'s description of the command `run`.
@@ -201,7 +214,7 @@ fn show_command<'a>(alloc: Global) -> Result<clap::Command<'a>, AllocError>
 {
     show_options(alloc)?
         .arg(agrees_arg(alloc))?
-        .arg(local_arg(alloc))
+        .arg(older_arg(alloc))
 }
 
 // Returns `clap`'s description of the command `step` with its options alone.

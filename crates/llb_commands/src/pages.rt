@@ -46,18 +46,16 @@ Options:
 
 const SHOW_PAGE: &str = "Prints the graph of the definition on standard input
 
-Usage: llbm show [OPTIONS] [NAME=FILE]...
-
-Arguments:
-  [NAME=FILE]...  The tree of the local source NAME, as its text in FILE
+Usage: llbm show [OPTIONS]
 
 Options:
-      --findings       Print all faults of the definition instead
-      --plan           Print for each vertex whether what it reads goes by value
-      --matches <OLD>  Print for each vertex which vertex of the definition OLD it matches
-      --ops            Print the ops of all entries that can be read instead
-      --agrees <NEW>   Print for each vertex whether it reads the same of each NAME and of NEW
-  -h, --help           Print help
+      --findings          Print all faults of the definition instead
+      --plan              Print for each vertex whether what it reads goes by value
+      --matches <OLD>     Print for each vertex which vertex of the definition OLD it matches
+      --ops               Print the ops of all entries that can be read instead
+      --agrees <NEW>      Print for each vertex whether it reads the same of the tree NEW and of each OLD
+      --older <NAME=OLD>  The older tree of the local source NAME, with --agrees
+  -h, --help              Print help
 ";
 
 const STEP_PAGE: &str = "Steps through the run of a definition, by commands on standard input

@@ -47,7 +47,10 @@ impl Trial for OnWords {
             "show" => printed_words(alloc, &["show"]),
             "show --findings" => printed_words(alloc, &["show", "--findings"]),
             "show --matches a" => printed_words(alloc, &["show", "--matches", "a"]),
-            "show --agrees a p=b" => printed_words(alloc, &["show", "--agrees", "a", "p=b"]),
+            "show --agrees a --older p=b" => printed_words(
+                alloc,
+                &["show", "--agrees", "a", "--older", "p=b"],
+            ),
             "show x" => printed_words(alloc, &["show", "x"]),
             _ => printed_words(alloc, &["run", "--workers", "3", "p=a"]),
         };
@@ -68,7 +71,12 @@ const WORDS: &[Row] = &[
     ("command_of", "show", "184", "granted"),
     ("command_of", "show --findings", "184", "granted"),
     ("command_of", "show --matches a", "184", "granted"),
-    ("command_of", "show --agrees a p=b", "184", "granted"),
+    (
+        "command_of",
+        "show --agrees a --older p=b",
+        "184",
+        "granted",
+    ),
     ("command_of", "show x", "184", "183"),
     ("command_of", "run --workers 3 p=a", "184", "granted"),
 ];

@@ -4,8 +4,8 @@ use super::growths::{MOST, Row, Trial, are_refused, is_lack, print_count, refuse
 use super::printed::{is_same, printed_bytes, printed_text, say};
 use super::written::{definition_of, entries_text, locals_of};
 use llb_commands::{
-    agreements_over, asm_over, dis_over, findings_over, look_over, matches_over, ops_over, plan_over,
-    run_many_over, run_over, script_over, show_over, step_over,
+    agreements_over, asm_over, dis_over, findings_over, look_over, matches_over, ops_over,
+    plan_over, run_many_over, run_over, script_over, show_over, step_over,
 };
 use llb_loader::Locals;
 use llb_samples::tree_text;

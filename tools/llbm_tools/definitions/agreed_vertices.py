@@ -57,7 +57,7 @@ def agreed(data: bytes, word: str, trees: Trees, program: str) -> frozenset[str]
     The definition is one that the program accepts. Of trees whose texts are too long for it nothing is known.
     """
     with short_text(trees.before) as before, short_text(trees.after) as after:
-        answer = ask(program, "show", "--agrees", after, f"{word}={before}", given=data)
+        answer = ask(program, "show", "--agrees", after, "--older", f"{word}={before}", given=data)
     if answer.is_refused:
         return frozenset()
     found = [LINE.fullmatch(line) for line in answer.text.splitlines()]

@@ -50,7 +50,8 @@ FINDINGS = Option("findings", "", "", "Print all faults of the definition instea
 PLAN = Option("plan", "", "", "Print for each vertex whether what it reads goes by value")
 MATCHES = Option("matches", "", "OLD", "Print for each vertex which vertex of the definition OLD it matches")
 OPS = Option("ops", "", "", "Print the ops of all entries that can be read instead")
-AGREES = Option("agrees", "", "NEW", "Print for each vertex whether it reads the same of each NAME and of NEW")
+AGREES = Option("agrees", "", "NEW", "Print for each vertex whether it reads the same of the tree NEW and of each OLD")
+OLDER = Option("older", "", "NAME=OLD", "The older tree of the local source NAME, with --agrees")
 HELP = Option("help", "h", "", "Print help")
 VERSION = Option("version", "V", "", "Print version")
 LOCAL = Argument("[NAME=FILE]...", "The tree of the local source NAME, as its text in FILE")
@@ -63,7 +64,7 @@ COMMANDS = (
     ),
     Command(
         "show", "Prints the graph of the definition on standard input",
-        (FINDINGS, PLAN, MATCHES, OPS, AGREES, HELP), (LOCAL,),
+        (FINDINGS, PLAN, MATCHES, OPS, AGREES, OLDER, HELP),
     ),
     Command(
         "step", "Steps through the run of a definition, by commands on standard input", (workers(2), LOOKS, ENDS, HELP),

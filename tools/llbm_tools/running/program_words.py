@@ -7,10 +7,11 @@ import re
 from typing import NamedTuple
 
 COMMANDS = ("run", "show", "step", "asm", "dis")
-# The commands that take local sources; `show` takes them with --agrees alone.
-WITH_SOURCES = ("run", "show", "step")
+WITH_SOURCES = ("run", "step")
 FLAGS = {"show": ("--findings", "--plan", "--ops"), "step": ("--looks", "--ends")}
-VALUES = {"run": ("--workers",), "step": ("--workers",), "show": ("--matches", "--agrees")}
+VALUES = {"run": ("--workers",), "step": ("--workers",), "show": ("--matches", "--agrees", "--older")}
+# Options that can be given several times, each with a local source.
+REPEATED = ("--older",)
 MOST_OF_A_NUMBER = 1 << 32
 HELP = ("-h", "--help")
 PAGES = (*HELP, "-V", "--version")
@@ -63,7 +64,9 @@ class Reader:
         word = given if given is not None else self.words.pop(0) if self.words else None
         if name == "--workers":
             return number_fault(word)
-        return "" if word and (given or not word.startswith("-")) else f"{name} has no file after it"
+        if not word or (not given and word.startswith("-")):
+            return f"{name} has no file after it"
+        return self.source(word) if name in REPEATED else ""
 
     def option(self, word: str) -> str:
         """Reads an option, and returns why it is refused; empty if it is not."""
@@ -71,7 +74,7 @@ class Reader:
         flags = FLAGS.get(self.command, ())
         if name not in flags + VALUES.get(self.command, ()):
             return f"{word!r} is no option of {self.command}"
-        if name in self.given:
+        if name in self.given and name not in REPEATED:
             return f"{name} is given twice"
         self.given.add(name)
         if name in flags:
@@ -85,6 +88,10 @@ class Reader:
         if self.command == "step" and self.file is None:
             self.file = word
             return ""
+        return self.source(word)
+
+    def source(self, word: str) -> str:
+        """Reads a local source, and returns why it is refused; empty if it is not."""
         name, equals, file = word.partition("=")
         if not equals:
             return f"{word!r} has no `=`: a local source is given as NAME=FILE"
@@ -98,10 +105,11 @@ class Reader:
             cause = self.option(word) if word.startswith("-") and word != "-" else self.argument(word)
             if cause:
                 return cause
-        if self.command == "show" and len(self.given) > 1:
-            return f"show takes one option: {' or '.join(sorted(self.given))}"
+        asked = self.given - set(REPEATED)
+        if self.command == "show" and len(asked) > 1:
+            return f"show takes one option: {' or '.join(sorted(asked))}"
         if self.command == "show" and bool(self.sources) != ("--agrees" in self.given):
-            return "show takes --agrees and local sources together"
+            return "show takes --agrees and --older together"
         return "step needs the FILE of a definition" if self.command == "step" and self.file is None else ""
 
 

@@ -25,7 +25,7 @@ class CommandLine(unittest.TestCase):
         self.assertEqual((session.file, session.sources, session.refused), ("d", (Source("a", "x"),), ""))
         for given in [
             [], ["show"], ["show", "--findings"], ["show", "--plan"], ["show", "--matches", "d"], ["show", "--ops"],
-            ["show", "--agrees", "t", "a=x"], ["asm"], ["dis"], ["run"], ["step", "d"],
+            ["show", "--agrees", "t", "--older", "a=x", "--older=b=y"], ["asm"], ["dis"], ["run"], ["step", "d"],
         ]:
             self.assertEqual(read_words(given).refused, "", given)
         for given in [["--help"], ["-V"], ["run", "--help"], ["step", "-h"]]:
@@ -35,10 +35,12 @@ class CommandLine(unittest.TestCase):
         for given, cause in [
             (["frob"], "the first word 'frob' is no command: run, show, step, asm or dis"),
             (["a=x"], "the first word 'a=x' is no command: run, show, step, asm or dis"),
-            (["show", "x"], "'x' has no `=`: a local source is given as NAME=FILE"),
+            (["show", "x"], "'x' is one word too many: show takes none"),
+            (["show", "a=x"], "'a=x' is one word too many: show takes none"),
+            (["show", "--agrees", "t", "--older", "x"], "'x' has no `=`: a local source is given as NAME=FILE"),
             (["asm", "x"], "'x' is one word too many: asm takes none"),
-            (["show", "a=x"], "show takes --agrees and local sources together"),
-            (["show", "--agrees", "t"], "show takes --agrees and local sources together"),
+            (["show", "--older", "a=x"], "show takes --agrees and --older together"),
+            (["show", "--agrees", "t"], "show takes --agrees and --older together"),
             (["dis", "--workers", "2"], "'--workers' is no option of dis"),
             (["run", "--frob"], "'--frob' is no option of run"),
             (["run", "--findings"], "'--findings' is no option of run"),
