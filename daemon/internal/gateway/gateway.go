@@ -115,7 +115,7 @@ func (g *Gateway) Solve(ctx context.Context, req *gatewaypb.SolveRequest) (*gate
 			Name: req.Frontend, Options: req.FrontendOpt, Inputs: req.FrontendInputs, IsCalled: g.only != nil,
 		})
 	case solver.IsEmpty(req.Definition):
-		r = &Returned{Single: results.Empty()}
+		r = &Returned{Single: results.Empty(b.Layers)}
 	default:
 		r, err = g.lazily(b, req.Definition, req.SourcePolicies)
 	}
@@ -153,7 +153,7 @@ func (g *Gateway) lazily(b *builds.Build, def *pb.Definition, policies []*spb.Po
 // result returns a result of a build by its ID; without an ID it is the empty one.
 func result(b *builds.Build, id string) (*results.Lazy, error) {
 	if id == "" {
-		return results.Empty(), nil
+		return results.Empty(b.Layers), nil
 	}
 	if lazy := b.Result(id); lazy != nil {
 		return lazy, nil

@@ -60,9 +60,18 @@ func Lazily(id string, def *pb.Definition, solve func() (*Result, error)) *Lazy 
 	return &Lazy{ID: id, Def: def, solve: solve, done: make(chan struct{})}
 }
 
-// Empty is the result that has nothing.
-func Empty() *Lazy {
-	return Lazily("", nil, func() (*Result, error) { return &Result{Tree: tree.Empty()}, nil })
+// Nothing is the result of a definition without entries, with the layers of BuildKit, which are none, if they are asked for.
+func Nothing(def *pb.Definition, isLayered bool) *Result {
+	nothing := &Result{Tree: tree.Empty(), Def: def}
+	if isLayered {
+		nothing.Layers = []Layer{}
+	}
+	return nothing
+}
+
+// Empty is the same, as the result of no definition.
+func Empty(isLayered bool) *Lazy {
+	return Lazily("", nil, func() (*Result, error) { return Nothing(nil, isLayered), nil })
 }
 
 // Result solves the definition, if this was not done before, and returns the tree. Others may wait for it too, so it is solved

@@ -19,7 +19,6 @@ import (
 	"github.com/moby/buildkit/client"
 	"github.com/moby/buildkit/client/llb"
 	"github.com/ulikunitz/xz"
-	"llbm/daemon/internal/cases"
 )
 
 // tarOf returns an archive of headers; the content of a file is its name.
@@ -213,7 +212,7 @@ func TestAnArchiveIsUnpackedAsBuildKitsLibraryDoesIt(t *testing.T) {
 	}
 	d, random := started(t, func(o *Options) { o.Strict = true }), rand.New(rand.NewSource(11))
 	same, refused := 0, 0
-	for n := range cases.Of(40) {
+	for n := range 40 {
 		data := randomArchive(t, random)
 		root := directory(t, map[string]string{"archive": string(packed(t, data, n%4))})
 		for _, dest := range []string{"/to", []string{"/new/place/", "/"}[n%2]} {
@@ -235,7 +234,7 @@ func TestAnArchiveIsUnpackedAsBuildKitsLibraryDoesIt(t *testing.T) {
 			}
 		}
 	}
-	if same < cases.Of(30) {
+	if same < 30 {
 		t.Errorf("%d are the same, and %d are refused", same, refused)
 	}
 }

@@ -79,11 +79,14 @@ func TestAnImageHasTheLayersOfBuildKitIfTheyAreAskedFor(t *testing.T) {
 		File(llb.Mkdir("/d", 0o755, llb.WithParents(true)), named("nothing")).File(llb.Rm("/b"), named("four"))
 	asked := client.SolveOpt{FrontendAttrs: map[string]string{"llbm:layers": "true"}}
 	layers, history, warnings := d.layersOf(t, state, asked)
-	if got := strings.Join(layers, "; "); got != "d/ d/a; b; d/ d/.wh.a d/c; .wh.b" {
+	if got := strings.Join(layers, "; "); got != "d/ d/a; b; d/ d/.wh.a d/c; ; .wh.b" {
 		t.Error(got)
 	}
-	if got := strings.Join(history, " "); got != "one two three four" || strings.Contains(warnings, "layer") {
+	if got := strings.Join(history, " "); got != "one two three nothing four" || strings.Contains(warnings, "layer") {
 		t.Error(got, warnings)
+	}
+	if layers, history, _ = d.layersOf(t, llb.Scratch(), asked); len(layers)+len(history) > 0 {
+		t.Error(layers, history)
 	}
 	layers, _, warnings = d.layersOf(t, state, client.SolveOpt{})
 	if len(layers) != 1 || !strings.Contains(warnings, "the image has one layer, where BuildKit makes up to 5") {

@@ -104,7 +104,7 @@ func (s *Solver) layers(run *session, p *progress, t tree.Tree) ([]results.Layer
 		return nil, nil
 	}
 	seen := map[place]tree.Tree{nowhere: tree.Empty()}
-	var out []results.Layer
+	out := []results.Layer{}
 	made := tree.Empty()
 	for _, one := range c.steps {
 		before, err := s.treeAt(run, p, seen, one.before)
@@ -116,9 +116,6 @@ func (s *Solver) layers(run *session, p *progress, t tree.Tree) ([]results.Layer
 			return nil, err
 		}
 		changes := tree.Changes(before, after)
-		if len(changes) == 0 {
-			continue
-		}
 		made = tree.Apply(made, changes)
 		out = append(out, results.Layer{Name: g.Vertices[c.rows[one.after.row]].Name, Changes: changes})
 	}

@@ -25,7 +25,6 @@ import (
 	"llbm/daemon/internal/sessions"
 	"llbm/daemon/internal/sources"
 	"llbm/daemon/internal/standins"
-	"llbm/daemon/internal/tree"
 )
 
 // A Solver has what all builds share.
@@ -77,7 +76,7 @@ func (s *Solver) Lazily(b *builds.Build, id string, def *pb.Definition, policies
 // refusal is the error, whatever else is wrong.
 func (s *Solver) Solve(ctx context.Context, b *builds.Build, sent *pb.Definition, policies []*spb.Policy) (*results.Result, error) {
 	if IsEmpty(sent) {
-		return &results.Result{Tree: tree.Empty(), Def: sent}, nil
+		return results.Nothing(sent, b.Layers), nil
 	}
 	_, given, err := b.Given(ctx)
 	if err != nil {

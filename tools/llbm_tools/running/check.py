@@ -3,8 +3,9 @@
 In: FOLDER, below which each folder with a file `args` is a case: `args` has the words of the program's command line,
 one on each line; `stdin` is what it reads, or `definition.text` the text of the definition that it reads; files and
 directories that the words name are beside them. In a word NAME=PATH of `run` and `step` PATH is the text of a tree, a
-directory or an archive (both with owner 0:0). `stdout`, `stderr` and `status` are what the program has to write and its
-exit status; one that is missing is empty, or 0. So a failure that is expected is a case too. --only TEXT runs the cases
+directory or an archive (both with owner 0:0); of a directory only what the filters of its source select is given, as by
+`build`, unless --no-filters is given. `stdout`, `stderr` and `status` are what the program has to write and its exit
+status; one that is missing is empty, or 0. So a failure that is expected is a case too. --only TEXT runs the cases
 whose paths have this text, --jobs N runs N at once, by default one for each processor. The program is --llbm PROGRAM,
 else that of the installation or repository.
 
@@ -87,7 +88,7 @@ def write_junit(found: list[Ended], name: str, place: str) -> None:
 
 def all_ended(options: argparse.Namespace, folders: list[pathlib.Path]) -> list[Ended]:
     """Runs all cases, some at once, and returns how they ended, in their order."""
-    runner = Runner(program_at(options.llbm), options.seconds)
+    runner = Runner(program_at(options.llbm), options.seconds, has_filters=not options.no_filters)
     run = functools.partial(stored_cases.ended, runner, is_updated=options.update)
     with concurrent.futures.ThreadPoolExecutor(options.jobs) as pool:
         return list(pool.map(lambda folder: run(folder, os.path.relpath(folder, options.folder)), folders))
@@ -120,6 +121,7 @@ def parse_options() -> argparse.Namespace:
     parser.add_argument("folder", metavar="FOLDER", help="the folder of the cases")
     parser.add_argument("--only", metavar="TEXT", default="", help="run the cases whose paths have this text")
     parser.add_argument("--update", action="store_true", help="store what the program writes")
+    parser.add_argument("--no-filters", action="store_true", help="give all of a directory")
     parser.add_argument("--json", action="store_true", help="print one object")
     parser.add_argument("--junit", metavar="FILE", help="also write the cases as XML")
     parser.add_argument("--jobs", metavar="N", type=positive, default=os.cpu_count() or 1, help="run N at once")

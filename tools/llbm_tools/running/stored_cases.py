@@ -2,8 +2,9 @@
 
 A case is a folder with a file `args`, which has one word on each line. The program starts in the folder, with `stdin`
 as its standard input; in place of it `definition.text` may have the text of entries, which is assembled first. PATH of
-a word NAME=PATH of `run` or `step` may also be a directory or an archive. `stdout`, `stderr` and `status` are what the
-program has to write and its exit status; one that is not there is empty, or 0.
+a word NAME=PATH of `run` or `step` may also be a directory, of which the filters of its source select, or an archive.
+`stdout`, `stderr` and `status` are what the program has to write and its exit status; one that is not there is empty,
+or 0.
 """
 
 import difflib
@@ -16,6 +17,8 @@ from collections.abc import Iterator
 from typing import NamedTuple
 
 from llbm_tools import common
+from llbm_tools.rules import filters
+from llbm_tools.running.program_words import read_words
 from llbm_tools.streams import Failed, Refused
 from llbm_tools.trees import diff_of_trees
 from llbm_tools.trees.source_files import source_file
@@ -82,10 +85,10 @@ def wanted_of(folder: pathlib.Path) -> Answer:
 
 
 class Runner:
-    """Runs cases by a program, each within a number of seconds."""
+    """Runs cases by a program, each within a number of seconds; of directories filters select, unless they are off."""
 
-    def __init__(self, program: str, seconds: int) -> None:
-        self.program, self.seconds = program, seconds
+    def __init__(self, program: str, seconds: int, *, has_filters: bool = True) -> None:
+        self.program, self.seconds, self.has_filters = program, seconds, has_filters
 
     def done(self, words: list[str], given: bytes, folder: pathlib.Path) -> Answer:
         """Runs the program in a folder, and returns what it wrote."""
@@ -109,22 +112,26 @@ class Runner:
 
     def answer(self, folder: pathlib.Path) -> Answer:
         """Returns what the program writes for a case."""
-        words = words_of(folder)
+        words, given = words_of(folder), self.given_to(folder)
         with tempfile.TemporaryDirectory(prefix="llbm-check-") as made:
             try:
                 if words[:1] and words[0] in WITH_SOURCES:
-                    words = [self.source_word(word, number, folder, made) for number, word in enumerate(words)]
+                    file = read_words(words).file
+                    data = content_of(folder, file) if file else given
+                    words = [self.source_word(word, f"{made}/{n}.tree", folder, data) for n, word in enumerate(words)]
             except (Refused, Failed) as cause:
                 raise NoAnswer(str(cause)) from cause
-            return self.done(words, self.given_to(folder), folder)
+            return self.done(words, given, folder)
 
-    def source_word(self, word: str, number: int, folder: pathlib.Path, made: str) -> str:
+    def source_word(self, word: str, text: str, folder: pathlib.Path, data: bytes) -> str:
         """Returns a word of the command line, with the text of a tree in place of a directory or an archive."""
         name, equals, path = word.partition("=")
         place = os.path.join(folder, path)
         if not name or not equals or not os.path.exists(place) or word.startswith("-"):
             return word
-        file = source_file(name, place, os.path.join(made, f"{number}.tree"), common.say)
+        is_filtered = self.has_filters and os.path.isdir(place)
+        selected = filters.selected(data, name, place) if is_filtered else None
+        file = source_file(name, place, text, common.say, selected)
         return word if file == place else f"{name}={file}"
 
 

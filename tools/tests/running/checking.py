@@ -65,6 +65,24 @@ class Outcomes(Check):
             (self.copied / "args").write_text(f"run\ncontext={name}\n")
             self.check_lines(0, ["1 passed, 0 failed"], "--only", "copied")
 
+    def test_of_a_directory_filters_select(self):
+        base.skip_without_rules(self)
+        place = self.copied / "definition.text"
+        filters = 'attrs {\n key "local.excludepatterns"\n value "[\\"src/a.txt\\"]"\n }\n'
+        identifier = 'identifier "local://context"\n'
+        place.write_text(place.read_text().replace(identifier, identifier + filters))
+        done = self.check("--only", "copied")
+        self.assertIn("    status: 0 -> 1", done.stdout.decode().splitlines())
+        self.check_lines(0, ["1 passed, 0 failed"], "--only", "copied", "--no-filters")
+        # Of a session the definition is in a file.
+        assembled = run("run", "--llbm", base.llbm, "asm", text=place.read_bytes()).stdout
+        (self.copied / "definition").write_bytes(assembled)
+        (self.copied / "args").write_text("step\ndefinition\ncontext=context\n")
+        (self.copied / "stdin").write_text("next\n" * 7)
+        self.assertEqual(self.check("--update").returncode, 0)
+        self.check_lines(0, ["1 passed, 0 failed"], "--only", "copied")
+        self.assertEqual(self.check("--no-filters", "--only", "copied").returncode, 1)
+
     def test_a_definition_can_be_stored_as_bytes(self):
         shutil.copy(ROOT / "examples" / "tour.definition", self.copied / "stdin")
         (self.copied / "args").write_text("show\n")
