@@ -11,7 +11,7 @@ import { membersOf, read } from './op_reading.mjs';
 import {
   areEqual, changed, recordsIn, withEach, withMessage, without, withText, withTexts, written,
 } from './records.mjs';
-import { inputsFirst } from './rows.mjs';
+import { inputsFirst } from './refused_rows.mjs';
 
 const EXEC = 2;
 const SOURCE = 3;

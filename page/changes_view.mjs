@@ -3,7 +3,7 @@
 import { contentsOf } from './contents.mjs';
 import { by, make } from './dom.mjs';
 import { explained } from './faults.mjs';
-import { FolderView } from './folders.mjs';
+import { FolderView } from './folder_view.mjs';
 import { failedStep, faultOf, isFailure, wordsOf as eventWords } from './record.mjs';
 import { counted } from './summary.mjs';
 

@@ -4,7 +4,7 @@ import { adopted } from './adopting.mjs';
 import { entriesOf } from './definition.mjs';
 import { digestsOf } from './digests.mjs';
 import { findingsOf } from './findings.mjs';
-import { inputsFirst, Rows } from './rows.mjs';
+import { inputsFirst, Rows } from './refused_rows.mjs';
 
 function graphOf(rows, order) {
   const place = new Map(order.map((row, i) => [row, i]));

@@ -25,7 +25,7 @@ export async function openLink(page, machine) {
   try {
     const given = location.hash === OPEN ? null : await givenBy(location.hash) ?? await reloaded();
     if (given) openGiven(page, machine, given);
-    else if (location.hash === OPEN || !await openLive(page)) page.openView.show();
+    else if (location.hash === OPEN || !await openBegun(page)) page.openView.show();
   } catch (fault) {
     const words = `The link is not readable: ${fault.message}. ${explained(fault.message)}`.trim();
     page.say(words);
@@ -56,10 +56,10 @@ async function openServed(page, machine, name) {
 }
 
 // Opens the example that runs; returns whether it is there and could be loaded.
-async function openLive(page) {
+async function openBegun(page) {
   if (!page.openView.hasExample(LIVE.name)) return false;
   try {
-    page.openLive(await page.openView.exampleGiven(LIVE.name), LIVE.steps);
+    page.openBegun(await page.openView.exampleGiven(LIVE.name), LIVE.steps);
     return true;
   } catch (fault) {
     page.say(`The example that is shown first can't be opened: ${fault.message}`);

@@ -1,6 +1,6 @@
 /** The worker that makes the page's looks: one call after another, but for searches, each with its answer. */
 
-import { Looks } from './looking.mjs';
+import { Looks } from './shown_trees.mjs';
 import { Machine } from './machine.mjs';
 import { loadTables } from './tables.mjs';
 

@@ -4,14 +4,14 @@ import { ChangesView } from './changes_view.mjs';
 import { DefinitionView } from './definition_view.mjs';
 import { by, make, oncePerFrame } from './dom.mjs';
 import { explained } from './faults.mjs';
-import { whyIdle } from './idle.mjs';
+import { whyIdle } from './idle_workers.mjs';
 import { foreignOf, foreignStatuses } from './foreign.mjs';
 import { showForeign } from './foreign_view.mjs';
 import { GraphView } from './graph_view.mjs';
 import { KeptState } from './kept_state.mjs';
 import { listen } from './keyboard.mjs';
 import { openLink } from './links.mjs';
-import { Looker } from './looker.mjs';
+import { Looker } from './looks_client.mjs';
 import { Machine } from './machine.mjs';
 import { VertexNotes } from './notes.mjs';
 import { OpenView } from './open_view.mjs';
@@ -106,7 +106,7 @@ class Page {
   }
 
   /** Opens a session in which the workers have begun already: each did as many steps as are given. */
-  openLive(given, steps) {
+  openBegun(given, steps) {
     this.open(given);
     for (let n = 0; n < steps; n += 1) this.session.stepAll();
     this.update();

@@ -5,12 +5,12 @@
  */
 
 import { digestsOfRows, keepDigests, localsOf, verticesOf } from './definition.mjs';
-import { diceOf, shuffled } from './dice.mjs';
+import { diceOf, shuffled } from './seeded_order.mjs';
 import { STATUS } from './machine.mjs';
 import { eventOf, graphOf } from './record.mjs';
 import { Statuses } from './statuses.mjs';
 import { linesOf } from './tree_text.mjs';
-import { Ways } from './ways.mjs';
+import { Ways } from './event_tree.mjs';
 
 const decoder = new TextDecoder();
 

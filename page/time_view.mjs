@@ -6,7 +6,7 @@
 
 import { by, draw, oncePerFrame } from './dom.mjs';
 import { isFailure, isFault, wordsOf } from './record.mjs';
-import { Track } from './track.mjs';
+import { Track } from './time_track.mjs';
 
 const STEP = 24;
 const ROW = 24;

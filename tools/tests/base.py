@@ -10,7 +10,7 @@ import time
 import unittest
 
 from llbm_tools import commands, common
-from llbm_tools.rules import program
+from llbm_tools.rules import rules_program
 from tests import forking
 
 TOOLS = pathlib.Path(__file__).resolve().parent.parent
@@ -98,8 +98,8 @@ def run_closed(descriptor, tool, *words):
 def skip_without_rules(case):
     """Skips a test that needs the program with BuildKit's rules, which Go builds from packages."""
     try:
-        program.place()
-    except program.Missing:
+        rules_program.place()
+    except rules_program.Missing:
         case.skipTest("the program llbm-rules is needed (dev/dev daemon builds it)")
 
 

@@ -15,10 +15,10 @@ import (
 	"google.golang.org/grpc/status"
 	"llbm/daemon/internal/builds"
 	"llbm/daemon/internal/exports"
-	"llbm/daemon/internal/fields"
 	"llbm/daemon/internal/gateway"
 	"llbm/daemon/internal/messages"
 	"llbm/daemon/internal/solver"
+	"llbm/daemon/internal/unknownfields"
 )
 
 const keyEpoch = "source-date-epoch"
@@ -92,7 +92,7 @@ func refused(req *controlapi.SolveRequest) error {
 	if err := solver.CheckPolicy(req.SourcePolicy); err != nil {
 		return err
 	}
-	return fields.Refuse("SolveRequest", req.XXX_unrecognized)
+	return unknownfields.Refuse("SolveRequest", req.XXX_unrecognized)
 }
 
 // warnOfCaches warns of caches that the build was asked to use, and has no use for.

@@ -43,8 +43,8 @@ type image struct {
 	watch Watch
 	pack  *contents.Pack
 	names []string
-	blobs []blob // in the order of the archive
-	saved []save // what `docker load` reads of the images
+	blobs []blob       // in the order of the archive
+	saved []dockerSave // what `docker load` reads of the images
 
 	annotations []annotation
 }
@@ -193,7 +193,7 @@ func (i *image) manifest(ctx context.Context, one named, given []byte) (ocispecs
 	for _, p := range parts {
 		i.blobs = append(i.blobs, p.blob)
 	}
-	i.saved = append(i.saved, i.savedOf(configBlob, m.Layers))
+	i.saved = append(i.saved, i.dockerSaveOf(configBlob, m.Layers))
 	manifest.Platform = platformIn(data)
 	manifest.Annotations = annotated(i.annotations, exptypes.AnnotationManifestDescriptor, &one.Platform.Platform)
 	return manifest, config.Digest, err
@@ -269,15 +269,15 @@ func (i *image) index(top ocispecs.Descriptor) ocispecs.Index {
 	return index
 }
 
-// A save is what `docker save` writes of an image, and `docker load` reads.
-type save struct {
+// A dockerSave is what `docker save` writes of an image, and `docker load` reads.
+type dockerSave struct {
 	Config   string
 	RepoTags []string
 	Layers   []string
 }
 
-func (i *image) savedOf(config blob, layers []ocispecs.Descriptor) save {
-	one := save{Config: pathOf(config.digest), Layers: []string{}}
+func (i *image) dockerSaveOf(config blob, layers []ocispecs.Descriptor) dockerSave {
+	one := dockerSave{Config: pathOf(config.digest), Layers: []string{}}
 	for _, layer := range layers {
 		one.Layers = append(one.Layers, pathOf(layer.Digest))
 	}

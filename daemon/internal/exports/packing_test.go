@@ -134,7 +134,7 @@ func TestDockerLoadsTheArchiveOfTheExporterDocker(t *testing.T) {
 		t.Error(manifests[0].MediaType)
 	}
 	i.names, _ = e.image.names(nil)
-	i.saved = []save{i.savedOf(i.blobs[1], manifests[0].Layers)}
+	i.saved = []dockerSave{i.dockerSaveOf(i.blobs[1], manifests[0].Layers)}
 	var out bytes.Buffer
 	if err := i.write(&out, top); err != nil {
 		t.Fatal(err)

@@ -19,11 +19,11 @@ import (
 	"google.golang.org/grpc/codes"
 	"google.golang.org/grpc/status"
 	"llbm/daemon/internal/builds"
-	"llbm/daemon/internal/fields"
 	"llbm/daemon/internal/images"
 	"llbm/daemon/internal/peers"
 	"llbm/daemon/internal/results"
 	"llbm/daemon/internal/solver"
+	"llbm/daemon/internal/unknownfields"
 )
 
 // A Frontend is asked to solve a build.
@@ -142,7 +142,7 @@ func refused(req *gatewaypb.SolveRequest) error {
 			return err
 		}
 	}
-	return fields.Refuse("SolveRequest", req.XXX_unrecognized)
+	return unknownfields.Refuse("SolveRequest", req.XXX_unrecognized)
 }
 
 func (g *Gateway) lazily(b *builds.Build, def *pb.Definition, policies []*spb.Policy) (*Returned, error) {

@@ -56,7 +56,7 @@ func Possible(ctx context.Context, vertices []graph.Vertex) ([]Possibility, erro
 
 // possible returns what is known of the outputs of a vertex, and how it can end otherwise.
 func possible(ctx context.Context, op *pb.Op, inputs []*known) ([]*known, []Possibility, error) {
-	whole := func(rules ...Rule) (out []Possibility) {
+	byRules := func(rules ...Rule) (out []Possibility) {
 		for _, rule := range rules {
 			out = append(out, Possibility{Action: -1, Name: rule.String()})
 		}
@@ -68,10 +68,10 @@ func possible(ctx context.Context, op *pb.Op, inputs []*known) ([]*known, []Poss
 		if isFiltered(op.GetSource()) {
 			rules = append(rules, Filters)
 		}
-		return []*known{{isLocal: true}}, whole(rules...), nil
+		return []*known{{isLocal: true}}, byRules(rules...), nil
 	case op.GetMerge() != nil:
 		made, rules := knownMerge(op.GetMerge(), inputs)
-		return []*known{made}, whole(rules...), nil
+		return []*known{made}, byRules(rules...), nil
 	case op.GetFile() != nil:
 		f := &possibleFile{actions: op.GetFile().Actions, count: len(inputs), values: slices.Clone(inputs)}
 		outputs, err := f.all(ctx)

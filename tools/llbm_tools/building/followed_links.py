@@ -16,7 +16,7 @@ from llbm_tools.common import say
 from llbm_tools.llb import definition, op_reading
 from llbm_tools.llb.ops import Op
 from llbm_tools.llb.wire import Unreadable
-from llbm_tools.rules import program
+from llbm_tools.rules import rules_program
 from llbm_tools.rules.comparison import Comparison, Executions, Later, Outputs
 from llbm_tools.streams import Refused
 from llbm_tools.trees.content_tokens import Table, token
@@ -82,7 +82,7 @@ class Following:
         }  # fmt: skip
         try:
             self.comparison = Comparison(data, files, Executions(self.made, None, rows), further=further)
-        except program.Missing as fault:
+        except rules_program.Missing as fault:
             raise Refused(f"--links needs BuildKit's rules: {fault}") from fault
         self.kept.callback(self.comparison.close)
         self.data = self.rewritten(data)

@@ -18,8 +18,8 @@ from llbm_tools.inputs import reading
 from llbm_tools.streams import Failed, Refused, write_and_rename
 from llbm_tools.trees.kept_sources import Kept, Part, Stored, bytes_of
 
-BEGIN = b"llbm-build kept "
-FORM = BEGIN + b"3\n"
+KEPT_BUILD = b"llbm-build kept "
+FIRST_LINE = KEPT_BUILD + b"3\n"
 PARTS = 8
 PIECE = 1 << 20
 
@@ -78,7 +78,7 @@ def load(place: str) -> Build | None:
 
 def build_in(file: BinaryIO) -> Build | None:
     """Returns what is kept in an open file, whose larger parts are read later."""
-    if file.readline() != FORM:
+    if file.readline() != FIRST_LINE:
         return None
     head = json.loads(file.readline())
     place = file.tell()
@@ -122,7 +122,7 @@ def head_of(build: Build, parts: list[list[bytes]]) -> bytes:
 def pieces_of(build: Build) -> Iterator[bytes]:
     """Yields the bytes of the file."""
     parts = [one.parts() for one in build.sources if isinstance(one, Kept)]
-    yield FORM + head_of(build, parts)
+    yield FIRST_LINE + head_of(build, parts)
     for part in parts:
         yield from part
     yield from (bytes_of(build.text), bytes_of(build.definition))
@@ -133,7 +133,7 @@ def is_replaceable(place: str) -> bool:
     if not stat.S_ISREG(os.lstat(place).st_mode):
         return False
     with open(place, "rb") as file:
-        return file.read(len(BEGIN)) in (b"", BEGIN)
+        return file.read(len(KEPT_BUILD)) in (b"", KEPT_BUILD)
 
 
 def check_place(place: str) -> None:

@@ -56,7 +56,7 @@ from llbm_tools.definitions import adopted_ops
 from llbm_tools.llb.findings import findings_of
 from llbm_tools.paths import ROOT
 from llbm_tools.rules import comparison as comparing
-from llbm_tools.rules import examples, notes, program
+from llbm_tools.rules import examples, notes, rules_program
 from llbm_tools.streams import Refused, exit_status, program_at
 from llbm_tools.trees import tree_maps
 from llbm_tools.trees.tree_maps import Tree
@@ -126,7 +126,7 @@ def modelled(data: bytes, sources: dict[str, Tree]) -> Lines:
 
 def rules_that_warn() -> frozenset[str]:
     """Returns the names that warnings of what ends otherwise have."""
-    return frozenset(one["name"] for one in program.answers("texts") if one["kind"] in NAMED)
+    return frozenset(one["name"] for one in rules_program.answers("texts") if one["kind"] in NAMED)
 
 
 class Comparison:
@@ -273,7 +273,7 @@ def compare_all(theirs: Started, ours: Daemon, options: argparse.Namespace) -> C
 def ours(options: argparse.Namespace, buildctl: str) -> Iterator[Daemon]:
     """Runs llbmd, or raises NoDaemon."""
     frontend = options.llbmd.with_name(FRONTEND)
-    for place in (options.llbmd, frontend, options.llbmd.with_name(program.NAME)):
+    for place in (options.llbmd, frontend, options.llbmd.with_name(rules_program.NAME)):
         if not place.is_file():
             raise started_daemon.NoDaemon(f"there is no program {place}: `dev/dev daemon --clients` builds it")
     with tempfile.TemporaryDirectory(prefix="l") as made:
@@ -307,7 +307,7 @@ def against_started(options: argparse.Namespace) -> int:
     try:
         with started_daemon.started(options.packages) as theirs, ours(options, theirs.daemon.command[0]) as daemon:
             counts = compare_all(theirs, daemon, options)
-    except (started_daemon.NoDaemon, program.Missing) as fault:
+    except (started_daemon.NoDaemon, rules_program.Missing) as fault:
         print(f"skipped: {fault}\n{Counts(skipped=1).line()}")
         return 0
     print(counts.line())

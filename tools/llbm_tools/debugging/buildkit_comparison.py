@@ -8,7 +8,7 @@ from collections.abc import Mapping
 from typing import IO
 
 from llbm_tools.debugging.vertex_lines import Graph
-from llbm_tools.rules import notes, program
+from llbm_tools.rules import notes, rules_program
 from llbm_tools.rules.comparison import WHOLE, Comparison, Executions, Later, Outputs, Unknown
 from llbm_tools.rules.explaining import line_of
 from llbm_tools.rules.notes import RowNote
@@ -32,14 +32,14 @@ class BuildkitComparison:
         self.count = 0
         # The executions that have ended, and that the comparison has not asked for.
         self.ended: set[int] = set()
-        self.lost: dict[int, str] = {}
+        self.why_unknown: dict[int, str] = {}
 
     @functools.cached_property
     def missing(self) -> str:
         """Why nothing is said, if the program with BuildKit's rules is not there."""
         try:
-            program.place()
-        except program.Missing as fault:
+            rules_program.place()
+        except rules_program.Missing as fault:
             return f"what ends otherwise in BuildKit is left out: {fault}"
         return ""
 
@@ -81,11 +81,11 @@ class BuildkitComparison:
 
     def lose(self, vertex: int, why: str) -> None:
         """Notes that a vertex, and what depends on it, is not compared."""
-        self.lost[vertex] = why
+        self.why_unknown[vertex] = why
         for user in range(vertex, len(self.graph.vertices)):
             before = [int(named.partition(".")[0]) for named in self.graph.vertices[user].inputs]
-            if found := next((self.lost[named] for named in before if named in self.lost), None):
-                self.lost.setdefault(user, found)
+            if found := next((self.why_unknown[named] for named in before if named in self.why_unknown), None):
+                self.why_unknown.setdefault(user, found)
 
     def begun(self) -> Comparison:
         """Returns the comparison; a new one after a step back."""
@@ -95,7 +95,7 @@ class BuildkitComparison:
             self.comparison = None
         if self.comparison is None:
             self.count = 0
-            self.lost.clear()
+            self.why_unknown.clear()
             self.ended.clear()
             executions = Executions(self.made, entries=[one.entry for one in self.graph.vertices])
             self.comparison = Comparison(self.data, self.sources, executions)
@@ -129,8 +129,8 @@ class BuildkitComparison:
         if event.kind != "step" or op.exec or op.source:
             return []
         step = event.before.steps if event.before else 0
-        if vertex in self.lost:
-            return [*self.of_fields(vertex, step), self.lost[vertex]]
+        if vertex in self.why_unknown:
+            return [*self.of_fields(vertex, step), self.why_unknown[vertex]]
         is_last = op.merge and step == max(len(op.merge.inputs) - 1, 0)
         found = self.whole(vertex)[1] if is_last else [] if op.merge else comparison.steps.get(vertex, {}).get(step, [])
         return [*self.of_fields(vertex, step), *found]

@@ -21,7 +21,7 @@ from llbm_tools.llb.ops import LOCAL, SECRET, ChownOpt, ExecOp, FileAction, Moun
 from llbm_tools.llb.ops import SSH as SSH_MOUNT
 from llbm_tools.llb.rewriting import changed, relinked, with_each, with_message, with_text, with_texts, without, written
 from llbm_tools.llb.wire import Faulty, Record
-from llbm_tools.rules import buildkit_rewriting, program
+from llbm_tools.rules import buildkit_rewriting, rules_program
 from llbm_tools.streams import Refused
 
 KINDS = frozenset([2, 3, 4, 5, 6, 7])
@@ -290,7 +290,7 @@ def like_buildkit(data: bytes, settings: Settings, changes: dict[int, list[str]]
     said: list[str] = []
     try:
         found = buildkit_rewriting.rewritten(data, dict(settings.trees), said.append)
-    except (program.Missing, Refused) as fault:
+    except (rules_program.Missing, Refused) as fault:
         return data, [*said, f"not rewritten for BuildKit: {fault}"]
     for row, texts in found.changes.items():
         before = changes.setdefault(row, [])

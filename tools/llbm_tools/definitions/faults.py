@@ -16,7 +16,7 @@ from llbm_tools.llb.findings import Finding, findings_of
 from llbm_tools.llb.ops import FileAction, Op
 from llbm_tools.llb.wire import Unreadable
 from llbm_tools.paths import ROOT
-from llbm_tools.rules import explaining, program
+from llbm_tools.rules import explaining, rules_program
 from llbm_tools.streams import Refused, program_at
 
 PAGE = ROOT / "docs" / "FAULTS.md"
@@ -288,7 +288,7 @@ def answer_about_buildkit(line: str) -> Answer:
     """Explains a note, or a line about what ends otherwise in BuildKit."""
     try:
         found = explaining.explained(line)
-    except (explaining.Unknown, program.Missing) as fault:
+    except (explaining.Unknown, rules_program.Missing) as fault:
         raise NoLine(str(fault)) from fault
     if found is None:
         raise NoLine("neither a fault, a failure nor a note")

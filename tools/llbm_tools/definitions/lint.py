@@ -30,7 +30,7 @@ from llbm_tools.command_line import Parser
 from llbm_tools.llb import names, no_definition
 from llbm_tools.llb.findings import Finding, findings_of
 from llbm_tools.llb.wire import Unreadable
-from llbm_tools.rules import notes, program
+from llbm_tools.rules import notes, rules_program
 from llbm_tools.streams import Refused, exit_status, program_to_ask
 
 
@@ -46,7 +46,7 @@ def notes_of(data: bytes, found: list[Finding], is_like: bool) -> list[notes.Row
     """Returns the notes of a definition; none, and a line that says so, if the program that finds them is not there."""
     try:
         return notes.notes_of(data, found, is_like)
-    except program.Missing as fault:
+    except rules_program.Missing as fault:
         common.say(f"notes are left out: {fault}")
         return []
 

@@ -14,9 +14,9 @@ import tempfile
 from collections.abc import Callable, Iterator, Mapping
 from typing import IO, NamedTuple
 
-from llbm_tools.rules import program
-from llbm_tools.rules.program import Answer
+from llbm_tools.rules import rules_program
 from llbm_tools.rules.rule_words import INHERITED, more_paths
+from llbm_tools.rules.rules_program import Answer
 from llbm_tools.streams import REFUSED, Failed, Refused
 
 # The action of what is about a vertex as a whole.
@@ -86,7 +86,7 @@ class Comparison:
         definition.write(data)
         definition.flush()
         self.process = subprocess.Popen(
-            [program.place(), "compare"], stdin=subprocess.PIPE, stdout=subprocess.PIPE, stderr=self.error,
+            [rules_program.place(), "compare"], stdin=subprocess.PIPE, stdout=subprocess.PIPE, stderr=self.error,
             pass_fds=[file.fileno() for file in (definition, *sources.values())],
         )  # fmt: skip
         self.closing.callback(self.stop)
@@ -132,7 +132,7 @@ class Comparison:
         status = self.process.wait()
         self.error.seek(0)
         said = self.error.read().decode("utf-8", "backslashreplace").strip() or f"status {status}"
-        raise Refused(said) if status == REFUSED else Failed(f"{program.NAME} compare: {said}")
+        raise Refused(said) if status == REFUSED else Failed(f"{rules_program.NAME} compare: {said}")
 
     def go(self, defers: bool = False) -> None:
         """Goes on until the end, or until what an execution makes is not known yet; with `defers` each such question is
@@ -206,6 +206,6 @@ def of_trees(data: bytes, sources: Mapping[str, Tree]) -> tuple[End, Tree | None
     ) as comparison:
         comparison.go()
         if comparison.end is None:
-            raise Failed(f"{program.NAME} compare has not ended")
+            raise Failed(f"{rules_program.NAME} compare has not ended")
         tree_file = comparison.end.tree
         return comparison.end, tree_file.read_bytes().splitlines(keepends=True) if tree_file else None

@@ -3,7 +3,7 @@
 import base64
 from typing import NamedTuple
 
-from llbm_tools.rules import program
+from llbm_tools.rules import rules_program
 from llbm_tools.trees import tree_maps
 from llbm_tools.trees.tree_maps import Tree
 
@@ -28,7 +28,7 @@ class Example(NamedTuple):
 def examples() -> list[Example]:
     """Returns all examples, in order."""
     found = []
-    for one in program.answers("examples"):
+    for one in rules_program.answers("examples"):
         texts = {name: text.encode("utf-8").splitlines(keepends=True) for name, text in one["trees"].items()}
         sources = {name: tree_maps.tree_of(lines) for name, lines in texts.items()}
         data = base64.b64decode(one["definition"])

@@ -8,7 +8,7 @@ import functools
 import re
 from typing import NamedTuple
 
-from llbm_tools.rules import program
+from llbm_tools.rules import rules_program
 from llbm_tools.rules.notes import ATTRIBUTE
 from llbm_tools.rules.rule_words import INHERITED
 
@@ -74,14 +74,14 @@ class Unknown(Exception):
 def notes() -> dict[str, list[str]]:
     """Returns what is said of each field, rule and other note, by its name."""
     found: dict[str, list[str]] = {}
-    for one in program.answers("texts"):
+    for one in rules_program.answers("texts"):
         found.setdefault(one["name"], []).append(one["words"])
     return found
 
 
 def line_of(name: str) -> str:
     """Returns what is said of a name as the words of a line."""
-    one = next(one for one in program.answers("texts") if one["name"] == name)
+    one = next(one for one in rules_program.answers("texts") if one["name"] == name)
     return f"{one['buildkit']} (here {one['llbm']}): {name}"
 
 

@@ -2,7 +2,7 @@
 
 from llbm_tools.llb import source_names
 from llbm_tools.llb.source_names import name_of
-from llbm_tools.rules import program
+from llbm_tools.rules import rules_program
 from llbm_tools.streams import Refused
 
 KEYS = ("local.includepattern", "local.excludepatterns", "local.followpaths")
@@ -29,8 +29,8 @@ def selected(data: bytes, name: str, place: str) -> Paths | None:
     if name_of(name) not in filtered_names(data):
         return None
     try:
-        printed = program.output_of("select", name, place, given=data).split(END)[:-1]
-    except program.Missing as fault:
+        printed = rules_program.output_of("select", name, place, given=data).split(END)[:-1]
+    except rules_program.Missing as fault:
         means = f"which llbm-rules applies; --no-filters gives all of {place}"
         raise Refused(f"the local source {name} has filters, {means}: {fault}") from fault
     return None if printed == EVERYTHING else frozenset(printed)

@@ -6,7 +6,7 @@ from llbm_tools.llb import definition, findings, names
 from llbm_tools.llb.findings import Finding
 from llbm_tools.llb.ops import LOCAL
 from llbm_tools.llb.wire import Unreadable
-from llbm_tools.rules import program
+from llbm_tools.rules import rules_program
 from llbm_tools.streams import Refused
 
 # The kinds: a field without an effect, what BuildKit's daemon dies of, and a rule that can matter.
@@ -53,7 +53,7 @@ def lines_of(data: bytes, filtered: set[str], heeded: str = "") -> list[str]:
         shown = [name.shown() for name in names.names_of(data)] if found else []
         entries = definition.entries_of(data) if found else []
         applied = {row for row, entry in enumerate(entries) if local_name(entry) in filtered}
-    except (program.Missing, Refused, Unreadable):
+    except (rules_program.Missing, Refused, Unreadable):
         return []
     left = [one for one in found if one.name != heeded and (one.name not in FILTERS or one.row not in applied)]
     return [": ".join(filter(None, [f"note {one.words()}", shown[one.row]])) for one in left]
@@ -65,6 +65,6 @@ def notes_of(data: bytes, found: list[Finding], is_like: bool) -> list[RowNote]:
     if any(one.number == findings.DEFINITION for one in found):
         return []
     faulty = {one.row for one in found if one.number == findings.ENTRY}
-    answers = program.answers("notes", *(["--like-buildkit"] if is_like else []), given=data)
+    answers = rules_program.answers("notes", *(["--like-buildkit"] if is_like else []), given=data)
     notes = [RowNote(one["row"], one["name"], one.get("part", ""), one["kind"]) for one in answers]
     return [one for one in notes if one.row not in faulty and not (found and one.kind == RULE)]

@@ -27,7 +27,7 @@ from llbm_tools import common, inputs, objects
 from llbm_tools.command_line import Parser
 from llbm_tools.debugging import launching
 from llbm_tools.llb import definition, names
-from llbm_tools.rules import notes, program
+from llbm_tools.rules import notes, rules_program
 from llbm_tools.rules.comparison import WHOLE, Comparison, End, Executions, Outputs, StepLines
 from llbm_tools.rules.one_execution import Program
 from llbm_tools.running import explain_run
@@ -79,7 +79,7 @@ class Compared:
         """Compares all vertices."""
         self.comparison.go()
         if self.comparison.end is None:
-            raise Failed(f"{program.NAME} compare has not ended")
+            raise Failed(f"{rules_program.NAME} compare has not ended")
         return self.comparison.end
 
     def notes(self) -> list[str]:
@@ -168,7 +168,7 @@ def compare_or_refuse(options: argparse.Namespace) -> int:
     """Compares, or says why the program ended by itself, and returns the exit status."""
     try:
         return compare(options)
-    except (Refusal, program.Missing) as fault:
+    except (Refusal, rules_program.Missing) as fault:
         raise Refused(str(fault)) from fault
     except SessionFailed as fault:
         for line in [str(fault), *fault.words]:

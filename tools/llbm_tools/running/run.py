@@ -39,9 +39,9 @@ from llbm_tools.common import MOST_BYTES, say
 from llbm_tools.definitions import faults
 from llbm_tools.rules import notes
 from llbm_tools.running import given_trees, run_records
-from llbm_tools.running.causes import MISSING, Run, causes_of, data_of, of_words
 from llbm_tools.running.command_words import COMMANDS, USUALLY
 from llbm_tools.running.failure_reasons import Reasons
+from llbm_tools.running.fault_causes import MISSING, Run, causes_of, data_of, of_words
 from llbm_tools.running.program_words import HELP, read_words
 from llbm_tools.streams import PIECE, Refused, exit_status, program_at
 

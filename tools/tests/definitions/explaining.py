@@ -15,7 +15,7 @@ from llbm_tools.llb.messages import made
 from llbm_tools.llb.ops import Input
 from llbm_tools.llb.wire import Unreadable
 from llbm_tools.page.assets import FIELDS
-from llbm_tools.rules import explaining, program
+from llbm_tools.rules import explaining, rules_program
 from llbm_tools.rules.examples import examples
 from llbm_tools.trees import tree_maps
 from tests import base
@@ -359,7 +359,7 @@ class Notes(Folder):
             self.assertIn(row["effect"], text)
             self.assertIn(f"What to do: {row['advice']}", text)
             self.assertEqual(found.row, 3)
-        for row in program.answers("texts"):
+        for row in rules_program.answers("texts"):
             if row["kind"] not in ("rule", "other"):
                 continue
             self.assertIn(f"{row['name']}: {row['where']}. In BuildKit: {row['buildkit']}.", row["words"])

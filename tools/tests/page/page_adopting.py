@@ -28,7 +28,7 @@ SCRIPT = node_machine.MACHINE + """
 const { entriesOf } = await from('definition.mjs');
 const { findingsOf } = await from('findings.mjs');
 const { adopted } = await from('adopting.mjs');
-const { Rows } = await from('rows.mjs');
+const { Rows } = await from('refused_rows.mjs');
 for (const line of fs.readFileSync(0, 'utf8').split('\\n').filter(Boolean)) {
   const [given, lines] = JSON.parse(line);
   const definition = new Uint8Array(Buffer.from(given, 'base64'));

@@ -45,7 +45,7 @@ class LongRecords(Parts):
           for (let n = count; n >= 0; n -= 1) {{ ways.back(n); if (ways.end() !== end) return 'another end'; }}
           return [count, ways.count, ways.at === ways.root];
         }})()"""
-        self.assertEqual(self.node("ways.mjs", text), [200000, 1, True])
+        self.assertEqual(self.node("event_tree.mjs", text), [200000, 1, True])
 
     def test_a_fork_keeps_both_ways(self):
         text = """(() => {
@@ -61,7 +61,7 @@ class LongRecords(Parts):
           ['b', 'c'].forEach(add); found.push(names(ways.path(ways.end())));
           return [...found, ways.count];
         })()"""
-        self.assertEqual(self.node("ways.mjs", text), ["abxz", "x", "b", "abxz", "abcd", 3])
+        self.assertEqual(self.node("event_tree.mjs", text), ["abxz", "x", "b", "abxz", "abcd", 3])
 
     def test_a_place_has_what_workers_run(self):
         text = """(() => {
@@ -74,11 +74,11 @@ class LongRecords(Parts):
           ways.back(1);
           return [first, second, [...ways.at.claims]];
         })()"""
-        self.assertEqual(self.node("ways.mjs", text), [[[0, 7], [1, 8]], [[1, 8]], [[0, 7]]])
+        self.assertEqual(self.node("event_tree.mjs", text), [[[0, 7], [1, 8]], [[1, 8]], [[0, 7]]])
 
     def test_a_track_follows_by_the_events_that_are_new(self):
         text = f"""(async () => {{
-          const {{ Ways }} = await import({json.dumps((PAGE / 'ways.mjs').as_uri())});
+          const {{ Ways }} = await import({json.dumps((PAGE / 'event_tree.mjs').as_uri())});
           const ways = new Ways();
           const track = new m.Track([]);
           let added = 0;
@@ -91,7 +91,7 @@ class LongRecords(Parts):
           }}
           return [added, track.path.length];
         }})()"""
-        self.assertEqual(self.node("track.mjs", text), [100001, 100001])
+        self.assertEqual(self.node("time_track.mjs", text), [100001, 100001])
 
 
 class Edges(Parts):
@@ -233,7 +233,7 @@ class Words(Parts):
           const {{ Statuses: S }} = await import({statuses});
           return {json.dumps(texts)}.map((text) => m.whyIdle(1, {made}(text), {json.dumps(entries)}));
         }})()"""
-        self.assertEqual(self.node("idle.mjs", text), [
+        self.assertEqual(self.node("idle_workers.mjs", text), [
             "Worker 1 can do nothing now: vertex 1 waits for the locked cache k, which worker 0 holds for vertex 0.",
             "Worker 1 can do nothing now: no vertex is ready before vertex 0 (worker 0) is settled.",
             "Worker 1 can do nothing now: no vertex is left.",
@@ -245,7 +245,7 @@ class Orders(Parts):
 
     def test_a_seed_has_one_order(self):
         text = "[1, 1, 2].map((seed) => m.shuffled([0, 1, 2, 3, 4, 5, 6, 7, 8, 9], m.diceOf(seed)))"
-        first, again, other = self.node("dice.mjs", text)
+        first, again, other = self.node("seeded_order.mjs", text)
         self.assertEqual((first, sorted(first)), (again, list(range(10))))
         self.assertNotEqual(first, other)
 

@@ -185,7 +185,7 @@ class InNode(Folder):
           const commands = ways.branches().map(({ places }) => places.map(({ event }) => event.command));
           return [ways.count, ways.at.way, commands];
         })()"""
-        self.assertEqual(self.node("ways.mjs", text), [2, 0, [["claim 0 0", "step 0"], ["settle 0"]]])
+        self.assertEqual(self.node("event_tree.mjs", text), [2, 0, [["claim 0 0", "step 0"], ["settle 0"]]])
 
     def test_a_link_carries_what_was_put_into_it(self):
         given = {"text": "op {\n}\n", "locals": [["a", "d 0755 0 0 /\n"]], "workers": 3, "lines": ["claim 0 0"]}

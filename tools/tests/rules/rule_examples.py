@@ -7,7 +7,7 @@ import unittest
 
 from llbm_tools.definitions import adopted_ops
 from llbm_tools.llb.findings import findings_of
-from llbm_tools.rules import notes, program
+from llbm_tools.rules import notes, rules_program
 from llbm_tools.rules.comparison import of_trees
 from llbm_tools.rules.examples import ALWAYS, examples
 from llbm_tools.trees import tree_maps
@@ -30,7 +30,7 @@ def names_of(data):
 
 def names_of_rules():
     """Returns the names of the rules, in order."""
-    return [one["name"] for one in program.answers("texts") if one["kind"] == "rule"]
+    return [one["name"] for one in rules_program.answers("texts") if one["kind"] == "rule"]
 
 
 class Table(unittest.TestCase):
@@ -49,7 +49,7 @@ class Table(unittest.TestCase):
 
     def test_the_page_has_these_tables(self):
         page = PAGE.read_bytes()
-        self.assertEqual(program.output_of("page", given=page).decode("utf-8"), page.decode("utf-8"))
+        self.assertEqual(rules_program.output_of("page", given=page).decode("utf-8"), page.decode("utf-8"))
 
 
 class Examples(Folder):

@@ -1,6 +1,6 @@
-// Package fields refuses what a newer client asks for in fields that this version of the API lacks: nothing is dropped in
+// Package unknownfields refuses what a newer client asks for in fields that this version of the API lacks: nothing is dropped in
 // silence.
-package fields
+package unknownfields
 
 import (
 	"sort"
