@@ -1,8 +1,8 @@
 -- Read first Aim (all that is promised for a graph, a board and a stepper), then CallStreams (what the streams of a call hold) and ProgramOutput (what a run
 -- prints for the bytes that it reads) with GraphText and WrittenPrefix, FindingLines, PlanText, MatchText and AgreementText (what else `show` prints),
--- ScriptLine (whether a text is a script), Assembly (asm and dis), Stepping (a session), CommandLine (what the words ask for), HelpPages (the page for words that ask for help),
--- Sources (files of local sources), BoundedReading (reading within bounds), Faults (what a fault prints, with its status) and Commands (how each command and
--- the program end). Running and AssemblyParts have the steps of a run and of assembling.
+-- ScriptLine (whether a text is a script), Assembly (asm and dis), Stepping (a session), CommandLine (what the words ask for), HelpPages (the page for words
+-- that ask for help), Sources (files of local sources), BoundedReading (reading within bounds), Faults (what a fault prints, with its status) and Commands
+-- (how each command and the program end). Running and AssemblyParts have the steps of a run and of assembling.
 pub mod CallStreams
 pub mod BoundedReading
 pub mod Faults

@@ -1,6 +1,6 @@
 //! The command line, which `clap` reads. `run` takes the number of workers, and local sources as NAME=FILE; `step` takes these, the file of a definition, and
-//! whether looks are answered and whether an empty line ends each reply; `show` takes what it prints in place of the graph, and local sources; `asm` and `dis` take no words. No
-//! words at all mean `run`. The texts of the pages of help are in `pages`.
+//! whether looks are answered and whether an empty line ends each reply; `show` takes what it prints in place of the graph, and older trees of local sources;
+//! `asm` and `dis` take no words. No words at all mean `run`. The texts of the pages of help are in `pages`.
 
 ghost use Rattle.std.specs.Prelude.{◌≡◌, false, map, option_map, IfOk, IfErr};
 ghost use Rattle.clap.specs.Words.{app_of, kind_of, fault_of, found_of, new_app, rows_of, rule_of, subcommand_of};

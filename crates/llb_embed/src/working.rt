@@ -2,7 +2,8 @@
 
 ghost use Rattle.std.specs.Prelude.{◌≡◌, ◌<◌, ◌+◌, ◌^◌, length, []};
 ghost use Rattle.llb_embed.specs.BufferCopies.{copied};
-ghost use Rattle.llb_embed.specs.HandleCalls.{Added, Opened, Replied, Refused, Ran, Shown, Listed, Planned, Matched, Judged, Assembled, Described, Disassembled};
+ghost use Rattle.llb_embed.specs.HandleCalls.{Added, Opened, Replied, Refused, Ran, Shown, Listed, Planned, Matched};
+ghost use Rattle.llb_embed.specs.HandleCalls.{Judged, Assembled, Described, Disassembled};
 
 use crate::held::Held;
 use llb_commands::{

@@ -12,8 +12,8 @@ use Rattle.llb_model.specs.Program.{Build}
 use Rattle.llb_laws.specs.Matchings.{output_at}
 use Rattle.llb_laws.specs.CopiedPaths.{AllReadAlike, LeadAlike}
 
--- an op of this kind reads the same of input number i, whether the input's tree is t or u: a file op if all its actions do; any other op may read all of a tree,
--- so it does if the trees are equal
+-- an op of this kind reads the same of input number i, whether the input's tree is t or u: a file op if all its actions do; any other op may read all of a
+-- tree, so it does if the trees are equal
 abbrev pub InputAgrees : Option Kind → ℕ → TreeMap → TreeMap → Type 0
 InputAgrees (Some (kind.File file)) i t u = AllReadAlike file.actions i t u
 InputAgrees _ i t u = t ≡ u

@@ -20,8 +20,8 @@ pub returns-in-Ok-flush : goal.returns-in-Ok-flush
 returns-in-Ok-flush g c =
     let text = c.in-Ok.ensures in
     let left = g.R.Read.remaining c.args.input.now in
-    whole (AreBy c.args.written) left c.in_ok-entries.entries c.in_ok-entries.ensures text.0 text.1 (g.W.Write.contents c.args.out.now) (g.W.Write.contents c.text_over.new.out)
-    (g.W.Write.contents c.flush.new.self) text.2 c.flush.ensures.bytes
+    whole (AreBy c.args.written) left c.in_ok-entries.entries c.in_ok-entries.ensures text.0 text.1 (g.W.Write.contents c.args.out.now)
+    (g.W.Write.contents c.text_over.new.out) (g.W.Write.contents c.flush.new.self) text.2 c.flush.ensures.bytes
 
 pub returns : goal.returns
 returns g c =
@@ -29,7 +29,8 @@ returns g c =
     let left = g.R.Read.remaining c.args.input.now in
     inr (
       λ h. h,
-      unflushed (AreBy c.args.written) left c.in_ok-entries.entries c.in_ok-entries.ensures text.0 text.1 (g.W.Write.contents c.args.out.now) (g.W.Write.contents c.text_over.new.out)
+      unflushed (AreBy c.args.written) left c.in_ok-entries.entries c.in_ok-entries.ensures text.0 text.1
+      (g.W.Write.contents c.args.out.now) (g.W.Write.contents c.text_over.new.out)
           (g.W.Write.contents c.flush.new.self) text.2 c.flush.ensures.bytes,
     )
 
