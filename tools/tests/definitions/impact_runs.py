@@ -157,3 +157,9 @@ class Texts(Folder):
         self.assertEqual((done.returncode, done.stdout), (2, b""))
         hint = f" {commands.shown('adopt')} rewrites what can be.\n"
         self.assertTrue(done.stderr.decode().endswith(hint), done.stderr)
+        place = base.ROOT / "examples" / "foreign.llb"
+        for words in [("build", "--llbm", base.llbm, place, self.place(b"out")), ("run", "--llbm", base.llbm, "show")]:
+            done = run(*words, text=place.read_bytes())
+            self.assertEqual(done.returncode, 2, words)
+            hint = f"  {commands.shown('lint')} prints all, {commands.shown('adopt')} rewrites what can be"
+            self.assertIn(hint, done.stderr.decode().splitlines(), words)
