@@ -7,7 +7,7 @@ import re
 import resource
 import subprocess
 
-from llbm_tools.definitions import faults
+from llbm_tools.definitions import faults, next_commands
 from llbm_tools.fuzzing import limited_runs
 from tests import base
 from tests.base import ROOT, run
@@ -147,7 +147,7 @@ class WithProgram(base.WithProgram):
     def test_refusals_are_explained(self):
         nameless = base.ending(base.file_op())
         for given, words, line in [
-            (b"\x0a", [], "fault 81 1"), (b"", [], "fault 83"), (nameless, [], "fault 89 0 NoActions"),
+            (nameless, [], "fault 89 0 NoActions"),
             (base.ending(base.source("local://src")), [], "fault 121 src"),
             (base.ending(base.source("docker-image://a")), [], "fault 88 0 Source"),
             (base.ending(base.exec_op("apk")), [], "fault 89 0 Script 71 apk"),
@@ -161,7 +161,11 @@ class WithProgram(base.WithProgram):
             refused = [text.partition(": ")[0] for text in explained.stderr.decode().splitlines()]
             meaning += [f"  the definition: {cause}" for cause in refused]
             meaning += ["  without a tree: src (vertex 0)"] * (line == "fault 121 src")
+            meaning += [f"  {next_commands.hint_of(line)}"] * line.startswith(("fault 88 ", "fault 89 "))
             self.assertEqual(done.stderr.decode().splitlines()[1:], [line, *meaning, "nothing is written"])
+        for given, cause in [(b"\x0a", b"the bytes end inside a record"), (b"", b"there are no bytes")]:
+            line = b"not a definition: " + cause + b": " + self.place(b"definition") + b"\n"
+            self.check_run(self.build(given), 2, b"", line)
 
     def source_name(self, text):
         """Returns the name of the local source that a file of the examples is the tree of."""

@@ -155,11 +155,10 @@ class Texts(Folder):
     def test_a_foreign_definition_has_the_tool_that_adopts_it(self):
         done = run("explain-run", "--llbm", base.llbm, base.ROOT / "examples" / "foreign.llb")
         self.assertEqual((done.returncode, done.stdout), (2, b""))
-        hint = f" {commands.shown('adopt')} rewrites what can be.\n"
-        self.assertTrue(done.stderr.decode().endswith(hint), done.stderr)
+        hint = f"{commands.shown('lint')} prints all, {commands.shown('adopt')} rewrites what can be"
+        self.assertTrue(done.stderr.decode().endswith(f"({hint})\n"), done.stderr)
         place = base.ROOT / "examples" / "foreign.llb"
         for words in [("build", "--llbm", base.llbm, place, self.place(b"out")), ("run", "--llbm", base.llbm, "show")]:
             done = run(*words, text=place.read_bytes())
             self.assertEqual(done.returncode, 2, words)
-            hint = f"  {commands.shown('lint')} prints all, {commands.shown('adopt')} rewrites what can be"
-            self.assertIn(hint, done.stderr.decode().splitlines(), words)
+            self.assertIn(f"  {hint}", done.stderr.decode().splitlines(), words)
