@@ -248,9 +248,11 @@ class WithProgram(base.WithProgram):
 
     def test_each_command_line_is_accepted(self):
         place = EXAMPLES / "first-run.definition"
-        settled = {"N": "2", "FILE": str(place), "OLD": str(place), "NAME=FILE ...": f"a={EXAMPLES / 'tour.tree'}"}
+        tree = str(EXAMPLES / "tour.tree")
+        settled = {"N": "2", "FILE": str(place), "OLD": str(place), "NEW": tree, "NAME=FILE ...": f"a={tree}"}
+        settled |= {"NAME=OLD": f"a={tree}", "NAME=OLD ...": f"b={tree}"}
         for line in COMMAND_LINES:
-            words = re.findall(r"NAME=FILE \.\.\.|[^ \[\]]+", line)
+            words = re.findall(r"NAME=(?:FILE|OLD) \.\.\.|[^ \[\]]+", line)
             for first in words[0].split("|"):
                 given = [settled.get(word, word) for word in [first, *words[1:]]]
                 text = (EXAMPLES / "first-run.text").read_bytes() if first == "asm" else place.read_bytes()
