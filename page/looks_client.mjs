@@ -1,6 +1,6 @@
 /** The page's side of the worker that makes its looks. */
 
-import { digestsOfRows } from './definition.mjs';
+import { saidOf } from './definition.mjs';
 
 /** Sends calls to a worker, and returns promises of their answers. */
 export class Looker {
@@ -23,8 +23,8 @@ export class Looker {
     const isKept = Array.isArray(globalThis.llbmTranscript);
     // Whoever compares answers with those of `llbm step` needs those of the worker too.
     if (isKept) globalThis.llbmLooks = () => this.call('transcript');
-    const digests = digestsOfRows(machine, definition);
-    return this.call('open', { module: machine.module, definition, digests, locals, workers, isKept });
+    const said = saidOf(machine, definition);
+    return this.call('open', { module: machine.module, definition, said, locals, workers, isKept });
   }
 
   take({ id, value, fault }) {

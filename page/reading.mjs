@@ -31,7 +31,7 @@ export async function treeOfFile(file) {
 export async function definitionOf(machine, bytes, isWritten) {
   const given = { module: machine.module, bytes, isWritten };
   const worker = new Worker('definition_worker.mjs', { type: 'module' });
-  const { definition, names, ...said } = await answerOf(worker, given);
-  keepRead(definition, said);
+  const { definition, names, ...read } = await answerOf(worker, given);
+  keepRead(definition, read);
   return { definition, names };
 }

@@ -4,7 +4,7 @@
  * docs/FORMATS.md, "A stepping session", has the lines that a session takes and what it answers.
  */
 
-import { digestsOfRows, keepDigests, localsOf, verticesOf } from './definition.mjs';
+import { keepSaid, localsOf, saidOf, verticesOf } from './definition.mjs';
 import { diceOf, shuffled } from './seeded_order.mjs';
 import { STATUS } from './machine.mjs';
 import { eventOf, graphOf } from './record.mjs';
@@ -69,13 +69,13 @@ export function readDefinition(machine, bytes, isWritten) {
   const definition = isWritten ? assembled(machine, bytes) : bytes;
   const { text, fault } = plannedBy(machine, definition);
   const vertices = verticesOf(machine, definition, digestsIn(linesOf(text)));
-  return { definition, fault, names: localsOf(vertices), digests: digestsOfRows(machine, definition) };
+  return { definition, fault, names: localsOf(vertices), said: saidOf(machine, definition) };
 }
 
-/** Keeps what a machine said of a definition: the digests of its entries, and the fault for which it is refused. */
-export function keepRead(definition, { fault, digests }) {
+/** Keeps what a machine said of a definition: of its entries, and the fault for which it is refused. */
+export function keepRead(definition, { fault, said }) {
   planned.set(definition, { text: '', fault });
-  keepDigests(definition, digests);
+  keepSaid(definition, said);
 }
 
 /** Returns the line of the fault for which the machine refuses a definition; empty if it takes it. */
