@@ -22,16 +22,16 @@ function optional(read, otherwise) {
   }
 }
 
-function actionOf({ input, kind, ...members }) {
+function actionOf({ input, secondaryInput: from, output, kind, ...members }) {
   const body = members[kind] ?? {};
   const line = kind === 'copy' ? `copy ${body.src} ${body.dest}` : `${kind ?? 'action'} ${body.path ?? ''}`;
-  return { input, line };
+  return { input, from, output, line };
 }
 
-function mountOf({ dest, selector, readonly, mountType, cacheOpt, input }, inputs) {
+function mountOf({ dest, selector, readonly, mountType, cacheOpt, input, output }, inputs) {
   const seed = inputs[input];
   return {
-    dest, selector, input, isReadonly: readonly, isCache: mountType === CACHE, id: cacheOpt?.ID ?? '',
+    dest, selector, input, output, isReadonly: readonly, isCache: mountType === CACHE, id: cacheOpt?.ID ?? '',
     mode: MODES[cacheOpt?.sharing ?? 0], seed: seed ? `${seed.digest}.${seed.index}` : '-',
   };
 }

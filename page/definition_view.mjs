@@ -76,9 +76,10 @@ export class DefinitionView {
     this.say('');
     by('views').classList.toggle('with-text', this.isShown);
     // What a person is writing stays as it is.
-    if (this.isEdited && text === this.field.value) this.count();
-    else if (this.isShown) this.fill();
+    const isWriting = this.isEdited && text === this.field.value;
     this.isEdited = false;
+    if (isWriting) this.count();
+    else if (this.isShown) this.fill();
   }
 
   // Puts the text into the field, or says why there is none.
@@ -91,6 +92,9 @@ export class DefinitionView {
     const shown = isLong ? '' : text;
     if (this.field.value !== shown) this.field.value = shown;
     this.count();
+    const { row } = this;
+    this.row = null;
+    this.mark(row);
   }
 
   count() {

@@ -12,8 +12,6 @@ import { Statuses } from './statuses.mjs';
 import { linesOf } from './tree_text.mjs';
 import { Ways } from './event_tree.mjs';
 
-const decoder = new TextDecoder();
-
 /** What is before the name of a local source in the line for its tree, which the page has and no line of a session. */
 export const GIVEN = 'given ';
 
@@ -107,19 +105,19 @@ export class Session {
     this.breaks = { claim: new Set(), settle: new Set(), fail: false };
   }
 
-  /** Returns the bytes that the machine answers to a line. */
-  bytes(line) {
+  /** Returns the text that the machine answers to a line. */
+  text(line) {
     const status = this.handle.line(line);
-    const answer = this.handle.output();
+    const answer = this.handle.text();
     // Whoever wants to compare answers with those of `llbm step` sets this list.
-    if (this.isKept) globalThis.llbmTranscript?.push([line, decoder.decode(answer)]);
+    if (this.isKept) globalThis.llbmTranscript?.push([line, answer]);
     if (status === STATUS.failed) throw new Refused('no memory', 'the line');
     return answer;
   }
 
   /** Returns the lines that the machine answers to a line. */
   lines(line) {
-    return linesOf(decoder.decode(this.bytes(line)));
+    return linesOf(this.text(line));
   }
 
   /**
@@ -129,25 +127,23 @@ export class Session {
   tree(line) {
     if (line.startsWith(GIVEN)) return this.locals.get(line.slice(GIVEN.length)) ?? null;
     if (line.startsWith(BEFORE)) return this.before(() => this.tree(line.slice(BEFORE.length)));
-    const text = decoder.decode(this.bytes(line));
+    const text = this.text(line);
     return text === 'none\n' || text.startsWith('fault ') ? null : text;
   }
 
   /** Returns the statuses of the vertices. */
   statuses() {
-    return new Statuses(decoder.decode(this.bytes('status')));
+    return new Statuses(this.text('status'));
   }
 
-  // Adds the events of an answer to the way.
+  // Adds the events of an answer to the way. A step is of the vertex that its worker claimed last.
   took(lines) {
     const events = lines.map(eventOf).filter(Boolean);
-    events.forEach((event) => this.ways.add(this.placed(event)));
+    for (const event of events) {
+      event.vertex ??= this.ways.at.claims.get(event.worker);
+      this.ways.add(event);
+    }
     return events;
-  }
-
-  // A step is of the vertex that its worker claimed last.
-  placed(event) {
-    return event.vertex === null ? { ...event, vertex: this.ways.at.claims.get(event.worker) } : event;
   }
 
   /** Does the event of a line such as `next` or `claim 0 1`; returns the event, or null where it is refused. */

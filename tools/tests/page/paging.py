@@ -182,10 +182,12 @@ class InNode(Folder):
           const add = (command) => ways.add({ command });
           add('claim 0 0'); add('step 0'); ways.back(1); add('settle 0');
           ways.back(0); add('claim 0 0'); add('step 0');
-          const commands = ways.branches().map(({ places }) => places.map(({ event }) => event.command));
-          return [ways.count, ways.at.way, commands];
+          const commands = (last, count) => ways.between(last, count).map(({ event }) => event.command);
+          const beside = (place) => ways.beside(place).map(({ way, last, count }) => [way, commands(last, count)]);
+          const other = ways.newest[1];
+          return [ways.count, ways.at.way, beside(ways.at), beside(other), ways.route(other).back];
         })()"""
-        self.assertEqual(self.node("event_tree.mjs", text), [2, 0, [["claim 0 0", "step 0"], ["settle 0"]]])
+        self.assertEqual(self.node("event_tree.mjs", text), [2, 0, [[1, ["settle 0"]]], [[0, ["step 0"]]], 1])
 
     def test_a_link_carries_what_was_put_into_it(self):
         given = {"text": "op {\n}\n", "locals": [["a", "d 0755 0 0 /\n"]], "workers": 3, "lines": ["claim 0 0"]}
