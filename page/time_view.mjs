@@ -63,7 +63,14 @@ export class TimeView {
     this.rows = this.rowsOf();
     this.reveal();
     this.render();
-    if (this.following) inTurns(following, () => this.following === following).then(this.refresh);
+    if (this.following) this.followFurther(following);
+  }
+
+  async followFurther(following) {
+    await inTurns(following, () => this.following === following);
+    if (this.following !== following) return;
+    this.following = null;
+    this.refresh();
   }
 
   /** Shows how far the session is while it goes on: only what costs little. */
