@@ -1,7 +1,8 @@
-"""A machine of Node in the place of the page's, for tests of modules that ask it for digests, findings and ops alone."""
+"""A machine of Node in the place of the page's, for tests of modules that ask it for digests, findings and ops."""
 
 # Gives `from`, which imports a module of the page, and `machineOf`, which makes a machine that finds the lines and has
-# the ops that are given; its digests are those of Node. The words of the command line are the page's folder and its tables.
+# the ops that are given; its digests are those of Node. The words of the command line are the page's folder and its
+# tables.
 MACHINE = """
 import { createHash } from 'node:crypto';
 import fs from 'node:fs';
